@@ -1,0 +1,36 @@
+-- Addresses, networks, and which network contains which address (pf.conf(5), networks in CIDR notation).
+use Rattle.std.specs.Prelude.{ℕ, Bool, true, false, cond, List}
+use Rattle.pf_addr.specs.declared.addr.Addr.{Addr}
+use Rattle.pf_addr.specs.declared.addr.Addr.TheVariants as addr
+use Rattle.pf_addr.specs.declared.addr.Family.{Family}
+use Rattle.pf_addr.specs.declared.addr.Family.TheVariants.{V4, V6}
+use Rattle.pf_addr.specs.Bits.{bits, begins_with}
+
+-- how many bits an address of the family has
+abbrev pub width : Family → ℕ
+width V4 = 32
+width V6 = 128
+
+-- An address is a family and so many bits.
+abbrev pub family_of : Addr → Family
+family_of (addr.V4 n) = V4
+family_of (addr.V6 n) = V6
+
+abbrev pub bits_of : Addr → List Bool
+bits_of (addr.V4 n) = bits 32 n
+bits_of (addr.V6 n) = bits 128 n
+
+-- A network is a family and the front of an address of it.
+pub record Network : Type 0 where
+  pub family : Family
+  pub front : List Bool
+
+abbrev pub same_family : Family → Family → Bool
+same_family V4 V4 = true
+same_family V4 V6 = false
+same_family V6 V4 = false
+same_family V6 V6 = true
+
+-- A network contains an address of its family whose bits begin with its front.
+abbrev pub contains : Network → Addr → Bool
+contains n a = cond (same_family n.family (family_of a)) (begins_with n.front (bits_of a)) false
