@@ -1,0 +1,28 @@
+-- What the filter sees of a packet.
+use Rattle.std.specs.Prelude.{◌≡◌, ℕ, ◌<◌, ◌==◌, ◌||◌, Bool, false, List}
+use Rattle.pf_addr.specs.declared.addr.Addr.{Addr}
+use Rattle.pf_addr.specs.Address.{family_of, IsAddr}
+use Rattle.pf_rule.specs.declared.rule.Direction.{Direction}
+use Rattle.pf_rule.specs.Names.{IsInterfaceName}
+
+pub record PlainPacket : Type 0 where
+  pub direction : Direction
+  pub interface : List ℕ
+  pub protocol : ℕ
+  pub source : Addr
+  pub source_port : ℕ
+  pub destination : Addr
+  pub destination_port : ℕ
+
+-- TCP and UDP have ports
+abbrev pub has_ports : ℕ → Bool
+has_ports protocol = (protocol == 6) || (protocol == 17)
+
+-- what a packet keeps: addresses of one family, and no ports but for a protocol that has them
+pub record IsPacket (p : PlainPacket) : Type 0 where
+  pub interface : IsInterfaceName p.interface
+  pub protocol : (0 < p.protocol) × (p.protocol < 256)
+  pub addresses : IsAddr p.source × IsAddr p.destination
+  pub families : family_of p.source ≡ family_of p.destination
+  pub ports : (p.source_port < 65536) × (p.destination_port < 65536)
+  pub no_ports : has_ports p.protocol ≡ false → (p.source_port ≡ 0) × (p.destination_port ≡ 0)

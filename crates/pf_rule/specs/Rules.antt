@@ -1,0 +1,61 @@
+-- Rules, and which packets they match (pf.conf(5), Parameters).
+use Rattle.std.specs.Prelude.{◌≡◌, ℕ, ◌<◌, ◌≤◌, ◌==◌, ◌&&◌, Bool, true, false, List, length, Option, Some, None, IfSome}
+use Rattle.std.specs.Str.{bytes_eq}
+use Rattle.pf_addr.specs.declared.addr.Addr.{Addr}
+use Rattle.pf_addr.specs.declared.addr.Family.{Family}
+use Rattle.pf_addr.specs.declared.addr.Family.TheVariants as families
+use Rattle.pf_addr.specs.Address.{family_of, same_family, contains, width}
+use Rattle.pf_rule.specs.declared.rule.Action.{Action}
+use Rattle.pf_rule.specs.declared.rule.Direction.{Direction}
+use Rattle.pf_rule.specs.declared.rule.Direction.TheVariants.{In, Out}
+use Rattle.pf_rule.specs.declared.rule.Host.{Host}
+use Rattle.pf_rule.specs.declared.rule.Host.TheVariants.{Any, Net}
+use Rattle.pf_rule.specs.Names.{IsInterfaceName}
+use Rattle.pf_rule.specs.Packets.{PlainPacket}
+
+pub record PlainRule : Type 0 where
+  pub action : Action
+  pub direction : Option Direction
+  pub quick : Bool
+  pub interface : Option (List ℕ)
+  pub family : Option Family
+  pub protocol : Option ℕ
+  pub source : Host
+  pub destination : Host
+
+-- a test that is absent holds
+abbrev pub holds : {A : Type 0} → Option A → (A → Bool) → Bool
+holds None test = true
+holds (Some x) test = test x
+
+abbrev pub same_direction : Direction → Direction → Bool
+same_direction In In = true
+same_direction In Out = false
+same_direction Out In = false
+same_direction Out Out = true
+
+abbrev pub host_holds : Host → Addr → Bool
+host_holds Any a = true
+host_holds (Net n) a = contains n a
+
+-- a rule matches a packet for which all its tests hold
+abbrev pub matches : PlainRule → PlainPacket → Bool
+matches r p =
+    holds r.direction (λ d. same_direction d p.direction)
+    && holds r.interface (λ name. bytes_eq name p.interface)
+    && holds r.family (λ f. same_family f (family_of p.source))
+    && holds r.protocol (λ n. n == p.protocol)
+    && host_holds r.source p.source
+    && host_holds r.destination p.destination
+
+-- a network as a host gives the rule its family; only IPv4 networks have a text so far
+abbrev pub HostFits : Option Family → Host → Type 0
+HostFits family Any = Unit {0}
+HostFits family (Net n) = (family ≡ Some n.family) × (n.family ≡ families.V4) × (length n.front ≤ width n.family)
+
+-- what has a text, and so is a rule
+pub record IsRule (r : PlainRule) : Type 0 where
+  pub interface : IfSome r.interface IsInterfaceName
+  pub protocol : IfSome r.protocol (λ n. (0 < n) × (n < 256))
+  pub source : HostFits r.family r.source
+  pub destination : HostFits r.family r.destination

@@ -1,0 +1,45 @@
+//! Names of network interfaces.
+ghost use Rattle.std.specs.Prelude.{◌≡◌, ◌≤◌, length};
+ghost use Rattle.std.specs.Str.{bytes_eq};
+
+use std::marker::Model;
+
+/// The name of a network interface, as `em0`: 1 to 15 bytes, each a letter, a digit, `_`, `.` or `-`.
+/// It is kept in place, and contracts see it as the list of its bytes.
+#[derive(Clone, Copy)]
+pub struct Interface {
+    bytes: [u8; 15],
+    len: u8,
+}
+
+impl Model for Interface {
+    ghost use Rattle.std.specs.Prelude.{List, ℕ};
+
+    ghost Value = { List ℕ };
+
+    ghost use Rattle.pf_rule.specs.Interfaces.{name_in, IsNameIn, inside_of, inside_of-name_in};
+
+    ghost view = { name_in };
+
+    ghost invariant = { IsNameIn };
+
+    ghost inverse = { inside_of };
+
+    ghost inverse_ok = { inside_of-name_in };
+}
+
+impl Interface {
+    /// The name's bytes.
+    pub fn as_bytes(&self) -> &[u8]
+        ensures { result.now ≡ self.now }
+    {
+        &self.bytes[..self.len as usize]
+    }
+
+    /// Whether both are one name.
+    pub fn is(&self, other: &Interface) -> bool
+        ensures { result ≡ bytes_eq self.now other.now }
+    {
+        self.as_bytes() == other.as_bytes()
+    }
+}
