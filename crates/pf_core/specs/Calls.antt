@@ -1,0 +1,136 @@
+-- Calls, and what they say of tickets: which ticket is valid, and what is offered with it (pf(4), DIOCXBEGIN and DIOCXCOMMIT).
+use Rattle.std.specs.Prelude.{ℕ, zero, suc, ◌+◌, ◌==◌, ◌&&◌, Bool, true, false, cond, List, [], ◌∷◌, Option, Some, None, fold, flat_map}
+use Rattle.pf_rule.specs.Rules.{PlainRule}
+use Rattle.pf_core.specs.declared.command.Command.{Command}
+use Rattle.pf_core.specs.declared.command.Command.TheVariants.{Begin, Add, Commit, Judge}
+use Rattle.pf_core.specs.declared.command.Entry.{Entry}
+use Rattle.pf_core.specs.declared.command.RulesetKind.{RulesetKind}
+use Rattle.pf_core.specs.declared.command.RulesetKind.TheVariants.{Filter}
+use Rattle.pf_core.specs.declared.command.RulesetName.{RulesetName}
+use Rattle.pf_core.specs.declared.command.Ticket.{Ticket}
+use Rattle.pf_core.specs.declared.reply.Answer.{Answer}
+use Rattle.pf_core.specs.declared.reply.Answer.TheVariants as answer
+use Rattle.pf_core.specs.declared.reply.Given.{Given}
+use Rattle.pf_core.specs.declared.reply.Reply.{Reply}
+use Rattle.pf_core.specs.declared.reply.Reply.TheVariants.{Answer as Answered, Applied, Refused}
+use Rattle.pf_core.specs.Rulesets.{same_path}
+
+-- a command, and the reply that it got
+pub record Call : Type 0 where
+  pub command : Command
+  pub reply : Reply
+
+abbrev pub call : Command → Reply → Call
+call c r = record { command = c; reply = r }
+
+-- ---- names and tickets
+
+abbrev pub filter_at : List ℕ → RulesetName
+filter_at p = record { kind = Filter; path = p }
+
+abbrev pub same_kind : RulesetKind → RulesetKind → Bool
+same_kind Filter Filter = true
+
+-- a ruleset is a kind and a path
+abbrev pub same_name : RulesetName → RulesetName → Bool
+same_name a b = same_kind a.kind b.kind && same_path a.path b.path
+
+abbrev pub ticket : ℕ → ℕ → Ticket
+ticket epoch count = record { epoch = epoch; count = count }
+
+abbrev pub same_ticket : Ticket → Ticket → Bool
+same_ticket a b = (a.epoch == b.epoch) && (a.count == b.count)
+
+-- so many tickets of an epoch, from a count on
+abbrev pub tickets_from : ℕ → ℕ → ℕ → List Ticket
+tickets_from epoch count zero = []
+tickets_from epoch count (suc n) = ticket epoch count ∷ tickets_from epoch (count + 1) n
+
+abbrev pub tickets_of : Given → List Ticket
+tickets_of g = tickets_from g.first.epoch g.first.count g.number
+
+-- ---- what an accepted call does to a ruleset that it names
+
+pub data Mention : Type 0 where
+  gave : RulesetName → Ticket → Mention
+  added : RulesetName → Ticket → PlainRule → Mention
+  switched : RulesetName → Mention
+
+-- a begin gives each ruleset that it names a ticket, in order
+abbrev pub gives : List RulesetName → List Ticket → List Mention
+gives [] ts = []
+gives (n ∷ ns) [] = []
+gives (n ∷ ns) (t ∷ ts) = gave n t ∷ gives ns ts
+
+abbrev pub switches : List RulesetName → List Mention
+switches [] = []
+switches (n ∷ ns) = switched n ∷ switches ns
+
+abbrev pub names_of : List Entry → List RulesetName
+names_of [] = []
+names_of (e ∷ es) = e.name ∷ names_of es
+
+abbrev pub given_in : Answer → List Ticket
+given_in (answer.Given g) = tickets_of g
+given_in answer.Done = []
+given_in (answer.Judged v) = []
+
+abbrev pub tickets_in : Reply → List Ticket
+tickets_in (Answered a) = given_in a
+tickets_in (Applied n o) = []
+tickets_in (Refused e) = []
+
+abbrev pub is_accepted : Reply → Bool
+is_accepted (Answered a) = true
+is_accepted (Applied n o) = true
+is_accepted (Refused e) = false
+
+abbrev pub mentioned : Command → Reply → List Mention
+mentioned (Begin names) r = gives names (tickets_in r)
+mentioned (Add p t rule) r = cond (is_accepted r) (added (filter_at p) t rule ∷ []) []
+mentioned (Commit entries) r = cond (is_accepted r) (switches (names_of entries)) []
+mentioned (Judge packet) r = []
+
+abbrev pub mentions_of : Call → List Mention
+mentions_of c = mentioned c.command c.reply
+
+abbrev pub mentions : List Call → List Mention
+mentions calls = flat_map mentions_of calls
+
+-- ---- which ticket is valid, and what is offered with it
+
+-- the ticket of a ruleset after one more mention: a begin's is valid, a commit voids it, and an add touches none
+abbrev pub touched : RulesetName → Option Ticket → Mention → Option Ticket
+touched name valid (gave n t) = cond (same_name n name) (Some t) valid
+touched name valid (added n t r) = valid
+touched name valid (switched n) = cond (same_name n name) None valid
+
+-- the valid ticket of a ruleset: the latest mention that touched it is a begin's, answered with this ticket
+abbrev pub valid_ticket : List Mention → RulesetName → Option Ticket
+valid_ticket ms name = fold (touched name) None ms
+
+abbrev pub rules_added : RulesetName → Ticket → Mention → List PlainRule
+rules_added name t (gave n u) = []
+rules_added name t (added n u r) = cond (same_name n name && same_ticket u t) (r ∷ []) []
+rules_added name t (switched n) = []
+
+-- the rules of the accepted adds with a ticket, in order
+abbrev pub rules_offered : List Mention → RulesetName → Ticket → List PlainRule
+rules_offered ms name t = flat_map (rules_added name t) ms
+
+abbrev pub content_under : List Mention → RulesetName → Option Ticket → List PlainRule
+content_under ms name None = []
+content_under ms name (Some t) = rules_offered ms name t
+
+-- what is offered for a ruleset with its valid ticket
+abbrev pub content : List Mention → RulesetName → List PlainRule
+content ms name = content_under ms name (valid_ticket ms name)
+
+abbrev pub counted : ℕ → Mention → ℕ
+counted k (gave n t) = k + 1
+counted k (added n t r) = k
+counted k (switched n) = k
+
+-- the count of the next ticket: one more than the tickets given so far
+abbrev pub next_count : List Mention → ℕ
+next_count ms = fold counted 1 ms

@@ -1,0 +1,95 @@
+-- Worlds: lists of calls with their replies, which of them are legal, and what they leave.
+use Rattle.std.specs.Prelude.{◌≡◌, ℕ, ◌+◌, if◌then◌else◌, List, [], ◌∷◌, ◌++◌, length, fold, nat_lt, Result, Ok, Err}
+use Rattle.pf_core.specs.declared.command.Command.{Command}
+use Rattle.pf_core.specs.declared.reply.Refusal.{Refusal}
+use Rattle.pf_core.specs.declared.reply.Refusal.TheVariants.{HistoryFull, Memory}
+use Rattle.pf_core.specs.declared.reply.Reply.{Reply}
+use Rattle.pf_core.specs.declared.reply.Reply.TheVariants.{Answer, Applied, Refused}
+use Rattle.pf_core.specs.declared.step.Step.{Step}
+use Rattle.pf_core.specs.declared.step.Step.TheVariants.{Done, Wants}
+use Rattle.pf_core.specs.Calls.{Call}
+use Rattle.pf_core.specs.Edits.{Kept, Edit, after}
+use Rattle.pf_core.specs.Legal.{legal_step}
+use Rattle.pf_core.specs.Tickets.{Open, AgreesWith}
+
+-- a core: what is kept, and the open transactions
+pub record Whole : Type 0 where
+  pub durable : Kept
+  pub tickets : Open
+
+abbrev pub whole : Kept → Open → Whole
+whole d t = record { durable = d; tickets = t }
+
+-- what legality reads: the calls so far, and the changes that they kept
+pub record Held : Type 0 where
+  pub calls : List Call
+  pub log : List Edit
+
+abbrev pub held : List Call → List Edit → Held
+held calls log = record { calls = calls; log = log }
+
+-- nothing yet
+abbrev pub at_start : Held
+at_start = held [] []
+
+-- the one step that a command may get
+abbrev pub step_in : Kept → Held → Command → Result Step Refusal
+step_in base h c = legal_step base.epoch h.calls (after base h.log) c
+
+-- the reply to a step, where the history may take so many changes
+abbrev pub reply_to : ℕ → List Edit → Result Step Refusal → Reply
+reply_to limit log (Ok (Done a)) = Answer a
+reply_to limit log (Ok (Wants e o)) = if nat_lt (length log) limit then Applied (length log + 1) o else Refused HistoryFull
+reply_to limit log (Err e) = Refused e
+
+-- a reply is the one that the command may get, or memory was refused
+abbrev pub LegalReply : Kept → ℕ → Held → Command → Reply → Type 0
+LegalReply base limit h c r = (r ≡ Refused Memory → ⊥) → r ≡ reply_to limit h.log (step_in base h c)
+
+abbrev pub wanted : Result Step Refusal → List Edit
+wanted (Ok (Done a)) = []
+wanted (Ok (Wants e o)) = e ∷ []
+wanted (Err e) = []
+
+abbrev pub kept_with : Kept → Held → Command → Reply → List Edit
+kept_with base h c (Answer a) = []
+kept_with base h c (Applied n o) = wanted (step_in base h c)
+kept_with base h c (Refused e) = []
+
+-- the change that a call kept
+abbrev pub kept_by : Kept → Held → Call → List Edit
+kept_by base h c = kept_with base h c.command c.reply
+
+-- one more call
+abbrev pub next : Kept → Held → Call → Held
+next base h c = held (h.calls ++ c ∷ []) (h.log ++ kept_by base h c)
+
+-- what a world leaves
+abbrev pub held_after : Kept → List Call → Held
+held_after base world = fold (next base) at_start world
+
+-- each call of a world got a legal reply
+abbrev pub IsLegalFrom : Kept → ℕ → Held → List Call → Type 0
+IsLegalFrom base limit h [] = Unit {0}
+IsLegalFrom base limit h (c ∷ cs) = LegalReply base limit h c.command c.reply × IsLegalFrom base limit (next base h c) cs
+
+-- what contracts see of a Book: the core, the log of its changes, and how many it may have
+pub record Page : Type 0 where
+  pub whole : Whole
+  pub log : List Edit
+  pub limit : ℕ
+
+abbrev pub page : Whole → List Edit → ℕ → Page
+page w log limit = record { whole = w; log = log; limit = limit }
+
+-- the page is what these calls and changes leave
+pub record IsAt (base : Kept) (h : Held) (b : Page) : Type 0 where
+  pub log : h.log ≡ b.log
+  pub calls : AgreesWith b.whole.tickets h.calls
+  pub durable : b.whole.durable ≡ after base b.log
+  pub epoch : b.whole.tickets.epoch ≡ base.epoch
+
+-- a Book stands for a world that began with this base: its calls got legal replies, and it is what they leave
+pub record StandsFor (base : Kept) (b : Page) (world : List Call) : Type 0 where
+  pub legal : IsLegalFrom base b.limit at_start world
+  pub leaves : IsAt base (held_after base world) b

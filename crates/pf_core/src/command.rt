@@ -1,0 +1,113 @@
+//! What a client asks.
+ghost use Rattle.std.specs.Prelude.{◌≡◌};
+
+use crate::path::Path;
+use pf_rule::{Packet, Rule};
+use std::marker::Model;
+
+/// The kinds of ruleset that have tickets.
+#[derive(Clone, Copy, Debug, PartialEq, Eq)]
+pub enum RulesetKind {
+    /// Filter rules.
+    Filter,
+}
+
+/// A ruleset, as a transaction names it (pf(4), DIOCXBEGIN).
+#[derive(Drop)]
+pub struct RulesetName {
+    pub kind: RulesetKind,
+    pub path: Path,
+}
+
+/// What a begin gives and a commit wants (pf(4), DIOCXBEGIN): an opening, and a count within it.
+#[derive(Clone, Copy, Debug, PartialEq, Eq)]
+pub struct Ticket {
+    pub epoch: u32,
+    pub count: u32,
+}
+
+/// A ruleset with a ticket for it, as a commit names it.
+#[derive(Drop)]
+pub struct Entry {
+    pub name: RulesetName,
+    pub ticket: Ticket,
+}
+
+/// Rulesets in the order in which a begin names them.
+#[derive(Drop)]
+pub struct RulesetNames {
+    names: Vec<RulesetName>,
+}
+
+impl Model for RulesetNames {
+    ghost use Rattle.std.specs.Prelude.{List};
+    ghost use Rattle.pf_core.specs.declared.command.RulesetName.{RulesetName};
+
+    ghost Value = { List RulesetName };
+
+    ghost view = { λ n. n.names.items };
+}
+
+impl RulesetNames {
+    /// The list of these. It takes no memory.
+    pub fn new(names: Vec<RulesetName>) -> RulesetNames
+        ensures { result ≡ names.items }
+    {
+        RulesetNames { names }
+    }
+
+    /// The names in order.
+    pub fn as_slice(&self) -> &[RulesetName]
+        ensures { result.now ≡ self.now }
+    {
+        self.names.as_slice()
+    }
+}
+
+/// Rulesets with their tickets, in the order in which a commit names them.
+#[derive(Drop)]
+pub struct Entries {
+    entries: Vec<Entry>,
+}
+
+impl Model for Entries {
+    ghost use Rattle.std.specs.Prelude.{List};
+    ghost use Rattle.pf_core.specs.declared.command.Entry.{Entry};
+
+    ghost Value = { List Entry };
+
+    ghost view = { λ e. e.entries.items };
+}
+
+impl Entries {
+    /// The list of these. It takes no memory.
+    pub fn new(entries: Vec<Entry>) -> Entries
+        ensures { result ≡ entries.items }
+    {
+        Entries { entries }
+    }
+
+    /// The entries in order.
+    pub fn as_slice(&self) -> &[Entry]
+        ensures { result.now ≡ self.now }
+    {
+        self.entries.as_slice()
+    }
+}
+
+/// One command.
+#[derive(Drop)]
+pub enum Command {
+    /// Clears the inactive ruleset of each name and gives a ticket for it.
+    Begin(RulesetNames),
+    /// Appends a rule to the inactive filter ruleset at a path.
+    Add {
+        path: Path,
+        ticket: Ticket,
+        rule: Rule,
+    },
+    /// Makes the inactive rulesets active, all or none.
+    Commit(Entries),
+    /// Says what happens to a packet.
+    Judge(Packet),
+}
