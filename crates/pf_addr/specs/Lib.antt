@@ -2,3 +2,8 @@ pub mod Bits
 pub mod BitLaws
 pub mod Address
 pub mod Nets
+pub mod Grammar
+pub mod Reading
+pub mod Spelling
+pub mod SpellingLaws
+pub mod Writing

@@ -1,6 +1,11 @@
 //! Addresses.
-ghost use Rattle.std.specs.Prelude.{◌≡◌};
-ghost use Rattle.pf_addr.specs.Address.{family_of};
+ghost use Rattle.std.specs.Prelude.{◌≡◌, IfOk, Ok};
+ghost use Rattle.pf_addr.specs.Address.{family_of, width};
+ghost use Rattle.pf_addr.specs.Grammar.{SpellsAddr};
+ghost use Rattle.pf_addr.specs.Reading.{addr_at};
+
+use crate::fault::AddrFault;
+use crate::reading::read_parts;
 
 /// The family of an address or of a network (`inet` and `inet6` in pf.conf(5)).
 #[derive(Clone, Copy, Debug, PartialEq, Eq)]
@@ -11,10 +16,24 @@ pub enum Family {
     V6,
 }
 
+impl Family {
+    /// How many bits an address of the family has.
+    pub fn width(self) -> u8
+        ensures { result ≡ width self }
+    {
+        match self {
+            Family::V4 => 32,
+            Family::V6 => 128,
+        }
+    }
+}
+
 /// An address, as a number whose highest bit is the address's first (host order).
 #[derive(Clone, Copy, Debug, PartialEq, Eq)]
 pub enum Addr {
+    /// An IPv4 address.
     V4(u32),
+    /// An IPv6 address.
     V6(u128),
 }
 
@@ -27,5 +46,37 @@ impl Addr {
             Addr::V4(_) => Family::V4,
             Addr::V6(_) => Family::V6,
         }
+    }
+
+    /// Reads a V4 address: four decimal numbers of one byte between dots, each of one to three digits.
+    ///
+    /// The fault is the first in this order: [`AddrFault::Empty`] of no text; in the parts from left to right
+    /// [`AddrFault::BadDigit`], and then [`AddrFault::TooBig`]; [`AddrFault::BadGroups`]. It takes no memory.
+    pub fn from_ascii(text: &[u8]) -> Result<Addr, AddrFault>
+        ensures found { IfOk result (λ a. SpellsAddr text.now a) }
+        ensures only { (a : Addr) → SpellsAddr text.now a → result ≡ Ok a }
+        ensures exact { result ≡ addr_at text.now }
+    {
+        Addr::four_parts(text)
+    }
+
+    /// As [`Addr::from_ascii`].
+    pub fn parse(text: &str) -> Result<Addr, AddrFault>
+        ensures found { IfOk result (λ a. SpellsAddr text.now a) }
+        ensures only { (a : Addr) → SpellsAddr text.now a → result ≡ Ok a }
+        ensures exact { result ≡ addr_at text.now }
+    {
+        Addr::from_ascii(text.as_bytes())
+    }
+
+    // Kept apart, so that what is read is proved once for each way out.
+    fn four_parts(text: &[u8]) -> Result<Addr, AddrFault>
+        ensures { result ≡ addr_at text.now }
+    {
+        let parts = read_parts(text)?;
+        if parts.count != 4 {
+            return Err(AddrFault::BadGroups { at: 0 });
+        }
+        Ok(Addr::V4(u32::from_be_bytes(parts.bytes)))
     }
 }

@@ -2,7 +2,21 @@
 #![tactic(auto)]
 
 mod addr;
+mod fault;
+mod laws;
 mod net;
+mod reading;
+mod write;
 
 pub use addr::{Addr, Family};
+pub use fault::AddrFault;
+pub use laws::{
+    addrs_have_texts_of_their_own, net_text_is_one_word, nets_have_texts_of_their_own,
+    text_spells_one_addr, text_spells_one_net, written_addr_is_read_again,
+    written_net_is_read_again,
+};
 pub use net::Net;
+pub use write::{write_addr, write_net, write_number, write_text};
+
+#[cfg(test)]
+mod tests;

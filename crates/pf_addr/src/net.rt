@@ -1,12 +1,17 @@
 //! Networks.
-ghost use Rattle.std.specs.Prelude.{◌≡◌, ◌≤◌, length};
-ghost use Rattle.pf_addr.specs.Address.{Network, contains, width};
+ghost use Rattle.std.specs.Prelude.{◌≡◌, ℕ, ◌-◌, ◌*◌, ◌/◌, ◌^◌, ◌≤◌, ◌<◌, length, take, IfOk, Ok};
+ghost use Rattle.pf_addr.specs.Address.{Network, contains, width, family_of, bits_of};
+ghost use Rattle.pf_addr.specs.Grammar.{SpellsNet, network_of};
+ghost use Rattle.pf_addr.specs.Reading.{net_at, cut_at};
+ghost use Rattle.pf_addr.specs.Spelling.{first_addr};
 
 use crate::addr::{Addr, Family};
+use crate::fault::AddrFault;
+use crate::reading::{first_slash, front_len, read_parts};
 use std::marker::Model;
 
 /// A network: the addresses of one family that begin with the same bits. The bits past the front are zero.
-#[derive(Clone, Copy)]
+#[derive(Clone, Copy, Debug, PartialEq, Eq)]
 pub struct Net {
     family: Family,
     number: u128,
@@ -30,12 +35,131 @@ impl Model for Net {
 }
 
 impl Net {
+    /// The network of the addresses that share their first `len` bits with this one. The other bits of `addr` are
+    /// cleared.
+    pub fn new(addr: Addr, len: u8) -> Net
+        requires { len ≤ width (family_of addr) }
+        ensures family { result.family ≡ family_of addr }
+        ensures front { result.front ≡ take len (bits_of addr) }
+    {
+        match addr {
+            Addr::V4(number) => Net {
+                family: Family::V4,
+                number: first_of(u128::from(number), 32 - len),
+                len,
+            },
+            Addr::V6(number) => Net {
+                family: Family::V6,
+                number: first_of(number, 128 - len),
+                len,
+            },
+        }
+    }
+
+    /// The network of one address.
+    pub fn single(addr: Addr) -> Net
+        ensures { result ≡ network_of addr }
+    {
+        Net::new(addr, addr.family().width())
+    }
+
     /// The network's family.
     pub fn family(self) -> Family
         ensures family { result ≡ self.family }
         // a network's front is no longer than an address of its family
         ensures within { length self.front ≤ width self.family }
     {
-        self.family
+        let Net { family, .. } = self;
+        family
     }
+
+    /// How many bits the network's addresses share: at most 32 in a V4 network, and 128 in a V6 network.
+    pub fn len(self) -> u8
+        ensures value { result ≡ length self.front }
+        ensures within { result ≤ width self.family }
+    {
+        let Net { len, .. } = self;
+        len
+    }
+
+    /// The network's first address: the shared bits, and then zeros.
+    pub fn addr(self) -> Addr
+        ensures value { result ≡ first_addr self }
+        ensures family { family_of result ≡ self.family }
+    {
+        match self.family {
+            Family::V4 => Addr::V4(self.number as u32),
+            Family::V6 => Addr::V6(self.number),
+        }
+    }
+
+    /// Whether the address is of the network's family and begins with its shared bits.
+    pub fn contains(self, addr: Addr) -> bool
+        ensures { result ≡ contains self addr }
+    {
+        match (self.family, addr) {
+            (Family::V4, Addr::V4(number)) => {
+                first_of(u128::from(number), 32 - self.len) == self.number
+            }
+            (Family::V6, Addr::V6(number)) => first_of(number, 128 - self.len) == self.number,
+            _ => false,
+        }
+    }
+
+    /// Reads a network in CIDR notation: an address alone, or one to four parts of a V4 address (the missing ones are
+    /// zero), a slash, and how many bits the network's addresses share. The other bits are cleared.
+    ///
+    /// The fault is the first in this order: [`AddrFault::Empty`] where nothing stands before the slash; those of the
+    /// address, as [`Addr::from_ascii`] answers them; [`AddrFault::BadLength`]. It takes no memory.
+    pub fn from_ascii(text: &[u8]) -> Result<Net, AddrFault>
+        ensures found { IfOk result (λ n. SpellsNet text.now n) }
+        ensures only { (n : Network) → SpellsNet text.now n → result ≡ Ok n }
+        ensures exact { result ≡ net_at text.now }
+    {
+        Net::with_or_without_len(text)
+    }
+
+    /// As [`Net::from_ascii`].
+    pub fn parse(text: &str) -> Result<Net, AddrFault>
+        ensures found { IfOk result (λ n. SpellsNet text.now n) }
+        ensures only { (n : Network) → SpellsNet text.now n → result ≡ Ok n }
+        ensures exact { result ≡ net_at text.now }
+    {
+        Net::from_ascii(text.as_bytes())
+    }
+
+    // Kept apart, so that what is read is proved once for each way out.
+    fn with_or_without_len(text: &[u8]) -> Result<Net, AddrFault>
+        ensures { result ≡ net_at text.now }
+    {
+        match first_slash(text) {
+            Some(slash) => Net::cut_at(text, slash),
+            None => Ok(Net::single(Addr::from_ascii(text)?)),
+        }
+    }
+
+    // The network of a text whose first slash stands at this place.
+    fn cut_at(text: &[u8], slash: usize) -> Result<Net, AddrFault>
+        requires { slash < length text.now }
+        ensures { result ≡ cut_at text.now (Some slash) }
+    {
+        let parts = read_parts(&text[..slash])?;
+        if parts.count > 4 {
+            return Err(AddrFault::BadGroups { at: 0 });
+        }
+        let len = front_len(slash + 1, &text[slash + 1..])?;
+        Ok(Net::new(Addr::V4(u32::from_be_bytes(parts.bytes)), len))
+    }
+}
+
+// The number with its last bits cleared, the `host` lowest of them.
+fn first_of(number: u128, host: u8) -> u128
+    requires { host ≤ 128 }
+    ensures { result ≡ number / 2 ^ host * 2 ^ host }
+{
+    // a shift by all 128 bits is none
+    if host == 128 {
+        return 0;
+    }
+    (number >> host) << host
 }

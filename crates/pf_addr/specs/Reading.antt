@@ -1,0 +1,91 @@
+-- Which fault of a text is answered. Several faults may stand in one text, and the format fixes their order (parts
+-- from left to right; in a part the first byte that is no digit before its length and value; then the number of
+-- parts; then a network's length). So the fault and its place are a function of the text.
+use Rattle.std.specs.Prelude.{ℕ, ◌+◌, ◌*◌, ◌-◌, ◌==◌, ◌&&◌, not, nat_lt, nat_le, Bool, List, [], ◌∷◌, ◌++◌, length, take, drop, fold, replicate, Option, Some, None, Result, Ok, Err, if◌then◌else◌}
+use Rattle.std.specs.List.{slice_split, position}
+use Rattle.std.specs.Int.{from_be_bytes, w32}
+use Rattle.pf_addr.specs.declared.addr.Addr.{Addr}
+use Rattle.pf_addr.specs.declared.addr.Addr.TheVariants as addr
+use Rattle.pf_addr.specs.declared.fault.AddrFault.{AddrFault}
+use Rattle.pf_addr.specs.declared.fault.AddrFault.TheVariants.{Empty, BadDigit, TooBig, BadLength, BadGroups}
+use Rattle.pf_addr.specs.declared.reading.Parts.{Parts}
+use Rattle.pf_addr.specs.Address.{Network}
+use Rattle.pf_addr.specs.Grammar.{network_of, v4_network}
+
+infixl 10 ◌>>=◌
+abbrev pub ◌>>=◌ : {A B E : Type 0} → Result A E → (A → Result B E) → Result B E
+(Ok x) >>= f = f x
+(Err e) >>= f = Err e
+
+abbrev pub is_digit : ℕ → Bool
+is_digit b = nat_le 48 b && nat_le b 57
+
+abbrev pub is_dot : ℕ → Bool
+is_dot b = b == 46
+
+abbrev pub is_slash : ℕ → Bool
+is_slash b = b == 47
+
+-- ---- one part, which begins at `at`
+
+abbrev pub decimal_value : List ℕ → ℕ
+decimal_value = fold (λ v b. v * 10 + (b - 48)) 0
+
+abbrev pub valued_at : ℕ → List ℕ → Result ℕ AddrFault
+valued_at at text = if nat_lt 3 (length text) then Err (TooBig at) else (if nat_lt 255 (decimal_value text) then Err (TooBig at) else Ok (decimal_value text))
+
+-- with the place of its first byte that is no digit
+abbrev pub judged_at : ℕ → List ℕ → Option ℕ → Result ℕ AddrFault
+judged_at at text (Some i) = Err (BadDigit (at + i))
+judged_at at text None = valued_at at text
+
+unfoldable pub part_at : ℕ → List ℕ → Result ℕ AddrFault
+part_at at text = if length text == 0 then Err (BadDigit at) else judged_at at text (position (λ b. not (is_digit b)) text)
+
+-- ---- the parts of a text, of which the first begins at `at`, with one byte between two
+
+unfoldable pub parts_at : ℕ → List (List ℕ) → Result (List ℕ) AddrFault
+parts_at at [] = Ok []
+parts_at at (p ∷ ps) = part_at at p >>= λ n. parts_at (at + length p + 1) ps >>= λ ns. Ok (n ∷ ns)
+
+unfoldable pub numbers_at : List ℕ → Result (List ℕ) AddrFault
+numbers_at [] = Err (Empty 0)
+numbers_at (b ∷ bs) = parts_at 0 (slice_split is_dot (b ∷ bs))
+
+-- what is kept of them: the first four, and how many they are
+abbrev pub parts_of : List ℕ → Parts
+parts_of ns = record { bytes = take 4 (ns ++ replicate 4 0); count = length ns }
+
+abbrev pub kept_parts : Result (List ℕ) AddrFault → Result Parts AddrFault
+kept_parts r = r >>= λ ns. Ok (parts_of ns)
+
+-- ---- an address
+
+abbrev pub address_of : List ℕ → Result Addr AddrFault
+address_of parts = if length parts == 4 then Ok (addr.V4 (from_be_bytes w32 parts)) else Err (BadGroups 0)
+
+abbrev pub addr_at : List ℕ → Result Addr AddrFault
+addr_at text = numbers_at text >>= address_of
+
+-- ---- a network
+
+abbrev pub at_most_four : List ℕ → Result (List ℕ) AddrFault
+at_most_four parts = if nat_le (length parts) 4 then Ok parts else Err (BadGroups 0)
+
+-- A length has one fault, whatever is wrong with it.
+abbrev pub length_of : ℕ → Result ℕ AddrFault → Result ℕ AddrFault
+length_of at (Ok n) = if nat_le n 32 then Ok n else Err (BadLength at)
+length_of at (Err e) = Err (BadLength at)
+
+abbrev pub length_at : ℕ → List ℕ → Result ℕ AddrFault
+length_at at text = length_of at (part_at at text)
+
+-- with the place of its first slash
+abbrev pub cut_at : List ℕ → Option ℕ → Result Network AddrFault
+cut_at text None = addr_at text >>= λ a. Ok (network_of a)
+cut_at text (Some i) =
+    numbers_at (take i text) >>= at_most_four >>= λ parts.
+    length_at (i + 1) (drop (i + 1) text) >>= λ len. Ok (v4_network parts len)
+
+abbrev pub net_at : List ℕ → Result Network AddrFault
+net_at text = cut_at text (position is_slash text)

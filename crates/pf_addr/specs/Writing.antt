@@ -1,0 +1,57 @@
+-- What a call that writes a text leaves in the writer, where the writer's bytes are known.
+use Rattle.std.proofs.Common.{◌≡◌, ℕ, zero, suc, List, [], ◌∷◌, ◌++◌, take, Option, Some, None, Result, Ok, Err, refl, sym, ap, ◌∙◌, subst, append_assoc, append-nil}
+use Rattle.std.specs.Io.KnownBytes.{Appends, Keeps}
+
+-- some front of the text
+abbrev pub WritesFront : Option (List ℕ) → Option (List ℕ) → List ℕ → Type 0
+WritesFront old new text = (k : ℕ) × Appends old new (take k text)
+
+-- the whole text at `Ok`, and some front of it at `Err`
+abbrev pub Writes : {A E : Type 0} → Result A E → Option (List ℕ) → Option (List ℕ) → List ℕ → Type 0
+Writes (Ok u) old new text = Appends old new text
+Writes (Err e) old new text = WritesFront old new text
+
+-- ---- laws
+
+pub Appends-none : (old : Option (List ℕ)) → Appends old old []
+Appends-none None = tt
+Appends-none (Some xs) = sym (append-nil xs)
+
+pub Appends-then : (old mid new : Option (List ℕ)) (a b : List ℕ) → Appends old mid a → Appends mid new b → Appends old new (a ++ b)
+Appends-then None mid new a b p q = tt
+Appends-then (Some xs) None new a b p q = absurd p
+Appends-then (Some xs) (Some ys) None a b p q = absurd q
+Appends-then (Some xs) (Some ys) (Some zs) a b p q = q ∙ ap (λ (l : List ℕ). l ++ b) p ∙ append_assoc xs a b
+
+pub Appends-kept : (old mid new : Option (List ℕ)) (a : List ℕ) → Appends old mid a → Keeps mid new → Appends old new a
+Appends-kept None mid new a p q = tt
+Appends-kept (Some xs) None new a p q = absurd p
+Appends-kept (Some xs) (Some ys) None a p q = absurd q
+Appends-kept (Some xs) (Some ys) (Some zs) a p q = q ∙ p
+
+-- a front of a text, in the text with more behind it
+take-longer : (k : ℕ) (a b : List ℕ) → (j : ℕ) × (take j (a ++ b) ≡ take k a)
+take-longer zero a b = (zero, refl)
+take-longer (suc k) [] b = (zero, refl)
+take-longer (suc k) (x ∷ a) b = let rest = take-longer k a b in (suc rest.0, ap (λ (l : List ℕ). x ∷ l) rest.1)
+
+take-behind : (k : ℕ) (a b : List ℕ) → (j : ℕ) × (take j (a ++ b) ≡ a ++ take k b)
+take-behind k [] b = (k, refl)
+take-behind k (x ∷ a) b = let rest = take-behind k a b in (suc rest.0, ap (λ (l : List ℕ). x ∷ l) rest.1)
+
+-- Where the first of two texts fails, a front of both is written.
+pub WritesFront-longer : (old new : Option (List ℕ)) (a b : List ℕ) → WritesFront old new a → WritesFront old new (a ++ b)
+WritesFront-longer old new a b w =
+    let j = take-longer w.0 a b in
+    (j.0, subst (Appends old new) (sym j.1) w.1)
+
+-- Where the second fails, the first and a front of the second are a front of both.
+pub WritesFront-then : (old mid new : Option (List ℕ)) (a b : List ℕ) → Appends old mid a → WritesFront mid new b → WritesFront old new (a ++ b)
+WritesFront-then old mid new a b p w =
+    let j = take-behind w.0 a b in
+    (j.0, subst (Appends old new) (sym j.1) (Appends-then old mid new a (take w.0 b) p w.1))
+
+-- One text and then another.
+pub Writes-then : {A E : Type 0} (r : Result A E) (old mid new : Option (List ℕ)) (a b : List ℕ) → Appends old mid a → Writes r mid new b → Writes r old new (a ++ b)
+Writes-then (Ok u) old mid new a b p w = Appends-then old mid new a b p w
+Writes-then (Err e) old mid new a b p w = WritesFront-then old mid new a b p w

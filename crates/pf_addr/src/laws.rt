@@ -1,0 +1,44 @@
+//! Laws of the texts. Each function's contract is the law, and its body does nothing.
+ghost use Rattle.std.specs.Prelude.{◌≡◌, ℕ, ◌^◌, ◌<◌, List};
+ghost use Rattle.pf_addr.specs.declared.addr.Addr.TheVariants as Addr;
+ghost use Rattle.pf_addr.specs.Address.{Network};
+ghost use Rattle.pf_addr.specs.Grammar.{SpellsAddr, SpellsNet};
+ghost use Rattle.pf_addr.specs.Spelling.{addr_text, net_text};
+ghost use Rattle.pf_addr.specs.SpellingLaws.{IsV4Network, IsNetWord};
+
+use crate::addr::Addr;
+
+/// The text that a V4 address is written as spells it.
+pub fn written_addr_is_read_again()
+    ensures { (n : ℕ) → n < 2 ^ 32 → SpellsAddr (addr_text (Addr.V4 n)) (Addr.V4 n) }
+{}
+
+/// The text that a V4 network is written as spells it.
+pub fn written_net_is_read_again()
+    ensures { (net : Network) → IsV4Network net → SpellsNet (net_text net) net }
+{}
+
+/// A text spells at most one address.
+pub fn text_spells_one_addr()
+    ensures { (text : List ℕ) (a b : Addr) → SpellsAddr text a → SpellsAddr text b → a ≡ b }
+{}
+
+/// A text spells at most one network.
+pub fn text_spells_one_net()
+    ensures { (text : List ℕ) (a b : Network) → SpellsNet text a → SpellsNet text b → a ≡ b }
+{}
+
+/// Two V4 addresses that are written as one text are one.
+pub fn addrs_have_texts_of_their_own()
+    ensures { (m n : ℕ) → m < 2 ^ 32 → n < 2 ^ 32 → addr_text (Addr.V4 m) ≡ addr_text (Addr.V4 n) → m ≡ n }
+{}
+
+/// Two V4 networks that are written as one text are one.
+pub fn nets_have_texts_of_their_own()
+    ensures { (a b : Network) → IsV4Network a → IsV4Network b → net_text a ≡ net_text b → a ≡ b }
+{}
+
+/// A V4 network's text is one word: one to 18 digits, dots and slashes.
+pub fn net_text_is_one_word()
+    ensures { (net : Network) → IsV4Network net → IsNetWord 18 (net_text net) }
+{}

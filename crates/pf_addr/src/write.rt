@@ -1,0 +1,202 @@
+//! Addresses, networks and numbers as text.
+//!
+//! A call that fails has written some front of its text, and no more. None of these calls takes memory.
+ghost use Rattle.std.specs.Prelude.{◌≡◌, ◌≢◌, ◌+◌, ◌<◌, ◌≤◌, ◌^◌, ◌/◌, ◌%◌, ℕ, List, [], ◌∷◌, ◌++◌, length, map, take, decimal, IfErr, IfOk, OnErr};
+ghost use Rattle.std.specs.Char.{digit_char};
+ghost use Rattle.std.specs.Io.{WritesAtMost};
+ghost use Rattle.std.specs.Io.KnownBytes.{Appends, Keeps};
+ghost use Rattle.std.specs.IoError.{error_kind};
+ghost use Rattle.std.specs.List.{join_with_byte};
+ghost use Rattle.std.specs.Net.Text.{hex, leading_zero_digits};
+ghost use Rattle.pf_addr.specs.declared.addr.Addr.TheVariants as Addr;
+ghost use Rattle.pf_addr.specs.Spelling.{addr_text, net_text, length_text, group_text};
+ghost use Rattle.pf_addr.specs.Writing.{Writes};
+
+use crate::addr::Addr;
+use crate::net::Net;
+use itoa::Buffer;
+use std::io::{self, ErrorKind, Write};
+
+/// Writes the text.
+///
+/// The error is the writer's first, save that a write that a signal interrupts is tried again, or one of the kind
+/// `WriteZero` where the writer takes no byte.
+pub fn write_text<W: Write>(out: &mut W, text: &[u8]) -> io::Result<()>
+    ensures text { Writes result (W.contents out.old) (W.contents out.new) text.now }
+    ensures retried { IfErr result (λ e. error_kind e ≢ ErrorKind.Interrupted) }
+{
+    let mut written = 0;
+    while written < text.len() {
+        match write_some(out, &text[written..]) {
+            Ok(0) => {
+                let message = "the writer takes no byte";
+                return Err(io::Error::new(ErrorKind::WriteZero, message));
+            }
+            Ok(n) => written += n,
+            Err(e) => return Err(e),
+        }
+    }
+    Ok(())
+}
+
+/// One write, tried again where a signal interrupts it.
+fn write_some<W: Write>(out: &mut W, text: &[u8]) -> io::Result<usize>
+    ensures bound { WritesAtMost result text.now }
+    ensures ok { IfOk result (λ n. Appends (W.contents out.old) (W.contents out.new) (take n text.now)) }
+    ensures err { OnErr result (Keeps (W.contents out.old) (W.contents out.new)) }
+    ensures retried { IfErr result (λ e. error_kind e ≢ ErrorKind.Interrupted) }
+{
+    for _ in 0..u64::MAX {
+        match out.write(text) {
+            Ok(n) => return Ok(n),
+            Err(e) => {
+                if e.kind() != ErrorKind::Interrupted {
+                    return Err(e);
+                }
+            }
+        }
+    }
+    let message = "each write was interrupted";
+    Err(io::Error::new(ErrorKind::TimedOut, message))
+}
+
+/// Writes the number in decimal digits, with no leading zeros.
+pub fn write_number<W: Write>(out: &mut W, number: u64) -> io::Result<()>
+    ensures text { Writes result (W.contents out.old) (W.contents out.new) (decimal number) }
+    ensures retried { IfErr result (λ e. error_kind e ≢ ErrorKind.Interrupted) }
+{
+    let mut buffer = Buffer::new();
+    write_text(out, buffer.format(number).as_bytes())
+}
+
+/// Writes an address: V4 as four decimal numbers between dots, V6 as eight groups between colons, in lower-case
+/// hexadecimal with no leading zeros (RFC 4291 section 2.2, form 1).
+pub fn write_addr<W: Write>(out: &mut W, addr: Addr) -> io::Result<()>
+    ensures text { Writes result (W.contents out.old) (W.contents out.new) (addr_text addr) }
+    ensures retried { IfErr result (λ e. error_kind e ≢ ErrorKind.Interrupted) }
+{
+    match addr {
+        Addr::V4(number) => write_v4(out, number),
+        Addr::V6(number) => write_v6(out, number),
+    }
+}
+
+/// Writes a network: its first address, and unless it has no other address a slash and how many bits its addresses
+/// share.
+pub fn write_net<W: Write>(out: &mut W, net: Net) -> io::Result<()>
+    ensures text { Writes result (W.contents out.old) (W.contents out.new) (net_text net) }
+    ensures retried { IfErr result (λ e. error_kind e ≢ ErrorKind.Interrupted) }
+{
+    write_addr(out, net.addr())?;
+    write_len(out, net)
+}
+
+fn write_len<W: Write>(out: &mut W, net: Net) -> io::Result<()>
+    ensures text { Writes result (W.contents out.old) (W.contents out.new) (length_text net) }
+    ensures retried { IfErr result (λ e. error_kind e ≢ ErrorKind.Interrupted) }
+{
+    if net.len() == net.family().width() {
+        return Ok(());
+    }
+    write_text(out, b"/")?;
+    write_number(out, u64::from(net.len()))
+}
+
+fn write_v4<W: Write>(out: &mut W, number: u32) -> io::Result<()>
+    ensures text { Writes result (W.contents out.old) (W.contents out.new) (addr_text (Addr.V4 number)) }
+    ensures retried { IfErr result (λ e. error_kind e ≢ ErrorKind.Interrupted) }
+{
+    let [a, b, c, d] = number.to_be_bytes();
+    write_two_bytes(out, a, b)?;
+    write_text(out, b".")?;
+    write_two_bytes(out, c, d)
+}
+
+fn write_two_bytes<W: Write>(out: &mut W, a: u8, b: u8) -> io::Result<()>
+    ensures text { Writes result (W.contents out.old) (W.contents out.new) (decimal a ++ 46 ∷ decimal b) }
+    ensures retried { IfErr result (λ e. error_kind e ≢ ErrorKind.Interrupted) }
+{
+    write_number(out, u64::from(a))?;
+    write_text(out, b".")?;
+    write_number(out, u64::from(b))
+}
+
+fn write_v6<W: Write>(out: &mut W, number: u128) -> io::Result<()>
+    ensures text { Writes result (W.contents out.old) (W.contents out.new) (addr_text (Addr.V6 number)) }
+    ensures retried { IfErr result (λ e. error_kind e ≢ ErrorKind.Interrupted) }
+{
+    write_four_groups(out, number, 64)?;
+    write_text(out, b":")?;
+    write_four_groups(out, number, 0)
+}
+
+/// Writes the four groups whose last one begins `last` bits from the end.
+fn write_four_groups<W: Write>(out: &mut W, number: u128, last: u8) -> io::Result<()>
+    requires { last ≤ 64 }
+    ensures text { Writes result (W.contents out.old) (W.contents out.new)
+        (join_with_byte 58 (map (group_text number) ((last + 48) ∷ (last + 32) ∷ (last + 16) ∷ last ∷ []))) }
+    ensures retried { IfErr result (λ e. error_kind e ≢ ErrorKind.Interrupted) }
+{
+    write_two_groups(out, group(number, last + 48), group(number, last + 32))?;
+    write_text(out, b":")?;
+    write_two_groups(out, group(number, last + 16), group(number, last))
+}
+
+fn write_two_groups<W: Write>(out: &mut W, a: u16, b: u16) -> io::Result<()>
+    ensures text { Writes result (W.contents out.old) (W.contents out.new) (hex a ++ 58 ∷ hex b) }
+    ensures retried { IfErr result (λ e. error_kind e ≢ ErrorKind.Interrupted) }
+{
+    write_group(out, a)?;
+    write_text(out, b":")?;
+    write_group(out, b)
+}
+
+/// Writes 16 bits in hexadecimal.
+#[tactic(auto, unfolding(std::specs::Net::Text::hex))]
+fn write_group<W: Write>(out: &mut W, group: u16) -> io::Result<()>
+    ensures text { Writes result (W.contents out.old) (W.contents out.new) (hex group) }
+    ensures retried { IfErr result (λ e. error_kind e ≢ ErrorKind.Interrupted) }
+{
+    let digits = [
+        hex_digit(group / 0x1000),
+        hex_digit(group / 0x100 % 16),
+        hex_digit(group / 0x10 % 16),
+        hex_digit(group % 16),
+    ];
+    write_text(out, &digits[leading_zeros(group)..])
+}
+
+/// How many of the first three of a group's four digits are leading zeros.
+fn leading_zeros(group: u16) -> usize
+    ensures value { result ≡ leading_zero_digits group }
+    ensures few { result ≤ 3 }
+{
+    if group >= 0x1000 {
+        0
+    } else if group >= 0x100 {
+        1
+    } else if group >= 0x10 {
+        2
+    } else {
+        3
+    }
+}
+
+fn hex_digit(digit: u16) -> u8
+    requires { digit < 16 }
+    ensures { result ≡ digit_char digit }
+{
+    if digit < 10 {
+        b'0' + digit as u8
+    } else {
+        b'a' + (digit - 10) as u8
+    }
+}
+
+/// The 16 bits that end so many bits before the number's end.
+fn group(number: u128, end: u8) -> u16
+    requires { end < 128 }
+    ensures { result ≡ number / 2 ^ end % 2 ^ 16 }
+{
+    ((number >> end) % 0x1_0000) as u16
+}
