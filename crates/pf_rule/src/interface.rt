@@ -1,6 +1,7 @@
 //! Names of network interfaces.
 ghost use Rattle.std.specs.Prelude.{◌≡◌, ◌≤◌, length};
 ghost use Rattle.std.specs.Str.{bytes_eq};
+ghost use Rattle.pf_rule.specs.Names.{IsInterfaceName};
 
 use std::marker::Model;
 
@@ -29,6 +30,19 @@ impl Model for Interface {
 }
 
 impl Interface {
+    /// The interface of this name.
+    pub(crate) fn new(name: &[u8]) -> Interface
+        requires { IsInterfaceName name.now }
+        ensures { result ≡ name.now }
+    {
+        let mut bytes = [0; 15];
+        bytes[..name.len()].copy_from_slice(name);
+        Interface {
+            bytes,
+            len: name.len() as u8,
+        }
+    }
+
     /// The name's bytes.
     pub fn as_bytes(&self) -> &[u8]
         ensures { result.now ≡ self.now }

@@ -1,5 +1,6 @@
 //! Protocol numbers.
 ghost use Rattle.std.specs.Prelude.{◌≡◌, ◌<◌};
+ghost use Rattle.pf_rule.specs.Packets.{has_ports};
 
 use std::marker::Model;
 
@@ -44,5 +45,12 @@ impl Protocol {
         ensures below { result < 256 }
     {
         self.0
+    }
+
+    /// Whether packets of the protocol have ports.
+    pub fn has_ports(self) -> bool
+        ensures { result ≡ has_ports self }
+    {
+        self.0 == Protocol::TCP || self.0 == Protocol::UDP
     }
 }

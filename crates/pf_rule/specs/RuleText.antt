@@ -1,0 +1,74 @@
+-- The one text that a rule is written as: its words, with one space between two.
+use Rattle.std.specs.Prelude.{ℕ, Bool, true, false, List, [], ◌∷◌, ◌++◌, Option, Some, None, codes, decimal, ◌==◌, if◌then◌else◌}
+use Rattle.std.specs.List.{join_with_byte}
+use Rattle.pf_addr.specs.declared.addr.Family.{Family}
+use Rattle.pf_addr.specs.declared.addr.Family.TheVariants.{V4, V6}
+use Rattle.pf_addr.specs.Spelling.{net_text}
+use Rattle.pf_rule.specs.declared.rule.Action.{Action}
+use Rattle.pf_rule.specs.declared.rule.Action.TheVariants.{Pass, Block}
+use Rattle.pf_rule.specs.declared.rule.Direction.{Direction}
+use Rattle.pf_rule.specs.declared.rule.Direction.TheVariants.{In, Out}
+use Rattle.pf_rule.specs.declared.rule.Host.{Host}
+use Rattle.pf_rule.specs.declared.rule.Host.TheVariants.{Any, Net}
+use Rattle.pf_rule.specs.Words.{Word}
+use Rattle.pf_rule.specs.Rules.{PlainRule}
+
+abbrev pub action_word : Action → Word
+action_word (Pass keeps) = codes "pass"
+action_word Block = codes "block"
+
+abbrev pub direction_words : Option Direction → List Word
+direction_words None = []
+direction_words (Some In) = codes "in" ∷ []
+direction_words (Some Out) = codes "out" ∷ []
+
+abbrev pub quick_words : Bool → List Word
+quick_words true = codes "quick" ∷ []
+quick_words false = []
+
+abbrev pub interface_words : Option (List ℕ) → List Word
+interface_words None = []
+interface_words (Some name) = codes "on" ∷ name ∷ []
+
+abbrev pub family_words : Option Family → List Word
+family_words None = []
+family_words (Some V4) = codes "inet" ∷ []
+family_words (Some V6) = codes "inet6" ∷ []
+
+-- the four protocols that have a name, and the numbers of the others
+abbrev pub protocol_word : ℕ → Word
+protocol_word n = if n == 1 then codes "icmp" else (if n == 6 then codes "tcp" else (if n == 17 then codes "udp" else (if n == 58 then codes "icmp6" else decimal n)))
+
+abbrev pub protocol_words : Option ℕ → List Word
+protocol_words None = []
+protocol_words (Some n) = codes "proto" ∷ protocol_word n ∷ []
+
+abbrev pub host_word : Host → Word
+host_word Any = codes "any"
+host_word (Net n) = net_text n
+
+abbrev pub from_to_words : Host → Host → List Word
+from_to_words source destination = codes "from" ∷ host_word source ∷ codes "to" ∷ host_word destination ∷ []
+
+abbrev pub host_words : Host → Host → List Word
+host_words Any Any = codes "all" ∷ []
+host_words Any (Net n) = from_to_words Any (Net n)
+host_words (Net n) destination = from_to_words (Net n) destination
+
+abbrev pub state_words : Action → List Word
+state_words (Pass true) = codes "keep" ∷ codes "state" ∷ []
+state_words (Pass false) = codes "no" ∷ codes "state" ∷ []
+state_words Block = []
+
+abbrev pub canonical : PlainRule → List Word
+canonical r =
+    action_word r.action ∷ (direction_words r.direction ++ (quick_words r.quick ++ (interface_words r.interface ++ (family_words r.family
+    ++ (protocol_words r.protocol ++ (host_words r.source r.destination ++ state_words r.action))))))
+
+-- words with a space (32) between two
+unfoldable pub rule_text : PlainRule → List ℕ
+rule_text r = join_with_byte 32 (canonical r)
+
+-- words with a space before each
+abbrev pub spaced : List Word → List ℕ
+spaced ws = join_with_byte 32 ([] ∷ ws)
