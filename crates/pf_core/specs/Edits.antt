@@ -2,10 +2,12 @@
 use Rattle.std.specs.Prelude.{ℕ, List, fold, map, Option, Some, None}
 use Rattle.pf_rule.specs.Packets.{PlainPacket}
 use Rattle.pf_rule.specs.Evaluation.{Match, evaluate}
+use Rattle.pf_core.specs.declared.command.RulesetName.{RulesetName}
 use Rattle.pf_core.specs.declared.reply.RuleVerdict.{RuleVerdict}
 use Rattle.pf_core.specs.declared.reply.RuleVerdict.TheVariants as by
 use Rattle.pf_core.specs.declared.reply.Verdict.{Verdict}
 use Rattle.pf_core.specs.declared.reply.Verdict.TheVariants.{Rules}
+use Rattle.pf_core.specs.Calls.{filter_at}
 use Rattle.pf_core.specs.Rulesets.{Ruled, main, rules_at, with_rules}
 
 pub record Kept : Type 0 where
@@ -27,12 +29,12 @@ applied d (commits items) = kept d.epoch (fold with_rules d.rulesets items)
 abbrev pub after : Kept → List Edit → Kept
 after d changes = fold applied d changes
 
-abbrev pub path_of : Ruled → List ℕ
-path_of item = item.path
+abbrev pub name_of : Ruled → RulesetName
+name_of item = filter_at item.path
 
 -- the rulesets whose tickets a change voids
-abbrev pub voided_by : Edit → List (List ℕ)
-voided_by (commits items) = map path_of items
+abbrev pub voided_by : Edit → List RulesetName
+voided_by (commits items) = map name_of items
 
 -- the rule that decides, or the default pass (pf.conf(5), Packet Filtering)
 abbrev pub verdict_by : List ℕ → Option Match → RuleVerdict

@@ -1,7 +1,12 @@
 pub mod Rulesets
 pub mod Edits
+pub mod Deciding
 pub mod EditViews
 pub mod Calls
 pub mod Tickets
 pub mod Legal
+pub mod Offers
 pub mod Worlds
+pub mod NameLaws
+pub mod WorldLaws
+pub mod Laws

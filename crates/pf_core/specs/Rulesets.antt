@@ -1,5 +1,5 @@
 -- Rulesets at paths: a finite map in which an empty ruleset doesn't exist, as its entries in the order of their paths (pf.conf(5), Anchors).
-use Rattle.std.specs.Prelude.{ℕ, Bool, cond, List, [], ◌∷◌, ◌++◌, ◌==◌, filter}
+use Rattle.std.specs.Prelude.{◌≡◌, ℕ, ◌<◌, length, Bool, cond, List, [], ◌∷◌, ◌++◌, ◌==◌, filter}
 use Rattle.std.specs.declared.cmp.Ordering.{Ordering}
 use Rattle.std.specs.declared.cmp.Ordering.TheVariants.{Less, Greater}
 use Rattle.std.specs.Ordering.{nat_cmp, eq_by_cmp, ordering_index}
@@ -41,3 +41,13 @@ with_rules es e = filter (is_on_side Less e.path) es ++ entry_of e ++ filter (is
 abbrev pub rules_at : List ℕ → List Ruled → List PlainRule
 rules_at p [] = []
 rules_at p (e ∷ es) = cond (same_path e.path p) e.rules (rules_at p es)
+
+-- each entry's path comes behind this one
+abbrev pub AllBehind : List ℕ → List Ruled → Type 0
+AllBehind p [] = Unit {0}
+AllBehind p (e ∷ es) = (path_order p e.path ≡ Less) × AllBehind p es
+
+-- entries in the order of their paths, none of them twice, and each with rules
+abbrev pub IsMap : List Ruled → Type 0
+IsMap [] = Unit {0}
+IsMap (e ∷ es) = (0 < length e.rules) × AllBehind e.path es × IsMap es

@@ -1,13 +1,14 @@
 -- Worlds: lists of calls with their replies, which of them are legal, and what they leave.
 use Rattle.std.specs.Prelude.{◌≡◌, ℕ, ◌+◌, if◌then◌else◌, List, [], ◌∷◌, ◌++◌, length, fold, nat_lt, Result, Ok, Err}
 use Rattle.pf_core.specs.declared.command.Command.{Command}
+use Rattle.pf_core.specs.declared.command.RulesetName.{RulesetName}
 use Rattle.pf_core.specs.declared.reply.Refusal.{Refusal}
 use Rattle.pf_core.specs.declared.reply.Refusal.TheVariants.{HistoryFull, Memory}
 use Rattle.pf_core.specs.declared.reply.Reply.{Reply}
 use Rattle.pf_core.specs.declared.reply.Reply.TheVariants.{Answer, Applied, Refused}
 use Rattle.pf_core.specs.declared.step.Step.{Step}
 use Rattle.pf_core.specs.declared.step.Step.TheVariants.{Done, Wants}
-use Rattle.pf_core.specs.Calls.{Call}
+use Rattle.pf_core.specs.Calls.{Call, call}
 use Rattle.pf_core.specs.Edits.{Kept, Edit, after}
 use Rattle.pf_core.specs.Legal.{legal_step}
 use Rattle.pf_core.specs.Tickets.{Open, AgreesWith}
@@ -19,6 +20,26 @@ pub record Whole : Type 0 where
 
 abbrev pub whole : Kept → Open → Whole
 whole d t = record { durable = d; tickets = t }
+
+-- what a change leaves of a core, and the rulesets whose tickets it voids
+pub record Ready : Type 0 where
+  pub durable : Kept
+  pub voided : List RulesetName
+
+abbrev pub ready : Kept → List RulesetName → Ready
+ready d names = record { durable = d; voided = names }
+
+-- a step that wants a change kept, or is refused, leaves the core as it was
+abbrev pub StaysUnlessDone : Result Step Refusal → Whole → Whole → Type 0
+StaysUnlessDone (Ok (Done a)) old new = Unit {0}
+StaysUnlessDone (Ok (Wants e o)) old new = new ≡ old
+StaysUnlessDone (Err e) old new = new ≡ old
+
+-- once a command was answered, the tickets agree with the calls and this one
+abbrev pub AgreesAfter : Open → List Call → Command → Result Step Refusal → Type 0
+AgreesAfter t calls c (Ok (Done a)) = AgreesWith t (calls ++ call c (Answer a) ∷ [])
+AgreesAfter t calls c (Ok (Wants e o)) = Unit {0}
+AgreesAfter t calls c (Err e) = Unit {0}
 
 -- what legality reads: the calls so far, and the changes that they kept
 pub record Held : Type 0 where
@@ -88,6 +109,12 @@ pub record IsAt (base : Kept) (h : Held) (b : Page) : Type 0 where
   pub calls : AgreesWith b.whole.tickets h.calls
   pub durable : b.whole.durable ≡ after base b.log
   pub epoch : b.whole.tickets.epoch ≡ base.epoch
+
+-- one call: its reply is legal, and the page is what it leaves
+pub record Follows (base : Kept) (h : Held) (old new : Page) (c : Call) : Type 0 where
+  pub legal : LegalReply base old.limit h c.command c.reply
+  pub leaves : IsAt base (next base h c) new
+  pub limit : new.limit ≡ old.limit
 
 -- a Book stands for a world that began with this base: its calls got legal replies, and it is what they leave
 pub record StandsFor (base : Kept) (b : Page) (world : List Call) : Type 0 where

@@ -1,30 +1,14 @@
 //! A change of what is kept.
 ghost use Rattle.std.specs.Prelude.{◌≡◌};
+ghost use Rattle.pf_core.specs.Edits.{commits};
 
-use crate::path::Path;
-use crate::ruleset::Ruleset;
+use crate::placed::Placed;
 use std::marker::Model;
-use std::sync::Arc;
-
-/// A ruleset that a commit replaces, whole.
-#[derive(Drop)]
-pub(crate) struct Item {
-    pub(crate) path: Path,
-    pub(crate) rules: Arc<Ruleset>,
-}
-
-impl Model for Item {
-    ghost use Rattle.std.specs.Arc.{arc_value};
-    ghost use Rattle.pf_core.specs.Rulesets.{Ruled, ruled};
-
-    ghost Value = { Ruled };
-
-    ghost view = { λ i. ruled i.path (arc_value i.rules) };
-}
 
 #[derive(Drop)]
 pub(crate) enum Kind {
-    Commit(Vec<Item>),
+    /// Rulesets that are replaced, whole.
+    Commit(Vec<Placed>),
 }
 
 /// What is to be kept. Contracts see it as an `Edit`.
@@ -41,4 +25,15 @@ impl Model for Change {
     ghost use Rattle.pf_core.specs.EditViews.{edit_of};
 
     ghost view = { λ c. edit_of c.kind };
+}
+
+impl Change {
+    /// A commit's change.
+    pub(crate) fn commit(items: Vec<Placed>) -> Change
+        ensures { result ≡ commits items.items }
+    {
+        Change {
+            kind: Kind::Commit(items),
+        }
+    }
 }

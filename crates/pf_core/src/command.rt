@@ -1,5 +1,6 @@
 //! What a client asks.
 ghost use Rattle.std.specs.Prelude.{◌≡◌};
+ghost use Rattle.pf_core.specs.Calls.{filter_at, same_kind, same_name, same_ticket};
 
 use crate::path::Path;
 use pf_rule::{Packet, Rule};
@@ -24,6 +25,54 @@ pub struct RulesetName {
 pub struct Ticket {
     pub epoch: u32,
     pub count: u32,
+}
+
+impl RulesetKind {
+    fn is(self, other: RulesetKind) -> bool
+        ensures { result ≡ same_kind self other }
+    {
+        match (self, other) {
+            (RulesetKind::Filter, RulesetKind::Filter) => true,
+        }
+    }
+}
+
+impl RulesetName {
+    /// The filter ruleset at a path. It takes no memory.
+    pub fn filter(path: &Path) -> RulesetName
+        ensures { result ≡ filter_at path.now }
+    {
+        RulesetName {
+            kind: RulesetKind::Filter,
+            path: path.copied(),
+        }
+    }
+
+    /// The same name. It takes no memory.
+    pub fn copied(&self) -> RulesetName
+        ensures { result ≡ self.now }
+    {
+        RulesetName {
+            kind: self.kind,
+            path: self.path.copied(),
+        }
+    }
+
+    /// Whether both name one ruleset.
+    pub fn same(&self, other: &RulesetName) -> bool
+        ensures { result ≡ same_name self.now other.now }
+    {
+        self.kind.is(other.kind) && self.path.same(&other.path)
+    }
+}
+
+impl Ticket {
+    /// Whether both are one ticket.
+    pub fn same(self, other: Ticket) -> bool
+        ensures { result ≡ same_ticket self other }
+    {
+        self.epoch == other.epoch && self.count == other.count
+    }
 }
 
 /// A ruleset with a ticket for it, as a commit names it.

@@ -1,28 +1,17 @@
 //! What is kept.
-ghost use Rattle.std.specs.Prelude.{◌≡◌, [], List};
-ghost use Rattle.pf_core.specs.Edits.{kept};
+ghost use Rattle.std.specs.Prelude.{◌≡◌, [], IfOk};
+ghost use Rattle.pf_rule.specs.Evaluation.{evaluate};
+ghost use Rattle.pf_core.specs.Rulesets.{IsMap, rules_at};
+ghost use Rattle.pf_core.specs.Edits.{kept, applied, verdict, verdict_by};
 
+use crate::change::{Change, Kind};
 use crate::path::Path;
+use crate::placed::{Placed, replace_all};
+use crate::reply::{RuleVerdict, Verdict};
 use crate::ruleset::Ruleset;
-use std::alloc::Global;
+use pf_rule::Packet;
+use std::alloc::{AllocError, Global};
 use std::marker::Model;
-use std::sync::Arc;
-
-/// The rules at a path.
-#[derive(Drop)]
-struct Placed {
-    path: Path,
-    rules: Arc<Ruleset>,
-}
-
-impl Model for Placed {
-    ghost use Rattle.std.specs.Arc.{arc_value};
-    ghost use Rattle.pf_core.specs.Rulesets.{Ruled, ruled};
-
-    ghost Value = { Ruled };
-
-    ghost view = { λ e. ruled e.path (arc_value e.rules) };
-}
 
 /// What is kept: the epoch of the opening, and the active rulesets. Contracts see it as a `Kept`.
 #[derive(Drop)]
@@ -37,6 +26,24 @@ impl Model for Durable {
     ghost Value = { Kept };
 
     ghost view = { λ d. kept d.epoch d.rulesets.items };
+
+    ghost use Rattle.pf_core.specs.Rulesets.{IsMap};
+
+    ghost invariant = { λ d. IsMap d.rulesets.items };
+}
+
+// What the rules at a path say of a packet.
+fn rules_verdict(path: &Path, rules: &Ruleset, packet: &Packet) -> RuleVerdict
+    ensures { result ≡ verdict_by path.now (evaluate 0 rules.now packet.now).last }
+{
+    match rules.deciding(packet) {
+        Some(decision) => RuleVerdict::Rule {
+            path: path.copied(),
+            number: decision.number,
+            action: decision.action,
+        },
+        None => RuleVerdict::Default,
+    }
 }
 
 impl Durable {
@@ -55,5 +62,44 @@ impl Durable {
         ensures { result ≡ self.now.epoch }
     {
         self.epoch
+    }
+
+    /// The rulesets that aren't empty, in the order of their paths.
+    pub fn rulesets(&self) -> &[Placed]
+        ensures value { result.now ≡ self.now.rulesets }
+        ensures ordered { IsMap self.now.rulesets }
+    {
+        self.rulesets.as_slice()
+    }
+
+    // What the rules at a path say of a packet.
+    fn rule_verdict(&self, path: &Path, packet: &Packet) -> RuleVerdict
+        ensures { result ≡ verdict_by path.now (evaluate 0 (rules_at path.now self.now.rulesets) packet.now).last }
+    {
+        for placed in &self.rulesets {
+            if placed.path.same(path) {
+                return rules_verdict(path, &placed.rules, packet);
+            }
+        }
+        RuleVerdict::Default
+    }
+
+    /// What happens to a packet: the main ruleset decides, or the packet passes. It takes no memory.
+    pub fn verdict(&self, packet: &Packet) -> Verdict
+        ensures { result ≡ verdict self.now packet.now }
+    {
+        Verdict::Rules(self.rule_verdict(&Path::main(), packet))
+    }
+
+    /// What is kept after a change. Rulesets that stay are shared, and no rule is copied. Where memory is refused nothing is made.
+    pub fn apply(&self, alloc: Global, change: &Change) -> Result<Durable, AllocError>
+        ensures { IfOk result (λ d. d ≡ applied self.now change.now) }
+    {
+        match &change.kind {
+            Kind::Commit(items) => Ok(Durable {
+                epoch: self.epoch,
+                rulesets: replace_all(alloc, self.rulesets.as_slice(), items.as_slice())?,
+            }),
+        }
     }
 }

@@ -3,16 +3,24 @@
 
 mod change;
 mod command;
+mod core_state;
 mod durable;
+pub mod laws;
 mod path;
+mod placed;
 mod reply;
 mod ruleset;
 mod step;
+#[cfg(test)]
+mod tests;
+mod tickets;
 
 pub use change::Change;
 pub use command::{Command, Entries, Entry, RulesetKind, RulesetName, RulesetNames, Ticket};
+pub use core_state::{Core, Next};
 pub use durable::Durable;
 pub use path::Path;
+pub use placed::Placed;
 pub use reply::{Answer, Given, Outcome, Refusal, Reply, RuleVerdict, Verdict};
-pub use ruleset::Ruleset;
+pub use ruleset::{Decision, Ruleset};
 pub use step::Step;

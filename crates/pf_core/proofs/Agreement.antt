@@ -1,0 +1,243 @@
+-- What each mention does to what is kept of open transactions.
+use Rattle.std.proofs.Common.{◌≡◌, ℕ, ◌+◌, ◌<◌, Bool, true, false, not, cond, ◌&&◌, List, [], ◌∷◌, ◌++◌, length, refl, sym, ap, ◌∙◌, subst, Option, Some, None, arith, get_or, append_assoc, eq-eqb, ◌==◌, zero, suc}
+use Rattle.std.proofs.lemmas.Bool.{eqb-true}
+use Rattle.std.proofs.lemmas.Bool.Decides.{nat_tests}
+use Rattle.std.proofs.lemmas.List.{append-nil}
+use Rattle.std.proofs.lemmas.List.Sums.{fold_push}
+use Rattle.std.proofs.lemmas.List.Concat.{flat_map-append}
+use Rattle.pf_rule.specs.Rules.{PlainRule}
+use Rattle.pf_core.specs.declared.command.RulesetName.{RulesetName}
+use Rattle.pf_core.specs.declared.command.Ticket.{Ticket}
+use Rattle.pf_core.specs.Calls.{same_name, same_ticket, ticket, tickets_from, Mention, gave, added, switched, touched, valid_ticket, rules_added, rules_offered, content_under, counted, next_count, gives, switches}
+use Rattle.pf_core.specs.Tickets.{Offer, offer, Open, found, ticket_at, rules_under, Agrees}
+use Rattle.pf_core.specs.Offers.{without, grown, with_added, give, take_out, add_to, all_given, all_out, IsPlace, IsNowhere}
+use Rattle.pf_core.specs.NameLaws.{names_alike}
+
+pick : {A : Type 0} (oq pq : Bool) (x n z : A) → oq ≡ pq → cond pq n z ≡ cond pq n (cond oq x z)
+pick true true x n z e = refl
+pick true false x n z e = absurd (cc (e))
+pick false true x n z e = absurd (cc (e))
+pick false false x n z e = refl
+
+skip : {A : Type 0} (oq pq : Bool) (x n w z : A) → (oq ≡ true → pq ≡ false) → w ≡ cond pq n z → cond oq x w ≡ cond pq n (cond oq x z)
+skip true true x n w z h e = let k : true ≡ false = h refl in absurd (cc (k))
+skip true false x n w z h e = refl
+skip false pq x n w z h e = e
+
+same_either : {A : Type 0} (b : Bool) (d : A) → d ≡ cond b d d
+same_either true d = refl
+same_either false d = refl
+
+-- ---- what is read of a ruleset
+
+-- after an offer was taken out
+found-without-step : {A : Type 0} (f : Offer → A) (d : A) (q p : RulesetName) (o : Offer) (os ws : List Offer) (op : Bool) → same_name o.name p ≡ op → found f d q ws ≡ cond (same_name p q) d (found f d q os) → found f d q (cond (not op) (o ∷ ws) ws) ≡ cond (same_name p q) d (found f d q (o ∷ os))
+found-without-step f d q p o os ws true e ih = ih ∙ pick (same_name o.name q) (same_name p q) (f o) d (found f d q os) (names_alike.congr o.name p q e)
+found-without-step f d q p o os ws false e ih = skip (same_name o.name q) (same_name p q) (f o) d (found f d q ws) (found f d q os) (λ h. names_alike.symm p q ∙ sym (names_alike.congr o.name q p h) ∙ e) ih
+
+pub found-without : {A : Type 0} (f : Offer → A) (d : A) (q p : RulesetName) (os : List Offer) → found f d q (without p os) ≡ cond (same_name p q) d (found f d q os)
+found-without f d q p [] = same_either (same_name p q) d
+found-without f d q p (o ∷ os) = found-without-step f d q p o os (without p os) (same_name o.name p) refl (found-without f d q p os)
+
+-- and a new one stands at the end
+found-given-step : {A : Type 0} (f : Offer → A) (d : A) (q p : RulesetName) (new o : Offer) (os ws : List Offer) (op : Bool) → same_name o.name p ≡ op → found f d q (ws ++ new ∷ []) ≡ cond (same_name p q) (f new) (found f d q os) → found f d q (cond (not op) (o ∷ ws) ws ++ new ∷ []) ≡ cond (same_name p q) (f new) (found f d q (o ∷ os))
+found-given-step f d q p new o os ws true e ih = ih ∙ pick (same_name o.name q) (same_name p q) (f o) (f new) (found f d q os) (names_alike.congr o.name p q e)
+found-given-step f d q p new o os ws false e ih = skip (same_name o.name q) (same_name p q) (f o) (f new) (found f d q (ws ++ new ∷ [])) (found f d q os) (λ h. names_alike.symm p q ∙ sym (names_alike.congr o.name q p h) ∙ e) ih
+
+pub found-given : {A : Type 0} (f : Offer → A) (d : A) (q p : RulesetName) (u : Ticket) (rs : List PlainRule) (os : List Offer) → found f d q (without p os ++ offer p u rs ∷ []) ≡ cond (same_name p q) (f (offer p u rs)) (found f d q os)
+found-given f d q p u rs [] = refl
+found-given f d q p u rs (o ∷ os) = found-given-step f d q p (offer p u rs) o os (without p os) (same_name o.name p) refl (found-given f d q p u rs os)
+
+-- a rule that was added changes no ticket
+ticket-added-step : (q p : RulesetName) (r : PlainRule) (o : Offer) (os ws : List Offer) (op : Bool) → ticket_at ws q ≡ ticket_at os q → ticket_at (cond op (grown o r ∷ os) (o ∷ ws)) q ≡ ticket_at (o ∷ os) q
+ticket-added-step q p r o os ws true ih = refl
+ticket-added-step q p r o os ws false ih = ap (λ (z : Option Ticket). cond (same_name o.name q) (Some o.ticket) z) ih
+
+pub ticket-added : (q p : RulesetName) (r : PlainRule) (os : List Offer) → ticket_at (with_added p r os) q ≡ ticket_at os q
+ticket-added q p r [] = refl
+ticket-added q p r (o ∷ os) = ticket-added-step q p r o os (with_added p r os) (same_name o.name p) (ticket-added q p r os)
+
+-- another ruleset's rules stay
+other-added-step : (q p : RulesetName) (r : PlainRule) (o : Offer) (os ws : List Offer) (op : Bool) → same_name o.name p ≡ op → same_name p q ≡ false → rules_under ws q ≡ rules_under os q → rules_under (cond op (grown o r ∷ os) (o ∷ ws)) q ≡ rules_under (o ∷ os) q
+other-added-step q p r o os ws true e h ih =
+    let k : same_name o.name q ≡ false = names_alike.congr o.name p q e ∙ h in
+    ap (λ (b : Bool). cond b (o.rules ++ r ∷ []) (rules_under os q)) k ∙ sym (ap (λ (b : Bool). cond b o.rules (rules_under os q)) k)
+other-added-step q p r o os ws false e h ih = ap (λ (z : List PlainRule). cond (same_name o.name q) o.rules z) ih
+
+pub other-added : (q p : RulesetName) (r : PlainRule) (os : List Offer) → same_name p q ≡ false → rules_under (with_added p r os) q ≡ rules_under os q
+other-added q p r [] h = refl
+other-added q p r (o ∷ os) h = other-added-step q p r o os (with_added p r os) (same_name o.name p) refl h (other-added q p r os h)
+
+-- and its own grow, where it has an offer
+own-added-step : (q p : RulesetName) (r : PlainRule) (u : Ticket) (o : Offer) (os ws : List Offer) (op oq : Bool) → same_name o.name p ≡ op → same_name o.name q ≡ oq → op ≡ oq → (ticket_at os q ≡ Some u → rules_under ws q ≡ rules_under os q ++ r ∷ []) → cond oq (Some o.ticket) (ticket_at os q) ≡ Some u → rules_under (cond op (grown o r ∷ os) (o ∷ ws)) q ≡ cond oq o.rules (rules_under os q) ++ r ∷ []
+own-added-step q p r u o os ws true true e f h ih k = ap (λ (b : Bool). cond b (o.rules ++ r ∷ []) (rules_under os q)) f
+own-added-step q p r u o os ws true false e f h ih k = absurd (cc (h))
+own-added-step q p r u o os ws false true e f h ih k = absurd (cc (h))
+own-added-step q p r u o os ws false false e f h ih k = ap (λ (b : Bool). cond b o.rules (rules_under ws q)) f ∙ ih k
+
+pub own-added : (q p : RulesetName) (r : PlainRule) (u : Ticket) (os : List Offer) → same_name p q ≡ true → ticket_at os q ≡ Some u → rules_under (with_added p r os) q ≡ rules_under os q ++ r ∷ []
+own-added q p r u [] h k = absurd (cc (k))
+own-added q p r u (o ∷ os) h k = own-added-step q p r u o os (with_added p r os) (same_name o.name p) (same_name o.name q) refl refl (names_alike.symm o.name p ∙ names_alike.congr p q o.name h ∙ names_alike.symm q o.name) (λ k. own-added q p r u os h k) k
+
+-- ---- one more mention
+
+pub valid_push : (ms : List Mention) (m : Mention) (q : RulesetName) → valid_ticket (ms ++ m ∷ []) q ≡ touched q (valid_ticket ms q) m
+valid_push ms m q = fold_push (touched q) None ms m
+
+pub next_push : (ms : List Mention) (m : Mention) → next_count (ms ++ m ∷ []) ≡ counted (next_count ms) m
+next_push ms m = fold_push counted 1 ms m
+
+pub offered_push : (ms : List Mention) (m : Mention) (q : RulesetName) (u : Ticket) → rules_offered (ms ++ m ∷ []) q u ≡ rules_offered ms q u ++ rules_added q u m
+offered_push ms m q u = flat_map-append (rules_added q u) ms (m ∷ []) ∙ ap (λ (z : List PlainRule). rules_offered ms q u ++ z) (append-nil (rules_added q u m))
+
+silent : (ms : List Mention) (m : Mention) (q : RulesetName) (u : Ticket) → rules_added q u m ≡ [] → rules_offered (ms ++ m ∷ []) q u ≡ rules_offered ms q u
+silent ms m q u h = offered_push ms m q u ∙ ap (λ (z : List PlainRule). rules_offered ms q u ++ z) h ∙ append-nil (rules_offered ms q u)
+
+under_silent : (ms : List Mention) (m : Mention) (q : RulesetName) (v : Option Ticket) → ((u : Ticket) → rules_added q u m ≡ []) → content_under (ms ++ m ∷ []) q v ≡ content_under ms q v
+under_silent ms m q None h = refl
+under_silent ms m q (Some u) h = silent ms m q u (h u)
+
+-- a begin's mention
+gave_content : (ms : List Mention) (p q : RulesetName) (u : Ticket) (b : Bool) (v : Option Ticket) → rules_offered ms q u ≡ [] → cond b [] (content_under ms q v) ≡ content_under (ms ++ gave p u ∷ []) q (cond b (Some u) v)
+gave_content ms p q u true v h = sym (silent ms (gave p u) q u refl ∙ h)
+gave_content ms p q u false v h = sym (under_silent ms (gave p u) q v (λ w. refl))
+
+gave_low : (b : Bool) (k u : Ticket) (next : ℕ) (v : Option Ticket) → k.count ≡ next → (v ≡ Some u → u.count < next) → cond b (Some k) v ≡ Some u → u.count < next + 1
+gave_low true k u next v e h i = let s : k ≡ u = cc (i) in let c : k.count ≡ u.count = ap (λ (x : Ticket). x.count) s in omega (arith, e, c)
+gave_low false k u next v e h i = let l : u.count < next = h i in omega (arith, l)
+
+pub agrees-gave : (t : Open) (ms : List Mention) (p : RulesetName) → Agrees t ms → Agrees (give t p) (ms ++ gave p (ticket t.epoch t.next) ∷ [])
+agrees-gave t ms p a =
+    let new : Ticket = ticket t.epoch t.next in
+    let e : t.next ≡ next_count ms = a.next in
+    record {
+      valid = λ q. found-given (λ o. Some o.ticket) None q p new [] t.offers ∙ ap (λ (v : Option Ticket). cond (same_name p q) (Some new) v) (a.valid q) ∙ sym (valid_push ms (gave p new) q);
+      offered = λ q. found-given (λ o. o.rules) [] q p new [] t.offers ∙ ap (λ (v : List PlainRule). cond (same_name p q) [] v) (a.offered q)
+          ∙ gave_content ms p q new (same_name p q) (valid_ticket ms q) (a.fresh q new (omega (arith, e)))
+          ∙ ap (λ (v : Option Ticket). content_under (ms ++ gave p new ∷ []) q v) (sym (valid_push ms (gave p new) q));
+      next = ap (λ (n : ℕ). n + 1) e ∙ sym (next_push ms (gave p new));
+      low = λ q u h. subst (λ (k : ℕ). u.count < k) (sym (next_push ms (gave p new))) (gave_low (same_name p q) new u (next_count ms) (valid_ticket ms q) e (a.low q u) (sym (valid_push ms (gave p new) q) ∙ h));
+      fresh = λ q u h. silent ms (gave p new) q u refl ∙ a.fresh q u (let k = next_push ms (gave p new) in omega (arith, k, h));
+    }
+
+-- a mention that voids a ruleset's ticket
+out_content : (ms : List Mention) (m : Mention) (q : RulesetName) (b : Bool) (v : Option Ticket) → ((u : Ticket) → rules_added q u m ≡ []) → cond b [] (content_under ms q v) ≡ content_under (ms ++ m ∷ []) q (cond b None v)
+out_content ms m q true v h = refl
+out_content ms m q false v h = sym (under_silent ms m q v h)
+
+out_low : (b : Bool) (u : Ticket) (next : ℕ) (v : Option Ticket) → (v ≡ Some u → u.count < next) → cond b None v ≡ Some u → u.count < next
+out_low true u next v h i = absurd (cc (i))
+out_low false u next v h i = h i
+
+agrees-out : (t : Open) (ms : List Mention) (p : RulesetName) (m : Mention) → ((q : RulesetName) → touched q (valid_ticket ms q) m ≡ cond (same_name p q) None (valid_ticket ms q)) → ((q : RulesetName) (u : Ticket) → rules_added q u m ≡ []) → ((k : ℕ) → counted k m ≡ k) → Agrees t ms → Agrees (take_out t p) (ms ++ m ∷ [])
+agrees-out t ms p m out quiet same a =
+    let push : (q : RulesetName) → valid_ticket (ms ++ m ∷ []) q ≡ cond (same_name p q) None (valid_ticket ms q) = λ q. valid_push ms m q ∙ out q in
+    let count : next_count (ms ++ m ∷ []) ≡ next_count ms = next_push ms m ∙ same (next_count ms) in
+    record {
+      valid = λ q. found-without (λ o. Some o.ticket) None q p t.offers ∙ ap (λ (v : Option Ticket). cond (same_name p q) None v) (a.valid q) ∙ sym (push q);
+      offered = λ q. found-without (λ o. o.rules) [] q p t.offers ∙ ap (λ (v : List PlainRule). cond (same_name p q) [] v) (a.offered q)
+          ∙ out_content ms m q (same_name p q) (valid_ticket ms q) (quiet q)
+          ∙ ap (λ (v : Option Ticket). content_under (ms ++ m ∷ []) q v) (sym (push q));
+      next = a.next ∙ sym count;
+      low = λ q u h. subst (λ (k : ℕ). u.count < k) (sym count) (out_low (same_name p q) u (next_count ms) (valid_ticket ms q) (a.low q u) (sym (push q) ∙ h));
+      fresh = λ q u h. silent ms m q u (quiet q u) ∙ a.fresh q u (omega (arith, count, h));
+    }
+
+pub agrees-switched : (t : Open) (ms : List Mention) (p : RulesetName) → Agrees t ms → Agrees (take_out t p) (ms ++ switched p ∷ [])
+agrees-switched t ms p a = agrees-out t ms p (switched p) (λ q. refl) (λ q u. refl) (λ k. refl) a
+
+-- an add's. One ruleset has one offer
+found-alike : {A : Type 0} (f : Offer → A) (d : A) (p q : RulesetName) (os : List Offer) → same_name p q ≡ true → found f d p os ≡ found f d q os
+found-alike f d p q [] h = refl
+found-alike f d p q (o ∷ os) h =
+    let k : same_name o.name p ≡ same_name o.name q = names_alike.symm o.name p ∙ names_alike.congr p q o.name h ∙ names_alike.symm q o.name in
+    ap (λ b. cond b (f o) (found f d p os)) k ∙ ap (λ z. cond (same_name o.name q) (f o) z) (found-alike f d p q os h)
+
+same_itself : (u w : Ticket) → w ≡ u → same_ticket u w ≡ true
+same_itself u w e =
+    let k : (u.epoch == w.epoch) ≡ true = eq-eqb u.epoch w.epoch (ap (λ (x : Ticket). x.epoch) (sym e)) in
+    let l : (u.count == w.count) ≡ true = eq-eqb u.count w.count (ap (λ (x : Ticket). x.count) (sym e)) in
+    ap (λ (b : Bool). b && (u.count == w.count)) k ∙ l
+
+both-true : (a b : Bool) → (a && b) ≡ true → (a ≡ true) × (b ≡ true)
+both-true true b h = (refl, h)
+both-true false b h = absurd (cc (h))
+
+-- two tickets that are the same are one
+pub ticket_is : (u w : Ticket) → same_ticket u w ≡ true → u ≡ w
+ticket_is u w h =
+    let both : (u.epoch == w.epoch ≡ true) × (u.count == w.count ≡ true) = both-true (u.epoch == w.epoch) (u.count == w.count) h in
+    ap (λ (k : ℕ). ticket k u.count) (eqb-true u.epoch w.epoch both.0) ∙ ap (λ (k : ℕ). ticket w.epoch k) (eqb-true u.count w.count both.1)
+
+added_content : (ms : List Mention) (p q : RulesetName) (u : Ticket) (r : PlainRule) (b : Bool) (xs ys : List PlainRule) (v : Option Ticket) → same_name p q ≡ b → (b ≡ true → v ≡ Some u) → ys ≡ content_under ms q v → (b ≡ true → xs ≡ ys ++ r ∷ []) → (b ≡ false → xs ≡ ys) → xs ≡ content_under (ms ++ added p u r ∷ []) q v
+added_content ms p q u r true xs ys None s h e own other = let k : None ≡ Some u = h refl in absurd (cc (k))
+added_content ms p q u r true xs ys (Some w) s h e own other =
+    let k : w ≡ u = (let i : Some w ≡ Some u = h refl in cc (i)) in
+    let one : rules_added q w (added p u r) ≡ r ∷ [] = ap (λ (b : Bool). cond (b && same_ticket u w) (r ∷ []) []) s ∙ ap (λ (b : Bool). cond b (r ∷ []) []) (same_itself u w k) in
+    own refl ∙ ap (λ (z : List PlainRule). z ++ r ∷ []) e ∙ sym (offered_push ms (added p u r) q w ∙ ap (λ (z : List PlainRule). rules_offered ms q w ++ z) one)
+added_content ms p q u r false xs ys v s h e own other = other refl ∙ e ∙ sym (under_silent ms (added p u r) q v (λ w. ap (λ (b : Bool). cond (b && same_ticket u w) (r ∷ []) []) s))
+
+other_ticket : (a : Bool) (u w : Ticket) → u.count < w.count → (a && (u.count == w.count)) ≡ false
+other_ticket true u w l = grind (arith, nat_tests, l)
+other_ticket false u w l = refl
+
+added_fresh : (b : Bool) (u w : Ticket) (r : PlainRule) → u.count < w.count → ◌≡◌ {A = List PlainRule} (cond (b && same_ticket u w) (r ∷ []) []) []
+added_fresh true u w r l = ap (λ (b : Bool). cond b (r ∷ []) []) (other_ticket (u.epoch == w.epoch) u w l)
+added_fresh false u w r l = refl
+
+pub agrees-added : (t : Open) (ms : List Mention) (p : RulesetName) (u : Ticket) (r : PlainRule) → ticket_at t.offers p ≡ Some u → Agrees t ms → Agrees (add_to t p r) (ms ++ added p u r ∷ [])
+agrees-added t ms p u r h a =
+    let push : (q : RulesetName) → valid_ticket (ms ++ added p u r ∷ []) q ≡ valid_ticket ms q = λ q. valid_push ms (added p u r) q in
+    let count : next_count (ms ++ added p u r ∷ []) ≡ next_count ms = next_push ms (added p u r) in
+    let held : (q : RulesetName) → same_name p q ≡ true → ticket_at t.offers q ≡ Some u = λ q s. sym (found-alike (λ o. Some o.ticket) None p q t.offers s) ∙ h in
+    record {
+      valid = λ q. ticket-added q p r t.offers ∙ a.valid q ∙ sym (push q);
+      offered = λ q. added_content ms p q u r (same_name p q) (rules_under (with_added p r t.offers) q) (rules_under t.offers q) (valid_ticket ms q) refl (λ s. sym (a.valid q) ∙ held q s) (a.offered q) (λ s. own-added q p r u t.offers s (held q s)) (λ s. other-added q p r t.offers s)
+          ∙ ap (λ (v : Option Ticket). content_under (ms ++ added p u r ∷ []) q v) (sym (push q));
+      next = a.next ∙ sym count;
+      low = λ q w l. subst (λ (x : ℕ). w.count < x) (sym count) (a.low q w (sym (push q) ∙ l));
+      fresh = λ q w l. let below : u.count < next_count ms = a.low p u (sym (a.valid p) ∙ h) in
+          offered_push ms (added p u r) q w ∙ ap (λ (z : List PlainRule). rules_offered ms q w ++ z) (added_fresh (same_name p q) u w r (omega (arith, below, count, l))) ∙ append-nil (rules_offered ms q w) ∙ a.fresh q w (omega (arith, count, l));
+    }
+
+-- ---- lists of mentions
+
+pub agrees-switches : (t : Open) (ms : List Mention) (ps : List RulesetName) → Agrees t ms → Agrees (all_out t ps) (ms ++ switches ps)
+agrees-switches t ms [] a = subst (λ (x : List Mention). Agrees t x) (sym (append-nil ms)) a
+agrees-switches t ms (p ∷ ps) a = subst (λ (x : List Mention). Agrees (all_out (take_out t p) ps) x) (append_assoc ms (switched p ∷ []) (switches ps)) (agrees-switches (take_out t p) (ms ++ switched p ∷ []) ps (agrees-switched t ms p a))
+
+pub agrees-gives : (t : Open) (ms : List Mention) (ps : List RulesetName) → Agrees t ms → Agrees (all_given t ps) (ms ++ gives ps (tickets_from t.epoch t.next (length ps)))
+agrees-gives t ms [] a = subst (λ (x : List Mention). Agrees t x) (sym (append-nil ms)) a
+agrees-gives t ms (p ∷ ps) a =
+    let new : Ticket = ticket t.epoch t.next in
+    subst (λ (x : List Mention). Agrees (all_given (give t p) ps) x) (append_assoc ms (gave p new ∷ []) (gives ps (tickets_from t.epoch (t.next + 1) (length ps)))) (agrees-gives (give t p) (ms ++ gave p new ∷ []) ps (agrees-gave t ms p a))
+
+-- ---- where a ruleset's offer stands
+
+pub is-place : (p : RulesetName) (os : List Offer) (i : ℕ) (o : Offer) → i < length os → o ≡ get_or os i o → same_name o.name p ≡ true → ((k : ℕ) (x : Offer) → k < i → x ≡ get_or os k x → same_name x.name p ≡ false) → IsPlace p os i o
+is-place p [] i o l e h none = absurd (grind (arith, l))
+is-place p (y ∷ os) zero o l e h none =
+    let k : same_name y.name p ≡ true = ap (λ (z : Offer). same_name z.name p) (sym e) ∙ h in
+    record {
+      ticket = ap (λ (b : Bool). cond b (Some y.ticket) (ticket_at os p)) k ∙ ap (λ (z : Offer). Some z.ticket) (sym e);
+      rules = ap (λ (b : Bool). cond b y.rules (rules_under os p)) k ∙ ap (λ (z : Offer). z.rules) (sym e);
+      grows = λ r. ap (λ (b : Bool). cond b (grown y r ∷ os) (y ∷ with_added p r os)) k ∙ ap (λ (z : Offer). grown z r ∷ os) (sym e);
+    }
+is-place p (y ∷ os) (suc i) o l e h none =
+    let rest : IsPlace p os i o = is-place p os i o (omega (arith, l)) e h (λ k x m f. none (suc k) x (omega (arith, m)) f) in
+    let k : same_name y.name p ≡ false = none 0 y (omega arith) refl in
+    record {
+      ticket = ap (λ (b : Bool). cond b (Some y.ticket) (ticket_at os p)) k ∙ rest.ticket;
+      rules = ap (λ (b : Bool). cond b y.rules (rules_under os p)) k ∙ rest.rules;
+      grows = λ r. ap (λ (b : Bool). cond b (grown y r ∷ os) (y ∷ with_added p r os)) k ∙ ap (λ (z : List Offer). y ∷ z) (rest.grows r);
+    }
+
+pub is-nowhere : (p : RulesetName) (os : List Offer) → ((k : ℕ) (x : Offer) → k < length os → x ≡ get_or os k x → same_name x.name p ≡ false) → IsNowhere p os
+is-nowhere p [] none = record { ticket = refl; rules = refl }
+is-nowhere p (y ∷ os) none =
+    let rest : IsNowhere p os = is-nowhere p os (λ k x m f. none (suc k) x (omega (arith, m)) f) in
+    let k : same_name y.name p ≡ false = none 0 y (omega arith) refl in
+    record {
+      ticket = ap (λ (b : Bool). cond b (Some y.ticket) (ticket_at os p)) k ∙ rest.ticket;
+      rules = ap (λ (b : Bool). cond b y.rules (rules_under os p)) k ∙ rest.rules;
+    }

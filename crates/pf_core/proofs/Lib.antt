@@ -1,0 +1,5 @@
+pub mod Agreement
+pub mod Told
+pub mod Maps
+pub mod Voiding
+pub mod MapOrder

@@ -1,0 +1,73 @@
+-- What each call leaves of the open transactions, and what it is told.
+use Rattle.std.specs.Prelude.{◌≡◌, ℕ, ◌+◌, Bool, not, cond, if◌then◌else◌, List, [], ◌∷◌, ◌++◌, length, Option, Some, None, Result, Ok, Err, fold, filter, set}
+use Rattle.pf_rule.specs.Rules.{PlainRule}
+use Rattle.pf_core.specs.declared.command.Entry.{Entry}
+use Rattle.pf_core.specs.declared.command.RulesetName.{RulesetName}
+use Rattle.pf_core.specs.declared.command.Ticket.{Ticket}
+use Rattle.pf_core.specs.declared.reply.Answer.{Answer}
+use Rattle.pf_core.specs.declared.reply.Refusal.{Refusal}
+use Rattle.pf_core.specs.declared.reply.Refusal.TheVariants.{BadCount}
+use Rattle.pf_core.specs.declared.step.Step.{Step}
+use Rattle.pf_core.specs.declared.step.Step.TheVariants.{Done, Wants}
+use Rattle.pf_core.specs.Calls.{same_name, ticket}
+use Rattle.pf_core.specs.Legal.{bad_count, busy_from, busy_or}
+use Rattle.pf_core.specs.Tickets.{Offer, offer, Open, open_with, ticket_at, rules_under}
+
+-- ---- what each call leaves
+
+abbrev pub is_other : RulesetName → Offer → Bool
+is_other name o = not (same_name o.name name)
+
+abbrev pub without : RulesetName → List Offer → List Offer
+without name os = filter (is_other name) os
+
+abbrev pub grown : Offer → PlainRule → Offer
+grown o r = offer o.name o.ticket (o.rules ++ r ∷ [])
+
+abbrev pub with_added : RulesetName → PlainRule → List Offer → List Offer
+with_added name r [] = []
+with_added name r (o ∷ os) = cond (same_name o.name name) (grown o r ∷ os) (o ∷ with_added name r os)
+
+-- a new ticket for a ruleset, with no rules yet
+abbrev pub give : Open → RulesetName → Open
+give t name = open_with t.epoch (t.next + 1) (without name t.offers ++ offer name (ticket t.epoch t.next) [] ∷ [])
+
+abbrev pub take_out : Open → RulesetName → Open
+take_out t name = open_with t.epoch t.next (without name t.offers)
+
+abbrev pub add_to : Open → RulesetName → PlainRule → Open
+add_to t name r = open_with t.epoch t.next (with_added name r t.offers)
+
+abbrev pub all_given : Open → List RulesetName → Open
+all_given t names = fold give t names
+
+abbrev pub all_out : Open → List RulesetName → Open
+all_out t names = fold take_out t names
+
+-- the ruleset's offer stands at this place
+pub record IsPlace (name : RulesetName) (os : List Offer) (i : ℕ) (o : Offer) : Type 0 where
+  pub ticket : ticket_at os name ≡ Some o.ticket
+  pub rules : rules_under os name ≡ o.rules
+  pub grows : (r : PlainRule) → with_added name r os ≡ set os i (grown o r)
+
+-- it stands nowhere
+pub record IsNowhere (name : RulesetName) (os : List Offer) : Type 0 where
+  pub ticket : ticket_at os name ≡ None
+  pub rules : rules_under os name ≡ []
+
+-- ---- what each call is told
+
+-- an answer of the tickets, as a step
+abbrev pub told : {A : Type 0} → Result A Refusal → (A → Answer) → Result Step Refusal
+told (Ok x) f = Ok (Done (f x))
+told (Err e) f = Err e
+
+-- whether a commit of these entries may go on
+abbrev pub commit_check : (RulesetName → Option Ticket) → List Entry → Result (Unit {0}) Refusal
+commit_check valid entries = if bad_count (length entries) then Err BadCount else busy_or (busy_from valid 0 entries) (Ok tt)
+
+-- a commit wants a change, or is refused
+abbrev pub IsNeverDone : Result Step Refusal → Type 0
+IsNeverDone (Ok (Done a)) = ⊥
+IsNeverDone (Ok (Wants e o)) = Unit {0}
+IsNeverDone (Err e) = Unit {0}

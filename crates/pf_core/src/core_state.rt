@@ -1,0 +1,175 @@
+//! One command after the other.
+ghost use Rattle.std.specs.Prelude.{◌≡◌, ℕ, List, [], ◌∷◌, ◌++◌, IfOk, map};
+ghost use Rattle.std.specs.Arc.{arc_value};
+ghost use Rattle.pf_rule.specs.Packets.{PlainPacket};
+ghost use Rattle.pf_core.specs.declared.command.Command.{Command};
+ghost use Rattle.pf_core.specs.declared.reply.Answer.TheVariants as answer;
+ghost use Rattle.pf_core.specs.declared.reply.Outcome.{Outcome};
+ghost use Rattle.pf_core.specs.declared.reply.Reply.TheVariants as reply;
+ghost use Rattle.pf_core.specs.Calls.{Call, call, mentions_of, switches};
+ghost use Rattle.pf_core.specs.Edits.{applied, voided_by, name_of, verdict};
+ghost use Rattle.pf_core.specs.Legal.{items, commit_step, legal_step, IsLegalStep};
+ghost use Rattle.pf_core.specs.Offers.{IsNeverDone};
+ghost use Rattle.pf_core.specs.Tickets.{AgreesWith, ticket_at, rules_under};
+ghost use Rattle.pf_core.specs.Worlds.{ready, StaysUnlessDone, AgreesAfter};
+
+use crate::change::{Change, Kind};
+use crate::command::{Command, Entry, RulesetName};
+use crate::durable::Durable;
+use crate::placed::Placed;
+use crate::reply::{Answer, Outcome, Refusal};
+use crate::step::Step;
+use crate::tickets::Tickets;
+use std::alloc::{AllocError, Global};
+use std::marker::Model;
+use std::sync::Arc;
+
+/// What is kept, and the open transactions. Contracts see it as a `Whole`.
+#[derive(Drop)]
+pub struct Core {
+    alloc: Global,
+    durable: Arc<Durable>,
+    tickets: Tickets,
+}
+
+impl Model for Core {
+    ghost use Rattle.std.specs.Arc.{arc_value};
+    ghost use Rattle.pf_core.specs.Worlds.{Whole, whole};
+
+    ghost Value = { Whole };
+
+    ghost view = { λ c. whole (arc_value c.durable) c.tickets };
+}
+
+/// What a change leaves, with all its memory made. Contracts see it as a `Ready`.
+#[derive(Drop)]
+pub struct Next {
+    durable: Arc<Durable>,
+    voided: Vec<RulesetName>,
+}
+
+impl Model for Next {
+    ghost use Rattle.std.specs.Arc.{arc_value};
+    ghost use Rattle.pf_core.specs.Worlds.{Ready, ready};
+
+    ghost Value = { Ready };
+
+    ghost view = { λ n. ready (arc_value n.durable) n.voided.items };
+}
+
+// The rulesets whose tickets a commit voids.
+fn voided(alloc: Global, items: &[Placed]) -> Result<Vec<RulesetName>, AllocError>
+    ensures { IfOk result (λ v. v.items ≡ map name_of items.now) }
+{
+    let mut names = Vec::new(alloc);
+    for item in items {
+        names.push(RulesetName::filter(&item.path))?;
+    }
+    Ok(names)
+}
+
+// What a commit of these entries replaces.
+fn take_items(
+    alloc: Global,
+    tickets: &Tickets,
+    entries: &[Entry],
+) -> Result<Vec<Placed>, AllocError>
+    ensures { IfOk result (λ v. v.items ≡ items (rules_under tickets.now.offers) entries.now) }
+{
+    let mut taken = Vec::new(alloc);
+    for entry in entries {
+        taken.push(Placed {
+            path: entry.name.path.copied(),
+            rules: Arc::new(alloc, tickets.contents(&entry.name)?)?,
+        })?;
+    }
+    Ok(taken)
+}
+
+// What a commit wants, or why it is refused.
+fn commit(alloc: Global, tickets: &Tickets, entries: &[Entry]) -> Result<Step, Refusal>
+    ensures never { IsNeverDone result }
+    ensures reply { IsLegalStep result (commit_step (ticket_at tickets.now.offers) (rules_under tickets.now.offers) entries.now) }
+{
+    match tickets.check_all(entries) {
+        Ok(()) => {
+            let Ok(items) = take_items(alloc, tickets, entries) else {
+                return Err(Refusal::Memory);
+            };
+            Ok(Step::Wants(Change::commit(items), Outcome::Committed))
+        }
+        Err(refusal) => Err(refusal),
+    }
+}
+
+impl Core {
+    /// What is kept, with no ticket given. It takes no memory.
+    pub fn new(alloc: Global, durable: Arc<Durable>) -> Core
+        ensures durable { result.durable ≡ arc_value durable }
+        ensures epoch { result.tickets.epoch ≡ (arc_value durable).epoch }
+        ensures agrees { AgreesWith result.tickets [] }
+    {
+        let tickets = Tickets::new(alloc, durable.epoch());
+        Core {
+            alloc,
+            durable,
+            tickets,
+        }
+    }
+
+    /// What is kept.
+    pub fn durable(&self) -> &Durable
+        ensures { result.now ≡ self.now.durable }
+    {
+        &self.durable
+    }
+
+    /// One command. Where it wants a change, or is refused, the core is as before.
+    pub fn step(&mut self, command: &Command) -> Result<Step, Refusal>
+        ensures reply { (calls : List Call) → AgreesWith self.old.tickets calls → IsLegalStep result (legal_step self.old.tickets.epoch calls self.old.durable command.now) }
+        ensures agrees { (calls : List Call) → AgreesWith self.old.tickets calls → AgreesAfter self.new.tickets calls command.now result }
+        ensures durable { self.new.durable ≡ self.old.durable }
+        ensures stays { StaysUnlessDone result self.old self.new }
+        ensures epoch { self.new.tickets.epoch ≡ self.old.tickets.epoch }
+        ensures judged { (packet : PlainPacket) → command.now ≡ Command.Judge packet → result ≡ Ok (Step.Done (answer.Judged (verdict self.old.durable packet))) }
+    {
+        match command {
+            Command::Begin(names) => match self.tickets.begin(names.as_slice()) {
+                Ok(given) => Ok(Step::Done(Answer::Given(given))),
+                Err(refusal) => Err(refusal),
+            },
+            Command::Add { path, ticket, rule } => {
+                match self.tickets.add_rule(path, *ticket, *rule) {
+                    Ok(()) => Ok(Step::Done(Answer::Done)),
+                    Err(refusal) => Err(refusal),
+                }
+            }
+            Command::Commit(entries) => commit(self.alloc, &self.tickets, entries.as_slice()),
+            Command::Judge(packet) => {
+                Ok(Step::Done(Answer::Judged(self.durable.verdict(packet))))
+            }
+        }
+    }
+
+    /// Makes what a change leaves. Where memory is refused nothing is made.
+    pub fn prepare(&self, change: &Change) -> Result<Next, AllocError>
+        ensures { IfOk result (λ n. n ≡ ready (applied self.now.durable change.now) (voided_by change.now)) }
+    {
+        let durable = Arc::new(self.alloc, self.durable.apply(self.alloc, change)?)?;
+        let voided = match &change.kind {
+            Kind::Commit(items) => voided(self.alloc, items.as_slice())?,
+        };
+        Ok(Next { durable, voided })
+    }
+
+    /// Puts in place what was prepared. It takes no memory.
+    pub fn accept(&mut self, next: Next)
+        ensures durable { self.new.durable ≡ next.durable }
+        ensures agrees { (calls : List Call) (c : Command) (n : ℕ) (o : Outcome) → mentions_of (call c (reply.Applied n o)) ≡ switches next.voided → AgreesWith self.old.tickets calls → AgreesWith self.new.tickets (calls ++ call c (reply.Applied n o) ∷ []) }
+        ensures epoch { self.new.tickets.epoch ≡ self.old.tickets.epoch }
+    {
+        let Next { durable, voided } = next;
+        self.durable = durable;
+        self.tickets.take_all(voided.as_slice());
+    }
+}

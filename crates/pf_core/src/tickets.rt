@@ -1,0 +1,233 @@
+//! The tickets that are valid, and what is offered with them.
+ghost use Rattle.std.specs.Prelude.{◌≡◌, ℕ, ◌<◌, ◌≤◌, List, [], ◌∷◌, ◌++◌, IfOk, OnOk, OnErr, IfSome, IfNone, length, filter, fold, get_or, vec_len, vec_capacity};
+ghost use Rattle.pf_core.specs.declared.reply.Answer.TheVariants as answer;
+ghost use Rattle.pf_core.specs.Calls.{Mention, gives, switches, added, filter_at, tickets_of};
+ghost use Rattle.pf_core.specs.Legal.{bad_count, is_valid, busy_from, begin_step, add_step, IsLegalStep};
+ghost use Rattle.pf_core.specs.Offers.{without, take_out, add_to, IsPlace, IsNowhere, told, commit_check};
+ghost use Rattle.pf_core.specs.Tickets.{Offer, Agrees, ticket_at, rules_under};
+
+use crate::command::{Entry, RulesetKind, RulesetName, Ticket};
+use crate::path::Path;
+use crate::reply::{Given, Refusal};
+use crate::ruleset::Ruleset;
+use pf_rule::Rule;
+use std::alloc::{AllocError, Global};
+use std::marker::Model;
+
+/// How many entries a list may have.
+const ENTRY_LIMIT: usize = 1;
+
+/// The greatest count of a ticket.
+const LAST_COUNT: u64 = 4_294_967_295;
+
+/// An inactive ruleset with its valid ticket.
+#[derive(Drop)]
+struct Slot {
+    name: RulesetName,
+    ticket: Ticket,
+    rules: Ruleset,
+}
+
+impl Model for Slot {
+    ghost use Rattle.pf_core.specs.Tickets.{Offer, offer};
+
+    ghost Value = { Offer };
+
+    ghost view = { λ s. offer s.name s.ticket s.rules };
+}
+
+/// The valid tickets of one opening, and the inactive rulesets. Contracts see it as an `Open`.
+#[derive(Drop)]
+pub struct Tickets {
+    alloc: Global,
+    epoch: u32,
+    // One more than the greatest count once all counts are given.
+    next: u64,
+    slots: Vec<Slot>,
+}
+
+impl Model for Tickets {
+    ghost use Rattle.std.specs.Prelude.{◌≤◌};
+    ghost use Rattle.pf_core.specs.Tickets.{Open, open_with};
+
+    ghost Value = { Open };
+
+    ghost view = { λ t. open_with t.epoch t.next t.slots.items };
+
+    ghost invariant = { λ t. t.next ≤ 4294967296 };
+}
+
+fn is_bad_count(number: usize) -> bool
+    ensures { result ≡ bad_count number }
+{
+    number == 0 || number > ENTRY_LIMIT
+}
+
+// Takes a ruleset's slot out.
+fn leave_out(slots: &mut Vec<Slot>, name: &RulesetName)
+    ensures items { slots.new.items ≡ without name.now slots.old.items }
+    ensures len { vec_len slots.new ≤ vec_len slots.old }
+    ensures capacity { vec_capacity slots.new ≡ vec_capacity slots.old }
+{
+    slots.retain(|slot| !slot.name.same(name));
+}
+
+impl Tickets {
+    /// An opening's tickets: none yet. It takes no memory.
+    pub fn new(alloc: Global, epoch: u32) -> Tickets
+        ensures epoch { result.epoch ≡ epoch }
+        ensures agrees { Agrees result [] }
+    {
+        Tickets {
+            alloc,
+            epoch,
+            next: 1,
+            slots: Vec::new(alloc),
+        }
+    }
+
+    // The place of a ruleset's slot.
+    fn place(&self, name: &RulesetName) -> Option<usize>
+        ensures within { IfSome result (λ i. i < length self.now.offers) }
+        ensures some { IfSome result (λ i. (o : Offer) → o ≡ get_or self.now.offers i o → IsPlace name.now self.now.offers i o) }
+        ensures none { IfNone result (IsNowhere name.now self.now.offers) }
+    {
+        for (place, slot) in self.slots.iter().enumerate() {
+            if slot.name.same(name) {
+                return Some(place);
+            }
+        }
+        None
+    }
+
+    // Whether a ticket is the ruleset's valid one.
+    fn is_valid(&self, name: &RulesetName, ticket: Ticket) -> bool
+        ensures { result ≡ is_valid (ticket_at self.now.offers) name.now ticket }
+    {
+        match self.place(name) {
+            Some(place) => self.slots[place].ticket.same(ticket),
+            None => false,
+        }
+    }
+
+    fn first_busy(&self, entries: &[Entry]) -> Option<usize>
+        ensures { result ≡ busy_from (ticket_at self.now.offers) 0 entries.now }
+    {
+        for (place, entry) in entries.iter().enumerate() {
+            if !self.is_valid(&entry.name, entry.ticket) {
+                return Some(place);
+            }
+        }
+        None
+    }
+
+    // Voids a ruleset's ticket.
+    fn take_out(&mut self, out: &RulesetName)
+        ensures { self.new ≡ take_out self.old out.now }
+    {
+        leave_out(&mut self.slots, out);
+    }
+
+    // Appends a rule to the ruleset's offer, which stands at this place.
+    fn grow(&mut self, name: &RulesetName, place: usize, rule: Rule) -> Result<(), AllocError>
+        requires within { place < length self.old.offers }
+        requires stands { (o : Offer) → o ≡ get_or self.old.offers place o → IsPlace name.now self.old.offers place o }
+        requires room { length (rules_under self.old.offers name.now) < 1024 }
+        ensures ok { OnOk result (self.new ≡ add_to self.old name.now rule) }
+        ensures err { OnErr result (self.new ≡ self.old) }
+    {
+        self.slots[place].rules.add(rule)
+    }
+
+    /// Gives a new ticket for each ruleset in turn, with no rules yet. After a refusal all is as before.
+    pub fn begin(&mut self, names: &[RulesetName]) -> Result<Given, Refusal>
+        ensures reply { IsLegalStep (told result (λ g. answer.Given g)) (begin_step self.old.epoch self.old.next names.now) }
+        ensures agrees { (ms : List Mention) → Agrees self.old ms → IfOk result (λ g. Agrees self.new (ms ++ gives names.now (tickets_of g))) }
+        ensures err { OnErr result (self.new ≡ self.old) }
+        ensures epoch { self.new.epoch ≡ self.old.epoch }
+    {
+        if is_bad_count(names.len()) {
+            return Err(Refusal::BadCount);
+        }
+        let number = names.len() as u32;
+        if self.next + u64::from(number) - 1 > LAST_COUNT {
+            return Err(Refusal::TicketsExhausted);
+        }
+        if self.slots.reserve(names.len()).is_err() {
+            return Err(Refusal::Memory);
+        }
+        let first = Ticket {
+            epoch: self.epoch,
+            count: self.next as u32,
+        };
+        for name in names {
+            leave_out(&mut self.slots, name);
+            self.slots.push_reserved(Slot {
+                name: name.copied(),
+                ticket: Ticket {
+                    epoch: self.epoch,
+                    count: self.next as u32,
+                },
+                rules: Ruleset::new(self.alloc),
+            });
+            self.next += 1;
+        }
+        Ok(Given { first, number })
+    }
+
+    /// Appends a rule to the filter ruleset that is offered with a valid ticket. After a refusal all is as before.
+    pub fn add_rule(&mut self, path: &Path, ticket: Ticket, rule: Rule) -> Result<(), Refusal>
+        ensures reply { IsLegalStep (told result (λ _. answer.Done)) (add_step (ticket_at self.old.offers) (rules_under self.old.offers) path.now ticket) }
+        ensures agrees { (ms : List Mention) → Agrees self.old ms → OnOk result (Agrees self.new (ms ++ added (filter_at path.now) ticket rule ∷ [])) }
+        ensures err { OnErr result (self.new ≡ self.old) }
+        ensures epoch { self.new.epoch ≡ self.old.epoch }
+    {
+        let name = RulesetName::filter(path);
+        let Some(place) = self.place(&name) else {
+            return Err(Refusal::Busy { at: 0 });
+        };
+        if !self.slots[place].ticket.same(ticket) {
+            return Err(Refusal::Busy { at: 0 });
+        }
+        if self.slots[place].rules.len() >= Ruleset::LIMIT {
+            return Err(Refusal::RulesetFull);
+        }
+        match self.grow(&name, place, rule) {
+            Ok(()) => Ok(()),
+            Err(_) => Err(Refusal::Memory),
+        }
+    }
+
+    /// Whether a commit of these entries may go on. It takes no memory.
+    pub fn check_all(&self, entries: &[Entry]) -> Result<(), Refusal>
+        ensures { result ≡ commit_check (ticket_at self.now.offers) entries.now }
+    {
+        if is_bad_count(entries.len()) {
+            return Err(Refusal::BadCount);
+        }
+        match self.first_busy(entries) {
+            Some(at) => Err(Refusal::Busy { at }),
+            None => Ok(()),
+        }
+    }
+
+    /// A copy of what is offered for a ruleset with its valid ticket.
+    pub fn contents(&self, name: &RulesetName) -> Result<Ruleset, AllocError>
+        ensures { IfOk result (λ r. r ≡ rules_under self.now.offers name.now) }
+    {
+        match self.place(name) {
+            Some(place) => self.slots[place].rules.copied(self.alloc),
+            None => Ok(Ruleset::new(self.alloc)),
+        }
+    }
+
+    /// Voids the tickets of these rulesets, as a commit does. It takes no memory.
+    pub fn take_all(&mut self, names: &[RulesetName])
+        ensures agrees { (ms : List Mention) → Agrees self.old ms → Agrees self.new (ms ++ switches names.now) }
+        ensures epoch { self.new.epoch ≡ self.old.epoch }
+    {
+        for name in names {
+            self.take_out(name);
+        }
+    }
+}
