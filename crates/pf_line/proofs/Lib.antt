@@ -1,0 +1,9 @@
+pub mod Keywords
+pub mod Making
+pub mod Parts
+pub mod FirstWords
+pub mod Silence
+pub mod Writers
+pub mod Lines
+pub mod WrittenTickets
+pub mod OneLine

@@ -1,0 +1,99 @@
+-- The grammar of lines, and what the words of a line say.
+use Rattle.std.specs.Prelude.{◌≡◌, ℕ, List, [], ◌∷◌, Result, Ok, Err}
+use Rattle.pf_rule.specs.declared.fault.Kind.{Kind}
+use Rattle.pf_rule.specs.declared.fault.Kind.TheVariants.{BadWord}
+use Rattle.pf_rule.specs.declared.fault.Misread.{Misread}
+use Rattle.pf_rule.specs.Words.{Word}
+use Rattle.pf_rule.specs.Combining.{Grammar, Never, OneWord, OneOf, Then, ◌>>=◌}
+use Rattle.pf_rule.specs.RuleGrammar.{RuleParts, RuleText, rule_of}
+use Rattle.pf_rule.specs.PacketGrammar.{PacketParts, PacketText, packet_of}
+use Rattle.pf_core.specs.declared.command.Command.{Command}
+use Rattle.pf_core.specs.declared.command.Command.TheVariants.{Begin, Add, Commit, Judge}
+use Rattle.pf_core.specs.declared.command.Entry.{Entry}
+use Rattle.pf_core.specs.declared.command.RulesetKind.{RulesetKind}
+use Rattle.pf_core.specs.declared.command.RulesetKind.TheVariants.{Filter}
+use Rattle.pf_core.specs.declared.command.RulesetName.{RulesetName}
+use Rattle.pf_core.specs.declared.command.Ticket.{Ticket}
+use Rattle.pf_core.specs.Rulesets.{main}
+use Rattle.pf_line.specs.declared.keyword.Keyword.{Keyword}
+use Rattle.pf_line.specs.declared.keyword.Keyword.TheVariants as keyword
+use Rattle.pf_line.specs.Keywords.{key, known}
+use Rattle.pf_line.specs.Making.{Making, or_bad}
+use Rattle.pf_line.specs.Tickets.{ticket_of}
+
+-- ---- words that stand for values
+
+-- KIND, "filter" alone so far
+abbrev pub kind_by : Keyword → Result RulesetKind Kind
+kind_by keyword.Filter = Ok Filter
+kind_by _ = Err BadWord
+
+abbrev pub kind_of : Word → Result RulesetKind Kind
+kind_of w = kind_by (key w)
+
+-- PATH, the main ruleset's alone so far, which is written "-"
+abbrev pub path_by : Keyword → Result (List ℕ) Kind
+path_by keyword.Main = Ok main
+path_by _ = Err BadWord
+
+abbrev pub path_of : Word → Result (List ℕ) Kind
+path_of w = path_by (key w)
+
+-- T
+abbrev pub ticket_word : Word → Result Ticket Kind
+ticket_word w = or_bad (ticket_of w)
+
+-- ---- the grammar
+
+abbrev pub Name : Type 0
+Name = RulesetKind × List ℕ
+
+-- KIND PATH
+abbrev pub NameText : Grammar Name
+NameText = Then (OneWord kind_of) (λ kind. OneWord path_of)
+
+-- PATH T RULE
+abbrev pub AddText : Grammar (List ℕ × (Ticket × RuleParts))
+AddText = Then (OneWord path_of) (λ path. Then (OneWord ticket_word) (λ ticket. RuleText))
+
+-- KIND PATH T
+abbrev pub CommitText : Grammar (Name × Ticket)
+CommitText = Then NameText (λ name. OneWord ticket_word)
+
+-- the parts of a line
+pub data Parts : Type 0 where
+  begin : Name → Parts
+  add : List ℕ × (Ticket × RuleParts) → Parts
+  commit : Name × Ticket → Parts
+  judge : PacketParts → Parts
+
+-- what follows each command's word
+abbrev pub command : Keyword → Grammar Parts
+command keyword.Begin = Making begin NameText
+command keyword.Add = Making add AddText
+command keyword.Commit = Making commit CommitText
+command keyword.Judge = Making judge PacketText
+command _ = Never
+
+-- "begin" KIND PATH | "add" PATH T RULE | "commit" KIND PATH T | "judge" PACKET
+abbrev pub LineText : Grammar Parts
+LineText = OneOf known command
+
+-- ---- after the last word
+
+abbrev pub named : Name → RulesetName
+named name = record { kind = name.0; path = name.1 }
+
+abbrev pub entry : Name → Ticket → Entry
+entry name t = record { name = named name; ticket = t }
+
+-- A rule's parts, or a packet's, have to agree.
+abbrev pub command_of : Parts → Result Command Misread
+command_of (begin name) = Ok (Begin (named name ∷ []))
+command_of (add x) = rule_of x.1.1 >>= λ rule. Ok (Add x.0 x.1.0 rule)
+command_of (commit x) = Ok (Commit (entry x.0 x.1 ∷ []))
+command_of (judge x) = packet_of x >>= λ packet. Ok (Judge packet)
+
+-- The words of a line spell the command.
+abbrev pub SpellsLine : Command → List Word → Type 0
+SpellsLine c ws = (x : Parts) × LineText x ws × (command_of x ≡ Ok c)

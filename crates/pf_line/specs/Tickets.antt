@@ -1,0 +1,40 @@
+-- The text of a ticket: its epoch and its count in decimal digits, with a dot between them.
+use Rattle.std.specs.Prelude.{ℕ, ◌+◌, ◌^◌, ◌==◌, nat_lt, Bool, List, ◌∷◌, ◌++◌, take, drop, Option, Some, None, if◌then◌else◌, decimal}
+use Rattle.std.specs.List.{position}
+use Rattle.pf_rule.specs.Words.{Word}
+use Rattle.pf_rule.specs.Values.{number_of}
+use Rattle.pf_core.specs.declared.command.Ticket.{Ticket}
+use Rattle.pf_core.specs.Calls.{ticket}
+
+-- how many digits a part may have, leading zeros among them
+abbrev pub digit_limit : ℕ
+digit_limit = 10
+
+-- a number of 32 bits
+abbrev pub of_32_bits : Option ℕ → Option ℕ
+of_32_bits None = None
+of_32_bits (Some n) = if nat_lt n (2 ^ 32) then Some n else None
+
+-- an epoch or a count: 1 to 10 digits of a number of 32 bits
+abbrev pub part_of : Word → Option ℕ
+part_of w = of_32_bits (number_of digit_limit w)
+
+abbrev pub ticket_with : Option ℕ → Option ℕ → Option Ticket
+ticket_with (Some e) (Some c) = Some (ticket e c)
+ticket_with _ _ = None
+
+abbrev pub is_dot : ℕ → Bool
+is_dot b = b == 46
+
+-- with the place of its first dot
+abbrev pub cut_at : Word → Option ℕ → Option Ticket
+cut_at w None = None
+cut_at w (Some i) = ticket_with (part_of (take i w)) (part_of (drop (i + 1) w))
+
+-- the ticket that a word spells
+unfoldable pub ticket_of : Word → Option Ticket
+ticket_of w = cut_at w (position is_dot w)
+
+-- A ticket is written without leading zeros.
+abbrev pub ticket_text : Ticket → List ℕ
+ticket_text t = decimal t.epoch ++ 46 ∷ decimal t.count

@@ -1,0 +1,111 @@
+//! Lines.
+ghost use Rattle.std.specs.Prelude.{◌≡◌, ℕ, true, false, Some, None, Ok, Err, IfOk, IfErr, IfSome, length};
+ghost use Rattle.std.specs.List.{list_all};
+ghost use Rattle.pf_rule.specs.Words.{is_blank, words_of};
+ghost use Rattle.pf_core.specs.declared.command.Command.{Command};
+ghost use Rattle.pf_core.specs.declared.reply.Refusal.TheVariants.{BadLine};
+ghost use Rattle.pf_line.specs.Grammar.{SpellsLine};
+ghost use Rattle.pf_line.specs.Lines.{is_line_byte, is_bad_line, is_silent, line_at, said_by, refusal_in, Parses, Tells, Refused};
+
+use crate::commands::{Unread, command};
+use pf_core::{Command, Refusal};
+use pf_rule::{Kind, Misread, words};
+use std::alloc::Global;
+
+fn line_byte(b: u8) -> bool
+    ensures { result ≡ is_line_byte b }
+{
+    (b' ' <= b && b <= b'~') || b == b'\t' || b == b'\r'
+}
+
+fn all_line_bytes(line: &[u8]) -> bool
+    ensures { result ≡ list_all is_line_byte line.now }
+{
+    line.iter().all(|b| line_byte(*b))
+}
+
+/// Whether the line is too long or has a byte that no line may have.
+fn bad_line(line: &[u8]) -> bool
+    ensures { result ≡ is_bad_line line.now }
+{
+    4096 < line.len() || !all_line_bytes(line)
+}
+
+fn blank(b: u8) -> bool
+    ensures { result ≡ is_blank b }
+{
+    b == b' ' || b == b'\t' || b == b'\r'
+}
+
+/// Whether the line has no words, or its first word begins a comment.
+fn silent(line: &[u8]) -> bool
+    ensures { result ≡ is_silent line.now }
+{
+    for b in line {
+        if !blank(*b) {
+            return *b == b'#';
+        }
+    }
+    true
+}
+
+/// The refusal of a line of so many words.
+fn refusal(count: usize, misread: Misread) -> Refusal
+    ensures { result ≡ refusal_in count misread }
+{
+    match misread {
+        Misread::Stopped(stop) => {
+            let at = count.saturating_sub(stop.left);
+            match stop.kind {
+                Kind::BadWord => Refusal::BadWord { at },
+                Kind::NameTooLong => Refusal::NameTooLong { at },
+                Kind::BadProto => Refusal::BadProto { at },
+            }
+        }
+        Misread::MixedFamily => Refusal::MixedFamily,
+    }
+}
+
+/// Reads one line, without its newline.
+///
+/// A line of more than 4,096 bytes, or with a byte that is neither printable ASCII nor a blank, is `BadLine`. Of any
+/// other line one without words, or whose first word begins with `#`, says nothing. `BadWord`, `NameTooLong` and
+/// `BadProto` stand at the first word at which no line can go on; words are counted from 0, and a missing word is at
+/// the number of words. `MixedFamily` comes after the last word. `Memory` comes only where memory was refused, and
+/// never for a bad line or one that says nothing.
+pub fn parse_line(alloc: Global, line: &[u8]) -> Result<Option<Command>, Refusal>
+    ensures bad { is_bad_line line.now ≡ true → result ≡ Err BadLine }
+    ensures silent { is_bad_line line.now ≡ false → is_silent line.now ≡ true → result ≡ Ok None }
+    ensures found { IfOk result (λ said. IfSome said (λ c. SpellsLine c (words_of line.now))) }
+    ensures only { is_bad_line line.now ≡ false → (c : Command) → SpellsLine c (words_of line.now) → Parses result (Ok (Some c)) }
+    ensures refused { IfErr result (λ e. Refused line.now e) }
+    ensures exact { Parses result (line_at line.now) }
+{
+    tell(alloc, line)
+}
+
+// Kept apart, so that the answer is proved once for each way out.
+fn tell(alloc: Global, line: &[u8]) -> Result<Option<Command>, Refusal>
+    ensures { Tells (is_bad_line line.now) (is_silent line.now) (words_of line.now) result }
+{
+    if bad_line(line) {
+        return Err(Refusal::BadLine);
+    }
+    if silent(line) {
+        return Ok(None);
+    }
+    read(alloc, line)
+}
+
+fn read(alloc: Global, line: &[u8]) -> Result<Option<Command>, Refusal>
+    ensures { Parses result (said_by (words_of line.now)) }
+{
+    let Ok(words) = words(alloc, line) else {
+        return Err(Refusal::Memory);
+    };
+    match command(alloc, &words) {
+        Ok(command) => Ok(Some(command)),
+        Err(Unread::Misread(misread)) => Err(refusal(words.len(), misread)),
+        Err(Unread::Memory) => Err(Refusal::Memory),
+    }
+}
