@@ -6,4 +6,5 @@ pub mod Grammar
 pub mod Reading
 pub mod Spelling
 pub mod SpellingLaws
+pub mod Faults
 pub mod Writing

@@ -9,17 +9,18 @@ use Rattle.std.proofs.lemmas.Bool.Decides.{nat_tests}
 use Rattle.std.proofs.lemmas.List.Elements.{All-nil, All-cons, All-append}
 use Rattle.std.proofs.lemmas.Str.Parse.{digit_from_value}
 use Rattle.std.proofs.lemmas.Fmt.{decimal_is_IsNumeral, length-decimal-le}
-use Rattle.std.proofs.lemmas.List.{take-append-le, take_all, length-replicate}
+use Rattle.std.proofs.lemmas.List.{take-append-le, take_all, length-replicate, length-take-le}
 use Rattle.std.proofs.lemmas.List.Sums.{fold_push}
 use Rattle.std.proofs.lemmas.Nat.{from_be_bytes-to_be_bytes_4}
 use Rattle.std.proofs.Math.Nat.{pow-succ'}
+use Rattle.pf_addr.specs.declared.addr.Addr.{Addr}
 use Rattle.pf_addr.specs.declared.addr.Addr.TheVariants as addr
 use Rattle.pf_addr.specs.declared.addr.Family.{Family}
 use Rattle.pf_addr.specs.declared.addr.Family.TheVariants.{V4}
 use Rattle.pf_addr.specs.Bits.{bits, with_bit, number_of}
 use Rattle.pf_addr.specs.BitLaws.{length-bits}
 use Rattle.pf_addr.specs.Address.{Network}
-use Rattle.pf_addr.specs.Grammar.{IsNumber, Dotted, SpellsAddr, SpellsNet, four_bytes}
+use Rattle.pf_addr.specs.Grammar.{IsNumber, Dotted, SpellsAddr, SpellsNet, four_bytes, network_of, v4_network}
 use Rattle.pf_addr.specs.Spelling.{addr_text, net_text}
 
 -- ---- a list of bits is the bits of its number
@@ -216,3 +217,26 @@ IsNetWord-net_text net is = subst (λ (n : Network). IsNetWord 18 (net_text n)) 
 -- and an address's one of at most 15
 pub IsNetWord-addr_text : (n : ℕ) → IsNetWord 15 (addr_text (addr.V4 n))
 IsNetWord-addr_text n = addr_word n
+
+-- ---- what a text spells
+
+alone_v4 : (text : List ℕ) (net : Network) (a : Addr) → SpellsAddr text a → net ≡ network_of a → IsV4Network net
+alone_v4 text net (addr.V4 n) is e = record {
+  family = ap (λ (m : Network). m.family) e;
+  within = omega (arith, ap (λ (m : Network). length m.front) e, length-bits 32 n);
+}
+alone_v4 text net (addr.V6 n) is e = absurd is
+
+front_v4 : (net : Network) (parts : List ℕ) (len : ℕ) → len ≤ 32 → net ≡ v4_network parts len → IsV4Network net
+front_v4 net parts len le e =
+    let number : ℕ = from_be_bytes w32 (four_bytes parts) in
+    let size : length (take len (bits 32 number)) ≡ len = length-take-le len (bits 32 number) (omega (arith, length-bits 32 number)) in
+    record {
+      family = ap (λ (m : Network). m.family) e;
+      within = omega (arith, ap (λ (m : Network). length m.front) e, size);
+    }
+
+-- each network that a text spells is a V4 network
+pub IsV4Network-spelled : (text : List ℕ) (net : Network) → SpellsNet text net → IsV4Network net
+IsV4Network-spelled text net (inl is) = alone_v4 text net is.0 is.1 is.2
+IsV4Network-spelled text net (inr is) = front_v4 net is.0 is.3 is.6.small is.8

@@ -1,4 +1,7 @@
 //! What is wrong with a text that is no address or no network.
+ghost use Rattle.std.specs.Prelude.{Some};
+ghost use Rattle.pf_addr.specs.Faults.{fault_text};
+
 use std::fmt::{self, Display, Formatter, Write};
 
 /// The first fault of a text. Each place `at` is a number of bytes from 0, in the whole text.
@@ -20,11 +23,13 @@ pub enum AddrFault {
 }
 
 impl Display for AddrFault {
+    ghost output = { λ e. Some (fault_text e) };
+
     fn fmt<W: Write>(&self, f: &mut Formatter<W>) -> Result<(), fmt::Error> {
         match *self {
             AddrFault::Empty { at } => write!(f, "no address at byte {at}"),
             AddrFault::BadDigit { at } => write!(f, "no digit at byte {at}"),
-            AddrFault::TooBig { at } => write!(f, "a part past 255 at byte {at}"),
+            AddrFault::TooBig { at } => write!(f, "too big a part at byte {at}"),
             AddrFault::BadLength { at } => write!(f, "no prefix length at byte {at}"),
             AddrFault::BadGroups { at } => write!(f, "a wrong number of parts at byte {at}"),
         }

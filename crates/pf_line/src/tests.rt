@@ -158,7 +158,7 @@ fn places_names_and_protocols(rt: HostRuntime) {
         ),
         (
             b"add - 1.1 pass inet6 from 10/8 to any frob",
-            Refusal::BadWord { at: 8 },
+            Refusal::BadWord { at: 9 },
         ),
     ] {
         assert_eq!(rt; read(rt.alloc(), line), Told::Refused(refusal));

@@ -24,3 +24,6 @@ pub use packet::Packet;
 pub use protocol::Protocol;
 pub use rule::{Action, Direction, Host, Rule};
 pub use splitting::words;
+
+#[cfg(test)]
+mod tests;

@@ -51,6 +51,6 @@ impl Protocol {
     pub fn has_ports(self) -> bool
         ensures { result ≡ has_ports self }
     {
-        self.0 == Protocol::TCP || self.0 == Protocol::UDP
+        self.number() == Protocol::TCP || self.number() == Protocol::UDP
     }
 }
