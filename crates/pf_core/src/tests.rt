@@ -65,7 +65,7 @@ fn judge(alloc: Global, text: &str) -> Result<Command, TextFault> {
     Ok(Command::Judge(Packet::parse(alloc, text)?))
 }
 
-fn told(answer: &Answer) -> Told {
+fn plain(answer: &Answer) -> Told {
     match answer {
         Answer::Given(given) => Told::Given(*given),
         Answer::Done => Told::Done,
@@ -79,7 +79,7 @@ fn told(answer: &Answer) -> Told {
 // One command, with its change put in place.
 fn run(core: &mut Core, command: &Command) -> Told {
     match core.step(command) {
-        Ok(Step::Done(answer)) => told(&answer),
+        Ok(Step::Done(answer)) => plain(&answer),
         Ok(Step::Wants(change, _)) => {
             let Ok(next) = core.prepare(&change) else {
                 return Told::Refused(Refusal::Memory);
@@ -231,7 +231,7 @@ fn values_cross_threads(rt: HostRuntime) -> Result<(), Fail> {
 fn run_again(core: &mut Core, command: &Command) -> Told {
     match run(core, command) {
         Told::Refused(Refusal::Memory) => run(core, command),
-        told => told,
+        other => other,
     }
 }
 

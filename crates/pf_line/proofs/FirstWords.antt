@@ -4,7 +4,7 @@ use Rattle.std.proofs.lemmas.List.{take_all}
 use denote.Ref.{Bor}
 use Rattle.pf_rule.specs.declared.fault.Misread.{Misread}
 use Rattle.pf_rule.specs.Words.{Word, texts}
-use Rattle.pf_rule.specs.Combining.{Read, ◌>>=◌, ended, whole}
+use Rattle.pf_rule.specs.Combining.{Read, ◌>>=◌, ended}
 use Rattle.pf_rule.specs.RuleGrammar.{RuleParts, rule_of}
 use Rattle.pf_rule.specs.RuleReading.{rule_parts_at, stopped, rule_read}
 use Rattle.pf_rule.specs.PacketGrammar.{PacketParts, packet_of}

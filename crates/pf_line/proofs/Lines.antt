@@ -1,5 +1,5 @@
 -- What a line is answered, and why.
-use Rattle.std.proofs.Common.{◌≡◌, ℕ, ◌-◌, Bool, true, false, cond, List, [], ◌∷◌, length, Option, Some, None, Result, Ok, Err, ◌⊎◌, inl, inr, refl, sym, ap, subst}
+use Rattle.std.proofs.Common.{◌≡◌, ℕ, ◌-◌, Bool, true, false, cond, List, length, Option, Some, None, Result, Ok, Err, inl, inr, refl, sym, ap, subst}
 use Rattle.std.specs.Prelude.{IfOk, IfErr, IfSome}
 use Rattle.pf_addr.specs.declared.addr.Family.{Family}
 use Rattle.pf_addr.specs.Address.{family_of, same_family}
@@ -8,7 +8,7 @@ use Rattle.pf_rule.specs.declared.fault.Kind.TheVariants as kinds
 use Rattle.pf_rule.specs.declared.fault.Misread.{Misread}
 use Rattle.pf_rule.specs.declared.fault.Misread.TheVariants.{Stopped, MixedFamily}
 use Rattle.pf_rule.specs.Words.{Word, words_of}
-use Rattle.pf_rule.specs.Combining.{StopsAt, ◌>>=◌, whole}
+use Rattle.pf_rule.specs.Combining.{StopsAt, whole}
 use Rattle.pf_rule.specs.Packets.{PlainPacket}
 use Rattle.pf_rule.specs.Parts.{bind_ok, bind_err}
 use Rattle.pf_rule.specs.Texts.{whole_takes, whole_again, whole_stops_at}

@@ -1,8 +1,8 @@
 -- What holds of a part holds of it where its value is seen as another value.
-use Rattle.std.proofs.Common.{◌≡◌, List, [], ◌∷◌, ◌++◌, Result, Ok, Err, ◌⊎◌, inl, inr, refl, sym, ap, ◌∙◌}
+use Rattle.std.proofs.Common.{◌≡◌, List, ◌∷◌, ◌++◌, Ok, Err, inl, inr, refl, sym, ap, ◌∙◌}
 use Rattle.pf_rule.specs.declared.fault.Kind.{Kind}
 use Rattle.pf_rule.specs.Words.{Word}
-use Rattle.pf_rule.specs.Combining.{Grammar, Read, Reader, ◌>>=◌}
+use Rattle.pf_rule.specs.Combining.{Grammar, Read, Reader}
 use Rattle.pf_rule.specs.Parts.{bind_ok, bind_err, Stopped, Part}
 use Rattle.pf_line.specs.Making.{Making, making}
 

@@ -1,5 +1,5 @@
 -- The grammar of lines belongs to its reader.
-use Rattle.std.proofs.Common.{◌≡◌, true, false, List, [], ◌∷◌, ◌++◌, Option, Some, None, Ok, ◌⊎◌, inl, inr, refl, sym, ap, subst}
+use Rattle.std.proofs.Common.{◌≡◌, true, false, List, [], ◌∷◌, None, Ok, inl, refl, ap}
 use Rattle.std.specs.Prelude.{ℕ, codes}
 use Rattle.pf_rule.specs.Keywords.{key as rule_key}
 use Rattle.pf_rule.specs.declared.rule.Host.TheVariants.{Any}
@@ -19,7 +19,7 @@ use Rattle.pf_core.specs.Calls.{ticket}
 use Rattle.pf_core.specs.Rulesets.{main}
 use Rattle.pf_line.specs.declared.keyword.Keyword.{Keyword}
 use Rattle.pf_line.specs.declared.keyword.Keyword.TheVariants as keyword
-use Rattle.pf_line.specs.Keywords.{spelled, key, known}
+use Rattle.pf_line.specs.Keywords.{known}
 use Rattle.pf_line.specs.Tickets.{ticket_of}
 use Rattle.pf_line.specs.Grammar.{kind_by, kind_of, path_by, path_of, ticket_word, Name, NameText, AddText, CommitText, Parts, begin, add, commit, judge, command, LineText}
 use Rattle.pf_line.specs.Reading.{kind_at, path_at, ticket_at, name_at, add_at, commit_at, command_table, parts_at}

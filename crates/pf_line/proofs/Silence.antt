@@ -1,10 +1,10 @@
 -- A line is silent by its first byte that is no blank.
-use Rattle.std.proofs.Common.{◌≡◌, ℕ, ◌+◌, ◌<◌, ◌≤◌, Bool, true, false, cond, not, List, [], ◌∷◌, length, drop, get_or, refl, sym, ap, ◌∙◌, arith}
+use Rattle.std.proofs.Common.{◌≡◌, ℕ, ◌+◌, ◌<◌, ◌≤◌, Bool, true, false, cond, List, [], ◌∷◌, length, drop, get_or, refl, ◌∙◌, arith}
 use Rattle.std.specs.Prelude.{◌==◌, filter, nat_lt}
 use Rattle.std.specs.List.{slice_split, onto_first}
 use Rattle.std.proofs.lemmas.List.{at_drop_more, at_drop_all}
-use Rattle.pf_rule.specs.Words.{Word, is_blank, words_of}
-use Rattle.pf_line.specs.Lines.{is_comment, no_command, is_silent}
+use Rattle.pf_rule.specs.Words.{Word, is_blank}
+use Rattle.pf_line.specs.Lines.{no_command, is_silent}
 
 -- whether there is no first ink, or it begins a comment
 abbrev pub quiet : List ℕ → Bool

@@ -1,7 +1,7 @@
 -- What a ticket is written as is read again.
-use Rattle.std.proofs.Common.{◌≡◌, ℕ, ◌+◌, ◌*◌, ◌-◌, ◌^◌, ◌<◌, ◌≤◌, ◌==◌, ◌&&◌, not, ltb, leb, Bool, true, false, cond, List, [], ◌∷◌, ◌++◌, length, take, drop, Option, Some, None, decimal, refl, sym, ap, ◌∙◌, subst, arith, rules, append_assoc}
+use Rattle.std.proofs.Common.{◌≡◌, ℕ, ◌+◌, ◌*◌, ◌-◌, ◌^◌, ◌<◌, ◌&&◌, ltb, leb, Bool, true, false, List, [], ◌∷◌, ◌++◌, length, take, drop, Some, decimal, refl, sym, ap, ◌∙◌, arith, rules, append_assoc}
 use Rattle.std.specs.Prelude.{fold}
-use Rattle.std.specs.List.{list_all, position, position_or_len, prefix_len}
+use Rattle.std.specs.List.{list_all, position, position_or_len}
 use Rattle.std.proofs.lemmas.Bool.Decides.{nat_tests}
 use Rattle.std.proofs.lemmas.List.{take_at, drop_at, length-append}
 use Rattle.std.proofs.lemmas.Fmt.{digits_decimal, digits_value-decimal, length-decimal-le, decimal_nonempty}
@@ -9,7 +9,7 @@ use Rattle.std.proofs.lemmas.Str.Parse.{IsNumeralModel, numerals_by_fold}
 use Rattle.pf_addr.specs.Reading.{is_digit, decimal_value}
 use Rattle.pf_rule.specs.Values.{number_of}
 use Rattle.pf_core.specs.declared.command.Ticket.{Ticket}
-use Rattle.pf_line.specs.Tickets.{is_dot, of_32_bits, part_of, ticket_with, cut_at, ticket_of, ticket_text}
+use Rattle.pf_line.specs.Tickets.{is_dot, of_32_bits, part_of, ticket_of, ticket_text}
 
 abbrev IsDigits : List ℕ → Type 0
 IsDigits ds = list_all is_digit ds ≡ true

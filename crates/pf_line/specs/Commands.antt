@@ -1,5 +1,5 @@
 -- What the functions that read a command answer.
-use Rattle.std.specs.Prelude.{◌≡◌, ℕ, List, [], ◌∷◌, length, Result, Ok, Err}
+use Rattle.std.specs.Prelude.{◌≡◌, List, [], ◌∷◌, length, Result, Ok, Err}
 use Rattle.pf_rule.specs.declared.fault.Misread.{Misread}
 use Rattle.pf_rule.specs.declared.fault.Misread.TheVariants.{Stopped}
 use Rattle.pf_rule.specs.declared.fault.Kind.TheVariants.{BadWord}

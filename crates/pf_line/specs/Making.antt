@@ -1,8 +1,7 @@
 -- Parts of a grammar whose values are seen as other values, and how they are read.
-use Rattle.std.specs.Prelude.{◌≡◌, List, Option, Some, None, Result, Ok, Err}
+use Rattle.std.specs.Prelude.{◌≡◌, Option, Some, None, Result, Ok, Err}
 use Rattle.pf_rule.specs.declared.fault.Kind.{Kind}
 use Rattle.pf_rule.specs.declared.fault.Kind.TheVariants.{BadWord}
-use Rattle.pf_rule.specs.Words.{Word}
 use Rattle.pf_rule.specs.Combining.{Grammar, Reader, ◌>>=◌}
 
 -- a part, whose value makes this one

@@ -1,5 +1,5 @@
 -- Reading the words of a line, one after the other, and what reading them answers.
-use Rattle.std.specs.Prelude.{ℕ, List, [], ◌∷◌, Option, Some, None, Result, Ok, Err}
+use Rattle.std.specs.Prelude.{ℕ, List, Option, Some, None, Result}
 use Rattle.pf_rule.specs.declared.fault.Misread.{Misread}
 use Rattle.pf_rule.specs.Words.{Word}
 use Rattle.pf_rule.specs.Combining.{Reader, ◌>>=◌, one_word, one_of, then, whole}

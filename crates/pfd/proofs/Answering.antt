@@ -1,0 +1,148 @@
+-- Lines that were answered, one list after another.
+use Rattle.std.proofs.Common.{◌≡◌, ℕ, ◌≤◌, List, [], ◌∷◌, ◌++◌, length, take, Option, Some, None, Result, Ok, Err, refl, sym, ap, ◌∙◌, subst, append_assoc, arith}
+use Rattle.std.proofs.lemmas.List.{append-nil}
+use Rattle.std.specs.Io.KnownBytes.{Appends, Keeps, Consumes}
+use Rattle.pf_addr.specs.Writing.{Appends-none, Appends-then, Appends-kept}
+use Rattle.pf_core.specs.declared.command.Command.{Command}
+use Rattle.pf_core.specs.declared.reply.Refusal.{Refusal}
+use Rattle.pf_core.specs.declared.reply.Reply.{Reply}
+use Rattle.pf_core.specs.Calls.{Call, call}
+use Rattle.pf_core.specs.Edits.{Kept}
+use Rattle.pf_core.specs.Worlds.{Page, StandsFor}
+use Rattle.pf_line.specs.Lines.{line_at}
+use Rattle.pf_line.specs.Replies.{reply_text}
+use Rattle.pfd.specs.Serving.{Says, Served, Continues, Told, Answered, CutOff}
+use Rattle.pfd.proofs.Calling.{continues-still}
+
+-- ---- bytes that are known
+
+pub appends-kept : (a b : Option (List ℕ)) → Keeps a b → Appends a b []
+appends-kept a b k = Appends-kept a a b [] (Appends-none a) k
+
+pub consumes-then : (a b c : Option (List ℕ)) (x y : List ℕ) → Consumes a b x → Consumes b c y → Consumes a c (x ++ y)
+consumes-then None b c x y p q = tt
+consumes-then (Some xs) None c x y p q = absurd p
+consumes-then (Some xs) (Some ys) None x y p q = absurd q
+consumes-then (Some xs) (Some ys) (Some zs) x y p q = p ∙ ap (λ (t : List ℕ). x ++ t) q ∙ sym (append_assoc x y zs)
+
+pub consumes-kept : (a b : Option (List ℕ)) → Keeps a b → Consumes a b []
+consumes-kept None b k = tt
+consumes-kept (Some xs) None k = absurd k
+consumes-kept (Some xs) (Some ys) k = sym k
+
+-- ---- lines and their calls
+
+pub served-one : (line : List ℕ) (calls : List Call) (text : List ℕ) → Says (line_at line) calls text → Served (line ∷ []) calls text
+served-one line calls text says = (calls, [], text, [], says, (refl, refl), sym (append-nil calls), sym (append-nil text))
+
+pub served-then : (xs ys : List (List ℕ)) (cs ds : List Call) (s t : List ℕ) → Served xs cs s → Served ys ds t → Served (xs ++ ys) (cs ++ ds) (s ++ t)
+served-then [] ys cs ds s t p q =
+    let e : ds ≡ cs ++ ds = ap (λ (l : List Call). l ++ ds) (sym p.0) in
+    let f : t ≡ s ++ t = ap (λ (l : List ℕ). l ++ t) (sym p.1) in
+    subst (λ (l : List Call). Served ys l (s ++ t)) e (subst (λ (l : List ℕ). Served ys ds l) f q)
+served-then (x ∷ xs) ys cs ds s t (first, rest, reply, replies, says, more, calls, text) q = (
+  first,
+  rest ++ ds,
+  reply,
+  replies ++ t,
+  says,
+  served-then xs ys rest ds replies t more q,
+  ap (λ (l : List Call). l ++ ds) calls ∙ append_assoc first rest ds,
+  ap (λ (l : List ℕ). l ++ t) text ∙ append_assoc reply replies t,
+)
+
+pub continues-then : (a b c : Page) (x y : List Call) → Continues a b x → Continues b c y → Continues a c (x ++ y)
+continues-then a b c x y p q = λ base world stands.
+    subst (λ (w : List Call). StandsFor base c w) (append_assoc world x y) (q base (world ++ x) (p base world stands))
+
+-- ---- lines that were answered
+
+pub answered-none : (held held' : Option (List ℕ)) (page : Page) → Keeps held held' → Answered [] held held' page page
+answered-none held held' page keeps = record {
+  calls = [];
+  text = [];
+  served = (refl, refl);
+  book = continues-still page;
+  written = appends-kept held held' keeps;
+}
+
+pub answered-then : (xs ys : List (List ℕ)) (h i j : Option (List ℕ)) (a b c : Page) → Answered xs h i a b → Answered ys i j b c → Answered (xs ++ ys) h j a c
+answered-then xs ys h i j a b c p q = record {
+  calls = p.calls ++ q.calls;
+  text = p.text ++ q.text;
+  served = served-then xs ys p.calls q.calls p.text q.text p.served q.served;
+  book = continues-then a b c p.calls q.calls p.book q.book;
+  written = Appends-then h i j p.text q.text p.written q.written;
+}
+
+-- ---- and lines that were cut off
+
+pub cut-one : (line : List ℕ) (r : Reply) (held held' : Option (List ℕ)) (old new : Page) → Told (line_at line) (Some r) old new → (k : ℕ) × Appends held held' (take k (reply_text r)) → CutOff (line ∷ []) held held' old new
+cut-one line r held held' old new (calls, says, book) (k, written) = record {
+  earlier = [];
+  last = line ∷ [];
+  lines_are = refl;
+  one = omega arith;
+  calls = [];
+  last_calls = calls;
+  text = [];
+  last_text = reply_text r;
+  served = (refl, refl);
+  served_last = served-one line calls (reply_text r) says;
+  book = book;
+  taken = k;
+  written = written;
+}
+
+-- a flush that failed after all replies were written
+pub cut-behind : (lines : List (List ℕ)) (h i j : Option (List ℕ)) (a b : Page) → Answered lines h i a b → Keeps i j → CutOff lines h j a b
+cut-behind lines h i j a b p keeps = record {
+  earlier = lines;
+  last = [];
+  lines_are = sym (append-nil lines);
+  one = omega arith;
+  calls = p.calls;
+  last_calls = [];
+  text = p.text;
+  last_text = [];
+  served = p.served;
+  served_last = (refl, refl);
+  book = continues-then a b b p.calls [] p.book (continues-still b);
+  taken = 0;
+  written = Appends-then h i j p.text [] p.written (appends-kept i j keeps);
+}
+
+pub cut-then : (xs ys : List (List ℕ)) (h i j : Option (List ℕ)) (a b c : Page) → Answered xs h i a b → CutOff ys i j b c → CutOff (xs ++ ys) h j a c
+cut-then xs ys h i j a b c p q = record {
+  earlier = xs ++ q.earlier;
+  last = q.last;
+  lines_are = ap (λ (l : List (List ℕ)). xs ++ l) q.lines_are ∙ sym (append_assoc xs q.earlier q.last);
+  one = q.one;
+  calls = p.calls ++ q.calls;
+  last_calls = q.last_calls;
+  text = p.text ++ q.text;
+  last_text = q.last_text;
+  served = served-then xs q.earlier p.calls q.calls p.text q.text p.served q.served;
+  served_last = q.served_last;
+  book = subst (λ (l : List Call). Continues a c l) (sym (append_assoc p.calls q.calls q.last_calls)) (continues-then a b c p.calls (q.calls ++ q.last_calls) p.book q.book);
+  taken = q.taken;
+  written = subst (λ (l : List ℕ). Appends h j l) (sym (append_assoc p.text q.text (take q.taken q.last_text))) (Appends-then h i j p.text (q.text ++ take q.taken q.last_text) p.written q.written);
+}
+
+pub answered-kept : (lines : List (List ℕ)) (h i j : Option (List ℕ)) (a b : Page) → Answered lines h i a b → Keeps i j → Answered lines h j a b
+answered-kept lines h i j a b p keeps = record {
+  calls = p.calls;
+  text = p.text;
+  served = p.served;
+  book = p.book;
+  written = Appends-kept h i j p.text p.written keeps;
+}
+
+pub answered-one : (line : List ℕ) (r : Reply) (held held' : Option (List ℕ)) (old new : Page) → Told (line_at line) (Some r) old new → Appends held held' (reply_text r) → Answered (line ∷ []) held held' old new
+answered-one line r held held' old new (calls, says, book) written = record {
+  calls = calls;
+  text = reply_text r;
+  served = served-one line calls (reply_text r) says;
+  book = book;
+  written = written;
+}

@@ -1,0 +1,36 @@
+-- A session that didn't begin.
+use Rattle.std.proofs.Common.{◌≡◌, ℕ, List, [], Option, Some, None, Result, Ok, Err, refl}
+use Rattle.std.specs.Io.KnownBytes.{Keeps}
+use Rattle.pf_core.specs.Edits.{kept}
+use Rattle.pf_core.specs.Tickets.{Agrees, open_with}
+use Rattle.pf_core.specs.Worlds.{Page, page, whole, StandsFor}
+use Rattle.pfd.specs.declared.engine.EngineFault.TheVariants.{Memory}
+use Rattle.pfd.specs.Program.{Ran}
+use Rattle.pfd.proofs.Answering.{consumes-kept}
+
+abbrev empty : Page
+empty = page (whole (kept 1 []) (open_with 1 1 [])) [] 65536
+
+empty-agrees : Agrees (open_with 1 1 []) []
+empty-agrees = record {
+  valid = λ name. refl;
+  offered = λ name. refl;
+  next = refl;
+  low = λ name u h. absurd (cc (h));
+  fresh = λ name u h. refl;
+}
+
+empty-stands : StandsFor (kept 1 []) empty []
+empty-stands = record {
+  legal = tt;
+  leaves = record { log = refl; calls = empty-agrees; durable = refl; epoch = refl };
+}
+
+pub ran-none : (unread unread' held held' : Option (List ℕ)) → Keeps unread unread' → Keeps held held' → Ran (Err Memory) unread unread' held held'
+ran-none unread unread' held held' r w = record {
+  old = empty;
+  new = empty;
+  fresh = empty-stands;
+  limit = refl;
+  session = ([], consumes-kept unread unread' r, (refl, w, refl));
+}

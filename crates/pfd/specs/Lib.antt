@@ -1,0 +1,5 @@
+pub mod Lines
+pub mod Pieces
+pub mod Serving
+pub mod Replied
+pub mod Program

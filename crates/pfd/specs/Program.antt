@@ -1,0 +1,26 @@
+-- What the program does with the words `pfd run`.
+use Rattle.std.specs.Prelude.{◌≡◌, ℕ, List, [], ◌∷◌, Option, Result, Ok, Err, codes}
+use Rattle.pf_core.specs.Edits.{kept}
+use Rattle.pf_core.specs.Worlds.{Page, StandsFor}
+use Rattle.pfd.specs.declared.engine.EngineFault.{EngineFault}
+use Rattle.pfd.specs.Serving.{IsSession}
+
+-- the program's name, whatever it is, and `run`
+abbrev pub IsRun : List (List ℕ) → Type 0
+IsRun words = (name : List ℕ) × (words ≡ name ∷ codes "run" ∷ [])
+
+-- A session was served from a fresh book with room for 65,536 changes.
+pub record Ran (result : Result (Unit {0}) EngineFault) (unread unread' held held' : Option (List ℕ)) : Type 0 where
+  pub old : Page
+  pub new : Page
+  pub fresh : StandsFor (kept 1 []) old []
+  pub limit : old.limit ≡ 65536
+  pub session : IsSession result unread unread' held held' old new
+
+abbrev pub status_of : Result (Unit {0}) EngineFault → ℕ
+status_of (Ok u) = 0
+status_of (Err fault) = 1
+
+-- The same, and the status says whether it came to the input's end.
+abbrev pub RanWith : ℕ → Option (List ℕ) → Option (List ℕ) → Option (List ℕ) → Option (List ℕ) → Type 0
+RanWith status unread unread' held held' = (result : Result (Unit {0}) EngineFault) × (status ≡ status_of result) × Ran result unread unread' held held'

@@ -1,0 +1,100 @@
+//! A core with the history of what it kept.
+ghost use Rattle.std.specs.Prelude.{◌≡◌, ℕ, ◌≤◌, [], ◌∷◌, ◌++◌, List, IfOk, map};
+ghost use Rattle.std.specs.Arc.{arc_value};
+ghost use Rattle.pf_core.specs.Calls.{Call, call};
+ghost use Rattle.pf_core.specs.Edits.{Kept, kept, after};
+ghost use Rattle.pf_core.specs.Worlds.{Held, held_after, LegalReply, IsAt, Follows, StandsFor};
+ghost use Rattle.pfd.specs.Replied.{IsNumbered, IsJudged, StaysIfRefused};
+
+use pf_core::{Change, Command, Core, Durable, Refusal, Reply, Step};
+use std::alloc::{AllocError, Global};
+use std::marker::Model;
+use std::sync::Arc;
+
+/// The epoch of a book that was opened only once.
+const FIRST_EPOCH: u32 = 1;
+
+/// A core, and the changes that it kept since it was opened, all in memory. Contracts see it as a `Page`.
+#[derive(Drop)]
+pub struct Book {
+    alloc: Global,
+    core: Core,
+    log: Vec<Arc<Change>>,
+    limit: usize,
+}
+
+impl Model for Book {
+    ghost use Rattle.std.specs.Prelude.{map};
+    ghost use Rattle.std.specs.Arc.{arc_value};
+    ghost use Rattle.pf_core.specs.Worlds.{Page, page};
+
+    ghost Value = { Page };
+
+    ghost view = { λ b. page b.core (map arc_value b.log.items) b.limit };
+}
+
+impl Book {
+    /// No rulesets, in epoch 1, and no history yet. The history will have at most so many changes.
+    pub fn fresh(alloc: Global, history_limit: usize) -> Result<Book, AllocError>
+        requires low { 1 ≤ history_limit }
+        requires high { history_limit ≤ 1_048_576 }
+        ensures stands { IfOk result (λ b. StandsFor (kept 1 []) b []) }
+        ensures limit { IfOk result (λ b. b.limit ≡ history_limit) }
+    {
+        let base = Arc::new(alloc, Durable::empty(alloc, FIRST_EPOCH))?;
+        Ok(Book {
+            alloc,
+            core: Core::new(alloc, base),
+            log: Vec::new(alloc),
+            limit: history_limit,
+        })
+    }
+
+    // One call, wherever the calls so far have led.
+    fn call(&mut self, command: &Command) -> Reply
+        ensures follows { (base : Kept) (h : Held) → IsAt base h self.old → Follows base h self.old self.new (call command.now result) }
+        ensures numbered { IsNumbered result self.new }
+        ensures judged { IsJudged self.old.whole.durable command.now result }
+        ensures refused { StaysIfRefused result self.old self.new }
+    {
+        match self.core.step(command) {
+            Ok(Step::Done(answer)) => Reply::Answer(answer),
+            Ok(Step::Wants(change, outcome)) => {
+                if self.log.len() >= self.limit {
+                    return Reply::Refused(Refusal::HistoryFull);
+                }
+                let Ok(next) = self.core.prepare(&change) else {
+                    return Reply::Refused(Refusal::Memory);
+                };
+                let Ok(change) = Arc::new(self.alloc, change) else {
+                    return Reply::Refused(Refusal::Memory);
+                };
+                if self.log.reserve(1).is_err() {
+                    return Reply::Refused(Refusal::Memory);
+                }
+                self.log.push_reserved(change);
+                self.core.accept(next);
+                Reply::Applied {
+                    seq: self.log.len() as u64,
+                    outcome,
+                }
+            }
+            Err(refusal) => Reply::Refused(refusal),
+        }
+    }
+
+    /// One call. A change is kept before it is answered, and is answered with its number, from 1.
+    ///
+    /// The core's refusals come first, then `HistoryFull`, where the history has as many changes as it may have. `Memory`
+    /// may come at any command but a judge, whose answer takes none. After every refusal all is as before.
+    pub fn run(&mut self, command: Command) -> Reply
+        ensures worlds { (base : Kept) (world : List Call) → StandsFor base self.old world → StandsFor base self.new (world ++ call command result ∷ []) }
+        ensures legal { (base : Kept) (world : List Call) → StandsFor base self.old world → LegalReply base self.old.limit (held_after base world) command result }
+        ensures fold { (base : Kept) (world : List Call) → StandsFor base self.old world → self.new.whole.durable ≡ after base self.new.log }
+        ensures numbered { IsNumbered result self.new }
+        ensures judged { IsJudged self.old.whole.durable command result }
+        ensures refused { StaysIfRefused result self.old self.new }
+    {
+        self.call(&command)
+    }
+}

@@ -1,0 +1,108 @@
+//! The program's words, and the status with which it ends.
+ghost use Rattle.std.specs.Prelude.{◌≡◌, ◌≤◌, IfErr, map, string_bytes};
+ghost use Rattle.std.specs.Io.KnownBytes.{Keeps};
+ghost use Rattle.clap.specs.Words.{kind_of};
+ghost use Rattle.pfd.specs.Program.{IsRun, Ran, RanWith};
+
+use crate::book::Book;
+use crate::engine::{EngineFault, serve_alone};
+use clap::error::ErrorKind;
+use clap::{Command, Error};
+use std::alloc::Global;
+use std::io::{self, Read, Write};
+
+/// How many changes the history of a session may have.
+const HISTORY_LIMIT: usize = 65_536;
+
+// What the words ask: a session, or else why not. `run` is the only subcommand, and there has to be one.
+fn check_words(alloc: Global, words: &[String]) -> Result<(), Error>
+    ensures { IsRun (map string_bytes words.now) → IfErr result (λ e. kind_of e ≡ ErrorKind.OutOfMemory) }
+{
+    let run = Command::new(alloc, "run").about(
+        "Answers the lines of standard input on standard output",
+    );
+    let program = Command::new(alloc, "pfd")
+        .about("A control plane for rulesets of pf")
+        .subcommand_required(true)
+        .subcommand(run)?;
+    match program.try_get_matches_from(words) {
+        Ok(_) => Ok(()),
+        Err(error) => Err(error),
+    }
+}
+
+// A session over a fresh book.
+fn run<R: Read, W: Write>(alloc: Global, reader: &mut R, writer: &mut W) -> Result<(), EngineFault>
+    ensures { Ran result (R.remaining reader.old) (R.remaining reader.new) (W.contents writer.old) (W.contents writer.new) }
+{
+    let Ok(mut book) = Book::fresh(alloc, HISTORY_LIMIT) else {
+        return Err(EngineFault::Memory);
+    };
+    serve_alone(alloc, reader, writer, &mut book)
+}
+
+// Says in one line what failed. Where that can't be written there is nowhere else to say it.
+pub(crate) fn fail<F: Write>(fault: EngineFault, faults: &mut F) -> u8
+    ensures { result ≡ 1 }
+{
+    let line = match fault {
+        EngineFault::Read => "pfd: input\n",
+        EngineFault::Write => "pfd: output\n",
+        EngineFault::Memory => "pfd: memory\n",
+    };
+    let _ = faults.write_all(line.as_bytes());
+    let _ = faults.flush();
+    1
+}
+
+fn print<W: Write>(error: &Error, writer: &mut W) -> io::Result<()> {
+    write!(writer, "{error}")?;
+    writer.flush()
+}
+
+// Help is written and is no fault; refused words are told to the faults.
+fn explain<W: Write, F: Write>(error: &Error, writer: &mut W, faults: &mut F) -> u8
+    ensures status { result ≤ 2 }
+    ensures memory { kind_of error.now ≡ ErrorKind.OutOfMemory → (result ≡ 1) × Keeps (W.contents writer.old) (W.contents writer.new) }
+    ensures refused { result ≡ 2 → Keeps (W.contents writer.old) (W.contents writer.new) }
+{
+    if error.kind() == ErrorKind::OutOfMemory {
+        return fail(EngineFault::Memory, faults);
+    }
+    if error.use_stderr() {
+        let _ = print(error, faults);
+        return 2;
+    }
+    match print(error, writer) {
+        Ok(()) => 0,
+        Err(_) => fail(EngineFault::Write, faults),
+    }
+}
+
+/// The program, with its words as `env::args` gives them, the program's own name first.
+///
+/// `pfd run` serves the reader's lines to the writer from a fresh book whose history may have 65,536 changes. Status 0:
+/// the input ended, or help was asked for, whose text goes to the writer. Status 1: a read, a write or a growth of memory
+/// failed, also one for the words; one line on the faults says `pfd: input`, `pfd: output` or `pfd: memory`. Status 2: the
+/// words were refused, as where there are none; the faults have clap's text, and nothing was read or written.
+///
+/// What the texts are, and which other words are help and which are refused, is only tested.
+pub fn start<R: Read, W: Write, F: Write>(
+    alloc: Global,
+    words: &[String],
+    reader: &mut R,
+    writer: &mut W,
+    faults: &mut F,
+) -> u8
+    ensures status { result ≤ 2 }
+    ensures run { IsRun (map string_bytes words.now) → RanWith result (R.remaining reader.old) (R.remaining reader.new) (W.contents writer.old) (W.contents writer.new) }
+    ensures refused { result ≡ 2 → Keeps (R.remaining reader.old) (R.remaining reader.new) × Keeps (W.contents writer.old) (W.contents writer.new) }
+{
+    match check_words(alloc, words) {
+        Ok(()) => match run(alloc, reader, writer) {
+            Ok(()) => 0,
+            Err(fault) => fail(fault, faults),
+        },
+        Err(error) => explain(&error, writer, faults),
+    }
+}
