@@ -1,5 +1,5 @@
 -- Addresses, networks, and which network contains which address (pf.conf(5), networks in CIDR notation).
-use Rattle.std.specs.Prelude.{ℕ, Bool, true, false, cond, List}
+use Rattle.std.specs.Prelude.{ℕ, ◌^◌, ◌<◌, Bool, true, false, cond, List}
 use Rattle.pf_addr.specs.declared.addr.Addr.{Addr}
 use Rattle.pf_addr.specs.declared.addr.Addr.TheVariants as addr
 use Rattle.pf_addr.specs.declared.addr.Family.{Family}
@@ -34,3 +34,8 @@ same_family V6 V6 = true
 -- A network contains an address of its family whose bits begin with its front.
 abbrev pub contains : Network → Addr → Bool
 contains n a = cond (same_family n.family (family_of a)) (begins_with n.front (bits_of a)) false
+
+-- the number of an address fits its family's bits
+abbrev pub IsAddr : Addr → Type 0
+IsAddr (addr.V4 n) = n < 2 ^ 32
+IsAddr (addr.V6 n) = n < 2 ^ 128
