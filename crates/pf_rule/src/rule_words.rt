@@ -1,4 +1,7 @@
 //! Reading the parts of a rule, one after the other.
+//!
+//! Each function takes the words that are left and gives a value and the words behind it. Where that value's type has a
+//! model, a `match` stands for `?`, which the borrow checker doesn't cover at such a pair.
 ghost use Rattle.std.specs.Prelude.{◌≡◌, length};
 ghost use Rattle.pf_rule.specs.Words.{texts};
 ghost use Rattle.pf_rule.specs.Combining.{one_word, giving, whole, end_at};
