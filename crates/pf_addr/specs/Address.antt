@@ -1,4 +1,4 @@
--- Addresses, networks, and which network contains which address (pf.conf(5), networks in CIDR notation).
+-- Addresses, networks, and which network contains which address (pf.conf(5), PARAMETERS, networks in CIDR notation).
 use Rattle.std.specs.Prelude.{ℕ, ◌^◌, ◌<◌, Bool, true, false, cond, List}
 use Rattle.pf_addr.specs.declared.addr.Addr.{Addr}
 use Rattle.pf_addr.specs.declared.addr.Addr.TheVariants as addr

@@ -1,4 +1,4 @@
--- Calls, and what they say of tickets: which ticket is valid, and what is offered with it (pf(4), DIOCXBEGIN and DIOCXCOMMIT).
+-- Calls, and what they say of tickets: which ticket is valid, and what is offered with it (pf(4), DIOCXBEGIN and DIOCXCOMMIT). That a ticket is an epoch and a count, with one counter for all rulesets, is own.
 use Rattle.std.specs.Prelude.{ℕ, zero, suc, ◌+◌, ◌==◌, ◌&&◌, Bool, true, false, cond, List, [], ◌∷◌, Option, Some, None, fold, flat_map}
 use Rattle.pf_rule.specs.Rules.{PlainRule}
 use Rattle.pf_core.specs.declared.command.Command.{Command}

@@ -1,4 +1,4 @@
--- Rulesets at paths: a finite map in which an empty ruleset doesn't exist, as its entries in the order of their paths (pf.conf(5), Anchors).
+-- Rulesets at paths (pf.conf(5), ANCHORS): a finite map, as its entries in the order of their paths. That an empty ruleset doesn't exist and that paths are ordered by their bytes is own.
 use Rattle.std.specs.Prelude.{◌≡◌, ℕ, ◌<◌, length, Bool, cond, List, [], ◌∷◌, ◌++◌, ◌==◌, filter}
 use Rattle.std.specs.declared.cmp.Ordering.{Ordering}
 use Rattle.std.specs.declared.cmp.Ordering.TheVariants.{Less, Greater}

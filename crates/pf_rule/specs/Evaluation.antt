@@ -1,4 +1,4 @@
--- Which rule decides (pf.conf(5), Packet Filtering): the last that matches, or the first quick one that does.
+-- Which rule decides (pf.conf(5), PACKET FILTERING): the last that matches, or the first quick one that does.
 use Rattle.std.specs.Prelude.{ℕ, ◌+◌, Bool, true, false, cond, List, [], ◌∷◌, Option, Some, None}
 use Rattle.pf_rule.specs.Packets.{PlainPacket}
 use Rattle.pf_rule.specs.Rules.{PlainRule, matches}

@@ -1,4 +1,4 @@
--- Names: of interfaces here, of tables, anchors and labels later (pf.conf(5), GRAMMAR).
+-- Names: of interfaces here, of tables, anchors and labels later. An interface's length is that of pf(4)'s ifname; the bytes that a name may have are own.
 use Rattle.std.specs.Prelude.{ℕ, ◌≡◌, ◌≤◌, ◌<◌, ◌==◌, ◌||◌, ◌&&◌, nat_le, Bool, true, List, length}
 use Rattle.std.specs.List.{list_all}
 

@@ -1,4 +1,4 @@
--- What the filter sees of a packet.
+-- What the filter sees of a packet. Own: a packet here is a value, and carries no flags.
 use Rattle.std.specs.Prelude.{◌≡◌, ℕ, ◌<◌, ◌==◌, ◌||◌, Bool, false, List}
 use Rattle.pf_addr.specs.declared.addr.Addr.{Addr}
 use Rattle.pf_addr.specs.Address.{family_of, IsAddr}

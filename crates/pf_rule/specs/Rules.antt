@@ -1,4 +1,4 @@
--- Rules, and which packets they match (pf.conf(5), Parameters).
+-- Rules, and which packets they match (pf.conf(5), PARAMETERS).
 use Rattle.std.specs.Prelude.{◌≡◌, ℕ, ◌<◌, ◌≤◌, ◌==◌, ◌&&◌, Bool, true, false, List, length, Option, Some, None, IfSome}
 use Rattle.std.specs.Str.{bytes_eq}
 use Rattle.pf_addr.specs.declared.addr.Addr.{Addr}

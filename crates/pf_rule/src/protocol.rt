@@ -4,7 +4,7 @@ ghost use Rattle.pf_rule.specs.Packets.{has_ports};
 
 use std::marker::Model;
 
-/// The number of an IP protocol, 1 to 255 (RFC 790's successors; 6 is TCP, 17 is UDP).
+/// The number of an IP protocol, 1 to 255 (IANA's protocol numbers: 6 is TCP, 17 is UDP).
 #[derive(Clone, Copy, Debug, PartialEq, Eq)]
 pub struct Protocol(u8);
 
