@@ -1,6 +1,8 @@
 ghost use Rattle.std.specs.Prelude.{◌≤◌};
 ghost use Rattle.std.specs.Io.{ReadsAtMost};
 
+mod lines;
+
 use crate::book::Book;
 use crate::engine::{EngineFault, serve_alone};
 use crate::program::start;

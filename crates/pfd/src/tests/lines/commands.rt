@@ -1,0 +1,154 @@
+//! The words of commands, and tickets. Words count from 0; a missing word is at the number of words.
+use super::{BEGUN, check};
+use std::test::Fail;
+
+/// On a fresh book.
+const WORDS: [(&str, &str); 60] = [
+    // Words that begin no command.
+    ("frob", "err word 0"),
+    ("Begin filter -", "err word 0"),
+    ("begin- filter -", "err word 0"),
+    ("filter", "err word 0"),
+    ("-", "err word 0"),
+    // Commands that aren't there yet.
+    ("rollback filter - 1.1", "err word 0"),
+    ("define - 1.1 t 10.0.0.0/8", "err word 0"),
+    ("tadd - t 10.0.0.0/8", "err word 0"),
+    ("tdel - t 10.0.0.0/8", "err word 0"),
+    ("tset - t 10.0.0.0/8", "err word 0"),
+    ("tkill - t", "err word 0"),
+    ("test - t 10.0.0.1", "err word 0"),
+    ("track 7 9 in em0 tcp 10.0.0.1 1 10.0.0.2 2", "err word 0"),
+    ("peer 05", "err word 0"),
+    ("export", "err word 0"),
+    ("kill 7 9", "err word 0"),
+    ("sum", "err word 0"),
+    ("show", "err word 0"),
+    ("show rules -", "err word 0"),
+    ("log", "err word 0"),
+    ("publish", "err word 0"),
+    // begin KIND PATH: the kind is `filter`, the path `-`, and a list has one entry.
+    ("begin filter -", "ok 1.1"),
+    ("begin", "err word 1"),
+    ("begin filter", "err word 2"),
+    ("begin -", "err word 1"),
+    ("begin table -", "err word 1"),
+    ("begin Filter -", "err word 1"),
+    ("begin begin filter -", "err word 1"),
+    ("begin filter web", "err word 2"),
+    ("begin filter --", "err word 2"),
+    ("begin filter filter -", "err word 2"),
+    ("begin filter - -", "err word 3"),
+    ("begin filter - filter", "err word 3"),
+    ("begin filter - filter -", "err word 3"),
+    ("begin filter - 1.1", "err word 3"),
+    // commit KIND PATH T: word faults come before the ticket is looked at.
+    ("commit filter - 1.1", "busy 0"),
+    ("commit", "err word 1"),
+    ("commit filter", "err word 2"),
+    ("commit filter -", "err word 3"),
+    ("commit table - 1.1", "err word 1"),
+    ("commit commit filter - 1.1", "err word 1"),
+    ("commit - 1.1", "err word 1"),
+    ("commit filter web 1.1", "err word 2"),
+    ("commit filter 1.1", "err word 2"),
+    ("commit filter filter - 1.1", "err word 2"),
+    ("commit filter - - 1.1", "err word 3"),
+    ("commit filter - 1.1 1.1", "err word 4"),
+    ("commit filter - 1.1 filter - 1.1", "err word 4"),
+    // add PATH T RULE
+    ("add - 1.1 pass", "busy 0"),
+    ("add", "err word 1"),
+    ("add -", "err word 2"),
+    ("add - 1.1", "err word 3"),
+    ("add filter - 1.1 pass", "err word 1"),
+    ("add add - 1.1 pass", "err word 1"),
+    ("add web 1.1 pass", "err word 1"),
+    ("add 1.1 pass", "err word 1"),
+    ("add - pass", "err word 2"),
+    ("add - - 1.1 pass", "err word 2"),
+    ("add - 1.1 1.1 pass", "err word 3"),
+    ("add - 1.1 frob", "err word 3"),
+];
+
+#[test]
+fn commands(rt: HostRuntime) -> Result<(), Fail> {
+    check(&rt, rt.alloc(), &[], &WORDS)
+}
+
+/// With the valid ticket 1.1.
+const TICKET_TEXTS: [(&str, &str); 60] = [
+    // One to ten digits, a dot, one to ten digits; leading zeros are fine.
+    ("commit filter - 1.1", "applied 1"),
+    ("commit filter - 01.1", "applied 1"),
+    ("commit filter - 1.01", "applied 1"),
+    ("commit filter - 0000000001.1", "applied 1"),
+    ("commit filter - 1.0000000001", "applied 1"),
+    ("commit filter - 0000000001.0000000001", "applied 1"),
+    // Other numbers are tickets too, though not this one.
+    ("commit filter - 0.0", "busy 0"),
+    ("commit filter - 0.1", "busy 0"),
+    ("commit filter - 1.0", "busy 0"),
+    ("commit filter - 2.1", "busy 0"),
+    ("commit filter - 1.2", "busy 0"),
+    ("commit filter - 10.1", "busy 0"),
+    ("commit filter - 1.10", "busy 0"),
+    ("commit filter - 0000000000.0000000000", "busy 0"),
+    // At most 4294967295.
+    ("commit filter - 4294967295.1", "busy 0"),
+    ("commit filter - 1.4294967295", "busy 0"),
+    ("commit filter - 4294967295.4294967295", "busy 0"),
+    ("commit filter - 4294967296.1", "err word 3"),
+    ("commit filter - 1.4294967296", "err word 3"),
+    ("commit filter - 4294967297.1", "err word 3"),
+    ("commit filter - 1.4294967297", "err word 3"),
+    ("commit filter - 9999999999.1", "err word 3"),
+    ("commit filter - 1.9999999999", "err word 3"),
+    // Eleven digits are too many.
+    ("commit filter - 00000000001.1", "err word 3"),
+    ("commit filter - 1.00000000001", "err word 3"),
+    ("commit filter - 10000000000.1", "err word 3"),
+    ("commit filter - 1.18446744073709551617", "err word 3"),
+    // Empty parts, and more or fewer of them.
+    ("commit filter - .1", "err word 3"),
+    ("commit filter - 1.", "err word 3"),
+    ("commit filter - .", "err word 3"),
+    ("commit filter - 1", "err word 3"),
+    ("commit filter - 1..1", "err word 3"),
+    ("commit filter - 1.1.1", "err word 3"),
+    ("commit filter - 1.1.", "err word 3"),
+    ("commit filter - .1.1", "err word 3"),
+    // Digits alone.
+    ("commit filter - +1.1", "err word 3"),
+    ("commit filter - 1.+1", "err word 3"),
+    ("commit filter - -1.1", "err word 3"),
+    ("commit filter - 1.-1", "err word 3"),
+    ("commit filter - 1,1", "err word 3"),
+    ("commit filter - 1:1", "err word 3"),
+    ("commit filter - 1/1", "err word 3"),
+    ("commit filter - a.1", "err word 3"),
+    ("commit filter - 1.a", "err word 3"),
+    ("commit filter - 0x1.1", "err word 3"),
+    ("commit filter - 1.1a", "err word 3"),
+    ("commit filter - \"1.1\"", "err word 3"),
+    // One word.
+    ("commit filter - 1 .1", "err word 3"),
+    ("commit filter - 1. 1", "err word 3"),
+    // In an add. The rule's words come before the ticket is looked at.
+    ("add - 1.1 pass", "ok"),
+    ("add - 01.0000000001 pass", "ok"),
+    ("add - 1.2 pass", "busy 0"),
+    ("add - 4294967295.1 pass", "busy 0"),
+    ("add - 4294967296.1 pass", "err word 2"),
+    ("add - 1.00000000001 pass", "err word 2"),
+    ("add - 1.1.1 pass", "err word 2"),
+    ("add - 1 pass", "err word 2"),
+    ("add - x frob", "err word 2"),
+    ("add - 1.2 frob", "err word 3"),
+    ("add - 1.2 pass inet6 from 10.0.0.1", "err family"),
+];
+
+#[test]
+fn tickets(rt: HostRuntime) -> Result<(), Fail> {
+    check(&rt, rt.alloc(), &BEGUN, &TICKET_TEXTS)
+}
