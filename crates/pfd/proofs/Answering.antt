@@ -1,13 +1,10 @@
 -- Lines that were answered, one list after another.
-use Rattle.std.proofs.Common.{◌≡◌, ℕ, ◌≤◌, List, [], ◌∷◌, ◌++◌, length, take, Option, Some, None, Result, Ok, Err, refl, sym, ap, ◌∙◌, subst, append_assoc, arith}
+use Rattle.std.proofs.Common.{◌≡◌, ℕ, List, [], ◌∷◌, ◌++◌, take, Option, Some, None, refl, sym, ap, ◌∙◌, subst, append_assoc, arith}
 use Rattle.std.proofs.lemmas.List.{append-nil}
 use Rattle.std.specs.Io.KnownBytes.{Appends, Keeps, Consumes}
 use Rattle.pf_addr.specs.Writing.{Appends-none, Appends-then, Appends-kept}
-use Rattle.pf_core.specs.declared.command.Command.{Command}
-use Rattle.pf_core.specs.declared.reply.Refusal.{Refusal}
 use Rattle.pf_core.specs.declared.reply.Reply.{Reply}
-use Rattle.pf_core.specs.Calls.{Call, call}
-use Rattle.pf_core.specs.Edits.{Kept}
+use Rattle.pf_core.specs.Calls.{Call}
 use Rattle.pf_core.specs.Worlds.{Page, StandsFor}
 use Rattle.pf_line.specs.Lines.{line_at}
 use Rattle.pf_line.specs.Replies.{reply_text}

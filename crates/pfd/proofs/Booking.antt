@@ -11,7 +11,7 @@ use Rattle.pf_core.specs.declared.step.Step.TheVariants.{Done, Wants}
 use Rattle.pf_core.specs.Calls.{Call, call, mentions_of, switches}
 use Rattle.pf_core.specs.Edits.{Kept, Edit, applied, voided_by}
 use Rattle.pf_core.specs.Legal.{legal_step, IsLegalStep}
-use Rattle.pf_core.specs.Tickets.{Open, AgreesWith}
+use Rattle.pf_core.specs.Tickets.{AgreesWith}
 use Rattle.pf_core.specs.Worlds.{Whole, Ready, ready, Held, Page, page, IsAt, Follows, AgreesAfter}
 use Rattle.pf_core.specs.WorldLaws.{applied-follows, answered-follows, refused-follows, memory-is-legal, refusal-is-legal, full-is-legal}
 

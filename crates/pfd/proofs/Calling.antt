@@ -1,5 +1,5 @@
 -- What one line comes to.
-use Rattle.std.proofs.Common.{◌≡◌, ℕ, Bool, true, false, cond, length, List, [], ◌∷◌, ◌++◌, Option, Some, None, Result, Ok, Err, ◌⊎◌, inl, inr, refl, sym, ap, ◌∙◌, subst}
+use Rattle.std.proofs.Common.{◌≡◌, ℕ, Bool, true, false, cond, length, List, [], ◌∷◌, Option, Some, None, Result, Ok, Err, inl, inr, refl, sym, subst}
 use Rattle.std.proofs.lemmas.List.{append-nil}
 use Rattle.pf_core.specs.declared.command.Command.{Command}
 use Rattle.pf_core.specs.declared.reply.Refusal.{Refusal}
@@ -7,14 +7,12 @@ use Rattle.pf_core.specs.declared.reply.Refusal.TheVariants.{BadLine, Memory}
 use Rattle.pf_core.specs.declared.reply.Reply.{Reply}
 use Rattle.pf_core.specs.declared.reply.Reply.TheVariants.{Refused}
 use Rattle.pf_core.specs.Calls.{Call, call}
-use Rattle.pf_core.specs.Edits.{Kept}
 use Rattle.pf_core.specs.Worlds.{Page, StandsFor}
 use Rattle.pf_core.specs.WorldLaws.{stands-refused}
 use Rattle.pf_line.specs.Lines.{Parses, line_at, is_bad_line, is_silent, said, said_by}
 use Rattle.pf_line.specs.Reading.{line_read}
 use Rattle.pf_rule.specs.Words.{words_of}
 use Rattle.pf_rule.specs.declared.fault.Misread.{Misread}
-use Rattle.pf_line.specs.Replies.{reply_text}
 use Rattle.pfd.specs.Serving.{Continues, Told}
 
 pub continues-still : (page : Page) → Continues page page []

@@ -1,5 +1,5 @@
 -- Lines of a text, answered one after the other from its front.
-use Rattle.std.proofs.Common.{◌≡◌, ℕ, suc, ◌+◌, ◌<◌, ◌≤◌, List, [], ◌∷◌, ◌++◌, length, take, drop, Option, Some, None, Result, Ok, Err, refl, sym, ap, ◌∙◌, subst, append_assoc, arith, add-one}
+use Rattle.std.proofs.Common.{◌≡◌, ℕ, suc, ◌+◌, ◌≤◌, List, [], ◌∷◌, ◌++◌, length, take, drop, Option, Some, None, Result, Ok, Err, refl, sym, ap, ◌∙◌, subst, append_assoc, arith}
 use Rattle.std.specs.Prelude.{◌==◌, ◌-◌}
 use Rattle.std.specs.List.{position}
 use Rattle.std.proofs.lemmas.List.{append-nil, drop-drop}
@@ -10,7 +10,7 @@ use Rattle.std.specs.Io.KnownBytes.{Keeps}
 use Rattle.pf_core.specs.Worlds.{Page}
 use Rattle.pfd.specs.Lines.{newline}
 use Rattle.pfd.specs.Pieces.{whole_from, rest_from}
-use Rattle.pfd.specs.Serving.{Answered, CutOff, IsFrontOf, FrontCutOff}
+use Rattle.pfd.specs.Serving.{Answered, CutOff, FrontCutOff}
 use Rattle.pfd.proofs.Answering.{answered-none, answered-then, cut-then}
 use Rattle.pfd.proofs.Splitting.{first-line, no-line}
 

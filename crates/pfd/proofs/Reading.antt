@@ -1,9 +1,9 @@
 -- What a read leaves in the buffer.
-use Rattle.std.proofs.Common.{◌≡◌, ℕ, ◌+◌, ◌<◌, ◌≤◌, List, [], ◌∷◌, ◌++◌, length, take, drop, Option, Result, Ok, Err, refl, sym, ap, ◌∙◌, arith, append_assoc, length-append, length-drop}
+use Rattle.std.proofs.Common.{◌≡◌, ℕ, ◌+◌, ◌<◌, ◌≤◌, List, ◌++◌, length, take, Option, Result, Ok, Err, sym, ap, ◌∙◌, arith, length-append}
 use Rattle.std.specs.Prelude.{◌-◌}
 use Rattle.std.specs.Result.{IfOk}
 use Rattle.std.specs.Io.{ReadsAtMost}
-use Rattle.std.specs.Io.KnownBytes.{Consumes, Keeps, IsAtEnd, ReadConsumes}
+use Rattle.std.specs.Io.KnownBytes.{Consumes, IsAtEnd, ReadConsumes}
 use Rattle.std.proofs.Math.Seq.{take-append-add}
 use Rattle.std.proofs.lemmas.List.{length-take, take-append-le}
 use Rattle.pfd.specs.Pieces.{ReadsBehind}

@@ -1,5 +1,5 @@
 -- Lines that come to the same.
-use Rattle.std.proofs.Common.{◌≡◌, ℕ, zero, suc, ◌+◌, ◌<◌, ◌≤◌, Bool, true, false, cond, List, [], ◌∷◌, ◌++◌, length, take, drop, ◌⊎◌, inl, inr, Option, Some, None, Result, Ok, Err, refl, sym, ap, ◌∙◌, subst, append_assoc, arith, length-append}
+use Rattle.std.proofs.Common.{◌≡◌, ℕ, suc, ◌<◌, ◌≤◌, true, false, cond, List, [], ◌∷◌, ◌++◌, length, inl, inr, Option, Result, refl, sym, ap, ◌∙◌, subst, arith, length-append}
 use Rattle.std.specs.Prelude.{◌==◌}
 use Rattle.pf_core.specs.declared.command.Command.{Command}
 use Rattle.pf_core.specs.declared.reply.Refusal.{Refusal}
@@ -8,7 +8,7 @@ use Rattle.pf_core.specs.Worlds.{Page}
 use Rattle.pf_line.specs.Lines.{line_at, long_line}
 use Rattle.pfd.specs.Lines.{newline}
 use Rattle.pfd.specs.Pieces.{whole_from, rest_from, last_line, longest_line, SameLine}
-use Rattle.pfd.specs.Serving.{Says, Served, Answered, CutOff, IsFrontOf}
+use Rattle.pfd.specs.Serving.{Says, Served, Answered, CutOff}
 
 pub same-push : (x y : List ℕ) (b : ℕ) → SameLine x y → SameLine (x ++ b ∷ []) (y ++ b ∷ [])
 same-push x y b (inl e) = inl (ap (λ (l : List ℕ). l ++ b ∷ []) e)

@@ -1,5 +1,5 @@
 -- A session that didn't begin.
-use Rattle.std.proofs.Common.{◌≡◌, ℕ, List, [], Option, Some, None, Result, Ok, Err, refl}
+use Rattle.std.proofs.Common.{ℕ, List, [], Option, Err, refl}
 use Rattle.std.specs.Io.KnownBytes.{Keeps}
 use Rattle.pf_core.specs.Edits.{kept}
 use Rattle.pf_core.specs.Tickets.{Agrees, open_with}

@@ -1,5 +1,5 @@
 -- What a book's replies say by themselves.
-use Rattle.std.specs.Prelude.{◌≡◌, ℕ, List, length, ⊤}
+use Rattle.std.specs.Prelude.{◌≡◌, length, ⊤}
 use Rattle.pf_core.specs.declared.command.Command.{Command}
 use Rattle.pf_core.specs.declared.command.Command.TheVariants.{Begin, Add, Commit, Judge}
 use Rattle.pf_core.specs.declared.reply.Answer.TheVariants as answer

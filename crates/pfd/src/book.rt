@@ -55,6 +55,7 @@ impl Book {
         ensures follows { (base : Kept) (h : Held) → IsAt base h self.old → Follows base h self.old self.new (call command.now result) }
         ensures numbered { IsNumbered result self.new }
         ensures judged { IsJudged self.old.whole.durable command.now result }
+        ensures limit { self.new.limit ≡ self.old.limit }
         ensures refused { StaysIfRefused result self.old self.new }
     {
         match self.core.step(command) {
@@ -93,6 +94,7 @@ impl Book {
         ensures fold { (base : Kept) (world : List Call) → StandsFor base self.old world → self.new.whole.durable ≡ after base self.new.log }
         ensures numbered { IsNumbered result self.new }
         ensures judged { IsJudged self.old.whole.durable command result }
+        ensures limit { self.new.limit ≡ self.old.limit }
         ensures refused { StaysIfRefused result self.old self.new }
     {
         self.call(&command)

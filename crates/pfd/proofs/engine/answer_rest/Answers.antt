@@ -1,4 +1,4 @@
-use Rattle.std.proofs.Common.{List, ℕ, ap, sym, subst, arith, ◌≡◌, length, []}
+use Rattle.std.proofs.Common.{List, ℕ, sym, subst, arith, ◌≡◌, length}
 use Rattle.std.proofs.lemmas.List.{nil_from_length}
 use Rattle.pfd.specs.Pieces.{last_line}
 use Rattle.pfd.specs.Serving.{Answered}

@@ -1,6 +1,5 @@
-use Rattle.std.proofs.Common.{◌≡◌, ◌∙◌, sym, ap, subst, List, ℕ, take, arith, Option}
-use Rattle.pf_core.specs.Worlds.{Page}
-use Rattle.pfd.proofs.Session.{Session, session-unflushed, session-unread, turn-ends, turn-ends-cut, turn-goes-on, turn-cut, turn-again, turn-unread}
+use Rattle.std.proofs.Common.{take}
+use Rattle.pfd.proofs.Session.{session-unflushed, session-unread, turn-ends, turn-ends-cut, turn-goes-on, turn-cut, turn-again, turn-unread}
 use Rattle.pfd.proofs.engine.serve_lines.Goals.{in-Ok+else-n-eq0+in-Ok-answer_read, in-Err+else-ne}
 use Rattle.pfd.proofs.engine.serve_lines.Goals as goal
 

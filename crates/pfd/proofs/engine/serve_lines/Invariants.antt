@@ -1,5 +1,4 @@
-use Rattle.std.proofs.Common.{length, take, ◌≤◌, ◌≡◌}
-use Rattle.pfd.specs.Pieces.{longest_line}
+use Rattle.std.proofs.Common.{take, ◌≤◌}
 use Rattle.pfd.proofs.Session.{Session}
 use Rattle.pfd.proofs.engine.serve_lines.Given as goal
 

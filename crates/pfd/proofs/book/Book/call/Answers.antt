@@ -1,9 +1,9 @@
-use Rattle.std.proofs.Common.{◌≡◌, ◌∙◌, ◌+◌, ◌<◌, ◌++◌, ◌∷◌, [], sym, ap, subst, arith, Ok, List, ℕ, length, refl}
+use Rattle.std.proofs.Common.{◌≡◌, ◌∙◌, ◌+◌, ◌<◌, ◌++◌, ◌∷◌, [], ap, arith, List, length}
 use Rattle.std.proofs.lemmas.Grind.{common_steps}
 use Rattle.std.specs.Prelude.{map}
 use Rattle.std.specs.Arc.{arc_value}
 use Rattle.pf_core.specs.Edits.{Edit}
-use Rattle.pf_core.specs.Worlds.{Whole, Page, page, StaysUnlessDone}
+use Rattle.pf_core.specs.Worlds.{Whole, page}
 use Rattle.pfd.proofs.Booking.{done-leads, full-leads, memory-leads, err-leads, kept-leads}
 use Rattle.pfd.proofs.book.Book.call.Goals as goal
 
