@@ -1,8 +1,9 @@
 -- Calls, and what they say of tickets: which ticket is valid, and what is offered with it (pf(4), DIOCXBEGIN and DIOCXCOMMIT). That a ticket is an epoch and a count, with one counter for all rulesets, is own.
-use Rattle.std.specs.Prelude.{ℕ, zero, suc, ◌+◌, ◌==◌, ◌&&◌, Bool, true, false, cond, List, [], ◌∷◌, Option, Some, None, fold, flat_map}
+use Rattle.std.specs.Prelude.{◌≡◌, ℕ, zero, suc, ◌+◌, ◌==◌, ◌&&◌, Bool, true, false, cond, List, [], ◌∷◌, ◌++◌, length, Option, Some, None, fold, filter, map, flat_map}
+use Rattle.std.specs.List.{list_any}
 use Rattle.pf_rule.specs.Rules.{PlainRule}
 use Rattle.pf_core.specs.declared.command.Command.{Command}
-use Rattle.pf_core.specs.declared.command.Command.TheVariants.{Begin, Add, Commit, Judge}
+use Rattle.pf_core.specs.declared.command.Command.TheVariants.{Begin, Add, Commit, Rollback, Judge, ShowRules}
 use Rattle.pf_core.specs.declared.command.Entry.{Entry}
 use Rattle.pf_core.specs.declared.command.RulesetKind.{RulesetKind}
 use Rattle.pf_core.specs.declared.command.RulesetKind.TheVariants.{Filter}
@@ -55,6 +56,7 @@ pub data Mention : Type 0 where
   gave : RulesetName → Ticket → Mention
   added : RulesetName → Ticket → PlainRule → Mention
   switched : RulesetName → Mention
+  dropped : RulesetName → Ticket → Mention
 
 -- a begin gives each ruleset that it names a ticket, in order
 abbrev pub gives : List RulesetName → List Ticket → List Mention
@@ -66,14 +68,19 @@ abbrev pub switches : List RulesetName → List Mention
 switches [] = []
 switches (n ∷ ns) = switched n ∷ switches ns
 
+-- a rollback names each ruleset with a ticket
+abbrev pub drops : List Entry → List Mention
+drops [] = []
+drops (e ∷ es) = dropped e.name e.ticket ∷ drops es
+
 abbrev pub names_of : List Entry → List RulesetName
-names_of [] = []
-names_of (e ∷ es) = e.name ∷ names_of es
+names_of entries = map (λ e. e.name) entries
 
 abbrev pub given_in : Answer → List Ticket
 given_in (answer.Given g) = tickets_of g
 given_in answer.Done = []
 given_in (answer.Judged v) = []
+given_in (answer.Rules rules) = []
 
 abbrev pub tickets_in : Reply → List Ticket
 tickets_in (Answered a) = given_in a
@@ -89,7 +96,9 @@ abbrev pub mentioned : Command → Reply → List Mention
 mentioned (Begin names) r = gives names (tickets_in r)
 mentioned (Add p t rule) r = cond (is_accepted r) (added (filter_at p) t rule ∷ []) []
 mentioned (Commit entries) r = cond (is_accepted r) (switches (names_of entries)) []
+mentioned (Rollback entries) r = cond (is_accepted r) (drops entries) []
 mentioned (Judge packet) r = []
+mentioned (ShowRules p) r = []
 
 abbrev pub mentions_of : Call → List Mention
 mentions_of c = mentioned c.command c.reply
@@ -99,11 +108,16 @@ mentions calls = flat_map mentions_of calls
 
 -- ---- which ticket is valid, and what is offered with it
 
--- the ticket of a ruleset after one more mention: a begin's is valid, a commit voids it, and an add touches none
+abbrev pub is_ticket : Option Ticket → Ticket → Bool
+is_ticket None t = false
+is_ticket (Some u) t = same_ticket u t
+
+-- the ticket of a ruleset after one more mention: a begin's is valid, a commit voids it, a rollback voids the one that it names, and an add touches none
 abbrev pub touched : RulesetName → Option Ticket → Mention → Option Ticket
 touched name valid (gave n t) = cond (same_name n name) (Some t) valid
 touched name valid (added n t r) = valid
 touched name valid (switched n) = cond (same_name n name) None valid
+touched name valid (dropped n t) = cond (same_name n name && is_ticket valid t) None valid
 
 -- the valid ticket of a ruleset: the latest mention that touched it is a begin's, answered with this ticket
 abbrev pub valid_ticket : List Mention → RulesetName → Option Ticket
@@ -113,6 +127,7 @@ abbrev pub rules_added : RulesetName → Ticket → Mention → List PlainRule
 rules_added name t (gave n u) = []
 rules_added name t (added n u r) = cond (same_name n name && same_ticket u t) (r ∷ []) []
 rules_added name t (switched n) = []
+rules_added name t (dropped n u) = []
 
 -- the rules of the accepted adds with a ticket, in order
 abbrev pub rules_offered : List Mention → RulesetName → Ticket → List PlainRule
@@ -130,7 +145,53 @@ abbrev pub counted : ℕ → Mention → ℕ
 counted k (gave n t) = k + 1
 counted k (added n t r) = k
 counted k (switched n) = k
+counted k (dropped n t) = k
 
 -- the count of the next ticket: one more than the tickets given so far
 abbrev pub next_count : List Mention → ℕ
 next_count ms = fold counted 1 ms
+
+-- ---- how many rulesets have a valid ticket
+
+abbrev pub is_named : List RulesetName → RulesetName → Bool
+is_named names name = list_any (λ n. same_name n name) names
+
+-- one more name, unless it is among them
+abbrev pub with_name : List RulesetName → RulesetName → List RulesetName
+with_name names name = cond (is_named names name) names (names ++ name ∷ [])
+
+abbrev pub given_ticket : Mention → List RulesetName
+given_ticket (gave n t) = n ∷ []
+given_ticket (added n t r) = []
+given_ticket (switched n) = []
+given_ticket (dropped n t) = []
+
+-- the rulesets that were ever given a ticket, each once
+abbrev pub ever_begun : List Mention → List RulesetName
+ever_begun ms = fold with_name [] (flat_map given_ticket ms)
+
+abbrev pub has_ticket : Option Ticket → Bool
+has_ticket None = false
+has_ticket (Some t) = true
+
+-- the rulesets with a valid ticket
+abbrev pub open_rulesets : List Mention → List RulesetName
+open_rulesets ms = filter (λ n. has_ticket (valid_ticket ms n)) (ever_begun ms)
+
+-- how many have one once these are given one too
+abbrev pub opened_with : List Mention → List RulesetName → ℕ
+opened_with ms names = length (fold with_name (open_rulesets ms) names)
+
+-- ---- what the calls say, as replies read it
+
+pub record Facts : Type 0 where
+  pub epoch : ℕ
+  -- the count of the next ticket
+  pub next : ℕ
+  pub valid : RulesetName → Option Ticket
+  pub offered : RulesetName → List PlainRule
+  pub opened : List RulesetName → ℕ
+
+-- in the opening with this epoch
+abbrev pub facts : ℕ → List Mention → Facts
+facts epoch ms = record { epoch = epoch; next = next_count ms; valid = valid_ticket ms; offered = content ms; opened = opened_with ms }

@@ -1,4 +1,5 @@
 pub mod Rulesets
+pub mod Paths
 pub mod Edits
 pub mod Deciding
 pub mod EditViews

@@ -10,7 +10,7 @@ use Rattle.pf_core.specs.declared.reply.Refusal.TheVariants.{BadCount}
 use Rattle.pf_core.specs.declared.step.Step.{Step}
 use Rattle.pf_core.specs.declared.step.Step.TheVariants.{Done, Wants}
 use Rattle.pf_core.specs.Calls.{same_name, ticket}
-use Rattle.pf_core.specs.Legal.{bad_count, busy_from, busy_or}
+use Rattle.pf_core.specs.Legal.{bad_count, twice_in, twice_or, is_valid, busy_from, busy_or}
 use Rattle.pf_core.specs.Tickets.{Offer, offer, Open, open_with, ticket_at, rules_under}
 
 -- ---- what each call leaves
@@ -38,6 +38,16 @@ take_out t name = open_with t.epoch t.next (without name t.offers)
 abbrev pub add_to : Open → RulesetName → PlainRule → Open
 add_to t name r = open_with t.epoch t.next (with_added name r t.offers)
 
+-- a rollback takes out what is offered with the valid ticket
+abbrev pub drop_out : Open → RulesetName → Ticket → Open
+drop_out t name u = cond (is_valid (ticket_at t.offers) name u) (take_out t name) t
+
+abbrev pub drop_entry : Open → Entry → Open
+drop_entry t e = drop_out t e.name e.ticket
+
+abbrev pub all_dropped : Open → List Entry → Open
+all_dropped t entries = fold drop_entry t entries
+
 abbrev pub all_given : Open → List RulesetName → Open
 all_given t names = fold give t names
 
@@ -62,9 +72,13 @@ abbrev pub told : {A : Type 0} → Result A Refusal → (A → Answer) → Resul
 told (Ok x) f = Ok (Done (f x))
 told (Err e) f = Err e
 
+-- whether the entries of a commit or a rollback are good by themselves
+abbrev pub list_check : List Entry → Result (Unit {0}) Refusal
+list_check entries = if bad_count (length entries) then Err BadCount else twice_or (twice_in entries) (Ok tt)
+
 -- whether a commit of these entries may go on
 abbrev pub commit_check : (RulesetName → Option Ticket) → List Entry → Result (Unit {0}) Refusal
-commit_check valid entries = if bad_count (length entries) then Err BadCount else busy_or (busy_from valid 0 entries) (Ok tt)
+commit_check valid entries = if bad_count (length entries) then Err BadCount else twice_or (twice_in entries) (busy_or (busy_from valid 0 entries) (Ok tt))
 
 -- a commit wants a change, or is refused
 abbrev pub IsNeverDone : Result Step Refusal → Type 0

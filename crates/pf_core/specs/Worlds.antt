@@ -1,5 +1,5 @@
 -- Worlds: lists of calls with their replies, which of them are legal, and what they leave.
-use Rattle.std.specs.Prelude.{◌≡◌, ℕ, ◌+◌, if◌then◌else◌, List, [], ◌∷◌, ◌++◌, length, fold, nat_lt, Result, Ok, Err}
+use Rattle.std.specs.Prelude.{◌≡◌, ℕ, ◌≤◌, ◌+◌, if◌then◌else◌, List, [], ◌∷◌, ◌++◌, length, take, fold, nat_lt, Result, Ok, Err}
 use Rattle.pf_core.specs.declared.command.Command.{Command}
 use Rattle.pf_core.specs.declared.command.RulesetName.{RulesetName}
 use Rattle.pf_core.specs.declared.reply.Refusal.{Refusal}
@@ -94,14 +94,19 @@ abbrev pub IsLegalFrom : Kept → ℕ → Held → List Call → Type 0
 IsLegalFrom base limit h [] = Unit {0}
 IsLegalFrom base limit h (c ∷ cs) = LegalReply base limit h c.command c.reply × IsLegalFrom base limit (next base h c) cs
 
--- what contracts see of a Book: the core, the log of its changes, and how many it may have
+-- what contracts see of a Book: the core, the log of its changes, how many it may have, and the copy that is shown
 pub record Page : Type 0 where
   pub whole : Whole
   pub log : List Edit
   pub limit : ℕ
+  pub shown : Kept
 
-abbrev pub page : Whole → List Edit → ℕ → Page
-page w log limit = record { whole = w; log = log; limit = limit }
+abbrev pub page : Whole → List Edit → ℕ → Kept → Page
+page w log limit shown = record { whole = w; log = log; limit = limit; shown = shown }
+
+-- what some front of the log leaves: the first k changes, from none to all
+abbrev pub IsFoldOfFront : Kept → List Edit → Kept → Type 0
+IsFoldOfFront base log d = (k : ℕ) × (k ≤ length log) × (d ≡ after base (take k log))
 
 -- the page is what these calls and changes leave
 pub record IsAt (base : Kept) (h : Held) (b : Page) : Type 0 where
@@ -109,6 +114,7 @@ pub record IsAt (base : Kept) (h : Held) (b : Page) : Type 0 where
   pub calls : AgreesWith b.whole.tickets h.calls
   pub durable : b.whole.durable ≡ after base b.log
   pub epoch : b.whole.tickets.epoch ≡ base.epoch
+  pub shown : IsFoldOfFront base b.log b.shown
 
 -- one call: its reply is legal, and the page is what it leaves
 pub record Follows (base : Kept) (h : Held) (old new : Page) (c : Call) : Type 0 where

@@ -75,7 +75,7 @@ impl Ticket {
     }
 }
 
-/// A ruleset with a ticket for it, as a commit names it.
+/// A ruleset with a ticket for it, as a commit or a rollback names it.
 #[derive(Drop)]
 pub struct Entry {
     pub name: RulesetName,
@@ -113,7 +113,7 @@ impl RulesetNames {
     }
 }
 
-/// Rulesets with their tickets, in the order in which a commit names them.
+/// Rulesets with their tickets, in the order in which a commit or a rollback names them.
 #[derive(Drop)]
 pub struct Entries {
     entries: Vec<Entry>,
@@ -157,6 +157,10 @@ pub enum Command {
     },
     /// Makes the inactive rulesets active, all or none.
     Commit(Entries),
+    /// Drops the inactive rulesets whose tickets are valid, and lets the others be.
+    Rollback(Entries),
     /// Says what happens to a packet.
     Judge(Packet),
+    /// Shows the active rules at a path.
+    ShowRules(Path),
 }

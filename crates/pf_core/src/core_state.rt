@@ -1,5 +1,5 @@
 //! One command after the other.
-ghost use Rattle.std.specs.Prelude.{◌≡◌, ℕ, List, [], ◌∷◌, ◌++◌, IfOk, map};
+ghost use Rattle.std.specs.Prelude.{◌≡◌, ℕ, List, [], ◌∷◌, ◌++◌, IfOk, length, map, fold, nat_lt};
 ghost use Rattle.std.specs.Arc.{arc_value};
 ghost use Rattle.pf_rule.specs.Packets.{PlainPacket};
 ghost use Rattle.pf_core.specs.declared.command.Command.{Command};
@@ -8,21 +8,25 @@ ghost use Rattle.pf_core.specs.declared.reply.Outcome.{Outcome};
 ghost use Rattle.pf_core.specs.declared.reply.Reply.TheVariants as reply;
 ghost use Rattle.pf_core.specs.Calls.{Call, call, mentions_of, switches};
 ghost use Rattle.pf_core.specs.Edits.{applied, voided_by, name_of, verdict};
-ghost use Rattle.pf_core.specs.Legal.{items, commit_step, legal_step, IsLegalStep};
+ghost use Rattle.pf_core.specs.Legal.{items, ruleset_limit, commit_step, legal_step, IsLegalStep};
 ghost use Rattle.pf_core.specs.Offers.{IsNeverDone};
-ghost use Rattle.pf_core.specs.Tickets.{AgreesWith, ticket_at, rules_under};
+ghost use Rattle.pf_core.specs.Tickets.{AgreesWith, rules_under, facts_in};
+ghost use Rattle.pf_core.specs.Rulesets.{with_rules};
 ghost use Rattle.pf_core.specs.Worlds.{ready, StaysUnlessDone, AgreesAfter};
 
 use crate::change::{Change, Kind};
 use crate::command::{Command, Entry, RulesetName};
 use crate::durable::Durable;
-use crate::placed::Placed;
+use crate::placed::{Placed, replace_all};
 use crate::reply::{Answer, Outcome, Refusal};
 use crate::step::Step;
 use crate::tickets::Tickets;
 use std::alloc::{AllocError, Global};
 use std::marker::Model;
 use std::sync::Arc;
+
+/// How many rulesets there may be.
+const RULESET_LIMIT: usize = 1024;
 
 /// What is kept, and the open transactions. Contracts see it as a `Whole`.
 #[derive(Drop)]
@@ -86,19 +90,47 @@ fn take_items(
     Ok(taken)
 }
 
-// What a commit wants, or why it is refused.
-fn commit(alloc: Global, tickets: &Tickets, entries: &[Entry]) -> Result<Step, Refusal>
-    ensures never { IsNeverDone result }
-    ensures reply { IsLegalStep result (commit_step (ticket_at tickets.now.offers) (rules_under tickets.now.offers) entries.now) }
+// Whether there would be more rulesets than there may be. Only near the limit they are made, to be counted.
+fn are_too_many(
+    alloc: Global,
+    rulesets: &[Placed],
+    items: &[Placed],
+) -> Result<bool, AllocError>
+    ensures { IfOk result (λ b. b ≡ nat_lt ruleset_limit (length (fold with_rules rulesets.now items.now))) }
 {
-    match tickets.check_all(entries) {
-        Ok(()) => {
-            let Ok(items) = take_items(alloc, tickets, entries) else {
-                return Err(Refusal::Memory);
-            };
-            Ok(Step::Wants(Change::commit(items), Outcome::Committed))
-        }
-        Err(refusal) => Err(refusal),
+    if rulesets.len() + items.len() <= RULESET_LIMIT {
+        return Ok(false);
+    }
+    Ok(replace_all(alloc, rulesets, items)?.len() > RULESET_LIMIT)
+}
+
+// What a commit wants, or why it is refused.
+fn commit(
+    alloc: Global,
+    durable: &Durable,
+    tickets: &Tickets,
+    entries: &[Entry],
+) -> Result<Step, Refusal>
+    ensures never { IsNeverDone result }
+    ensures reply { IsLegalStep result (commit_step (facts_in tickets.now) durable.now entries.now) }
+{
+    tickets.check_all(entries)?;
+    let Ok(items) = take_items(alloc, tickets, entries) else {
+        return Err(Refusal::Memory);
+    };
+    match are_too_many(alloc, durable.rulesets(), items.as_slice()) {
+        Ok(false) => Ok(Step::Wants(Change::commit(items), Outcome::Committed)),
+        Ok(true) => Err(Refusal::TooManyRulesets),
+        Err(_) => Err(Refusal::Memory),
+    }
+}
+
+impl Next {
+    /// What the change leaves, shared.
+    pub fn durable(&self) -> Result<Arc<Durable>, AllocError>
+        ensures { IfOk result (λ d. arc_value d ≡ self.now.durable) }
+    {
+        Arc::try_clone(&self.durable)
     }
 }
 
@@ -144,10 +176,23 @@ impl Core {
                     Err(refusal) => Err(refusal),
                 }
             }
-            Command::Commit(entries) => commit(self.alloc, &self.tickets, entries.as_slice()),
+            Command::Commit(entries) => commit(
+                self.alloc,
+                &self.durable,
+                &self.tickets,
+                entries.as_slice(),
+            ),
+            Command::Rollback(entries) => match self.tickets.rollback(entries.as_slice()) {
+                Ok(()) => Ok(Step::Done(Answer::Done)),
+                Err(refusal) => Err(refusal),
+            },
             Command::Judge(packet) => {
                 Ok(Step::Done(Answer::Judged(self.durable.verdict(packet))))
             }
+            Command::ShowRules(path) => match self.durable.rules_at(self.alloc, path) {
+                Ok(rules) => Ok(Step::Done(Answer::Rules(rules))),
+                Err(_) => Err(Refusal::Memory),
+            },
         }
     }
 

@@ -8,6 +8,7 @@ use crate::change::{Change, Kind};
 use crate::path::Path;
 use crate::placed::{Placed, replace_all};
 use crate::reply::{RuleVerdict, Verdict};
+use crate::rule_list::RuleList;
 use crate::ruleset::Ruleset;
 use pf_rule::Packet;
 use std::alloc::{AllocError, Global};
@@ -70,6 +71,18 @@ impl Durable {
         ensures ordered { IsMap self.now.rulesets }
     {
         self.rulesets.as_slice()
+    }
+
+    /// The rules at a path: none where it has no ruleset. No rule is copied.
+    pub fn rules_at(&self, alloc: Global, path: &Path) -> Result<RuleList, AllocError>
+        ensures { IfOk result (λ l. l ≡ rules_at path.now self.now.rulesets) }
+    {
+        for placed in &self.rulesets {
+            if placed.path.same(path) {
+                return RuleList::of(&placed.rules);
+            }
+        }
+        RuleList::none(alloc)
     }
 
     // What the rules at a path say of a packet.

@@ -9,6 +9,7 @@ pub mod laws;
 mod path;
 mod placed;
 mod reply;
+mod rule_list;
 mod ruleset;
 mod step;
 #[cfg(test)]
@@ -22,5 +23,6 @@ pub use durable::Durable;
 pub use path::Path;
 pub use placed::Placed;
 pub use reply::{Answer, Given, Outcome, Refusal, Reply, RuleVerdict, Verdict};
+pub use rule_list::RuleList;
 pub use ruleset::{Decision, Ruleset};
 pub use step::Step;

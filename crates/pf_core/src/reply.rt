@@ -1,6 +1,7 @@
 //! What a client is told.
 use crate::command::Ticket;
 use crate::path::Path;
+use crate::rule_list::RuleList;
 use pf_rule::Action;
 
 /// The tickets of one begin: so many, from the first on, each one greater than the one before.
@@ -39,6 +40,8 @@ pub enum Answer {
     Done,
     /// What happens to a packet.
     Judged(Verdict),
+    /// The rules of a ruleset, in order.
+    Rules(RuleList),
 }
 
 /// What is told, beside its number, of a change that was kept.
@@ -62,10 +65,14 @@ pub enum Refusal {
     MixedFamily,
     /// A list with too few or too many entries.
     BadCount,
+    /// The first entry, from 0, that names a ruleset named before it.
+    Twice { at: usize },
     /// The first entry whose ticket isn't valid, from 0.
     Busy { at: usize },
     /// The inactive ruleset has as many rules as a ruleset may have.
     RulesetFull,
+    /// There would be more rulesets, or more with a valid ticket, than there may be.
+    TooManyRulesets,
     /// No number is left for a ticket.
     TicketsExhausted,
     /// The history has as many changes as it may have.

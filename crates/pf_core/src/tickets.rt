@@ -1,10 +1,10 @@
 //! The tickets that are valid, and what is offered with them.
 ghost use Rattle.std.specs.Prelude.{◌≡◌, ℕ, ◌<◌, ◌≤◌, List, [], ◌∷◌, ◌++◌, IfOk, OnOk, OnErr, IfSome, IfNone, length, filter, fold, get_or, vec_len, vec_capacity};
 ghost use Rattle.pf_core.specs.declared.reply.Answer.TheVariants as answer;
-ghost use Rattle.pf_core.specs.Calls.{Mention, gives, switches, added, filter_at, tickets_of};
-ghost use Rattle.pf_core.specs.Legal.{bad_count, is_valid, busy_from, begin_step, add_step, IsLegalStep};
-ghost use Rattle.pf_core.specs.Offers.{without, take_out, add_to, IsPlace, IsNowhere, told, commit_check};
-ghost use Rattle.pf_core.specs.Tickets.{Offer, Agrees, ticket_at, rules_under};
+ghost use Rattle.pf_core.specs.Calls.{Mention, gives, switches, drops, added, filter_at, is_named, names_of, tickets_of};
+ghost use Rattle.pf_core.specs.Legal.{bad_count, twice_in, is_valid, busy_from, begin_step, add_step, rollback_step, IsLegalStep};
+ghost use Rattle.pf_core.specs.Offers.{without, take_out, add_to, IsPlace, IsNowhere, told, list_check, commit_check};
+ghost use Rattle.pf_core.specs.Tickets.{Offer, Agrees, ticket_at, rules_under, facts_in};
 
 use crate::command::{Entry, RulesetKind, RulesetName, Ticket};
 use crate::path::Path;
@@ -15,7 +15,10 @@ use std::alloc::{AllocError, Global};
 use std::marker::Model;
 
 /// How many entries a list may have.
-const ENTRY_LIMIT: usize = 1;
+const ENTRY_LIMIT: usize = 64;
+
+/// How many rulesets may have a valid ticket.
+const OPEN_LIMIT: usize = 1024;
 
 /// The greatest count of a ticket.
 const LAST_COUNT: u64 = 4_294_967_295;
@@ -61,6 +64,45 @@ fn is_bad_count(number: usize) -> bool
     ensures { result ≡ bad_count number }
 {
     number == 0 || number > ENTRY_LIMIT
+}
+
+// Whether a name stands in a list.
+fn is_named(names: &[RulesetName], name: &RulesetName) -> bool
+    ensures { result ≡ is_named names.now name.now }
+{
+    names.iter().any(|other| other.same(name))
+}
+
+// Whether one of these entries names the ruleset.
+fn names_it(entries: &[Entry], name: &RulesetName) -> bool
+    ensures { result ≡ is_named (names_of entries.now) name.now }
+{
+    entries.iter().any(|other| other.name.same(name))
+}
+
+// The first entry that names a ruleset named before it.
+fn first_twice(entries: &[Entry]) -> Option<usize>
+    ensures { result ≡ twice_in entries.now }
+{
+    for (place, entry) in entries.iter().enumerate() {
+        if names_it(&entries[..place], &entry.name) {
+            return Some(place);
+        }
+    }
+    None
+}
+
+// Whether the entries of a commit or a rollback are good by themselves.
+fn check_list(entries: &[Entry]) -> Result<(), Refusal>
+    ensures { result ≡ list_check entries.now }
+{
+    if is_bad_count(entries.len()) {
+        return Err(Refusal::BadCount);
+    }
+    match first_twice(entries) {
+        Some(at) => Err(Refusal::Twice { at }),
+        None => Ok(()),
+    }
 }
 
 // Takes a ruleset's slot out.
@@ -121,6 +163,19 @@ impl Tickets {
         None
     }
 
+    // How many rulesets have a valid ticket once these are given one too.
+    fn opened_with(&self, names: &[RulesetName]) -> usize
+        ensures { result ≡ (facts_in self.now).opened names.now }
+    {
+        let mut count = self.slots.len();
+        for (place, name) in names.iter().enumerate() {
+            if self.place(name).is_none() && !is_named(&names[..place], name) {
+                count += 1;
+            }
+        }
+        count
+    }
+
     // Voids a ruleset's ticket.
     fn take_out(&mut self, out: &RulesetName)
         ensures { self.new ≡ take_out self.old out.now }
@@ -141,13 +196,16 @@ impl Tickets {
 
     /// Gives a new ticket for each ruleset in turn, with no rules yet. After a refusal all is as before.
     pub fn begin(&mut self, names: &[RulesetName]) -> Result<Given, Refusal>
-        ensures reply { IsLegalStep (told result (λ g. answer.Given g)) (begin_step self.old.epoch self.old.next names.now) }
+        ensures reply { IsLegalStep (told result (λ g. answer.Given g)) (begin_step (facts_in self.old) names.now) }
         ensures agrees { (ms : List Mention) → Agrees self.old ms → IfOk result (λ g. Agrees self.new (ms ++ gives names.now (tickets_of g))) }
         ensures err { OnErr result (self.new ≡ self.old) }
         ensures epoch { self.new.epoch ≡ self.old.epoch }
     {
         if is_bad_count(names.len()) {
             return Err(Refusal::BadCount);
+        }
+        if self.opened_with(names) > OPEN_LIMIT {
+            return Err(Refusal::TooManyRulesets);
         }
         let number = names.len() as u32;
         if self.next + u64::from(number) - 1 > LAST_COUNT {
@@ -177,7 +235,7 @@ impl Tickets {
 
     /// Appends a rule to the filter ruleset that is offered with a valid ticket. After a refusal all is as before.
     pub fn add_rule(&mut self, path: &Path, ticket: Ticket, rule: Rule) -> Result<(), Refusal>
-        ensures reply { IsLegalStep (told result (λ _. answer.Done)) (add_step (ticket_at self.old.offers) (rules_under self.old.offers) path.now ticket) }
+        ensures reply { IsLegalStep (told result (λ _. answer.Done)) (add_step (facts_in self.old) path.now ticket) }
         ensures agrees { (ms : List Mention) → Agrees self.old ms → OnOk result (Agrees self.new (ms ++ added (filter_at path.now) ticket rule ∷ [])) }
         ensures err { OnErr result (self.new ≡ self.old) }
         ensures epoch { self.new.epoch ≡ self.old.epoch }
@@ -202,9 +260,7 @@ impl Tickets {
     pub fn check_all(&self, entries: &[Entry]) -> Result<(), Refusal>
         ensures { result ≡ commit_check (ticket_at self.now.offers) entries.now }
     {
-        if is_bad_count(entries.len()) {
-            return Err(Refusal::BadCount);
-        }
+        check_list(entries)?;
         match self.first_busy(entries) {
             Some(at) => Err(Refusal::Busy { at }),
             None => Ok(()),
@@ -219,6 +275,22 @@ impl Tickets {
             Some(place) => self.slots[place].rules.copied(self.alloc),
             None => Ok(Ruleset::new(self.alloc)),
         }
+    }
+
+    /// Drops each of these rulesets whose ticket is valid. After a refusal all is as before. It takes no memory.
+    pub fn rollback(&mut self, entries: &[Entry]) -> Result<(), Refusal>
+        ensures reply { told result (λ _. answer.Done) ≡ rollback_step entries.now }
+        ensures agrees { (ms : List Mention) → Agrees self.old ms → OnOk result (Agrees self.new (ms ++ drops entries.now)) }
+        ensures err { OnErr result (self.new ≡ self.old) }
+        ensures epoch { self.new.epoch ≡ self.old.epoch }
+    {
+        check_list(entries)?;
+        for entry in entries {
+            if self.is_valid(&entry.name, entry.ticket) {
+                self.take_out(&entry.name);
+            }
+        }
+        Ok(())
     }
 
     /// Voids the tickets of these rulesets, as a commit does. It takes no memory.
