@@ -7,6 +7,7 @@ mod core_state;
 mod durable;
 pub mod laws;
 mod path;
+mod path_text;
 mod placed;
 mod reply;
 mod rule_list;

@@ -1,7 +1,10 @@
 //! Paths of rulesets.
-ghost use Rattle.std.specs.Prelude.{◌≡◌, []};
+ghost use Rattle.std.specs.Prelude.{◌≡◌, ◌≤◌, [], length};
+ghost use Rattle.pf_core.specs.Paths.{path_of};
 ghost use Rattle.pf_core.specs.Rulesets.{path_order, same_path};
 
+use crate::path_text::fault_in;
+use pf_rule::Kind;
 use std::cmp::Ordering;
 use std::marker::Model;
 
@@ -31,6 +34,37 @@ impl Path {
         Path {
             bytes: [0; 255],
             len: 0,
+        }
+    }
+
+    /// The path that a word spells: `-` is the main ruleset's, any other is kept as it is written.
+    ///
+    /// A path has at most 255 bytes in at most 16 components with a slash between each two. A component has 1 to 63
+    /// bytes, each a letter, a digit, `_`, `.` or `-`, and is neither `..` nor `-`. A word past 255 bytes is
+    /// `NameTooLong`; then the first component with a fault says which, `BadWord` or, past 63 bytes, `NameTooLong`; then
+    /// more than 16 components are `NameTooLong`. It takes no memory.
+    pub fn from_ascii(text: &[u8]) -> Result<Path, Kind>
+        ensures { result ≡ path_of text.now }
+    {
+        if text == b"-" {
+            return Ok(Path::main());
+        }
+        match fault_in(text) {
+            None => Ok(Path::holding(text)),
+            Some(kind) => Err(kind),
+        }
+    }
+
+    // Bytes that are a path.
+    fn holding(text: &[u8]) -> Path
+        requires { length text.now ≤ 255 }
+        ensures { result ≡ text.now }
+    {
+        let mut bytes = [0; 255];
+        bytes[..text.len()].copy_from_slice(text);
+        Path {
+            bytes,
+            len: text.len() as u8,
         }
     }
 
