@@ -8,10 +8,12 @@ use Rattle.std.proofs.lemmas.List.Concat.{flat_map-append}
 use Rattle.pf_rule.specs.Rules.{PlainRule}
 use Rattle.pf_core.specs.declared.command.RulesetName.{RulesetName}
 use Rattle.pf_core.specs.declared.command.Ticket.{Ticket}
-use Rattle.pf_core.specs.Calls.{same_name, same_ticket, ticket, tickets_from, Mention, gave, added, switched, touched, valid_ticket, rules_added, rules_offered, content_under, counted, next_count, gives, switches}
-use Rattle.pf_core.specs.Tickets.{Offer, offer, Open, found, ticket_at, rules_under, Agrees}
-use Rattle.pf_core.specs.Offers.{without, grown, with_added, give, take_out, add_to, all_given, all_out, IsPlace, IsNowhere}
+use Rattle.pf_core.specs.Calls.{same_name, same_ticket, ticket, tickets_from, is_ticket, Mention, gave, added, switched, dropped, drops, touched, valid_ticket, rules_added, rules_offered, content_under, counted, next_count, gives, switches}
+use Rattle.pf_core.specs.Tickets.{Offer, offer, Open, found, ticket_at, rules_under, IsDistinct, Agrees}
+use Rattle.pf_core.specs.Offers.{without, grown, with_added, give, take_out, add_to, drop_out, all_given, all_out, all_dropped, IsPlace, IsNowhere}
 use Rattle.pf_core.specs.NameLaws.{names_alike}
+use Rattle.pf_core.proofs.Once.{distinct-without, distinct-given, names-added}
+use Rattle.pf_core.specs.declared.command.Entry.{Entry}
 
 pick : {A : Type 0} (oq pq : Bool) (x n z : A) → oq ≡ pq → cond pq n z ≡ cond pq n (cond oq x z)
 pick true true x n z e = refl
@@ -118,6 +120,7 @@ agrees-gave t ms p a =
       next = ap (λ (n : ℕ). n + 1) e ∙ sym (next_push ms (gave p new));
       low = λ q u h. subst (λ (k : ℕ). u.count < k) (sym (next_push ms (gave p new))) (gave_low (same_name p q) new u (next_count ms) (valid_ticket ms q) e (a.low q u) (sym (valid_push ms (gave p new) q) ∙ h));
       fresh = λ q u h. silent ms (gave p new) q u refl ∙ a.fresh q u (let k = next_push ms (gave p new) in omega (arith, k, h));
+      once = distinct-given p new [] t.offers a.once;
     }
 
 -- a mention that voids a ruleset's ticket
@@ -141,6 +144,7 @@ agrees-out t ms p m out quiet same a =
       next = a.next ∙ sym count;
       low = λ q u h. subst (λ (k : ℕ). u.count < k) (sym count) (out_low (same_name p q) u (next_count ms) (valid_ticket ms q) (a.low q u) (sym (push q) ∙ h));
       fresh = λ q u h. silent ms m q u (quiet q u) ∙ a.fresh q u (omega (arith, count, h));
+      once = distinct-without p t.offers a.once;
     }
 
 pub agrees-switched : (t : Open) (ms : List Mention) (p : RulesetName) → Agrees t ms → Agrees (take_out t p) (ms ++ switched p ∷ [])
@@ -198,9 +202,50 @@ agrees-added t ms p u r h a =
       low = λ q w l. subst (λ (x : ℕ). w.count < x) (sym count) (a.low q w (sym (push q) ∙ l));
       fresh = λ q w l. let below : u.count < next_count ms = a.low p u (sym (a.valid p) ∙ h) in
           offered_push ms (added p u r) q w ∙ ap (λ (z : List PlainRule). rules_offered ms q w ++ z) (added_fresh (same_name p q) u w r (omega (arith, below, count, l))) ∙ append-nil (rules_offered ms q w) ∙ a.fresh q w (omega (arith, count, l));
+      once = subst (λ (ns : List RulesetName). IsDistinct ns) (sym (names-added p r t.offers)) a.once;
     }
 
+-- a mention that touches nothing
+agrees-quiet : (t : Open) (ms : List Mention) (m : Mention) → ((q : RulesetName) → touched q (valid_ticket ms q) m ≡ valid_ticket ms q) → ((q : RulesetName) (u : Ticket) → rules_added q u m ≡ []) → ((k : ℕ) → counted k m ≡ k) → Agrees t ms → Agrees t (ms ++ m ∷ [])
+agrees-quiet t ms m still quiet same a =
+    let push : (q : RulesetName) → valid_ticket (ms ++ m ∷ []) q ≡ valid_ticket ms q = λ q. valid_push ms m q ∙ still q in
+    let count : next_count (ms ++ m ∷ []) ≡ next_count ms = next_push ms m ∙ same (next_count ms) in
+    record {
+      valid = λ q. a.valid q ∙ sym (push q);
+      offered = λ q. a.offered q ∙ sym (under_silent ms m q (valid_ticket ms q) (quiet q)) ∙ ap (λ (v : Option Ticket). content_under (ms ++ m ∷ []) q v) (sym (push q));
+      next = a.next ∙ sym count;
+      low = λ q u h. subst (λ (k : ℕ). u.count < k) (sym count) (a.low q u (sym (push q) ∙ h));
+      fresh = λ q u h. silent ms m q u (quiet q u) ∙ a.fresh q u (omega (arith, count, h));
+      once = a.once;
+    }
+
+-- a rollback's: it voids the ticket that it names, where that is the valid one
+drop-own : (b x : Bool) (v : Option Ticket) → (b ≡ true → x ≡ true) → cond (b && x) None v ≡ cond b None v
+drop-own true x v h = ap (λ (y : Bool). cond y None v) (h refl)
+drop-own false x v h = refl
+
+drop-other : (b x : Bool) (v : Option Ticket) → (b ≡ true → x ≡ false) → cond (b && x) None v ≡ v
+drop-other true x v h = ap (λ (y : Bool). cond y None v) (h refl)
+drop-other false x v h = refl
+
+dropped-step : (t : Open) (ms : List Mention) (p : RulesetName) (u : Ticket) (b : Bool) → is_ticket (ticket_at t.offers p) u ≡ b → Agrees t ms → Agrees (cond b (take_out t p) t) (ms ++ dropped p u ∷ [])
+dropped-step t ms p u true e a =
+    let own : (q : RulesetName) → same_name p q ≡ true → is_ticket (valid_ticket ms q) u ≡ true =
+    λ q s. ap (λ (v : Option Ticket). is_ticket v u) (sym (a.valid q) ∙ sym (found-alike (λ o. Some o.ticket) None p q t.offers s)) ∙ e in
+    agrees-out t ms p (dropped p u) (λ q. drop-own (same_name p q) (is_ticket (valid_ticket ms q) u) (valid_ticket ms q) (own q)) (λ q w. refl) (λ k. refl) a
+dropped-step t ms p u false e a =
+    let other : (q : RulesetName) → same_name p q ≡ true → is_ticket (valid_ticket ms q) u ≡ false =
+    λ q s. ap (λ (v : Option Ticket). is_ticket v u) (sym (a.valid q) ∙ sym (found-alike (λ o. Some o.ticket) None p q t.offers s)) ∙ e in
+    agrees-quiet t ms (dropped p u) (λ q. drop-other (same_name p q) (is_ticket (valid_ticket ms q) u) (valid_ticket ms q) (other q)) (λ q w. refl) (λ k. refl) a
+
+pub agrees-dropped : (t : Open) (ms : List Mention) (p : RulesetName) (u : Ticket) → Agrees t ms → Agrees (drop_out t p u) (ms ++ dropped p u ∷ [])
+agrees-dropped t ms p u a = dropped-step t ms p u (is_ticket (ticket_at t.offers p) u) refl a
+
 -- ---- lists of mentions
+
+pub agrees-drops : (t : Open) (ms : List Mention) (es : List Entry) → Agrees t ms → Agrees (all_dropped t es) (ms ++ drops es)
+agrees-drops t ms [] a = subst (λ (x : List Mention). Agrees t x) (sym (append-nil ms)) a
+agrees-drops t ms (e ∷ es) a = subst (λ (x : List Mention). Agrees (all_dropped (drop_out t e.name e.ticket) es) x) (append_assoc ms (dropped e.name e.ticket ∷ []) (drops es)) (agrees-drops (drop_out t e.name e.ticket) (ms ++ dropped e.name e.ticket ∷ []) es (agrees-dropped t ms e.name e.ticket a))
 
 pub agrees-switches : (t : Open) (ms : List Mention) (ps : List RulesetName) → Agrees t ms → Agrees (all_out t ps) (ms ++ switches ps)
 agrees-switches t ms [] a = subst (λ (x : List Mention). Agrees t x) (sym (append-nil ms)) a

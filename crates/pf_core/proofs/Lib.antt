@@ -1,5 +1,9 @@
 pub mod Agreement
 pub mod Told
+pub mod Twice
+pub mod Counting
+pub mod Once
+pub mod Growth
 pub mod Maps
 pub mod Voiding
 pub mod MapOrder

@@ -2,12 +2,12 @@
 use Rattle.std.specs.Prelude.{◌≡◌, ℕ, ◌+◌, ◌<◌, ◌≤◌, Bool, true, false, not, nat_le, ◌-◌, cond, List, [], ◌∷◌, ◌++◌, length, fold, map, nat_lt, Option, Some, None, Result, Ok, Err}
 use Rattle.std.proofs.Common.{refl, sym, ap, ◌∙◌, subst, arith}
 use Rattle.std.proofs.lemmas.Bool.Decides.{nat_tests}
-use Rattle.std.proofs.lemmas.List.{append-nil}
+use Rattle.std.proofs.lemmas.List.{append-nil, take_all}
 use Rattle.std.proofs.lemmas.List.Concat.{flat_map-append}
 use Rattle.std.proofs.lemmas.List.Sums.{fold_push}
 use Rattle.pf_rule.specs.Rules.{PlainRule}
 use Rattle.pf_core.specs.declared.command.Command.{Command}
-use Rattle.pf_core.specs.declared.command.Command.TheVariants.{Begin, Add, Commit, Judge}
+use Rattle.pf_core.specs.declared.command.Command.TheVariants.{Begin, Add, Commit, Rollback, Judge, ShowRules}
 use Rattle.pf_core.specs.declared.command.Entry.{Entry}
 use Rattle.pf_core.specs.declared.command.RulesetKind.{RulesetKind}
 use Rattle.pf_core.specs.declared.command.RulesetKind.TheVariants.{Filter}
@@ -17,15 +17,15 @@ use Rattle.pf_core.specs.declared.reply.Answer.TheVariants as answer
 use Rattle.pf_core.specs.declared.reply.Outcome.{Outcome}
 use Rattle.pf_core.specs.declared.reply.Outcome.TheVariants.{Committed}
 use Rattle.pf_core.specs.declared.reply.Refusal.{Refusal}
-use Rattle.pf_core.specs.declared.reply.Refusal.TheVariants.{BadCount, Busy, RulesetFull, TicketsExhausted, HistoryFull, Memory}
+use Rattle.pf_core.specs.declared.reply.Refusal.TheVariants.{BadCount, Twice, Busy, RulesetFull, TooManyRulesets, TicketsExhausted, HistoryFull, Memory}
 use Rattle.pf_core.specs.declared.reply.Reply.TheVariants.{Answer as Answered, Applied, Refused}
 use Rattle.pf_core.specs.declared.step.Step.{Step}
 use Rattle.pf_core.specs.declared.step.Step.TheVariants.{Done, Wants}
-use Rattle.pf_core.specs.Calls.{Call, call, filter_at, gives, switches, names_of, Mention, mentions, mentions_of, valid_ticket, content, next_count}
+use Rattle.pf_core.specs.Calls.{Call, call, filter_at, gives, switches, names_of, Mention, mentions, mentions_of, Facts, facts}
 use Rattle.pf_core.specs.Edits.{Kept, Edit, commits, applied, after, name_of, voided_by}
-use Rattle.pf_core.specs.Legal.{bad_count, last_count, rule_limit, is_valid, busy_from, busy_or, given, items, legal_step, IsLegalStep}
+use Rattle.pf_core.specs.Legal.{bad_count, last_count, rule_limit, ruleset_limit, is_valid, twice_in, busy_from, refused_at, twice_or, busy_or, given, items, rulesets_after, legal_step, IsLegalStep}
 use Rattle.pf_core.specs.Tickets.{Open, Agrees, AgreesWith}
-use Rattle.pf_core.specs.Worlds.{Held, at_start, step_in, reply_to, LegalReply, wanted, next, held_after, IsLegalFrom, Page, IsAt, Follows, StandsFor}
+use Rattle.pf_core.specs.Worlds.{Held, at_start, step_in, reply_to, LegalReply, wanted, next, held_after, IsLegalFrom, Page, IsFoldOfFront, IsAt, Follows, StandsFor}
 
 -- ---- what calls mention
 
@@ -41,7 +41,9 @@ pub refused-mentions : (c : Command) (e : Refusal) → mentions_of (call c (Refu
 refused-mentions (Begin names) e = none-given names
 refused-mentions (Add p t r) e = refl
 refused-mentions (Commit entries) e = refl
+refused-mentions (Rollback entries) e = refl
 refused-mentions (Judge packet) e = refl
+refused-mentions (ShowRules p) e = refl
 
 pub agrees-refused : (t : Open) (calls : List Call) (c : Command) (e : Refusal) → AgreesWith t calls → AgreesWith t (calls ++ call c (Refused e) ∷ [])
 agrees-refused t calls c e a =
@@ -59,27 +61,49 @@ names-items : (offered : RulesetName → List PlainRule) (entries : List Entry) 
 names-items offered [] = refl
 names-items offered (e ∷ es) = ap (λ (n : RulesetName). n ∷ map name_of (items offered es)) (filter_is e.name) ∙ ap (λ (ns : List RulesetName). e.name ∷ ns) (names-items offered es)
 
-done-wants : (a b : Bool) (x y : Refusal) (z : Answer) (e : Edit) (o : Outcome) → cond a (Err x) (cond b (Err y) (Ok (Done z))) ≡ Ok (Wants e o) → ⊥
-done-wants true b x y z e o h = cc (h)
-done-wants false true x y z e o h = cc (h)
-done-wants false false x y z e o h = cc (h)
+-- what wants a change isn't refused
+behind : (b : Bool) (x : Refusal) (r : Result Step Refusal) (e : Edit) (o : Outcome) → cond b (Err x) r ≡ Ok (Wants e o) → r ≡ Ok (Wants e o)
+behind true x r e o h = absurd (cc (h))
+behind false x r e o h = h
 
-commit-wants : (a : Bool) (b : Option ℕ) (x : Refusal) (d e : Edit) (o p : Outcome) → cond a (Err x) (busy_or b (Ok (Wants d o))) ≡ Ok (Wants e p) → d ≡ e
-commit-wants true b x d e o p h = absurd (cc (h))
-commit-wants false None x d e o p h = cc (h)
-commit-wants false (Some i) x d e o p h = absurd (cc (h))
+behind-place : (why : ℕ → Refusal) (p : Option ℕ) (r : Result Step Refusal) (e : Edit) (o : Outcome) → refused_at why p r ≡ Ok (Wants e o) → r ≡ Ok (Wants e o)
+behind-place why None r e o h = h
+behind-place why (Some i) r e o h = absurd (cc (h))
 
 -- a command that wants a change mentions, once it is applied, exactly what the change voids
 pub wants-mentions : (epoch : ℕ) (calls : List Call) (d : Kept) (c : Command) (e : Edit) (o : Outcome) (n : ℕ) → legal_step epoch calls d c ≡ Ok (Wants e o) → mentions_of (call c (Applied n o)) ≡ switches (voided_by e)
 wants-mentions epoch calls d (Begin names) e o n h =
-    absurd (done-wants (bad_count (length names)) (nat_lt last_count (next_count (mentions calls) + length names - 1)) BadCount TicketsExhausted (answer.Given (given epoch (next_count (mentions calls)) (length names))) e o h)
+    let f : Facts = facts epoch (mentions calls) in
+    let done : Result Step Refusal = Ok (Done (answer.Given (given f (length names)))) in
+    let numbered : Result Step Refusal = cond (nat_lt last_count (f.next + length names - 1)) (Err TicketsExhausted) done in
+    let is : done ≡ Ok (Wants e o) = behind (nat_lt last_count (f.next + length names - 1)) TicketsExhausted done e o
+    (behind (nat_lt ruleset_limit (f.opened names)) TooManyRulesets numbered e o
+    (behind (bad_count (length names)) BadCount (cond (nat_lt ruleset_limit (f.opened names)) (Err TooManyRulesets) numbered) e o h)) in
+    absurd (cc (is))
 wants-mentions epoch calls d (Add p t r) e o n h =
-    absurd (done-wants (not (is_valid (valid_ticket (mentions calls)) (filter_at p) t)) (nat_le rule_limit (length (content (mentions calls) (filter_at p)))) (Busy 0) RulesetFull answer.Done e o h)
+    let f : Facts = facts epoch (mentions calls) in
+    let full : Bool = nat_le rule_limit (length (f.offered (filter_at p))) in
+    let done : Result Step Refusal = Ok (Done answer.Done) in
+    let is : done ≡ Ok (Wants e o) = behind full RulesetFull done e o (behind (not (is_valid f.valid (filter_at p) t)) (Busy 0) (cond full (Err RulesetFull) done) e o h) in
+    absurd (cc (is))
 wants-mentions epoch calls d (Commit entries) e o n h =
-    let offered : RulesetName → List PlainRule = content (mentions calls) in
-    let is : commits (items offered entries) ≡ e = commit-wants (bad_count (length entries)) (busy_from (valid_ticket (mentions calls)) 0 entries) BadCount (commits (items offered entries)) e Committed o h in
-    ap switches (sym (names-items offered entries)) ∙ ap (λ (x : Edit). switches (voided_by x)) is
+    let f : Facts = facts epoch (mentions calls) in
+    let change : Edit = commits (items f.offered entries) in
+    let many : Bool = nat_lt ruleset_limit (rulesets_after d (items f.offered entries)) in
+    let wants : Result Step Refusal = Ok (Wants change Committed) in
+    let limited : Result Step Refusal = cond many (Err TooManyRulesets) wants in
+    let is : wants ≡ Ok (Wants e o) = behind many TooManyRulesets wants e o
+    (behind-place (λ i. Busy i) (busy_from f.valid 0 entries) limited e o
+    (behind-place (λ i. Twice i) (twice_in entries) (busy_or (busy_from f.valid 0 entries) limited) e o
+    (behind (bad_count (length entries)) BadCount (twice_or (twice_in entries) (busy_or (busy_from f.valid 0 entries) limited)) e o h))) in
+    let same : change ≡ e = cc (is) in
+    ap switches (sym (names-items f.offered entries)) ∙ ap (λ (x : Edit). switches (voided_by x)) same
+wants-mentions epoch calls d (Rollback entries) e o n h =
+    let done : Result Step Refusal = Ok (Done answer.Done) in
+    let is : done ≡ Ok (Wants e o) = behind-place (λ i. Twice i) (twice_in entries) done e o (behind (bad_count (length entries)) BadCount (twice_or (twice_in entries) done) e o h) in
+    absurd (cc (is))
 wants-mentions epoch calls d (Judge packet) e o n h = absurd (cc (h))
+wants-mentions epoch calls d (ShowRules p) e o n h = absurd (cc (h))
 
 -- ---- one call from a page on
 
@@ -96,22 +120,31 @@ room limit log o l = let k : nat_lt (length log) limit ≡ true = grind (arith, 
 no-room : (limit : ℕ) (log : List Edit) (o : Outcome) → limit ≤ length log → cond (nat_lt (length log) limit) (Applied (length log + 1) o) (Refused HistoryFull) ≡ Refused HistoryFull
 no-room limit log o l = let k : nat_lt (length log) limit ≡ false = grind (arith, nat_tests, l) in ap (λ (b : Bool). cond b (Applied (length log + 1) o) (Refused HistoryFull)) k
 
+-- the whole log is a front of it
+all-of-it : (base : Kept) (log : List Edit) (d : Kept) → d ≡ after base log → IsFoldOfFront base log d
+all-of-it base log d is = (length log, omega arith, is ∙ ap (λ (l : List Edit). after base l) (sym (take_all (length log) log (omega arith))))
+
+front-stays : (base : Kept) (log log' : List Edit) (d d' : Kept) → log' ≡ log → d' ≡ d → IsFoldOfFront base log d → IsFoldOfFront base log' d'
+front-stays base log log' d d' l e front = subst (λ (x : List Edit). IsFoldOfFront base x d') (sym l) (subst (λ (x : Kept). IsFoldOfFront base log x) (sym e) front)
+
 -- a change was kept
 pub applied-follows : (base : Kept) (h : Held) (old new : Page) (c : Command) (e : Edit) (o : Outcome) (n : ℕ) → IsAt base h old →
     legal_step old.whole.tickets.epoch h.calls old.whole.durable c ≡ Ok (Wants e o) → length old.log < old.limit → n ≡ length old.log + 1 →
     new.log ≡ old.log ++ e ∷ [] → new.whole.durable ≡ applied old.whole.durable e →
     (mentions_of (call c (Applied n o)) ≡ switches (voided_by e) → AgreesWith new.whole.tickets (h.calls ++ call c (Applied n o) ∷ [])) →
-    new.whole.tickets.epoch ≡ old.whole.tickets.epoch → new.limit ≡ old.limit →
+    new.whole.tickets.epoch ≡ old.whole.tickets.epoch → new.limit ≡ old.limit → new.shown ≡ new.whole.durable →
     Follows base h old new (call c (Applied n o))
-applied-follows base h old new c e o n at step low number log durable agrees epoch limit =
+applied-follows base h old new c e o n at step low number log durable agrees epoch limit shown =
     let wants : step_in base h c ≡ Ok (Wants e o) = step-at base h old c at ∙ step in
+    let kept : new.whole.durable ≡ after base new.log = durable ∙ ap (λ (d : Kept). applied d e) at.durable ∙ sym (ap (λ (l : List Edit). after base l) log ∙ fold_push applied base old.log e) in
     record {
       legal = λ _. ap (λ (k : ℕ). Applied k o) number ∙ sym (room old.limit old.log o low) ∙ ap (λ (l : List Edit). reply_to old.limit l (Ok (Wants e o))) (sym at.log) ∙ ap (λ (r : Result Step Refusal). reply_to old.limit h.log r) (sym wants);
       leaves = record {
         log = ap (λ (r : Result Step Refusal). h.log ++ wanted r) wants ∙ ap (λ (l : List Edit). l ++ e ∷ []) at.log ∙ sym log;
         calls = agrees (wants-mentions old.whole.tickets.epoch h.calls old.whole.durable c e o n step);
-        durable = durable ∙ ap (λ (d : Kept). applied d e) at.durable ∙ sym (ap (λ (l : List Edit). after base l) log ∙ fold_push applied base old.log e);
+        durable = kept;
         epoch = epoch ∙ at.epoch;
+        shown = all-of-it base new.log new.shown (shown ∙ kept);
       };
       limit = limit;
     }
@@ -120,9 +153,9 @@ applied-follows base h old new c e o n at step low number log durable agrees epo
 pub answered-follows : (base : Kept) (h : Held) (old new : Page) (c : Command) (a : Answer) → IsAt base h old →
     IsLegalStep (Ok (Done a)) (legal_step old.whole.tickets.epoch h.calls old.whole.durable c) →
     new.log ≡ old.log → new.whole.durable ≡ old.whole.durable → AgreesWith new.whole.tickets (h.calls ++ call c (Answered a) ∷ []) →
-    new.whole.tickets.epoch ≡ old.whole.tickets.epoch → new.limit ≡ old.limit →
+    new.whole.tickets.epoch ≡ old.whole.tickets.epoch → new.limit ≡ old.limit → new.shown ≡ old.shown →
     Follows base h old new (call c (Answered a))
-answered-follows base h old new c a at step log durable agrees epoch limit =
+answered-follows base h old new c a at step log durable agrees epoch limit shown =
     let legal : Ok (Done a) ≡ legal_step old.whole.tickets.epoch h.calls old.whole.durable c = step (λ m. cc (m)) in
     let is : step_in base h c ≡ Ok (Done a) = step-at base h old c at ∙ sym legal in
     record {
@@ -132,6 +165,7 @@ answered-follows base h old new c a at step log durable agrees epoch limit =
         calls = agrees;
         durable = durable ∙ at.durable ∙ ap (λ (l : List Edit). after base l) (sym log);
         epoch = epoch ∙ at.epoch;
+        shown = front-stays base old.log new.log old.shown new.shown log shown at.shown;
       };
       limit = limit;
     }
@@ -146,6 +180,7 @@ refused-follows base h old new c e at legal same =
         calls = agrees-refused old.whole.tickets h.calls c e at.calls;
         durable = at.durable;
         epoch = at.epoch;
+        shown = at.shown;
       };
       limit = refl;
     } in

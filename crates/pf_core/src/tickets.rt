@@ -1,7 +1,8 @@
 //! The tickets that are valid, and what is offered with them.
 ghost use Rattle.std.specs.Prelude.{◌≡◌, ℕ, ◌<◌, ◌≤◌, List, [], ◌∷◌, ◌++◌, IfOk, OnOk, OnErr, IfSome, IfNone, length, filter, fold, get_or, vec_len, vec_capacity};
 ghost use Rattle.pf_core.specs.declared.reply.Answer.TheVariants as answer;
-ghost use Rattle.pf_core.specs.Calls.{Mention, gives, switches, drops, added, filter_at, is_named, names_of, tickets_of};
+ghost use Rattle.pf_core.specs.Calls.{Mention, gives, switches, drops, added, filter_at, is_named, same_name, tickets_of};
+ghost use Rattle.std.specs.List.{list_any};
 ghost use Rattle.pf_core.specs.Legal.{bad_count, twice_in, is_valid, busy_from, begin_step, add_step, rollback_step, IsLegalStep};
 ghost use Rattle.pf_core.specs.Offers.{without, take_out, add_to, IsPlace, IsNowhere, told, list_check, commit_check};
 ghost use Rattle.pf_core.specs.Tickets.{Offer, Agrees, ticket_at, rules_under, facts_in};
@@ -75,7 +76,7 @@ fn is_named(names: &[RulesetName], name: &RulesetName) -> bool
 
 // Whether one of these entries names the ruleset.
 fn names_it(entries: &[Entry], name: &RulesetName) -> bool
-    ensures { result ≡ is_named (names_of entries.now) name.now }
+    ensures { result ≡ list_any (λ e. same_name e.name name.now) entries.now }
 {
     entries.iter().any(|other| other.name.same(name))
 }
