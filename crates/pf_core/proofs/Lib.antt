@@ -3,3 +3,4 @@ pub mod Told
 pub mod Maps
 pub mod Voiding
 pub mod MapOrder
+pub mod PathTexts

@@ -46,7 +46,7 @@ impl Path {
     pub fn from_ascii(text: &[u8]) -> Result<Path, Kind>
         ensures { result ≡ path_of text.now }
     {
-        if text == b"-" {
+        if text == b"-".as_slice() {
             return Ok(Path::main());
         }
         match fault_in(text) {
