@@ -4,3 +4,4 @@ pub mod Maps
 pub mod Voiding
 pub mod MapOrder
 pub mod PathTexts
+pub mod PathsRead
