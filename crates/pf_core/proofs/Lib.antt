@@ -7,3 +7,5 @@ pub mod Growth
 pub mod Maps
 pub mod Voiding
 pub mod MapOrder
+pub mod PathTexts
+pub mod PathsRead

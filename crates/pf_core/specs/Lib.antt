@@ -1,5 +1,7 @@
 pub mod Rulesets
 pub mod Paths
+pub mod PathGrammar
+pub mod PathLaws
 pub mod Edits
 pub mod Deciding
 pub mod EditViews

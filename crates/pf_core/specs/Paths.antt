@@ -1,6 +1,7 @@
 -- The texts of paths (pf.conf(5), ANCHORS): components, with a slash between each two. The limits, and that the main ruleset is written "-", are own.
-use Rattle.std.specs.Prelude.{◌≡◌, ℕ, ◌==◌, ◌&&◌, Bool, not, cond, if◌then◌else◌, List, [], ◌∷◌, length, codes, Option, Some, None, Result, Ok, Err, nat_lt}
+use Rattle.std.specs.Prelude.{ℕ, ◌==◌, ◌&&◌, Bool, true, not, cond, if◌then◌else◌, List, [], ◌∷◌, length, codes, Option, Some, None, Result, Ok, Err, nat_lt}
 use Rattle.std.specs.List.{list_all}
+use Rattle.std.specs.Option.{is_none}
 use Rattle.std.specs.Str.{bytes_eq}
 use Rattle.pf_rule.specs.declared.fault.Kind.{Kind}
 use Rattle.pf_rule.specs.declared.fault.Kind.TheVariants.{BadWord, NameTooLong}
@@ -64,3 +65,13 @@ path_unless (Some k) w = Err k
 -- PATH: "-" for the main ruleset, else the path itself
 abbrev pub path_of : Word → Result (List ℕ) Kind
 path_of w = if bytes_eq w (codes "-") then Ok main else path_unless (path_fault w) w
+
+-- a path is the main ruleset's, or a word that has no fault
+abbrev pub is_path : List ℕ → Bool
+is_path [] = true
+is_path (b ∷ bs) = is_none (path_fault (b ∷ bs))
+
+-- PATH as it is written
+abbrev pub path_text : List ℕ → Word
+path_text [] = codes "-"
+path_text (b ∷ bs) = b ∷ bs

@@ -1,6 +1,6 @@
 //! Paths of rulesets.
-ghost use Rattle.std.specs.Prelude.{◌≡◌, ◌≤◌, [], length};
-ghost use Rattle.pf_core.specs.Paths.{path_of};
+ghost use Rattle.std.specs.Prelude.{◌≡◌, [], true};
+ghost use Rattle.pf_core.specs.Paths.{path_of, path_fault, is_path};
 ghost use Rattle.pf_core.specs.Rulesets.{path_order, same_path};
 
 use crate::path_text::fault_in;
@@ -17,13 +17,14 @@ pub struct Path {
 }
 
 impl Model for Path {
-    ghost use Rattle.std.specs.Prelude.{ℕ, List, take, ◌≤◌};
+    ghost use Rattle.std.specs.Prelude.{ℕ, List, take, ◌≡◌, ◌≤◌, true};
+    ghost use Rattle.pf_core.specs.Paths.{is_path};
 
     ghost Value = { List ℕ };
 
     ghost view = { λ p. take p.len p.bytes };
 
-    ghost invariant = { λ p. p.len ≤ 255 };
+    ghost invariant = { λ p. (p.len ≤ 255) × (is_path (take p.len p.bytes) ≡ true) };
 }
 
 impl Path {
@@ -55,9 +56,9 @@ impl Path {
         }
     }
 
-    // Bytes that are a path.
+    // The path that a word without a fault is.
     fn holding(text: &[u8]) -> Path
-        requires { length text.now ≤ 255 }
+        requires { path_fault text.now ≡ None }
         ensures { result ≡ text.now }
     {
         let mut bytes = [0; 255];
@@ -80,7 +81,8 @@ impl Path {
 
     /// The path's bytes; none for the main ruleset.
     pub fn as_bytes(&self) -> &[u8]
-        ensures { result.now ≡ self.now }
+        ensures value { result.now ≡ self.now }
+        ensures path { is_path self.now ≡ true }
     {
         &self.bytes[..self.len as usize]
     }
