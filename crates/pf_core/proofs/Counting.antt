@@ -100,7 +100,7 @@ count-le [] ys d h = omega arith
 count-le (x ∷ xs) ys d h =
     let less : length (names-but x ys) < length ys = but-lt x ys (h x (ap (λ (b : Bool). b || is_named xs x) (names_alike.refl x))) in
     let rest : length xs ≤ length (names-but x ys) = count-le xs (names-but x ys) d.1
-        (λ q k. named-but x q ys (apart x q xs (same_name x q) refl d.0 k) ∙ h q (or-true (same_name x q) (is_named xs q) k)) in
+    (λ q k. named-but x q ys (apart x q xs (same_name x q) refl d.0 k) ∙ h q (or-true (same_name x q) (is_named xs q) k)) in
     omega (arith, less, rest)
 
 pub alike-count : (xs ys : List RulesetName) → IsDistinct xs → IsDistinct ys → ((q : RulesetName) → is_named xs q ≡ is_named ys q) → length xs ≡ length ys
@@ -205,8 +205,8 @@ opened-agree t ms once valid names =
     alike-count (fold with_name (names_under t.offers) names) (fold with_name (open_rulesets ms) names)
     (distinct-with (names_under t.offers) names once) (distinct-with (open_rulesets ms) names (distinct-open ms))
     (λ q. named-with (names_under t.offers) names q
-      ∙ ap (λ (b : Bool). b || is_named names q) (named-under t.offers q ∙ ap has_ticket (valid q) ∙ sym (named-open ms q))
-      ∙ sym (named-with (open_rulesets ms) names q))
+    ∙ ap (λ (b : Bool). b || is_named names q) (named-under t.offers q ∙ ap has_ticket (valid q) ∙ sym (named-open ms q))
+    ∙ sym (named-with (open_rulesets ms) names q))
 
 -- ---- the count, name by name
 

@@ -91,11 +91,7 @@ fn take_items(
 }
 
 // Whether there would be more rulesets than there may be. Only near the limit they are made, to be counted.
-fn are_too_many(
-    alloc: Global,
-    rulesets: &[Placed],
-    items: &[Placed],
-) -> Result<bool, AllocError>
+fn are_too_many(alloc: Global, rulesets: &[Placed], items: &[Placed]) -> Result<bool, AllocError>
     ensures { IfOk result (λ b. b ≡ nat_lt ruleset_limit (length (fold with_rules rulesets.now items.now))) }
 {
     if rulesets.len() + items.len() <= RULESET_LIMIT {

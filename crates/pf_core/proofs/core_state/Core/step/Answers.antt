@@ -21,8 +21,9 @@ returns-after-begin-clause-reply c = λ calls a no.
     let is : t ≡ c.args.self.now.tickets = ap (λ (w : Whole). w.tickets) c.self.view_is in
     let inner : AgreesWith t calls = subst (λ (x : Open). AgreesWith x calls) (sym is) a in
     let same : c.match-begin.result ≡ told c.begin.result (λ g. answer.Given g) = elim c.match-begin.branch [
-        in-Ok w ↦ w.result-is ∙ sym (ap (λ r. told r (λ g. answer.Given g)) w.in-Ok.is)
-      | in-Err w ↦ w.result-is ∙ sym (ap (λ r. told r (λ g. answer.Given g)) w.in-Err.is) ] in
+      | in-Ok w ↦ w.result-is ∙ sym (ap (λ r. told r (λ g. answer.Given g)) w.in-Ok.is)
+      | in-Err w ↦ w.result-is ∙ sym (ap (λ r. told r (λ g. answer.Given g)) w.in-Err.is)
+    ] in
     same ∙ c.begin.ensures.reply (λ m. no (same ∙ m))
     ∙ ap (λ (ns : List RulesetName). begin_step (facts_in t) ns) c.as_slice.ensures
     ∙ told_by_calls t calls d begin inner

@@ -23,14 +23,15 @@ pub loop-place-preserved : goal.loop-place-preserved
 loop-place-preserved c =
     let below : c.loop-place.count ≤ length c.args.self.now.offers + c.loop-place.place = c.loop-place.invariant.within in
     elim c.if-is_none.branch [
-      then-is_none+then-not-is_named w ↦
-        let one : opened_so_far c.args.self.now.offers c.args.names.now (c.loop-place.place + 1) ≡ c.loop-place.count + 1 = more c false false (nowhere c w.if-is_none.true) (sym w.is_named.ensures ∙ w.if-not-is_named.true) in
-        record { counts = w.count-is ∙ sym one; within = (let is = w.count-is in omega (arith, is, below)) }
-    | else-is_none w ↦ elim w.else-is_none.branch [
-        else-is_none-via-then-is_none+else-not-is_named v ↦
-          let none : opened_so_far c.args.self.now.offers c.args.names.now (c.loop-place.place + 1) ≡ c.loop-place.count + 0 = more c false true (nowhere c v.if-is_none.true) (sym v.is_named.ensures ∙ v.if-not-is_named.false) in
-          record { counts = (let is = w.count-is in omega (arith, is, none)); within = (let is = w.count-is in omega (arith, is, below)) }
-      | else-is_none-via-else-is_none v ↦
-          let none : opened_so_far c.args.self.now.offers c.args.names.now (c.loop-place.place + 1) ≡ c.loop-place.count + 0 = more c true (is_named (take c.loop-place.place c.args.names.now) c.index-names-place.result) (somewhere c v.if-is_none.false) refl in
-          record { counts = (let is = w.count-is in omega (arith, is, none)); within = (let is = w.count-is in omega (arith, is, below)) } ]
+      | then-is_none+then-not-is_named w ↦
+          let one : opened_so_far c.args.self.now.offers c.args.names.now (c.loop-place.place + 1) ≡ c.loop-place.count + 1 = more c false false (nowhere c w.if-is_none.true) (sym w.is_named.ensures ∙ w.if-not-is_named.true) in
+          record { counts = w.count-is ∙ sym one; within = (let is = w.count-is in omega (arith, is, below)) }
+      | else-is_none w ↦ elim w.else-is_none.branch [
+        | else-is_none-via-then-is_none+else-not-is_named v ↦
+            let none : opened_so_far c.args.self.now.offers c.args.names.now (c.loop-place.place + 1) ≡ c.loop-place.count + 0 = more c false true (nowhere c v.if-is_none.true) (sym v.is_named.ensures ∙ v.if-not-is_named.false) in
+            record { counts = (let is = w.count-is in omega (arith, is, none)); within = (let is = w.count-is in omega (arith, is, below)) }
+        | else-is_none-via-else-is_none v ↦
+            let none : opened_so_far c.args.self.now.offers c.args.names.now (c.loop-place.place + 1) ≡ c.loop-place.count + 0 = more c true (is_named (take c.loop-place.place c.args.names.now) c.index-names-place.result) (somewhere c v.if-is_none.false) refl in
+            record { counts = (let is = w.count-is in omega (arith, is, none)); within = (let is = w.count-is in omega (arith, is, below)) }
+      ]
     ]
