@@ -1,4 +1,6 @@
 //! Rounds of commands, with replies worked out by hand.
+mod paths;
+
 use crate::{
     Answer, Change, Command, Core, Durable, Entries, Entry, Given, Path, Refusal, Reply,
     RuleVerdict, RulesetName, RulesetNames, Step, Ticket, Verdict,
