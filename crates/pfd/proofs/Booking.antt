@@ -26,38 +26,38 @@ Leads old new c = (base : Kept) (h : Held) → IsAt base h old → Follows base 
 leads-from : (old now new : Page) (c : Call) → old ≡ now → Leads old new c → Leads now new c
 leads-from old now new c is leads = subst (λ (p : Page). Leads p new c) is leads
 
-pub done-leads : (core core' : Whole) (log : List Edit) (limit : ℕ) (now : Page) (c : Command) (a : Answer) → page core log limit ≡ now → Steps core c (Ok (Done a)) →
+pub done-leads : (core core' : Whole) (log : List Edit) (limit : ℕ) (shown : Kept) (now : Page) (c : Command) (a : Answer) → page core log limit shown ≡ now → Steps core c (Ok (Done a)) →
     ((calls : List Call) → AgreesWith core.tickets calls → AgreesAfter core'.tickets calls c (Ok (Done a))) → core'.durable ≡ core.durable → core'.tickets.epoch ≡ core.tickets.epoch →
-    Leads now (page core' log limit) (call c (Answered a))
-done-leads core core' log limit now c a is steps agrees durable epoch =
-    leads-from (page core log limit) now (page core' log limit) (call c (Answered a)) is
-    (λ base h at. answered-follows base h (page core log limit) (page core' log limit) c a at (steps h.calls at.calls) refl durable (agrees h.calls at.calls) epoch refl)
+    Leads now (page core' log limit shown) (call c (Answered a))
+done-leads core core' log limit shown now c a is steps agrees durable epoch =
+    leads-from (page core log limit shown) now (page core' log limit shown) (call c (Answered a)) is
+    (λ base h at. answered-follows base h (page core log limit shown) (page core' log limit shown) c a at (steps h.calls at.calls) refl durable (agrees h.calls at.calls) epoch refl refl)
 
-pub full-leads : (core : Whole) (log : List Edit) (limit : ℕ) (now new : Page) (c : Command) (e : Edit) (o : Outcome) → page core log limit ≡ now → Steps core c (Ok (Wants e o)) →
-    limit ≤ length log → new ≡ page core log limit → Leads now new (call c (Refused HistoryFull))
-full-leads core log limit now new c e o is steps full same =
-    leads-from (page core log limit) now new (call c (Refused HistoryFull)) is
-    (λ base h at. refused-follows base h (page core log limit) new c HistoryFull at (full-is-legal base h (page core log limit) c e o at (steps h.calls at.calls) full) same)
+pub full-leads : (core : Whole) (log : List Edit) (limit : ℕ) (shown : Kept) (now new : Page) (c : Command) (e : Edit) (o : Outcome) → page core log limit shown ≡ now → Steps core c (Ok (Wants e o)) →
+    limit ≤ length log → new ≡ page core log limit shown → Leads now new (call c (Refused HistoryFull))
+full-leads core log limit shown now new c e o is steps full same =
+    leads-from (page core log limit shown) now new (call c (Refused HistoryFull)) is
+    (λ base h at. refused-follows base h (page core log limit shown) new c HistoryFull at (full-is-legal base h (page core log limit shown) c e o at (steps h.calls at.calls) full) same)
 
-pub memory-leads : (core : Whole) (log : List Edit) (limit : ℕ) (now new : Page) (c : Command) → page core log limit ≡ now → new ≡ page core log limit → Leads now new (call c (Refused Memory))
-memory-leads core log limit now new c is same =
-    leads-from (page core log limit) now new (call c (Refused Memory)) is
-    (λ base h at. refused-follows base h (page core log limit) new c Memory at (memory-is-legal base limit h c) same)
+pub memory-leads : (core : Whole) (log : List Edit) (limit : ℕ) (shown : Kept) (now new : Page) (c : Command) → page core log limit shown ≡ now → new ≡ page core log limit shown → Leads now new (call c (Refused Memory))
+memory-leads core log limit shown now new c is same =
+    leads-from (page core log limit shown) now new (call c (Refused Memory)) is
+    (λ base h at. refused-follows base h (page core log limit shown) new c Memory at (memory-is-legal base limit h c) same)
 
-pub err-leads : (core : Whole) (log : List Edit) (limit : ℕ) (now new : Page) (c : Command) (e : Refusal) → page core log limit ≡ now → Steps core c (Err e) → new ≡ page core log limit → Leads now new (call c (Refused e))
-err-leads core log limit now new c e is steps same =
-    leads-from (page core log limit) now new (call c (Refused e)) is
-    (λ base h at. refused-follows base h (page core log limit) new c e at (refusal-is-legal base h (page core log limit) c e at (steps h.calls at.calls)) same)
+pub err-leads : (core : Whole) (log : List Edit) (limit : ℕ) (shown : Kept) (now new : Page) (c : Command) (e : Refusal) → page core log limit shown ≡ now → Steps core c (Err e) → new ≡ page core log limit shown → Leads now new (call c (Refused e))
+err-leads core log limit shown now new c e is steps same =
+    leads-from (page core log limit shown) now new (call c (Refused e)) is
+    (λ base h at. refused-follows base h (page core log limit shown) new c e at (refusal-is-legal base h (page core log limit shown) c e at (steps h.calls at.calls)) same)
 
--- the core is still itself when the change is put in place
-pub kept-leads : (core still core' : Whole) (log log' : List Edit) (limit : ℕ) (now : Page) (c : Command) (e : Edit) (o : Outcome) (n : ℕ) (r : Ready) → page core log limit ≡ now → Steps core c (Ok (Wants e o)) → still ≡ core →
+-- the core is still itself when the change is put in place, and the copy that is shown is then what is kept
+pub kept-leads : (core still core' : Whole) (log log' : List Edit) (limit : ℕ) (shown shown' : Kept) (now : Page) (c : Command) (e : Edit) (o : Outcome) (n : ℕ) (r : Ready) → page core log limit shown ≡ now → Steps core c (Ok (Wants e o)) → still ≡ core →
     length log < limit → n ≡ length log + 1 → log' ≡ log ++ e ∷ [] → r ≡ ready (applied still.durable e) (voided_by e) → core'.durable ≡ r.durable →
     ((calls : List Call) (d : Command) (k : ℕ) (p : Outcome) → mentions_of (call d (Applied k p)) ≡ switches r.voided → AgreesWith still.tickets calls → AgreesWith core'.tickets (calls ++ call d (Applied k p) ∷ [])) →
-    core'.tickets.epoch ≡ still.tickets.epoch → Leads now (page core' log' limit) (call c (Applied n o))
-kept-leads core still core' log log' limit now c e o n r is steps stays low number logged made durable agrees epoch =
+    core'.tickets.epoch ≡ still.tickets.epoch → shown' ≡ core'.durable → Leads now (page core' log' limit shown') (call c (Applied n o))
+kept-leads core still core' log log' limit shown shown' now c e o n r is steps stays low number logged made durable agrees epoch copied =
     let from : r ≡ ready (applied core.durable e) (voided_by e) = made ∙ ap (λ (w : Whole). ready (applied w.durable e) (voided_by e)) stays in
-    leads-from (page core log limit) now (page core' log' limit) (call c (Applied n o)) is
-    (λ base h at. applied-follows base h (page core log limit) (page core' log' limit) c e o n at
+    leads-from (page core log limit shown) now (page core' log' limit shown') (call c (Applied n o)) is
+    (λ base h at. applied-follows base h (page core log limit shown) (page core' log' limit shown') c e o n at
     (sym (steps h.calls at.calls (λ m. cc (m)))) low number logged (durable ∙ ap (λ (x : Ready). x.durable) from)
     (λ names. agrees h.calls c n o (names ∙ ap (λ (x : Ready). switches x.voided) (sym from)) (subst (λ (w : Whole). AgreesWith w.tickets h.calls) (sym stays) at.calls))
-    (epoch ∙ ap (λ (w : Whole). w.tickets.epoch) stays) refl)
+    (epoch ∙ ap (λ (w : Whole). w.tickets.epoch) stays) refl copied)

@@ -1,7 +1,7 @@
 -- What a book's replies say by themselves.
 use Rattle.std.specs.Prelude.{◌≡◌, length, ⊤}
 use Rattle.pf_core.specs.declared.command.Command.{Command}
-use Rattle.pf_core.specs.declared.command.Command.TheVariants.{Begin, Add, Commit, Judge}
+use Rattle.pf_core.specs.declared.command.Command.TheVariants.{Begin, Add, Commit, Rollback, Judge, ShowRules}
 use Rattle.pf_core.specs.declared.reply.Answer.TheVariants as answer
 use Rattle.pf_core.specs.declared.reply.Reply.{Reply}
 use Rattle.pf_core.specs.declared.reply.Reply.TheVariants.{Answer, Applied, Refused}
@@ -19,7 +19,9 @@ abbrev pub IsJudged : Kept → Command → Reply → Type 0
 IsJudged d (Begin names) r = ⊤
 IsJudged d (Add p t rule) r = ⊤
 IsJudged d (Commit entries) r = ⊤
+IsJudged d (Rollback entries) r = ⊤
 IsJudged d (Judge packet) r = r ≡ Answer (answer.Judged (verdict d packet))
+IsJudged d (ShowRules p) r = ⊤
 
 -- nothing changes where a command is refused
 abbrev pub StaysIfRefused : Reply → Page → Page → Type 0

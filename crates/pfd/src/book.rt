@@ -2,11 +2,12 @@
 ghost use Rattle.std.specs.Prelude.{◌≡◌, ℕ, ◌≤◌, [], ◌∷◌, ◌++◌, List, IfOk, map};
 ghost use Rattle.std.specs.Arc.{arc_value};
 ghost use Rattle.pf_core.specs.Calls.{Call, call};
-ghost use Rattle.pf_core.specs.Edits.{Kept, kept, after};
-ghost use Rattle.pf_core.specs.Worlds.{Held, held_after, LegalReply, IsAt, Follows, StandsFor};
+ghost use Rattle.pf_core.specs.Edits.{Kept, kept, after, verdict};
+ghost use Rattle.pf_core.specs.Worlds.{Held, held_after, LegalReply, IsFoldOfFront, IsAt, Follows, StandsFor};
 ghost use Rattle.pfd.specs.Replied.{IsNumbered, IsJudged, StaysIfRefused};
 
-use pf_core::{Change, Command, Core, Durable, Refusal, Reply, Step};
+use pf_core::{Change, Command, Core, Durable, Refusal, Reply, Step, Verdict};
+use pf_rule::Packet;
 use std::alloc::{AllocError, Global};
 use std::marker::Model;
 use std::sync::Arc;
@@ -14,13 +15,15 @@ use std::sync::Arc;
 /// The epoch of a book that was opened only once.
 const FIRST_EPOCH: u32 = 1;
 
-/// A core, and the changes that it kept since it was opened, all in memory. Contracts see it as a `Page`.
+/// A core, the changes that it kept since it was opened, and the copy that is shown, all in memory. Contracts see it as a
+/// `Page`.
 #[derive(Drop)]
 pub struct Book {
     alloc: Global,
     core: Core,
     log: Vec<Arc<Change>>,
     limit: usize,
+    shown: Arc<Durable>,
 }
 
 impl Model for Book {
@@ -30,7 +33,7 @@ impl Model for Book {
 
     ghost Value = { Page };
 
-    ghost view = { λ b. page b.core (map arc_value b.log.items) b.limit };
+    ghost view = { λ b. page b.core (map arc_value b.log.items) b.limit (arc_value b.shown) };
 }
 
 impl Book {
@@ -42,11 +45,13 @@ impl Book {
         ensures limit { IfOk result (λ b. b.limit ≡ history_limit) }
     {
         let base = Arc::new(alloc, Durable::empty(alloc, FIRST_EPOCH))?;
+        let shown = Arc::try_clone(&base)?;
         Ok(Book {
             alloc,
             core: Core::new(alloc, base),
             log: Vec::new(alloc),
             limit: history_limit,
+            shown,
         })
     }
 
@@ -67,6 +72,9 @@ impl Book {
                 let Ok(next) = self.core.prepare(&change) else {
                     return Reply::Refused(Refusal::Memory);
                 };
+                let Ok(shown) = next.durable() else {
+                    return Reply::Refused(Refusal::Memory);
+                };
                 let Ok(change) = Arc::new(self.alloc, change) else {
                     return Reply::Refused(Refusal::Memory);
                 };
@@ -75,6 +83,7 @@ impl Book {
                 }
                 self.log.push_reserved(change);
                 self.core.accept(next);
+                self.shown = shown;
                 Reply::Applied {
                     seq: self.log.len() as u64,
                     outcome,
@@ -96,7 +105,16 @@ impl Book {
         ensures judged { IsJudged self.old.whole.durable command result }
         ensures limit { self.new.limit ≡ self.old.limit }
         ensures refused { StaysIfRefused result self.old self.new }
+        ensures shown { (base : Kept) (world : List Call) → StandsFor base self.old world → IsFoldOfFront base self.new.log self.new.shown }
     {
         self.call(&command)
+    }
+
+    /// What happens to a packet by the copy that is shown: what some front of the history left. It takes no memory.
+    pub fn shown_judge(&self, packet: &Packet) -> Verdict
+        ensures verdict { result ≡ verdict self.now.shown packet.now }
+        ensures front { (base : Kept) (world : List Call) → StandsFor base self.now world → IsFoldOfFront base self.now.log self.now.shown }
+    {
+        self.shown.verdict(packet)
     }
 }

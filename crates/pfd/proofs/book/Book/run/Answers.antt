@@ -8,3 +8,6 @@ returns-clause-worlds c = λ base world stands. stands-push base c.args.self.now
 
 pub returns-clause-fold : goal.returns-clause-fold
 returns-clause-fold c = λ base world stands. (c.call.ensures.follows base (held_after base world) stands.leaves).leaves.durable
+
+pub returns-clause-shown : goal.returns-clause-shown
+returns-clause-shown c = λ base world stands. (c.call.ensures.follows base (held_after base world) stands.leaves).leaves.shown
