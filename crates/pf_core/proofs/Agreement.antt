@@ -2,15 +2,15 @@
 use Rattle.std.proofs.Common.{◌≡◌, ℕ, ◌+◌, ◌<◌, Bool, true, false, not, cond, ◌&&◌, List, [], ◌∷◌, ◌++◌, length, refl, sym, ap, ◌∙◌, subst, Option, Some, None, arith, get_or, append_assoc, eq-eqb, ◌==◌, zero, suc}
 use Rattle.std.proofs.lemmas.Bool.{eqb-true}
 use Rattle.std.proofs.lemmas.Bool.Decides.{nat_tests}
-use Rattle.std.proofs.lemmas.List.{append-nil}
+use Rattle.std.proofs.lemmas.List.{append-nil, length-append}
 use Rattle.std.proofs.lemmas.List.Sums.{fold_push}
 use Rattle.std.proofs.lemmas.List.Concat.{flat_map-append}
 use Rattle.pf_rule.specs.Rules.{PlainRule}
 use Rattle.pf_core.specs.declared.command.RulesetName.{RulesetName}
 use Rattle.pf_core.specs.declared.command.Ticket.{Ticket}
-use Rattle.pf_core.specs.Calls.{same_name, same_ticket, ticket, tickets_from, is_ticket, Mention, gave, added, switched, dropped, drops, touched, valid_ticket, rules_added, rules_offered, content_under, counted, next_count, gives, switches}
+use Rattle.pf_core.specs.Calls.{same_name, same_ticket, ticket, tickets_from, is_ticket, Mention, gave, added, switched, dropped, drops, touched, valid_ticket, rules_added, rules_offered, content_under, given_ticket, all_given as begun, next_count, gives, switches}
 use Rattle.pf_core.specs.Tickets.{Offer, offer, Open, found, ticket_at, rules_under, IsDistinct, Agrees}
-use Rattle.pf_core.specs.Offers.{without, grown, with_added, give, take_out, add_to, drop_out, all_given, all_out, all_dropped, IsPlace, IsNowhere}
+use Rattle.pf_core.specs.Offers.{without, grown, with_added, give, take_out, add_to, drop_out, all_begun, all_out, all_dropped, IsPlace, IsNowhere}
 use Rattle.pf_core.specs.NameLaws.{names_alike}
 use Rattle.pf_core.proofs.Once.{distinct-without, distinct-given, names-added}
 use Rattle.pf_core.specs.declared.command.Entry.{Entry}
@@ -86,8 +86,23 @@ own-added q p r u (o ∷ os) h k = own-added-step q p r u o os (with_added p r o
 pub valid_push : (ms : List Mention) (m : Mention) (q : RulesetName) → valid_ticket (ms ++ m ∷ []) q ≡ touched q (valid_ticket ms q) m
 valid_push ms m q = fold_push (touched q) None ms m
 
+-- the next count after one more mention
+abbrev pub counted : ℕ → Mention → ℕ
+counted k (gave n t) = k + 1
+counted k (added n t r) = k
+counted k (switched n) = k
+counted k (dropped n t) = k
+
+counted-step : (xs : List RulesetName) (m : Mention) → length (xs ++ given_ticket m) + 1 ≡ counted (length xs + 1) m
+counted-step xs (gave n t) = ap (λ (k : ℕ). k + 1) (length-append xs (n ∷ []))
+counted-step xs (added n t r) = ap (λ (ns : List RulesetName). length ns + 1) (append-nil xs)
+counted-step xs (switched n) = ap (λ (ns : List RulesetName). length ns + 1) (append-nil xs)
+counted-step xs (dropped n t) = ap (λ (ns : List RulesetName). length ns + 1) (append-nil xs)
+
 pub next_push : (ms : List Mention) (m : Mention) → next_count (ms ++ m ∷ []) ≡ counted (next_count ms) m
-next_push ms m = fold_push counted 1 ms m
+next_push ms m =
+    let more : begun (ms ++ m ∷ []) ≡ begun ms ++ given_ticket m = flat_map-append given_ticket ms (m ∷ []) ∙ ap (λ (ns : List RulesetName). begun ms ++ ns) (append-nil (given_ticket m)) in
+    ap (λ (ns : List RulesetName). length ns + 1) more ∙ counted-step (begun ms) m
 
 pub offered_push : (ms : List Mention) (m : Mention) (q : RulesetName) (u : Ticket) → rules_offered (ms ++ m ∷ []) q u ≡ rules_offered ms q u ++ rules_added q u m
 offered_push ms m q u = flat_map-append (rules_added q u) ms (m ∷ []) ∙ ap (λ (z : List PlainRule). rules_offered ms q u ++ z) (append-nil (rules_added q u m))
@@ -251,11 +266,11 @@ pub agrees-switches : (t : Open) (ms : List Mention) (ps : List RulesetName) →
 agrees-switches t ms [] a = subst (λ (x : List Mention). Agrees t x) (sym (append-nil ms)) a
 agrees-switches t ms (p ∷ ps) a = subst (λ (x : List Mention). Agrees (all_out (take_out t p) ps) x) (append_assoc ms (switched p ∷ []) (switches ps)) (agrees-switches (take_out t p) (ms ++ switched p ∷ []) ps (agrees-switched t ms p a))
 
-pub agrees-gives : (t : Open) (ms : List Mention) (ps : List RulesetName) → Agrees t ms → Agrees (all_given t ps) (ms ++ gives ps (tickets_from t.epoch t.next (length ps)))
+pub agrees-gives : (t : Open) (ms : List Mention) (ps : List RulesetName) → Agrees t ms → Agrees (all_begun t ps) (ms ++ gives ps (tickets_from t.epoch t.next (length ps)))
 agrees-gives t ms [] a = subst (λ (x : List Mention). Agrees t x) (sym (append-nil ms)) a
 agrees-gives t ms (p ∷ ps) a =
     let new : Ticket = ticket t.epoch t.next in
-    subst (λ (x : List Mention). Agrees (all_given (give t p) ps) x) (append_assoc ms (gave p new ∷ []) (gives ps (tickets_from t.epoch (t.next + 1) (length ps)))) (agrees-gives (give t p) (ms ++ gave p new ∷ []) ps (agrees-gave t ms p a))
+    subst (λ (x : List Mention). Agrees (all_begun (give t p) ps) x) (append_assoc ms (gave p new ∷ []) (gives ps (tickets_from t.epoch (t.next + 1) (length ps)))) (agrees-gives (give t p) (ms ++ gave p new ∷ []) ps (agrees-gave t ms p a))
 
 -- ---- where a ruleset's offer stands
 

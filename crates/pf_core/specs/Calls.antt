@@ -112,12 +112,22 @@ abbrev pub is_ticket : Option Ticket → Ticket → Bool
 is_ticket None t = false
 is_ticket (Some u) t = same_ticket u t
 
--- the ticket of a ruleset after one more mention: a begin's is valid, a commit voids it, a rollback voids the one that it names, and an add touches none
+-- whether a mention touches a ruleset whose ticket was this one, or none, just before
+abbrev pub touches : RulesetName → Option Ticket → Mention → Bool
+touches name before (gave n t) = same_name n name
+touches name before (added n t r) = false
+touches name before (switched n) = same_name n name
+touches name before (dropped n t) = same_name n name && is_ticket before t
+
+-- the ticket that is valid once it was touched: a begin's, else none
+abbrev pub valid_by : Mention → Option Ticket
+valid_by (gave n t) = Some t
+valid_by (added n t r) = None
+valid_by (switched n) = None
+valid_by (dropped n t) = None
+
 abbrev pub touched : RulesetName → Option Ticket → Mention → Option Ticket
-touched name valid (gave n t) = cond (same_name n name) (Some t) valid
-touched name valid (added n t r) = valid
-touched name valid (switched n) = cond (same_name n name) None valid
-touched name valid (dropped n t) = cond (same_name n name && is_ticket valid t) None valid
+touched name before m = cond (touches name before m) (valid_by m) before
 
 -- the valid ticket of a ruleset: the latest mention that touched it is a begin's, answered with this ticket
 abbrev pub valid_ticket : List Mention → RulesetName → Option Ticket
@@ -141,15 +151,19 @@ content_under ms name (Some t) = rules_offered ms name t
 abbrev pub content : List Mention → RulesetName → List PlainRule
 content ms name = content_under ms name (valid_ticket ms name)
 
-abbrev pub counted : ℕ → Mention → ℕ
-counted k (gave n t) = k + 1
-counted k (added n t r) = k
-counted k (switched n) = k
-counted k (dropped n t) = k
+abbrev pub given_ticket : Mention → List RulesetName
+given_ticket (gave n t) = n ∷ []
+given_ticket (added n t r) = []
+given_ticket (switched n) = []
+given_ticket (dropped n t) = []
+
+-- the rulesets that were given a ticket, in order
+abbrev pub all_given : List Mention → List RulesetName
+all_given ms = flat_map given_ticket ms
 
 -- the count of the next ticket: one more than the tickets given so far
 abbrev pub next_count : List Mention → ℕ
-next_count ms = fold counted 1 ms
+next_count ms = length (all_given ms) + 1
 
 -- ---- how many rulesets have a valid ticket
 
@@ -160,15 +174,9 @@ is_named names name = list_any (λ n. same_name n name) names
 abbrev pub with_name : List RulesetName → RulesetName → List RulesetName
 with_name names name = cond (is_named names name) names (names ++ name ∷ [])
 
-abbrev pub given_ticket : Mention → List RulesetName
-given_ticket (gave n t) = n ∷ []
-given_ticket (added n t r) = []
-given_ticket (switched n) = []
-given_ticket (dropped n t) = []
-
 -- the rulesets that were ever given a ticket, each once
 abbrev pub ever_begun : List Mention → List RulesetName
-ever_begun ms = fold with_name [] (flat_map given_ticket ms)
+ever_begun ms = fold with_name [] (all_given ms)
 
 abbrev pub has_ticket : Option Ticket → Bool
 has_ticket None = false

@@ -1,6 +1,7 @@
 -- What follows from the definitions, as law functions promise it.
-use Rattle.std.specs.Prelude.{◌≡◌, ℕ, true, cond, List, [], ◌∷◌, ◌++◌, None, Ok}
+use Rattle.std.specs.Prelude.{◌≡◌, ℕ, true, false, cond, List, [], ◌∷◌, ◌++◌, None, Ok}
 use Rattle.std.specs.List.{list_any}
+use Rattle.pf_rule.specs.Rules.{PlainRule}
 use Rattle.pf_core.specs.declared.command.Command.{Command}
 use Rattle.pf_core.specs.declared.command.Command.TheVariants.{Commit}
 use Rattle.pf_core.specs.declared.command.Entry.{Entry}
@@ -8,14 +9,45 @@ use Rattle.pf_core.specs.declared.command.RulesetName.{RulesetName}
 use Rattle.pf_core.specs.declared.reply.Outcome.{Outcome}
 use Rattle.pf_core.specs.declared.reply.Reply.TheVariants.{Applied}
 use Rattle.pf_core.specs.declared.step.Step.TheVariants.{Wants}
-use Rattle.pf_core.specs.Calls.{Call, call, same_name, switches, names_of, mentions, mentions_of, valid_ticket}
-use Rattle.pf_core.specs.Edits.{Kept, Edit, voided_by}
+use Rattle.pf_core.specs.Calls.{Call, call, same_name, is_named, filter_at, switches, names_of, mentions, mentions_of, valid_ticket, content}
+use Rattle.pf_core.specs.Edits.{Kept, Edit, commits, applied, voided_by}
 use Rattle.pf_core.specs.Legal.{legal_step}
-use Rattle.pf_core.specs.Rulesets.{Ruled, same_path, rules_at, with_rules}
+use Rattle.pf_core.specs.Rulesets.{Ruled, same_path, rules_at, with_rules, IsMap}
 
 -- the rules at a path that is replaced are the new ones, and all else stays
 abbrev pub ReplacesTheNamed : Type 0
 ReplacesTheNamed = (es : List Ruled) (new : Ruled) (q : List ℕ) → rules_at q (with_rules es new) ≡ cond (same_path new.path q) new.rules (rules_at q es)
+
+-- the rules at a path once these were replaced in turn: those of the last one that has this path, else the old ones
+abbrev pub rules_by : List Ruled → List ℕ → List PlainRule → List PlainRule
+rules_by [] q old = old
+rules_by (e ∷ es) q old = rules_by es q (cond (same_path e.path q) e.rules old)
+
+-- what is kept after a commit, whole
+pub record IsReplaced (d : Kept) (items : List Ruled) (new : Kept) : Type 0 where
+  pub epoch : new.epoch ≡ d.epoch
+  pub map : IsMap new.rulesets
+  pub rules : (q : List ℕ) → rules_at q new.rulesets ≡ rules_by items q (rules_at q d.rulesets)
+
+abbrev pub ReplacesExactly : Type 0
+ReplacesExactly = (d : Kept) (items : List Ruled) → IsMap d.rulesets → IsReplaced d items (applied d (commits items))
+
+-- two maps of which the same is read at each path are one
+abbrev pub OneMap : Type 0
+OneMap = (a b : List Ruled) → IsMap a → IsMap b → ((q : List ℕ) → rules_at q a ≡ rules_at q b) → a ≡ b
+
+abbrev pub Each : (Entry → Type 0) → List Entry → Type 0
+Each holds [] = Unit {0}
+Each holds (e ∷ es) = holds e × Each holds es
+
+-- each ruleset that is named has what was offered for it, and all others have what they had
+pub record AreSwitched (calls : List Call) (entries : List Entry) (old new : Kept) : Type 0 where
+  pub named : Each (λ e. rules_at e.name.path new.rulesets ≡ content (mentions calls) e.name) entries
+  pub others : (q : List ℕ) → is_named (names_of entries) (filter_at q) ≡ false → rules_at q new.rulesets ≡ rules_at q old.rulesets
+
+-- a commit that isn't refused switches all rulesets that it names, and no other
+abbrev pub SwitchesAll : Type 0
+SwitchesAll = (epoch : ℕ) (calls : List Call) (d : Kept) (entries : List Entry) (e : Edit) (o : Outcome) → legal_step epoch calls d (Commit entries) ≡ Ok (Wants e o) → AreSwitched calls entries d (applied d e)
 
 -- a command that wants a change mentions, once it is applied, exactly what the change voids
 abbrev pub VoidsTheNamed : Type 0

@@ -1,6 +1,8 @@
 -- The one legal step that each command may get, and the order of refusals.
 use Rattle.std.specs.Prelude.{◌≡◌, ℕ, ◌+◌, ◌-◌, ◌==◌, Bool, not, false, cond, if◌then◌else◌, ◌||◌, List, [], ◌∷◌, ◌++◌, length, map, Option, Some, None, Result, Ok, Err, nat_lt, nat_le}
+use Rattle.std.specs.List.{position}
 use Rattle.pf_rule.specs.Rules.{PlainRule}
+use Rattle.pf_rule.specs.Combining.{◌>>=◌}
 use Rattle.pf_core.specs.declared.command.Command.{Command}
 use Rattle.pf_core.specs.declared.command.Command.TheVariants.{Begin, Add, Commit, Rollback, Judge, ShowRules}
 use Rattle.pf_core.specs.declared.command.Entry.{Entry}
@@ -53,21 +55,22 @@ twice_in entries = twice_from [] 0 entries
 abbrev pub is_valid : (RulesetName → Option Ticket) → RulesetName → Ticket → Bool
 is_valid valid name t = is_ticket (valid name) t
 
--- the first entry, from this place on, whose ticket isn't valid
-abbrev pub busy_from : (RulesetName → Option Ticket) → ℕ → List Entry → Option ℕ
-busy_from valid n [] = None
-busy_from valid n (e ∷ es) = cond (is_valid valid e.name e.ticket) (busy_from valid (n + 1) es) (Some n)
+-- the first entry whose ticket isn't valid
+abbrev pub busy_in : (RulesetName → Option Ticket) → List Entry → Option ℕ
+busy_in valid entries = position (λ e. not (is_valid valid e.name e.ticket)) entries
 
--- a refusal at a place, or what follows
-abbrev pub refused_at : {A : Type 0} → (ℕ → Refusal) → Option ℕ → Result A Refusal → Result A Refusal
-refused_at why None rest = rest
-refused_at why (Some i) rest = Err (why i)
+-- a refusal at a place, where there is one
+abbrev pub refused_at : (ℕ → Refusal) → Option ℕ → Result (Unit {0}) Refusal
+refused_at why None = Ok tt
+refused_at why (Some i) = Err (why i)
 
-abbrev pub twice_or : {A : Type 0} → Option ℕ → Result A Refusal → Result A Refusal
-twice_or place rest = refused_at (λ i. Twice i) place rest
+-- what is wrong with the entries of a commit or a rollback by themselves
+abbrev pub list_check : List Entry → Result (Unit {0}) Refusal
+list_check entries = if bad_count (length entries) then Err BadCount else refused_at (λ i. Twice i) (twice_in entries)
 
-abbrev pub busy_or : {A : Type 0} → Option ℕ → Result A Refusal → Result A Refusal
-busy_or place rest = refused_at (λ i. Busy i) place rest
+-- and then with their tickets
+abbrev pub commit_check : (RulesetName → Option Ticket) → List Entry → Result (Unit {0}) Refusal
+commit_check valid entries = list_check entries >>= λ _. refused_at (λ i. Busy i) (busy_in valid entries)
 
 -- ---- one small reply for each command. Each line is one refusal with its condition, in their order
 
@@ -96,18 +99,12 @@ abbrev pub rulesets_after : Kept → List Ruled → ℕ
 rulesets_after d replaced = length (applied d (commits replaced)).rulesets
 
 abbrev pub commit_step : Facts → Kept → List Entry → Result Step Refusal
-commit_step f d entries =
-    if bad_count (length entries) then Err BadCount else
-    twice_or (twice_in entries)
-    (busy_or (busy_from f.valid 0 entries)
+commit_step f d entries = commit_check f.valid entries >>= λ _.
     (if nat_lt ruleset_limit (rulesets_after d (items f.offered entries)) then Err TooManyRulesets else
-    Ok (Wants (commits (items f.offered entries)) Committed)))
+    Ok (Wants (commits (items f.offered entries)) Committed))
 
 abbrev pub rollback_step : List Entry → Result Step Refusal
-rollback_step entries =
-    if bad_count (length entries) then Err BadCount else
-    twice_or (twice_in entries)
-    (Ok (Done answer.Done))
+rollback_step entries = list_check entries >>= λ _. Ok (Done answer.Done)
 
 -- the step of a command, by what the calls say, and what is kept
 abbrev pub step_by : Facts → Kept → Command → Result Step Refusal

@@ -10,7 +10,7 @@ use Rattle.pf_core.specs.declared.reply.Refusal.TheVariants.{BadCount}
 use Rattle.pf_core.specs.declared.step.Step.{Step}
 use Rattle.pf_core.specs.declared.step.Step.TheVariants.{Done, Wants}
 use Rattle.pf_core.specs.Calls.{same_name, ticket}
-use Rattle.pf_core.specs.Legal.{bad_count, twice_in, twice_or, is_valid, busy_from, busy_or}
+use Rattle.pf_core.specs.Legal.{is_valid}
 use Rattle.pf_core.specs.Tickets.{Offer, offer, Open, open_with, ticket_at, rules_under}
 
 -- ---- what each call leaves
@@ -48,8 +48,8 @@ drop_entry t e = drop_out t e.name e.ticket
 abbrev pub all_dropped : Open → List Entry → Open
 all_dropped t entries = fold drop_entry t entries
 
-abbrev pub all_given : Open → List RulesetName → Open
-all_given t names = fold give t names
+abbrev pub all_begun : Open → List RulesetName → Open
+all_begun t names = fold give t names
 
 abbrev pub all_out : Open → List RulesetName → Open
 all_out t names = fold take_out t names
@@ -71,14 +71,6 @@ pub record IsNowhere (name : RulesetName) (os : List Offer) : Type 0 where
 abbrev pub told : {A : Type 0} → Result A Refusal → (A → Answer) → Result Step Refusal
 told (Ok x) f = Ok (Done (f x))
 told (Err e) f = Err e
-
--- whether the entries of a commit or a rollback are good by themselves
-abbrev pub list_check : List Entry → Result (Unit {0}) Refusal
-list_check entries = if bad_count (length entries) then Err BadCount else twice_or (twice_in entries) (Ok tt)
-
--- whether a commit of these entries may go on
-abbrev pub commit_check : (RulesetName → Option Ticket) → List Entry → Result (Unit {0}) Refusal
-commit_check valid entries = if bad_count (length entries) then Err BadCount else twice_or (twice_in entries) (busy_or (busy_from valid 0 entries) (Ok tt))
 
 -- a commit wants a change, or is refused
 abbrev pub IsNeverDone : Result Step Refusal → Type 0

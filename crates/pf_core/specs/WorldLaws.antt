@@ -6,6 +6,7 @@ use Rattle.std.proofs.lemmas.List.{append-nil, take_all}
 use Rattle.std.proofs.lemmas.List.Concat.{flat_map-append}
 use Rattle.std.proofs.lemmas.List.Sums.{fold_push}
 use Rattle.pf_rule.specs.Rules.{PlainRule}
+use Rattle.pf_rule.specs.Combining.{◌>>=◌}
 use Rattle.pf_core.specs.declared.command.Command.{Command}
 use Rattle.pf_core.specs.declared.command.Command.TheVariants.{Begin, Add, Commit, Rollback, Judge, ShowRules}
 use Rattle.pf_core.specs.declared.command.Entry.{Entry}
@@ -17,13 +18,13 @@ use Rattle.pf_core.specs.declared.reply.Answer.TheVariants as answer
 use Rattle.pf_core.specs.declared.reply.Outcome.{Outcome}
 use Rattle.pf_core.specs.declared.reply.Outcome.TheVariants.{Committed}
 use Rattle.pf_core.specs.declared.reply.Refusal.{Refusal}
-use Rattle.pf_core.specs.declared.reply.Refusal.TheVariants.{BadCount, Twice, Busy, RulesetFull, TooManyRulesets, TicketsExhausted, HistoryFull, Memory}
+use Rattle.pf_core.specs.declared.reply.Refusal.TheVariants.{BadCount, Busy, RulesetFull, TooManyRulesets, TicketsExhausted, HistoryFull, Memory}
 use Rattle.pf_core.specs.declared.reply.Reply.TheVariants.{Answer as Answered, Applied, Refused}
 use Rattle.pf_core.specs.declared.step.Step.{Step}
 use Rattle.pf_core.specs.declared.step.Step.TheVariants.{Done, Wants}
 use Rattle.pf_core.specs.Calls.{Call, call, filter_at, gives, switches, names_of, Mention, mentions, mentions_of, Facts, facts}
 use Rattle.pf_core.specs.Edits.{Kept, Edit, commits, applied, after, name_of, voided_by}
-use Rattle.pf_core.specs.Legal.{bad_count, last_count, rule_limit, ruleset_limit, is_valid, twice_in, busy_from, refused_at, twice_or, busy_or, given, items, rulesets_after, legal_step, IsLegalStep}
+use Rattle.pf_core.specs.Legal.{bad_count, last_count, rule_limit, ruleset_limit, is_valid, list_check, commit_check, given, items, rulesets_after, legal_step, IsLegalStep}
 use Rattle.pf_core.specs.Tickets.{Open, Agrees, AgreesWith}
 use Rattle.pf_core.specs.Worlds.{Held, at_start, step_in, reply_to, LegalReply, wanted, next, held_after, IsLegalFrom, Page, IsFoldOfFront, IsAt, Follows, StandsFor}
 
@@ -66,9 +67,9 @@ behind : (b : Bool) (x : Refusal) (r : Result Step Refusal) (e : Edit) (o : Outc
 behind true x r e o h = absurd (cc (h))
 behind false x r e o h = h
 
-behind-place : (why : ℕ → Refusal) (p : Option ℕ) (r : Result Step Refusal) (e : Edit) (o : Outcome) → refused_at why p r ≡ Ok (Wants e o) → r ≡ Ok (Wants e o)
-behind-place why None r e o h = h
-behind-place why (Some i) r e o h = absurd (cc (h))
+checked : (check : Result (Unit {0}) Refusal) (r : Result Step Refusal) (e : Edit) (o : Outcome) → (check >>= λ _. r) ≡ Ok (Wants e o) → r ≡ Ok (Wants e o)
+checked (Ok u) r e o h = h
+checked (Err x) r e o h = absurd (cc (h))
 
 -- a command that wants a change mentions, once it is applied, exactly what the change voids
 pub wants-mentions : (epoch : ℕ) (calls : List Call) (d : Kept) (c : Command) (e : Edit) (o : Outcome) (n : ℕ) → legal_step epoch calls d c ≡ Ok (Wants e o) → mentions_of (call c (Applied n o)) ≡ switches (voided_by e)
@@ -91,16 +92,12 @@ wants-mentions epoch calls d (Commit entries) e o n h =
     let change : Edit = commits (items f.offered entries) in
     let many : Bool = nat_lt ruleset_limit (rulesets_after d (items f.offered entries)) in
     let wants : Result Step Refusal = Ok (Wants change Committed) in
-    let limited : Result Step Refusal = cond many (Err TooManyRulesets) wants in
-    let is : wants ≡ Ok (Wants e o) = behind many TooManyRulesets wants e o
-    (behind-place (λ i. Busy i) (busy_from f.valid 0 entries) limited e o
-    (behind-place (λ i. Twice i) (twice_in entries) (busy_or (busy_from f.valid 0 entries) limited) e o
-    (behind (bad_count (length entries)) BadCount (twice_or (twice_in entries) (busy_or (busy_from f.valid 0 entries) limited)) e o h))) in
+    let is : wants ≡ Ok (Wants e o) = behind many TooManyRulesets wants e o (checked (commit_check f.valid entries) (cond many (Err TooManyRulesets) wants) e o h) in
     let same : change ≡ e = cc (is) in
     ap switches (sym (names-items f.offered entries)) ∙ ap (λ (x : Edit). switches (voided_by x)) same
 wants-mentions epoch calls d (Rollback entries) e o n h =
     let done : Result Step Refusal = Ok (Done answer.Done) in
-    let is : done ≡ Ok (Wants e o) = behind-place (λ i. Twice i) (twice_in entries) done e o (behind (bad_count (length entries)) BadCount (twice_or (twice_in entries) done) e o h) in
+    let is : done ≡ Ok (Wants e o) = checked (list_check entries) done e o h in
     absurd (cc (is))
 wants-mentions epoch calls d (Judge packet) e o n h = absurd (cc (h))
 wants-mentions epoch calls d (ShowRules p) e o n h = absurd (cc (h))

@@ -105,6 +105,13 @@ impl RulesetNames {
         RulesetNames { names }
     }
 
+    /// The names, given back. It takes no memory.
+    pub fn into_vec(self) -> Vec<RulesetName>
+        ensures { result.items ≡ self }
+    {
+        self.names
+    }
+
     /// The names in order.
     pub fn as_slice(&self) -> &[RulesetName]
         ensures { result.now ≡ self.now }
@@ -134,6 +141,13 @@ impl Entries {
         ensures { result ≡ entries.items }
     {
         Entries { entries }
+    }
+
+    /// The entries, given back. It takes no memory.
+    pub fn into_vec(self) -> Vec<Entry>
+        ensures { result.items ≡ self }
+    {
+        self.entries
     }
 
     /// The entries in order.

@@ -3,13 +3,14 @@ ghost use Rattle.std.specs.Prelude.{◌≡◌, ℕ, List, [], ◌∷◌, ◌++�
 ghost use Rattle.std.specs.Arc.{arc_value};
 ghost use Rattle.pf_rule.specs.Packets.{PlainPacket};
 ghost use Rattle.pf_core.specs.declared.command.Command.{Command};
+ghost use Rattle.pf_core.specs.declared.command.Entry.{Entry};
 ghost use Rattle.pf_core.specs.declared.reply.Answer.TheVariants as answer;
 ghost use Rattle.pf_core.specs.declared.reply.Outcome.{Outcome};
 ghost use Rattle.pf_core.specs.declared.reply.Reply.TheVariants as reply;
 ghost use Rattle.pf_core.specs.Calls.{Call, call, mentions_of, switches};
 ghost use Rattle.pf_core.specs.Edits.{applied, voided_by, name_of, verdict};
-ghost use Rattle.pf_core.specs.Legal.{items, ruleset_limit, commit_step, legal_step, IsLegalStep};
-ghost use Rattle.pf_core.specs.Offers.{IsNeverDone};
+ghost use Rattle.pf_core.specs.Legal.{items, ruleset_limit, commit_step, rollback_step, legal_step, IsLegalStep};
+ghost use Rattle.pf_core.specs.Offers.{all_out, IsNeverDone};
 ghost use Rattle.pf_core.specs.Tickets.{AgreesWith, rules_under, facts_in};
 ghost use Rattle.pf_core.specs.Rulesets.{with_rules};
 ghost use Rattle.pf_core.specs.Worlds.{ready, StaysUnlessDone, AgreesAfter};
@@ -152,7 +153,7 @@ impl Core {
         &self.durable
     }
 
-    /// One command. Where it wants a change, or is refused, the core is as before.
+    /// One command. Where it wants a change, or is refused, the core is as before. A judge and a rollback take no memory.
     pub fn step(&mut self, command: &Command) -> Result<Step, Refusal>
         ensures reply { (calls : List Call) → AgreesWith self.old.tickets calls → IsLegalStep result (legal_step self.old.tickets.epoch calls self.old.durable command.now) }
         ensures agrees { (calls : List Call) → AgreesWith self.old.tickets calls → AgreesAfter self.new.tickets calls command.now result }
@@ -160,6 +161,7 @@ impl Core {
         ensures stays { StaysUnlessDone result self.old self.new }
         ensures epoch { self.new.tickets.epoch ≡ self.old.tickets.epoch }
         ensures judged { (packet : PlainPacket) → command.now ≡ Command.Judge packet → result ≡ Ok (Step.Done (answer.Judged (verdict self.old.durable packet))) }
+        ensures rolled_back { (entries : List Entry) → command.now ≡ Command.Rollback entries → result ≡ rollback_step entries }
     {
         match command {
             Command::Begin(names) => match self.tickets.begin(names.as_slice()) {
@@ -203,10 +205,11 @@ impl Core {
         Ok(Next { durable, voided })
     }
 
-    /// Puts in place what was prepared. It takes no memory.
+    /// Puts in place what was prepared, which has to be of this core as it is. It takes no memory.
     pub fn accept(&mut self, next: Next)
         ensures durable { self.new.durable ≡ next.durable }
         ensures agrees { (calls : List Call) (c : Command) (n : ℕ) (o : Outcome) → mentions_of (call c (reply.Applied n o)) ≡ switches next.voided → AgreesWith self.old.tickets calls → AgreesWith self.new.tickets (calls ++ call c (reply.Applied n o) ∷ []) }
+        ensures tickets { self.new.tickets ≡ all_out self.old.tickets next.voided }
         ensures epoch { self.new.tickets.epoch ≡ self.old.tickets.epoch }
     {
         let Next { durable, voided } = next;

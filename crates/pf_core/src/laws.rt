@@ -1,10 +1,20 @@
 //! What follows from the definitions that contracts cite: functions that do nothing, whose contracts are the laws.
-ghost use Rattle.pf_core.specs.Laws.{ReplacesTheNamed, VoidsTheNamed, KeepsNoneValid};
+ghost use Rattle.pf_core.specs.Laws.{ReplacesTheNamed, ReplacesExactly, SwitchesAll, VoidsTheNamed, KeepsNoneValid};
 ghost use Rattle.pf_core.specs.PathLaws.{FaultsNoPath, FaultsAllElse, ReadsWhatIsSpelled, ReadsAllThatIsSpelled, WritesWhatWasRead, ReadsWhatIsWritten};
 
 /// Exactly the named ruleset is replaced, and all else stays.
 pub fn replaces_the_named()
     ensures { ReplacesTheNamed }
+{}
+
+/// After a commit's change the epoch stays, each path has the rules that the change gives it or else its own, and what has no rules isn't there.
+pub fn replaces_exactly()
+    ensures { ReplacesExactly }
+{}
+
+/// A commit that isn't refused switches all rulesets that it names, each to what was offered for it, and no other.
+pub fn switches_all()
+    ensures { SwitchesAll }
 {}
 
 /// A command that wants a change voids, once it is applied, exactly the tickets that its change voids.

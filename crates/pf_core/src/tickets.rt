@@ -3,8 +3,8 @@ ghost use Rattle.std.specs.Prelude.{◌≡◌, ℕ, ◌<◌, ◌≤◌, List, []
 ghost use Rattle.pf_core.specs.declared.reply.Answer.TheVariants as answer;
 ghost use Rattle.pf_core.specs.Calls.{Mention, gives, switches, drops, added, filter_at, is_named, same_name, tickets_of};
 ghost use Rattle.std.specs.List.{list_any};
-ghost use Rattle.pf_core.specs.Legal.{bad_count, twice_in, is_valid, busy_from, begin_step, add_step, rollback_step, IsLegalStep};
-ghost use Rattle.pf_core.specs.Offers.{without, take_out, add_to, IsPlace, IsNowhere, told, list_check, commit_check};
+ghost use Rattle.pf_core.specs.Legal.{bad_count, twice_in, is_valid, busy_in, list_check, commit_check, begin_step, add_step, rollback_step, IsLegalStep};
+ghost use Rattle.pf_core.specs.Offers.{without, take_out, add_to, all_out, IsPlace, IsNowhere, told};
 ghost use Rattle.pf_core.specs.Tickets.{Offer, Agrees, ticket_at, rules_under, facts_in};
 
 use crate::command::{Entry, RulesetKind, RulesetName, Ticket};
@@ -154,14 +154,11 @@ impl Tickets {
     }
 
     fn first_busy(&self, entries: &[Entry]) -> Option<usize>
-        ensures { result ≡ busy_from (ticket_at self.now.offers) 0 entries.now }
+        ensures { result ≡ busy_in (ticket_at self.now.offers) entries.now }
     {
-        for (place, entry) in entries.iter().enumerate() {
-            if !self.is_valid(&entry.name, entry.ticket) {
-                return Some(place);
-            }
-        }
-        None
+        entries
+            .iter()
+            .position(|entry| !self.is_valid(&entry.name, entry.ticket))
     }
 
     // How many rulesets have a valid ticket once these are given one too.
@@ -296,6 +293,7 @@ impl Tickets {
 
     /// Voids the tickets of these rulesets, as a commit does. It takes no memory.
     pub fn take_all(&mut self, names: &[RulesetName])
+        ensures out { self.new ≡ all_out self.old names.now }
         ensures agrees { (ms : List Mention) → Agrees self.old ms → Agrees self.new (ms ++ switches names.now) }
         ensures epoch { self.new.epoch ≡ self.old.epoch }
     {
