@@ -6,12 +6,18 @@ ghost use Rattle.pf_core.specs.Paths.{is_slash, components, is_component, compon
 
 use pf_rule::Kind;
 
+const PATH_LIMIT: usize = 255;
+
+const COMPONENT_LIMIT: usize = 63;
+
+const DEPTH_LIMIT: usize = 16;
+
 /// Why a word is no path, if it is none: its length comes first, then its components from left to right, then their
 /// number. It takes no memory.
 pub(crate) fn fault_in(text: &[u8]) -> Option<Kind>
     ensures { result ≡ path_fault text.now }
 {
-    if text.len() > 255 {
+    if text.len() > PATH_LIMIT {
         return Some(Kind::NameTooLong);
     }
     first_fault_in(text).or_else(|| depth_fault_in(text))
@@ -39,10 +45,11 @@ fn first_slash(text: &[u8]) -> Option<usize>
 }
 
 // One more component than there are slashes.
+#[tactic(auto, using(crate::proofs::PathTexts::count_components))]
 fn depth_fault_in(text: &[u8]) -> Option<Kind>
     ensures { result ≡ depth_fault (length (components text.now)) }
 {
-    if slashes(text) < 16 {
+    if slashes(text) < DEPTH_LIMIT {
         None
     } else {
         Some(Kind::NameTooLong)
@@ -61,7 +68,7 @@ fn component_fault_in(component: &[u8]) -> Option<Kind>
 {
     if !good_component(component) {
         Some(Kind::BadWord)
-    } else if component.len() > 63 {
+    } else if component.len() > COMPONENT_LIMIT {
         Some(Kind::NameTooLong)
     } else {
         None
