@@ -27,9 +27,11 @@ unfolding key
 key_again keyword.Begin = refl
 key_again keyword.Add = refl
 key_again keyword.Commit = refl
+key_again keyword.Rollback = refl
 key_again keyword.Judge = refl
+key_again keyword.Show = refl
+key_again keyword.Rules = refl
 key_again keyword.Filter = refl
-key_again keyword.Main = refl
 key_again keyword.Other = refl
 
 pub known_laws : IsVocabulary Keyword known

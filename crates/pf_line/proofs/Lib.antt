@@ -1,5 +1,7 @@
 pub mod Keywords
 pub mod Making
+pub mod Listing
+pub mod Collecting
 pub mod Parts
 pub mod FirstWords
 pub mod Silence

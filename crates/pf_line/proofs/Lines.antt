@@ -20,10 +20,11 @@ use Rattle.pf_core.specs.declared.command.Command.TheVariants.{Add, Judge}
 use Rattle.pf_core.specs.declared.reply.Refusal.{Refusal}
 use Rattle.pf_core.specs.declared.reply.Refusal.TheVariants as refusals
 use Rattle.pf_line.specs.declared.keyword.Keyword.TheVariants as keyword
-use Rattle.pf_line.specs.Grammar.{Parts, begin, add, commit, judge, LineText, command_of, SpellsLine}
+use Rattle.pf_line.specs.Grammar.{Parts, begin, add, commit, rollback, judge, show_rules, LineText, command_of, SpellsLine}
 use Rattle.pf_line.specs.Reading.{parts_at, line_read}
 use Rattle.pf_line.specs.Lines.{is_bad_line, no_command, is_silent, refusal_at, said, said_by, line_at, Parses, Speaks, Refused, Tells}
-use Rattle.pf_line.proofs.Parts.{Ended, line_part}
+use Rattle.pf_line.proofs.Listing.{Ended}
+use Rattle.pf_line.proofs.Parts.{line_part}
 
 -- ---- after the last word nothing but the families can be wrong
 
@@ -59,16 +60,18 @@ packet_by true x m e = absurd (no_err (packet_with x) m e)
 packet_by false x m e = sym (err_is {A = PlainPacket} MixedFamily m e)
 
 only_mixed : (x : Parts) (m : Misread) → command_of x ≡ Err m → m ≡ MixedFamily
-only_mixed (begin name) m e = absurd (no_err _ m e)
+only_mixed (begin names) m e = absurd (no_err _ m e)
 only_mixed (add x) m e = elim (bind_err (rule_of x.1.1) (λ rule. Ok (Add x.0 x.1.0 rule)) m e) [
   | inl h ↦ rule_mixed x.1.1 m h
   | inr h ↦ absurd (no_err (Add x.0 x.1.0 h.0) m h.2)
 ]
-only_mixed (commit x) m e = absurd (no_err _ m e)
+only_mixed (commit entries) m e = absurd (no_err _ m e)
+only_mixed (rollback entries) m e = absurd (no_err _ m e)
 only_mixed (judge x) m e = elim (bind_err (packet_of x) (λ packet. Ok (Judge packet)) m e) [
   | inl h ↦ packet_by (same_family (family_of x.1.1.1.0) (family_of x.1.1.1.1.1.0)) x m h
   | inr h ↦ absurd (no_err (Judge h.0) m h.2)
 ]
+only_mixed (show_rules path) m e = absurd (no_err _ m e)
 
 -- ---- the words of a line
 
@@ -118,9 +121,11 @@ speaks : (x : Parts) (ws : List Word) → LineText x ws → no_command ws ≡ fa
 speaks x ws (keyword.Begin, rest, h, e) = rw e refl
 speaks x ws (keyword.Add, rest, h, e) = rw e refl
 speaks x ws (keyword.Commit, rest, h, e) = rw e refl
+speaks x ws (keyword.Rollback, rest, h, e) = rw e refl
 speaks x ws (keyword.Judge, rest, h, e) = rw e refl
+speaks x ws (keyword.Show, rest, h, e) = rw e refl
+speaks x ws (keyword.Rules, rest, h, e) = absurd h
 speaks x ws (keyword.Filter, rest, h, e) = absurd h
-speaks x ws (keyword.Main, rest, h, e) = absurd h
 speaks x ws (keyword.Other, rest, h, e) = absurd h
 
 -- ---- a line

@@ -1,5 +1,5 @@
 -- What the functions that read a command answer.
-use Rattle.std.specs.Prelude.{◌≡◌, List, [], ◌∷◌, length, Result, Ok, Err}
+use Rattle.std.specs.Prelude.{◌≡◌, List, length, Result, Ok, Err}
 use Rattle.pf_rule.specs.declared.fault.Misread.{Misread}
 use Rattle.pf_rule.specs.declared.fault.Misread.TheVariants.{Stopped}
 use Rattle.pf_rule.specs.declared.fault.Kind.TheVariants.{BadWord}
@@ -8,15 +8,17 @@ use Rattle.pf_rule.specs.Combining.{◌>>=◌, whole}
 use Rattle.pf_rule.specs.RuleReading.{stopped, rule_read}
 use Rattle.pf_rule.specs.PacketReading.{packet_read}
 use Rattle.pf_core.specs.declared.command.Command.{Command}
-use Rattle.pf_core.specs.declared.command.Command.TheVariants.{Begin, Add, Commit, Judge}
+use Rattle.pf_core.specs.declared.command.Command.TheVariants.{Begin, Add, Commit, Rollback, Judge, ShowRules}
+use Rattle.pf_core.specs.declared.command.Entry.{Entry}
+use Rattle.pf_core.specs.declared.command.RulesetName.{RulesetName}
 use Rattle.pf_line.specs.declared.commands.Unread.{Unread}
 use Rattle.pf_line.specs.declared.commands.Unread.TheVariants as unread
-use Rattle.pf_line.specs.Grammar.{named, entry}
-use Rattle.pf_line.specs.Reading.{path_at, ticket_at, name_at, commit_at}
+use Rattle.pf_line.specs.Grammar.{command_of}
+use Rattle.pf_line.specs.Reading.{path_at, ticket_at, names_at, entries_at, show_at}
 
 -- what reading gives, or memory was refused
-abbrev pub Reads : Result Command Unread → Result Command Misread → Type 0
-Reads (Ok c) read = read ≡ Ok c
+abbrev pub Reads : {A : Type 0} → Result A Unread → Result A Misread → Type 0
+Reads (Ok x) read = read ≡ Ok x
 Reads (Err (unread.Misread m)) read = read ≡ Err m
 Reads (Err unread.Memory) read = Unit {0}
 
@@ -26,14 +28,29 @@ not_at ws = Stopped (record { kind = BadWord; left = length ws })
 
 -- each command by the words after its first one
 
-unfoldable pub begin_read : List Word → Result Command Misread
-begin_read ws = stopped (whole name_at ws) >>= λ name. Ok (Begin (named name ∷ []))
+unfoldable pub names_read : List Word → Result (List RulesetName) Misread
+names_read ws = stopped (whole names_at ws)
+
+unfoldable pub entries_read : List Word → Result (List Entry) Misread
+entries_read ws = stopped (whole entries_at ws)
+
+abbrev pub begin_read : List Word → Result Command Misread
+begin_read ws = names_read ws >>= λ names. Ok (Begin names)
 
 unfoldable pub add_read : List Word → Result Command Misread
 add_read ws = stopped (path_at ws) >>= λ p. stopped (ticket_at p.1) >>= λ t. rule_read t.1 >>= λ rule. Ok (Add p.0 t.0 rule)
 
-unfoldable pub commit_read : List Word → Result Command Misread
-commit_read ws = stopped (whole commit_at ws) >>= λ x. Ok (Commit (entry x.0 x.1 ∷ []))
+abbrev pub commit_read : List Word → Result Command Misread
+commit_read ws = entries_read ws >>= λ entries. Ok (Commit entries)
+
+abbrev pub rollback_read : List Word → Result Command Misread
+rollback_read ws = entries_read ws >>= λ entries. Ok (Rollback entries)
 
 unfoldable pub judge_read : List Word → Result Command Misread
 judge_read ws = packet_read ws >>= λ packet. Ok (Judge packet)
+
+unfoldable pub show_rules_read : List Word → Result Command Misread
+show_rules_read ws = stopped (whole path_at ws) >>= λ path. Ok (ShowRules path)
+
+unfoldable pub show_read : List Word → Result Command Misread
+show_read ws = stopped (whole show_at ws) >>= command_of

@@ -10,9 +10,11 @@ abbrev pub spelled : Keyword → Word
 spelled keyword.Begin = codes "begin"
 spelled keyword.Add = codes "add"
 spelled keyword.Commit = codes "commit"
+spelled keyword.Rollback = codes "rollback"
 spelled keyword.Judge = codes "judge"
+spelled keyword.Show = codes "show"
+spelled keyword.Rules = codes "rules"
 spelled keyword.Filter = codes "filter"
-spelled keyword.Main = codes "-"
 spelled keyword.Other = []
 
 -- the first of these words that it is
@@ -21,7 +23,7 @@ first_of [] w = keyword.Other
 first_of (k ∷ ks) w = if bytes_eq w (spelled k) then k else first_of ks w
 
 abbrev pub keywords : List Keyword
-keywords = keyword.Judge ∷ keyword.Add ∷ keyword.Begin ∷ keyword.Commit ∷ keyword.Filter ∷ keyword.Main ∷ []
+keywords = keyword.Judge ∷ keyword.Add ∷ keyword.Begin ∷ keyword.Commit ∷ keyword.Rollback ∷ keyword.Show ∷ keyword.Rules ∷ keyword.Filter ∷ []
 
 unfoldable pub key : Word → Keyword
 key w = first_of keywords w

@@ -1,5 +1,6 @@
 pub mod Keywords
 pub mod Making
+pub mod Listing
 pub mod Tickets
 pub mod Grammar
 pub mod Reading

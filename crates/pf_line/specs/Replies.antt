@@ -1,8 +1,10 @@
--- The text of each reply: one line, ended by a newline (10).
-use Rattle.std.specs.Prelude.{◌≡◌, ℕ, ◌==◌, not, true, List, [], ◌∷◌, ◌++◌, length, codes, decimal, if◌then◌else◌}
+-- The text of each reply: one line, before which a shown ruleset has a line for each rule.
+use Rattle.std.specs.Prelude.{◌≡◌, ℕ, ◌+◌, ◌==◌, not, true, List, [], ◌∷◌, ◌++◌, length, All, codes, decimal, Option, Some, None, map, if◌then◌else◌}
 use Rattle.std.specs.List.{list_all}
 use Rattle.pf_rule.specs.declared.rule.Action.{Action}
 use Rattle.pf_rule.specs.declared.rule.Action.TheVariants.{Pass, Block}
+use Rattle.pf_rule.specs.Rules.{PlainRule}
+use Rattle.pf_rule.specs.RuleText.{rule_text}
 use Rattle.pf_core.specs.declared.command.Ticket.{Ticket}
 use Rattle.pf_core.specs.declared.reply.Answer.{Answer}
 use Rattle.pf_core.specs.declared.reply.Answer.TheVariants as answers
@@ -41,6 +43,7 @@ abbrev pub answer_text : Answer → List ℕ
 answer_text (answers.Given g) = codes "ok" ++ tickets_text (tickets_of g)
 answer_text answers.Done = codes "ok"
 answer_text (answers.Judged v) = verdict_text v
+answer_text (answers.Rules rules) = codes "end " ++ decimal (length rules)
 
 abbrev pub refusal_text : Refusal → List ℕ
 refusal_text refusals.BadLine = codes "err line"
@@ -49,28 +52,67 @@ refusal_text (refusals.NameTooLong at) = codes "err name " ++ decimal at
 refusal_text (refusals.BadProto at) = codes "err proto " ++ decimal at
 refusal_text refusals.MixedFamily = codes "err family"
 refusal_text refusals.BadCount = codes "err count"
+refusal_text (refusals.Twice at) = codes "err twice " ++ decimal at
 refusal_text (refusals.Busy at) = codes "busy " ++ decimal at
 refusal_text refusals.RulesetFull = codes "err ruleset"
+refusal_text refusals.TooManyRulesets = codes "err rulesets"
 refusal_text refusals.TicketsExhausted = codes "err tickets"
 refusal_text refusals.HistoryFull = codes "err history"
 refusal_text refusals.Memory = codes "err memory"
 
-abbrev pub reply_words : Reply → List ℕ
-reply_words (replies.Answer a) = answer_text a
-reply_words (replies.Applied seq outcome) = codes "applied " ++ decimal seq
-reply_words (replies.Refused e) = refusal_text e
+-- the last line of a reply, which has no other unless it shows a ruleset
+abbrev pub last_line : Reply → List ℕ
+last_line (replies.Answer a) = answer_text a
+last_line (replies.Applied seq outcome) = codes "applied " ++ decimal seq
+last_line (replies.Refused e) = refusal_text e
+
+-- ---- rules that are shown
+
+abbrev pub answer_rules : Answer → List PlainRule
+answer_rules (answers.Given g) = []
+answer_rules answers.Done = []
+answer_rules (answers.Judged v) = []
+answer_rules (answers.Rules rules) = rules
+
+abbrev pub shown_in : Reply → List PlainRule
+shown_in (replies.Answer a) = answer_rules a
+shown_in (replies.Applied seq outcome) = []
+shown_in (replies.Refused e) = []
+
+-- an at sign (64) with the rule's number, and the rule's canonical text behind a space (32)
+abbrev pub rule_line : ℕ → PlainRule → List ℕ
+rule_line n r = 64 ∷ decimal n ++ 32 ∷ rule_text r
+
+-- rules in order, numbered from this one on
+abbrev pub rule_lines : ℕ → List PlainRule → List (List ℕ)
+rule_lines n [] = []
+rule_lines n (r ∷ rs) = rule_line n r ∷ rule_lines (n + 1) rs
+
+-- ---- replies
+
+-- a newline (10) ends each line
+abbrev pub lines_text : List (List ℕ) → List ℕ
+lines_text [] = []
+lines_text (l ∷ ls) = l ++ 10 ∷ lines_text ls
+
+abbrev pub reply_lines : Reply → List (List ℕ)
+reply_lines r = rule_lines 0 (shown_in r) ++ last_line r ∷ []
 
 abbrev pub reply_text : Reply → List ℕ
-reply_text r = reply_words r ++ 10 ∷ []
+reply_text r = lines_text (reply_lines r)
 
--- ---- one line
+-- ---- each line is one line
 
 abbrev pub HasNoNewline : List ℕ → Type 0
 HasNoNewline text = list_all (λ b. not (b == 10)) text ≡ true
 
--- A line ends in a newline and has no other.
-abbrev pub IsLine : List ℕ → Type 0
-IsLine text = (words : List ℕ) × (text ≡ words ++ 10 ∷ []) × HasNoNewline words
+-- A text of so many lines: each ends in a newline and has no other.
+abbrev pub HasLines : ℕ → List ℕ → Type 0
+HasLines n text = (lines : List (List ℕ)) × (text ≡ lines_text lines) × All HasNoNewline lines × (length lines ≡ n)
+
+-- A shown ruleset has a line for each rule more than the others.
+abbrev pub line_count : Reply → ℕ
+line_count r = length (shown_in r) + 1
 
 abbrev pub rule_path : RuleVerdict → List ℕ
 rule_path (Rule path number action) = path
@@ -83,9 +125,18 @@ abbrev pub answer_path : Answer → List ℕ
 answer_path (answers.Given g) = []
 answer_path answers.Done = []
 answer_path (answers.Judged v) = verdict_path v
+answer_path (answers.Rules rules) = []
 
 -- the path that a reply names
 abbrev pub path_in : Reply → List ℕ
 path_in (replies.Answer a) = answer_path a
 path_in (replies.Applied seq outcome) = []
 path_in (replies.Refused e) = []
+
+abbrev pub interface_text : Option (List ℕ) → List ℕ
+interface_text None = []
+interface_text (Some name) = name
+
+-- the path and the interfaces that a reply names
+abbrev pub names_in : Reply → List (List ℕ)
+names_in r = path_in r ∷ map (λ rule. interface_text rule.interface) (shown_in r)

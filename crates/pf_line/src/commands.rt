@@ -1,19 +1,18 @@
 //! Reading the words of a line.
-ghost use Rattle.std.specs.Prelude.{◌≡◌, [], ◌∷◌, length, Ok};
+ghost use Rattle.std.specs.Prelude.{◌≡◌, length};
 ghost use Rattle.pf_rule.specs.Words.{texts};
 ghost use Rattle.pf_rule.specs.Combining.{end_at};
 ghost use Rattle.pf_rule.specs.Readers.{Gives, GivesAll};
 ghost use Rattle.pf_rule.specs.declared.fault.Kind.TheVariants.{BadWord};
-ghost use Rattle.pf_core.specs.declared.command.Command.TheVariants.{Begin, Commit};
-ghost use Rattle.pf_line.specs.Reading.{kind_at, path_at, ticket_at, name_at, line_read};
-ghost use Rattle.pf_line.specs.Commands.{Reads, not_at, add_read, begin_read, commit_read, judge_read};
+ghost use Rattle.pf_line.specs.Reading.{kind_at, path_at, ticket_at, name_at, entry_at, line_read};
+ghost use Rattle.pf_line.specs.Commands.{Reads, not_at, names_read, entries_read, begin_read, add_read, commit_read, rollback_read, judge_read, show_rules_read, show_read};
 ghost use Rattle.pf_line.specs.declared.commands.Unread.TheVariants.{Misread as Missed, Memory};
 
 use crate::keyword::{Keyword, key_of};
 use crate::ticket::read_ticket;
 use pf_core::{Command, Entries, Entry, Path, RulesetKind, RulesetName, RulesetNames, Ticket};
 use pf_rule::{Kind, Misread, Packet, Rule, Stop};
-use std::alloc::Global;
+use std::alloc::{AllocFailed, Global};
 
 /// Words that are left to read.
 type Words<'a> = &'a [&'a [u8]];
@@ -37,13 +36,27 @@ impl From<Stop> for Unread {
     }
 }
 
+impl<T: Drop> From<AllocFailed<T>> for Unread {
+    ghost from_gives = { λ _ e. e ≡ Memory };
+
+    fn from(_e: AllocFailed<T>) -> Unread {
+        Unread::Memory
+    }
+}
+
+fn stop(kind: Kind, words: &[&[u8]]) -> Stop
+    ensures { result ≡ record { kind = kind; left = length words.now } }
+{
+    Stop {
+        kind,
+        left: words.len(),
+    }
+}
+
 fn bad_word(words: &[&[u8]]) -> Stop
     ensures { result ≡ record { kind = BadWord; left = length words.now } }
 {
-    Stop {
-        kind: Kind::BadWord,
-        left: words.len(),
-    }
+    stop(Kind::BadWord, words)
 }
 
 #[tactic(auto, unfolding(crate::specs::Reading::kind_at))]
@@ -64,9 +77,9 @@ fn path<'a>(words: Words<'a>) -> Result<(Path, Words<'a>), Stop>
     ensures { Gives (λ x. x) result (path_at (texts words.now)) }
 {
     match words {
-        [word, rest @ ..] => match key_of(word) {
-            Keyword::Main => Ok((Path::main(), rest)),
-            _ => Err(bad_word(words)),
+        [word, rest @ ..] => match Path::from_ascii(word) {
+            Ok(path) => Ok((path, rest)),
+            Err(kind) => Err(stop(kind, words)),
         },
         [] => Err(bad_word(words)),
     }
@@ -87,11 +100,20 @@ fn ticket<'a>(words: Words<'a>) -> Result<(Ticket, Words<'a>), Stop>
 
 #[tactic(auto, unfolding(crate::specs::Reading::name_at))]
 fn name<'a>(words: Words<'a>) -> Result<(RulesetName, Words<'a>), Stop>
-    ensures { Gives (λ x. (x.kind, x.path)) result (name_at (texts words.now)) }
+    ensures { Gives (λ x. x) result (name_at (texts words.now)) }
 {
     let (kind, rest) = kind(words)?;
     let (path, rest) = path(rest)?;
     Ok((RulesetName { kind, path }, rest))
+}
+
+#[tactic(auto, unfolding(crate::specs::Reading::entry_at))]
+fn entry<'a>(words: Words<'a>) -> Result<(Entry, Words<'a>), Stop>
+    ensures { Gives (λ x. x) result (entry_at (texts words.now)) }
+{
+    let (name, rest) = name(words)?;
+    let (ticket, rest) = ticket(rest)?;
+    Ok((Entry { name, ticket }, rest))
 }
 
 /// No word is left.
@@ -104,33 +126,42 @@ fn end(words: &[&[u8]]) -> Result<(), Stop>
     }
 }
 
-fn one_name(alloc: Global, name: RulesetName) -> Result<Command, Unread>
-    ensures { Reads result (Ok (Begin (name ∷ []))) }
+/// Each name, up to the last word.
+fn names<'a>(alloc: Global, words: Words<'a>) -> Result<RulesetNames, Unread>
+    ensures { Reads result (names_read (texts words.now)) }
 {
+    let (first, further) = name(words)?;
     let mut names = Vec::new(alloc);
-    match names.push(name) {
-        Ok(()) => Ok(Command::Begin(RulesetNames::new(names))),
-        Err(_) => Err(Unread::Memory),
+    names.push(first)?;
+    let mut rest = further;
+    while !rest.is_empty() {
+        let (next, further) = name(rest)?;
+        names.push(next)?;
+        rest = further;
     }
+    Ok(RulesetNames::new(names))
 }
 
-fn one_entry(alloc: Global, entry: Entry) -> Result<Command, Unread>
-    ensures { Reads result (Ok (Commit (entry ∷ []))) }
+/// Each entry, up to the last word.
+fn entries<'a>(alloc: Global, words: Words<'a>) -> Result<Entries, Unread>
+    ensures { Reads result (entries_read (texts words.now)) }
 {
+    let (first, further) = entry(words)?;
     let mut entries = Vec::new(alloc);
-    match entries.push(entry) {
-        Ok(()) => Ok(Command::Commit(Entries::new(entries))),
-        Err(_) => Err(Unread::Memory),
+    entries.push(first)?;
+    let mut rest = further;
+    while !rest.is_empty() {
+        let (next, further) = entry(rest)?;
+        entries.push(next)?;
+        rest = further;
     }
+    Ok(Entries::new(entries))
 }
 
-#[tactic(auto, unfolding(crate::specs::Commands::begin_read))]
 fn begin(alloc: Global, words: &[&[u8]]) -> Result<Command, Unread>
     ensures { Reads result (begin_read (texts words.now)) }
 {
-    let (name, rest) = name(words)?;
-    end(rest)?;
-    one_name(alloc, name)
+    Ok(Command::Begin(names(alloc, words)?))
 }
 
 #[tactic(auto, unfolding(crate::specs::Commands::add_read))]
@@ -143,14 +174,16 @@ fn add(words: &[&[u8]]) -> Result<Command, Misread>
     Ok(Command::Add { path, ticket, rule })
 }
 
-#[tactic(auto, unfolding(crate::specs::Commands::commit_read, crate::specs::Reading::commit_at))]
 fn commit(alloc: Global, words: &[&[u8]]) -> Result<Command, Unread>
     ensures { Reads result (commit_read (texts words.now)) }
 {
-    let (name, rest) = name(words)?;
-    let (ticket, rest) = ticket(rest)?;
-    end(rest)?;
-    one_entry(alloc, Entry { name, ticket })
+    Ok(Command::Commit(entries(alloc, words)?))
+}
+
+fn rollback(alloc: Global, words: &[&[u8]]) -> Result<Command, Unread>
+    ensures { Reads result (rollback_read (texts words.now)) }
+{
+    Ok(Command::Rollback(entries(alloc, words)?))
 }
 
 #[tactic(auto, unfolding(crate::specs::Commands::judge_read))]
@@ -158,6 +191,34 @@ fn judge(words: &[&[u8]]) -> Result<Command, Misread>
     ensures { result ≡ judge_read (texts words.now) }
 {
     Ok(Command::Judge(Packet::from_words(words)?))
+}
+
+/// The first of these words is wrong, or one is missing.
+fn misread(words: &[&[u8]]) -> Misread
+    ensures { result ≡ not_at (texts words.now) }
+{
+    Misread::Stopped(bad_word(words))
+}
+
+#[tactic(auto, unfolding(crate::specs::Commands::show_rules_read))]
+fn show_rules(words: &[&[u8]]) -> Result<Command, Misread>
+    ensures { result ≡ show_rules_read (texts words.now) }
+{
+    let (path, rest) = path(words)?;
+    end(rest)?;
+    Ok(Command::ShowRules(path))
+}
+
+fn show(words: &[&[u8]]) -> Result<Command, Misread>
+    ensures { result ≡ show_read (texts words.now) }
+{
+    match words {
+        [word, rest @ ..] => match key_of(word) {
+            Keyword::Rules => show_rules(rest),
+            _ => Err(misread(words)),
+        },
+        [] => Err(misread(words)),
+    }
 }
 
 fn lift(read: Result<Command, Misread>) -> Result<Command, Unread>
@@ -172,7 +233,7 @@ fn lift(read: Result<Command, Misread>) -> Result<Command, Unread>
 fn no_command(words: &[&[u8]]) -> Unread
     ensures { result ≡ Missed (not_at (texts words.now)) }
 {
-    Unread::Misread(Misread::Stopped(bad_word(words)))
+    Unread::Misread(misread(words))
 }
 
 /// The command that the words of a line say.
@@ -184,7 +245,9 @@ pub(crate) fn command(alloc: Global, words: &[&[u8]]) -> Result<Command, Unread>
             Keyword::Begin => begin(alloc, rest),
             Keyword::Add => lift(add(rest)),
             Keyword::Commit => commit(alloc, rest),
+            Keyword::Rollback => rollback(alloc, rest),
             Keyword::Judge => lift(judge(rest)),
+            Keyword::Show => lift(show(rest)),
             _ => Err(no_command(words)),
         },
         [] => Err(no_command(words)),

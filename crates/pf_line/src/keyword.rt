@@ -8,11 +8,13 @@ pub(crate) enum Keyword {
     Begin,
     Add,
     Commit,
+    Rollback,
     Judge,
+    Show,
+    /// What a show may show.
+    Rules,
     /// The kind of rulesets with filter rules.
     Filter,
-    /// The path of the main ruleset, written `-`.
-    Main,
     Other,
 }
 
@@ -29,10 +31,14 @@ pub(crate) fn key_of(word: &[u8]) -> Keyword
         Keyword::Begin
     } else if word == b"commit".as_slice() {
         Keyword::Commit
+    } else if word == b"rollback".as_slice() {
+        Keyword::Rollback
+    } else if word == b"show".as_slice() {
+        Keyword::Show
+    } else if word == b"rules".as_slice() {
+        Keyword::Rules
     } else if word == b"filter".as_slice() {
         Keyword::Filter
-    } else if word == b"-".as_slice() {
-        Keyword::Main
     } else {
         Keyword::Other
     }

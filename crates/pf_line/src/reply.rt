@@ -1,27 +1,70 @@
 //! Texts of replies.
 //!
 //! A call that fails has written some front of its text, and no more. None of these calls takes memory.
-ghost use Rattle.std.specs.Prelude.{◌≡◌, ◌+◌, ◌∷◌, ◌++◌, codes, decimal};
+ghost use Rattle.std.specs.Prelude.{◌≡◌, ◌+◌, [], ◌∷◌, ◌++◌, codes, decimal};
 ghost use Rattle.pf_addr.specs.Writing.{Writes};
+ghost use Rattle.pf_rule.specs.RuleText.{rule_text};
 ghost use Rattle.pf_core.specs.Calls.{ticket as the_ticket, tickets_from, tickets_of};
 ghost use Rattle.pf_line.specs.Tickets.{ticket_text};
-ghost use Rattle.pf_line.specs.Replies.{tickets_text, place_text, action_text, rule_verdict_text, verdict_text, answer_text, refusal_text, reply_words, reply_text};
+ghost use Rattle.pf_line.specs.Replies.{tickets_text, place_text, action_text, rule_verdict_text, verdict_text, answer_text, refusal_text, last_line, shown_in, rule_line, rule_lines, lines_text, reply_text};
 
 use pf_addr::{write_number, write_text};
 use pf_core::{Answer, Given, Outcome, Path, Refusal, Reply, RuleVerdict, Ticket, Verdict};
-use pf_rule::Action;
+use pf_rule::{Action, Rule};
 use std::io::{self, Write};
 
-/// Writes the reply's text: one line, ended by a newline.
+/// Writes the reply's text: of a shown ruleset a line for each rule, and of each reply one line behind them.
 pub fn write_reply<W: Write>(out: &mut W, reply: &Reply) -> io::Result<()>
     ensures { Writes result (W.contents out.old) (W.contents out.new) (reply_text reply.now) }
+{
+    write_rules(out, shown(reply))?;
+    write_last(out, reply)
+}
+
+/// The rules that a reply shows.
+fn shown(reply: &Reply) -> &[Rule]
+    ensures { result.now ≡ shown_in reply.now }
+{
+    match reply {
+        Reply::Answer(Answer::Rules(rules)) => rules.as_slice(),
+        _ => &[],
+    }
+}
+
+/// Writes a line for each rule, with its number from 0.
+fn write_rules<W: Write>(out: &mut W, rules: &[Rule]) -> io::Result<()>
+    ensures { Writes result (W.contents out.old) (W.contents out.new) (lines_text (rule_lines 0 rules.now)) }
+{
+    for (number, rule) in rules.iter().enumerate() {
+        write_rule(out, number as u64, rule)?;
+    }
+    Ok(())
+}
+
+fn write_rule<W: Write>(out: &mut W, number: u64, rule: &Rule) -> io::Result<()>
+    ensures { Writes result (W.contents out.old) (W.contents out.new) (rule_line number rule.now ++ 10 ∷ []) }
+{
+    write_numbered(out, b"@", number)?;
+    write_behind_space(out, rule)
+}
+
+fn write_behind_space<W: Write>(out: &mut W, rule: &Rule) -> io::Result<()>
+    ensures { Writes result (W.contents out.old) (W.contents out.new) (32 ∷ rule_text rule.now ++ 10 ∷ []) }
+{
+    write_text(out, b" ")?;
+    rule.write(out)?;
+    write_text(out, b"\n")
+}
+
+fn write_last<W: Write>(out: &mut W, reply: &Reply) -> io::Result<()>
+    ensures { Writes result (W.contents out.old) (W.contents out.new) (last_line reply.now ++ 10 ∷ []) }
 {
     write_words(out, reply)?;
     write_text(out, b"\n")
 }
 
 fn write_words<W: Write>(out: &mut W, reply: &Reply) -> io::Result<()>
-    ensures { Writes result (W.contents out.old) (W.contents out.new) (reply_words reply.now) }
+    ensures { Writes result (W.contents out.old) (W.contents out.new) (last_line reply.now) }
 {
     match reply {
         Reply::Answer(answer) => write_answer(out, answer),
@@ -37,6 +80,7 @@ fn write_answer<W: Write>(out: &mut W, answer: &Answer) -> io::Result<()>
         Answer::Given(given) => write_given(out, *given),
         Answer::Done => write_text(out, b"ok"),
         Answer::Judged(verdict) => write_verdict(out, verdict),
+        Answer::Rules(rules) => write_numbered(out, b"end ", rules.as_slice().len() as u64),
     }
 }
 
@@ -139,8 +183,10 @@ fn write_refusal<W: Write>(out: &mut W, refusal: Refusal) -> io::Result<()>
         Refusal::BadProto { at } => write_numbered(out, b"err proto ", at as u64),
         Refusal::MixedFamily => write_text(out, b"err family"),
         Refusal::BadCount => write_text(out, b"err count"),
+        Refusal::Twice { at } => write_numbered(out, b"err twice ", at as u64),
         Refusal::Busy { at } => write_numbered(out, b"busy ", at as u64),
         Refusal::RulesetFull => write_text(out, b"err ruleset"),
+        Refusal::TooManyRulesets => write_text(out, b"err rulesets"),
         Refusal::TicketsExhausted => write_text(out, b"err tickets"),
         Refusal::HistoryFull => write_text(out, b"err history"),
         Refusal::Memory => write_text(out, b"err memory"),

@@ -34,7 +34,9 @@ fn told_by(command: &Command) -> Told {
             [entry] => Told::Commit(entry.ticket),
             _ => Told::Nothing,
         },
+        Command::Rollback(_) => Told::Nothing,
         Command::Judge(_) => Told::Judge,
+        Command::ShowRules(_) => Told::Nothing,
     }
 }
 
