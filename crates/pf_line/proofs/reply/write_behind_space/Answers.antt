@@ -16,5 +16,5 @@ returns-in_err-write g c =
 
 pub returns : goal.returns
 returns g c =
-    let line = Writes-then c.write_text-2.result (g.W.Write.contents c.write_text.new.out) (g.W.Write.contents c.write.new.out) (g.W.Write.contents c.write_text-2.new.out) (rule_text c.args.rule.now) (10 ∷ []) c.in_ok-write.ensures c.write_text-2.ensures.text in
-    Writes-then c.write_text-2.result (g.W.Write.contents c.args.out.now) (g.W.Write.contents c.write_text.new.out) (g.W.Write.contents c.write_text-2.new.out) (32 ∷ []) (rule_text c.args.rule.now ++ 10 ∷ []) c.in_ok-write_text.ensures.text line
+    let line = Writes-then c.end_line.result (g.W.Write.contents c.write_text.new.out) (g.W.Write.contents c.write.new.out) (g.W.Write.contents c.end_line.new.out) (rule_text c.args.rule.now) (10 ∷ []) c.in_ok-write.ensures c.end_line.ensures in
+    Writes-then c.end_line.result (g.W.Write.contents c.args.out.now) (g.W.Write.contents c.write_text.new.out) (g.W.Write.contents c.end_line.new.out) (32 ∷ []) (rule_text c.args.rule.now ++ 10 ∷ []) c.in_ok-write_text.ensures.text line

@@ -9,4 +9,4 @@ returns-in_err-write_words g c =
     search (rules, w)
 
 pub returns : goal.returns
-returns g c = Writes-then c.write_text.result (g.W.Write.contents c.args.out.now) (g.W.Write.contents c.write_words.new.out) (g.W.Write.contents c.write_text.new.out) (last_line c.args.reply.now) (10 ∷ []) c.in_ok-write_words.ensures c.write_text.ensures.text
+returns g c = Writes-then c.end_line.result (g.W.Write.contents c.args.out.now) (g.W.Write.contents c.write_words.new.out) (g.W.Write.contents c.end_line.new.out) (last_line c.args.reply.now) (10 ∷ []) c.in_ok-write_words.ensures c.end_line.ensures
