@@ -6,6 +6,7 @@ pub mod Parts
 pub mod FirstWords
 pub mod Silence
 pub mod Writers
+pub mod ShownRules
 pub mod Lines
 pub mod WrittenTickets
-pub mod OneLine
+pub mod ReplyLines

@@ -53,13 +53,23 @@ fn write_behind_space<W: Write>(out: &mut W, rule: &Rule) -> io::Result<()>
 {
     write_text(out, b" ")?;
     rule.write(out)?;
+<<<<<<< HEAD
     write_text(out, b"\n")
+=======
+    end_line(out)
+>>>>>>> line
 }
 
 fn write_last<W: Write>(out: &mut W, reply: &Reply) -> io::Result<()>
     ensures { Writes result (W.contents out.old) (W.contents out.new) (last_line reply.now ++ 10 ∷ []) }
 {
     write_words(out, reply)?;
+    end_line(out)
+}
+
+fn end_line<W: Write>(out: &mut W) -> io::Result<()>
+    ensures { Writes result (W.contents out.old) (W.contents out.new) (10 ∷ []) }
+{
     write_text(out, b"\n")
 }
 

@@ -1,6 +1,7 @@
 use super::*;
 use pf_core::{
-    Answer, Command, Given, Outcome, Path, Refusal, Reply, RuleVerdict, Ticket, Verdict,
+    Answer, Command, Entries, Entry, Given, Outcome, Path, Refusal, Reply, RuleVerdict,
+    RulesetName, Ticket, Verdict,
 };
 use pf_rule::Action;
 use std::alloc::Global;
@@ -11,10 +12,14 @@ use std::test::*;
 #[derive(Clone, Copy, Debug, PartialEq, Eq)]
 enum Told {
     Nothing,
-    Begin,
+    /// So many rulesets.
+    Begin(usize),
     Add(Ticket),
-    Commit(Ticket),
+    /// So many entries, and the last one's ticket.
+    Commit(usize, Ticket),
+    Rollback(usize, Ticket),
     Judge,
+    ShowRules,
     Refused(Refusal),
 }
 
@@ -26,17 +31,27 @@ fn bad_word(at: usize) -> Told {
     Told::Refused(Refusal::BadWord { at })
 }
 
+fn bad_name(at: usize) -> Told {
+    Told::Refused(Refusal::NameTooLong { at })
+}
+
+fn last_ticket(entries: &Entries) -> Ticket {
+    match entries.as_slice() {
+        [.., last] => last.ticket,
+        [] => ticket(0, 0),
+    }
+}
+
 fn told_by(command: &Command) -> Told {
     match command {
-        Command::Begin(_) => Told::Begin,
+        Command::Begin(names) => Told::Begin(names.as_slice().len()),
         Command::Add { ticket, .. } => Told::Add(*ticket),
-        Command::Commit(entries) => match entries.as_slice() {
-            [entry] => Told::Commit(entry.ticket),
-            _ => Told::Nothing,
-        },
-        Command::Rollback(_) => Told::Nothing,
+        Command::Commit(entries) => Told::Commit(entries.as_slice().len(), last_ticket(entries)),
+        Command::Rollback(entries) => {
+            Told::Rollback(entries.as_slice().len(), last_ticket(entries))
+        }
         Command::Judge(_) => Told::Judge,
-        Command::ShowRules(_) => Told::Nothing,
+        Command::ShowRules(_) => Told::ShowRules,
     }
 }
 
@@ -51,19 +66,99 @@ fn read(alloc: Global, line: &[u8]) -> Told {
 #[test]
 fn reads_commands(rt: HostRuntime) {
     for (line, told) in [
-        (b"begin filter -".as_slice(), Told::Begin),
-        (b" \tbegin\r filter\t\t-\r", Told::Begin),
+        (b"begin filter -".as_slice(), Told::Begin(1)),
+        (b" \tbegin\r filter\t\t-\r", Told::Begin(1)),
+        (b"begin filter web", Told::Begin(1)),
+        (b"begin filter - filter -", Told::Begin(2)),
+        (b"begin filter - filter web filter web/a", Told::Begin(3)),
+        (b"begin filter filter filter begin", Told::Begin(2)),
+        (b"begin filter --", Told::Begin(1)),
         (b"add - 1.1 pass", Told::Add(ticket(1, 1))),
+        (b"add web/a 1.1 pass", Told::Add(ticket(1, 1))),
+        (b"add 1.1 1.2 pass", Told::Add(ticket(1, 2))),
         (
             b"add - 4294967295.0 block drop in quick on em0 inet proto tcp from 10/8 to any",
             Told::Add(ticket(4294967295, 0)),
         ),
         (b"add - 2.3 pass out all no state", Told::Add(ticket(2, 3))),
-        (b"commit filter - 1.1", Told::Commit(ticket(1, 1))),
+        (b"commit filter - 1.1", Told::Commit(1, ticket(1, 1))),
+        (
+            b"commit filter - 1.1 filter - 1.2",
+            Told::Commit(2, ticket(1, 2)),
+        ),
+        (
+            b"commit filter web 1.1 filter - 1.2 filter web/a 1.3",
+            Told::Commit(3, ticket(1, 3)),
+        ),
+        (b"rollback filter - 1.1", Told::Rollback(1, ticket(1, 1))),
+        (
+            b"rollback filter web 1.3 filter - 1.2",
+            Told::Rollback(2, ticket(1, 2)),
+        ),
         (b"judge in em0 tcp 10.0.0.1 1 10.0.0.2 2", Told::Judge),
+        (b"show rules -", Told::ShowRules),
+        (b"show rules web/a", Told::ShowRules),
+        (b"show rules rules", Told::ShowRules),
     ] {
         assert_eq!(rt; read(rt.alloc(), line), told);
     }
+}
+
+fn paths_of(names: &[RulesetName], paths: &[&[u8]]) -> bool {
+    names.len() == paths.len()
+        && names
+            .iter()
+            .zip(paths)
+            .all(|(name, path)| name.path.as_bytes() == *path)
+}
+
+fn entries_of(entries: &[Entry], pairs: &[(&[u8], Ticket)]) -> bool {
+    entries.len() == pairs.len()
+        && entries.iter().zip(pairs).all(|(entry, (path, ticket))| {
+            entry.name.path.as_bytes() == *path && entry.ticket == *ticket
+        })
+}
+
+#[test]
+fn keeps_the_order_of_lists(rt: HostRuntime) -> Result<(), Fail> {
+    let begun = parse_line(rt.alloc(), b"begin filter web filter - filter web/a");
+    let Ok(Some(Command::Begin(names))) = begun else {
+        return Err("a begin".into());
+    };
+    let paths = [b"web".as_slice(), b"", b"web/a"];
+    assert!(rt; paths_of(names.as_slice(), paths.as_slice()));
+    let committed = parse_line(rt.alloc(), b"commit filter web 1.3 filter - 1.2");
+    let Ok(Some(Command::Commit(entries))) = committed else {
+        return Err("a commit".into());
+    };
+    let pairs = [(b"web".as_slice(), ticket(1, 3)), (b"", ticket(1, 2))];
+    assert!(rt; entries_of(entries.as_slice(), pairs.as_slice()));
+    let dropped = parse_line(rt.alloc(), b"rollback filter - 1.2 filter web 1.3");
+    let Ok(Some(Command::Rollback(entries))) = dropped else {
+        return Err("a rollback".into());
+    };
+    let pairs = [(b"".as_slice(), ticket(1, 2)), (b"web", ticket(1, 3))];
+    assert!(rt; entries_of(entries.as_slice(), pairs.as_slice()));
+    let shown = parse_line(rt.alloc(), b"show rules web/a");
+    let Ok(Some(Command::ShowRules(path))) = shown else {
+        return Err("a show".into());
+    };
+    assert!(rt; path.as_bytes() == b"web/a".as_slice());
+    Ok(())
+}
+
+// The parser bounds no list: the core does, and a bad word in a longer one comes first.
+#[test]
+fn reads_long_lists(rt: HostRuntime) -> Result<(), Fail> {
+    let alloc = rt.alloc();
+    let mut line = Vec::from_slice(alloc, b"begin")?;
+    for _ in 0..65 {
+        line.extend_from_slice(b" filter -")?;
+    }
+    assert_eq!(rt; read(alloc, line.as_slice()), Told::Begin(65));
+    line.extend_from_slice(b" filter")?;
+    assert_eq!(rt; read(alloc, line.as_slice()), bad_word(132));
+    Ok(())
 }
 
 #[test]
@@ -77,26 +172,34 @@ fn places_bad_words(rt: HostRuntime) {
         (b"-", 0),
         (b"begin#", 0),
         // what isn't there yet
-        (b"rollback filter - 1.1", 0),
-        (b"show rules -", 0),
         (b"tset - t 10/8", 0),
+        (b"rules -", 0),
         // begin: each word missing, wrong, doubled
         (b"begin", 1),
         (b"begin begin filter -", 1),
         (b"begin table -", 1),
         (b"begin - filter", 1),
         (b"begin filter", 2),
-        (b"begin filter web", 2),
-        (b"begin filter filter -", 2),
-        (b"begin filter --", 2),
+        (b"begin filter ..", 2),
+        (b"begin filter /", 2),
+        (b"begin filter a//b", 2),
+        (b"begin filter a/-", 2),
+        (b"begin filter a*", 2),
+        (b"begin filter filter -", 3),
         (b"begin filter - -", 3),
-        (b"begin filter - filter -", 3),
+        (b"begin filter - web", 3),
+        (b"begin filter - table -", 3),
+        (b"begin filter - filter", 4),
+        (b"begin filter - filter ..", 4),
+        (b"begin filter - filter web filter", 6),
+        (b"begin filter - filter web filter - -", 7),
         // add
         (b"add", 1),
-        (b"add add - 1.1 pass", 1),
-        (b"add web 1.1 pass", 1),
-        (b"add filter - 1.1 pass", 1),
+        (b"add add - 1.1 pass", 2),
+        (b"add .. 1.1 pass", 1),
+        (b"add filter - 1.1 pass", 2),
         (b"add -", 2),
+        (b"add web", 2),
         (b"add - - 1.1 pass", 2),
         (b"add - pass", 2),
         (b"add - 1.1", 3),
@@ -114,12 +217,38 @@ fn places_bad_words(rt: HostRuntime) {
         (b"commit table - 1.1", 1),
         (b"commit commit filter - 1.1", 1),
         (b"commit filter", 2),
-        (b"commit filter 1.1", 2),
+        (b"commit filter ../a 1.1", 2),
+        (b"commit filter 1.1", 3),
         (b"commit filter -", 3),
         (b"commit filter - -", 3),
         (b"commit filter - frob", 3),
         (b"commit filter - 1.1 1.1", 4),
-        (b"commit filter - 1.1 filter - 1.2", 4),
+        (b"commit filter - 1.1 1.1 filter - 1.2", 4),
+        (b"commit filter - 1.1 table - 1.2", 4),
+        (b"commit filter - 1.1 filter", 5),
+        (b"commit filter - 1.1 filter /", 5),
+        (b"commit filter - 1.1 filter -", 6),
+        (b"commit filter - 1.1 filter - -", 6),
+        (b"commit filter - 1.1 filter - filter - 1.2", 6),
+        (b"commit filter - 1.1 filter - 1.2 filter web", 9),
+        // rollback
+        (b"rollback", 1),
+        (b"rollback table - 1.1", 1),
+        (b"rollback filter", 2),
+        (b"rollback filter -", 3),
+        (b"rollback filter - frob", 3),
+        (b"rollback filter - 1.1 -", 4),
+        (b"rollback filter - 1.1 filter -", 6),
+        // show
+        (b"show", 1),
+        (b"show tables -", 1),
+        (b"show rule -", 1),
+        (b"show show rules -", 1),
+        (b"show - rules", 1),
+        (b"show rules", 2),
+        (b"show rules ..", 2),
+        (b"show rules - x", 3),
+        (b"show rules - -", 3),
         // judge
         (b"judge", 1),
         (b"judge judge in", 1),
@@ -146,6 +275,18 @@ fn places_names_and_protocols(rt: HostRuntime) {
         ),
         (
             b"judge in abcdefghijklmnop tcp 10.0.0.1 1 10.0.0.2 2",
+            Refusal::NameTooLong { at: 2 },
+        ),
+        (
+            b"add aaaaaaaaaaaaaaaaaaaaaaaaaaaaaaaaaaaaaaaaaaaaaaaaaaaaaaaaaaaaaaaa 1.1 pass",
+            Refusal::NameTooLong { at: 1 },
+        ),
+        (
+            b"begin filter - filter a/a/a/a/a/a/a/a/a/a/a/a/a/a/a/a/a",
+            Refusal::NameTooLong { at: 4 },
+        ),
+        (
+            b"show rules a/a/a/a/a/a/a/a/a/a/a/a/a/a/a/a/a x",
             Refusal::NameTooLong { at: 2 },
         ),
         (b"add - 1.1 pass proto frob", Refusal::BadProto { at: 5 }),
@@ -186,7 +327,7 @@ fn reads_tickets(rt: HostRuntime) -> Result<(), Fail> {
     ] {
         assert_eq!(rt;
             commit_of(rt.alloc(), word)?,
-            Told::Commit(ticket(epoch, count))
+            Told::Commit(1, ticket(epoch, count))
         );
     }
     for word in [
@@ -260,9 +401,9 @@ fn limits_the_length_of_lines(rt: HostRuntime) -> Result<(), Fail> {
     for (front, pad, told) in [
         (b"".as_slice(), b' ', Told::Nothing),
         (b"#", b'#', Told::Nothing),
-        (b"begin filter -", b' ', Told::Begin),
-        (b"begin filter -", b'\r', Told::Begin),
-        (b"begin filter ", b'-', bad_word(2)),
+        (b"begin filter -", b' ', Told::Begin(1)),
+        (b"begin filter -", b'\r', Told::Begin(1)),
+        (b"begin filter ", b'-', bad_name(2)),
     ] {
         let whole = padded(rt.alloc(), front, pad, 4096)?;
         assert_eq!(rt; read(rt.alloc(), whole.as_slice()), told);
@@ -279,9 +420,16 @@ fn limits_the_length_of_lines(rt: HostRuntime) -> Result<(), Fail> {
 #[test]
 fn allocations_refused(rt: HostRuntime) {
     for (line, told) in [
-        (b"begin filter -".as_slice(), Told::Begin),
+        (b"begin filter -".as_slice(), Told::Begin(1)),
+        (b"begin filter - filter web filter a/b", Told::Begin(3)),
         (b"add - 1.2 pass in all", Told::Add(ticket(1, 2))),
-        (b"commit filter - 3.4", Told::Commit(ticket(3, 4))),
+        (b"commit filter - 3.4", Told::Commit(1, ticket(3, 4))),
+        (
+            b"rollback filter - 3.4 filter web 3.5",
+            Told::Rollback(2, ticket(3, 5)),
+        ),
+        (b"show rules web", Told::ShowRules),
+        (b"begin filter - table -", bad_word(3)),
         (b"judge in em0 tcp 10.0.0.1 1 10.0.0.2 2", Told::Judge),
         (b"frob", bad_word(0)),
         (b"", Told::Nothing),
@@ -350,8 +498,10 @@ fn writes_replies(rt: HostRuntime) -> Result<(), Fail> {
         ),
         (Reply::Refused(Refusal::MixedFamily), b"err family\n"),
         (Reply::Refused(Refusal::BadCount), b"err count\n"),
+        (Reply::Refused(Refusal::Twice { at: 63 }), b"err twice 63\n"),
         (Reply::Refused(Refusal::Busy { at: 3 }), b"busy 3\n"),
         (Reply::Refused(Refusal::RulesetFull), b"err ruleset\n"),
+        (Reply::Refused(Refusal::TooManyRulesets), b"err rulesets\n"),
         (Reply::Refused(Refusal::TicketsExhausted), b"err tickets\n"),
         (Reply::Refused(Refusal::HistoryFull), b"err history\n"),
         (Reply::Refused(Refusal::Memory), b"err memory\n"),

@@ -1,0 +1,258 @@
+-- Each line of a reply is one line.
+use Rattle.std.proofs.Common.{◌≡◌, ℕ, zero, suc, ◌+◌, ◌/◌, ◌%◌, ◌<◌, ◌==◌, ◌&&◌, not, Bool, true, false, cond, List, [], ◌∷◌, ◌++◌, length, decimal, refl, arith}
+use Rattle.std.specs.Prelude.{◌^◌, Option, Some, None, codes, drop, map, nat_lt}
+use Rattle.std.specs.Char.{digit_char}
+use Rattle.std.specs.Int.{to_be_bytes, w32}
+use Rattle.std.specs.List.{list_all, join_with_byte}
+use Rattle.std.specs.Net.Text.{hex, leading_zero_digits}
+use Rattle.std.proofs.lemmas.List.{length-append}
+use Rattle.std.specs.Fmt.{digits, digits_onto, digit_glyph}
+use Rattle.std.proofs.lemmas.Bool.Decides.{nat_tests}
+use Rattle.pf_addr.specs.declared.addr.Addr.{Addr}
+use Rattle.pf_addr.specs.declared.addr.Addr.TheVariants as addr
+use Rattle.pf_addr.specs.declared.addr.Family.{Family}
+use Rattle.pf_addr.specs.declared.addr.Family.TheVariants.{V4, V6}
+use Rattle.pf_addr.specs.Address.{Network, width}
+use Rattle.pf_addr.specs.Spelling.{group_text, addr_text, first_addr, length_text, net_text}
+use Rattle.pf_rule.specs.declared.rule.Action.{Action}
+use Rattle.pf_rule.specs.declared.rule.Action.TheVariants.{Pass, Block}
+use Rattle.pf_rule.specs.declared.rule.Direction.{Direction}
+use Rattle.pf_rule.specs.declared.rule.Direction.TheVariants.{In, Out}
+use Rattle.pf_rule.specs.declared.rule.Host.{Host}
+use Rattle.pf_rule.specs.declared.rule.Host.TheVariants.{Any, Net}
+use Rattle.pf_rule.specs.Rules.{PlainRule}
+use Rattle.pf_rule.specs.RuleText.{action_word, direction_words, quick_words, interface_words, family_words, protocol_word, protocol_words, host_word, from_to_words, host_words, state_words, canonical, rule_text}
+use Rattle.pf_core.specs.declared.command.Ticket.{Ticket}
+use Rattle.pf_core.specs.declared.reply.Answer.{Answer}
+use Rattle.pf_core.specs.declared.reply.Answer.TheVariants as answers
+use Rattle.pf_core.specs.declared.reply.Refusal.{Refusal}
+use Rattle.pf_core.specs.declared.reply.Refusal.TheVariants as refusals
+use Rattle.pf_core.specs.declared.reply.Reply.{Reply}
+use Rattle.pf_core.specs.declared.reply.Reply.TheVariants as replies
+use Rattle.pf_core.specs.declared.reply.RuleVerdict.{RuleVerdict}
+use Rattle.pf_core.specs.declared.reply.RuleVerdict.TheVariants.{Rule, Default}
+use Rattle.pf_core.specs.declared.reply.Verdict.{Verdict}
+use Rattle.pf_core.specs.declared.reply.Verdict.TheVariants.{Rules}
+use Rattle.pf_core.specs.Calls.{tickets_of}
+use Rattle.pf_line.specs.Tickets.{ticket_text}
+use Rattle.pf_line.specs.Replies.{tickets_text, place_text, action_text, rule_verdict_text, verdict_text, answer_text, refusal_text, last_line, shown_in, rule_line, rule_lines, reply_lines, reply_text, line_count, HasNoNewline, NoneHasNewline, HasLines, rule_path, verdict_path, answer_path, path_in, interface_text, names_in}
+
+abbrev clear : ℕ → Bool
+clear b = not (b == 10)
+
+both : (s t : Bool) → s ≡ true → t ≡ true → (s && t) ≡ true
+both s t e f = rw (e, f) refl
+
+split_and : (s t : Bool) → (s && t) ≡ true → t ≡ true
+split_and true t e = e
+split_and false t e = absurd cc
+
+joined : (a b : List ℕ) → HasNoNewline a → HasNoNewline b → HasNoNewline (a ++ b)
+joined [] b h k = k
+joined (x ∷ a) b h k = let parts = split (clear x) (list_all clear a) h in both (clear x) (list_all clear (a ++ b)) parts.0 (joined a b parts.1 k) where
+  split : (s t : Bool) → (s && t) ≡ true → (s ≡ true) × (t ≡ true)
+  split true t e = (refl, e)
+  split false t e = absurd cc
+
+-- ---- numbers
+
+glyph_clear : (d : ℕ) → d < 10 → clear (digit_glyph false d) ≡ true
+glyph_clear d lt = grind (arith, nat_tests)
+
+one_clear : (n : ℕ) (acc : List ℕ) → HasNoNewline acc → HasNoNewline (digit_glyph false (n % 10) ∷ acc)
+one_clear n acc h = both (clear (digit_glyph false (n % 10))) (list_all clear acc) (glyph_clear (n % 10) (omega arith)) h
+
+last_clear : (t : Bool) (a b : List ℕ) → HasNoNewline a → HasNoNewline b → HasNoNewline (cond t a b)
+last_clear true a b h k = h
+last_clear false a b h k = k
+
+digits_clear : (k n : ℕ) (acc : List ℕ) → HasNoNewline acc → HasNoNewline (digits_onto k 10 false n acc)
+digits_clear zero n acc h = h
+digits_clear (suc k) n acc h =
+    last_clear (n / 10 == 0) (digit_glyph false (n % 10) ∷ acc) (digits_onto k 10 false (n / 10) (digit_glyph false (n % 10) ∷ acc)) (one_clear n acc h) (digits_clear k (n / 10) (digit_glyph false (n % 10) ∷ acc) (one_clear n acc h))
+
+number_clear : (n : ℕ) → HasNoNewline (decimal n)
+unfolding digits
+number_clear n = digits_clear 64 n [] refl
+
+-- ---- tickets
+
+tickets_clear : (ts : List Ticket) → HasNoNewline (tickets_text ts)
+tickets_clear [] = refl
+tickets_clear (t ∷ ts) = joined (32 ∷ ticket_text t) (tickets_text ts) (joined (32 ∷ decimal t.epoch) (46 ∷ decimal t.count) (joined (32 ∷ []) (decimal t.epoch) refl (number_clear t.epoch)) (joined (46 ∷ []) (decimal t.count) refl (number_clear t.count))) (tickets_clear ts)
+
+-- ---- verdicts
+
+place_clear : (path : List ℕ) → HasNoNewline path → HasNoNewline (place_text path)
+place_clear [] h = refl
+place_clear (b ∷ path) h =
+    let some : (length (b ∷ path) == 0) ≡ false = grind (arith, nat_tests) in
+    rw some (joined (codes " at ") (b ∷ path) refl h)
+
+action_clear : (a : Action) → HasNoNewline (action_text a ++ codes " rule ")
+action_clear (Pass keeps) = refl
+action_clear Block = refl
+
+rule_clear : (v : RuleVerdict) → HasNoNewline (rule_path v) → HasNoNewline (rule_verdict_text v)
+rule_clear (Rule path number action) h =
+    joined (action_text action ++ codes " rule " ++ decimal number) (place_text path) (joined (action_text action ++ codes " rule ") (decimal number) (action_clear action) (number_clear number)) (place_clear path h)
+rule_clear Default h = refl
+
+verdict_clear : (v : Verdict) → HasNoNewline (verdict_path v) → HasNoNewline (verdict_text v)
+verdict_clear (Rules v) h = rule_clear v h
+
+answer_clear : (a : Answer) → HasNoNewline (answer_path a) → HasNoNewline (answer_text a)
+answer_clear (answers.Given g) h = joined (codes "ok") (tickets_text (tickets_of g)) refl (tickets_clear (tickets_of g))
+answer_clear answers.Done h = refl
+answer_clear (answers.Judged v) h = verdict_clear v h
+answer_clear (answers.Rules rules) h = joined (codes "end ") (decimal (length rules)) refl (number_clear (length rules))
+
+refusal_clear : (e : Refusal) → HasNoNewline (refusal_text e)
+refusal_clear refusals.BadLine = refl
+refusal_clear (refusals.BadWord at) = joined (codes "err word ") (decimal at) refl (number_clear at)
+refusal_clear (refusals.NameTooLong at) = joined (codes "err name ") (decimal at) refl (number_clear at)
+refusal_clear (refusals.BadProto at) = joined (codes "err proto ") (decimal at) refl (number_clear at)
+refusal_clear refusals.MixedFamily = refl
+refusal_clear refusals.BadCount = refl
+refusal_clear (refusals.Twice at) = joined (codes "err twice ") (decimal at) refl (number_clear at)
+refusal_clear (refusals.Busy at) = joined (codes "busy ") (decimal at) refl (number_clear at)
+refusal_clear refusals.RulesetFull = refl
+refusal_clear refusals.TooManyRulesets = refl
+refusal_clear refusals.TicketsExhausted = refl
+refusal_clear refusals.HistoryFull = refl
+refusal_clear refusals.Memory = refl
+
+words_clear : (r : Reply) → HasNoNewline (path_in r) → HasNoNewline (last_line r)
+words_clear (replies.Answer a) h = answer_clear a h
+words_clear (replies.Applied seq outcome) h = joined (codes "applied ") (decimal seq) refl (number_clear seq)
+words_clear (replies.Refused e) h = refusal_clear e
+
+-- ---- rules
+
+clear-append : (a b : List (List ℕ)) → NoneHasNewline a → NoneHasNewline b → NoneHasNewline (a ++ b)
+clear-append [] b h k = k
+clear-append (w ∷ a) b h k = (h.0, clear-append a b h.1 k)
+
+join_clear : (c : ℕ) → clear c ≡ true → (words : List (List ℕ)) → NoneHasNewline words → HasNoNewline (join_with_byte c words)
+join_clear c h [] all = refl
+join_clear c h (w ∷ []) all = all.0
+join_clear c h (w ∷ v ∷ words) all = joined w (c ∷ join_with_byte c (v ∷ words)) all.0 (both (clear c) (list_all clear (join_with_byte c (v ∷ words))) h (join_clear c h (v ∷ words) all.1))
+
+numbers_clear : (ns : List ℕ) → NoneHasNewline (map decimal ns)
+numbers_clear [] = tt
+numbers_clear (n ∷ ns) = (number_clear n, numbers_clear ns)
+
+char_clear : (d : ℕ) → clear (digit_char d) ≡ true
+char_clear d = by_test (nat_lt d 10) where
+  by_test : (t : Bool) → clear (cond t (48 + d) (87 + d)) ≡ true
+  by_test true = grind (arith, nat_tests)
+  by_test false = grind (arith, nat_tests)
+
+drop_clear : (k : ℕ) (text : List ℕ) → HasNoNewline text → HasNoNewline (drop k text)
+drop_clear zero text h = h
+drop_clear (suc k) [] h = refl
+drop_clear (suc k) (b ∷ text) h = drop_clear k text (split_and (clear b) (list_all clear text) h)
+
+hex_clear : (n : ℕ) → HasNoNewline (hex n)
+unfolding hex
+hex_clear n = drop_clear (leading_zero_digits n) (digit_char (n / 0x1000) ∷ digit_char (n / 0x100 % 16) ∷ digit_char (n / 0x10 % 16) ∷ digit_char (n % 16) ∷ []) (rw (char_clear (n / 0x1000), char_clear (n / 0x100 % 16), char_clear (n / 0x10 % 16), char_clear (n % 16)) refl)
+
+groups_clear : (n : ℕ) (ks : List ℕ) → NoneHasNewline (map (group_text n) ks)
+groups_clear n [] = tt
+groups_clear n (k ∷ ks) = (hex_clear (n / 2 ^ k % 2 ^ 16), groups_clear n ks)
+
+addr_clear : (a : Addr) → HasNoNewline (addr_text a)
+addr_clear (addr.V4 n) = join_clear 46 refl (map decimal (to_be_bytes w32 n)) (numbers_clear (to_be_bytes w32 n))
+addr_clear (addr.V6 n) = join_clear 58 refl (map (group_text n) (112 ∷ 96 ∷ 80 ∷ 64 ∷ 48 ∷ 32 ∷ 16 ∷ 0 ∷ [])) (groups_clear n (112 ∷ 96 ∷ 80 ∷ 64 ∷ 48 ∷ 32 ∷ 16 ∷ 0 ∷ []))
+
+length_clear : (t : Bool) (n : ℕ) → HasNoNewline (cond t [] (47 ∷ decimal n))
+length_clear true n = refl
+length_clear false n = joined (47 ∷ []) (decimal n) refl (number_clear n)
+
+net_clear : (n : Network) → HasNoNewline (net_text n)
+net_clear n = joined (addr_text (first_addr n)) (length_text n) (addr_clear (first_addr n)) (length_clear (length n.front == width n.family) (length n.front))
+
+host_clear : (h : Host) → HasNoNewline (host_word h)
+host_clear Any = refl
+host_clear (Net n) = net_clear n
+
+from_to_clear : (s d : Host) → NoneHasNewline (from_to_words s d)
+from_to_clear s d = (refl, (host_clear s, (refl, (host_clear d, tt))))
+
+hosts_clear : (s d : Host) → NoneHasNewline (host_words s d)
+hosts_clear Any Any = (refl, tt)
+hosts_clear Any (Net n) = from_to_clear Any (Net n)
+hosts_clear (Net n) d = from_to_clear (Net n) d
+
+protocol_clear : (n : ℕ) → HasNoNewline (protocol_word n)
+protocol_clear n = by_tests (n == 1) (n == 6) (n == 17) (n == 58) where
+  by_tests : (a b c d : Bool) → HasNoNewline (cond a (codes "icmp") (cond b (codes "tcp") (cond c (codes "udp") (cond d (codes "icmp6") (decimal n)))))
+  by_tests true b c d = refl
+  by_tests false true c d = refl
+  by_tests false false true d = refl
+  by_tests false false false true = refl
+  by_tests false false false false = number_clear n
+
+pass_or_block : (a : Action) → HasNoNewline (action_word a)
+pass_or_block (Pass keeps) = refl
+pass_or_block Block = refl
+
+directions_clear : (d : Option Direction) → NoneHasNewline (direction_words d)
+directions_clear None = tt
+directions_clear (Some In) = (refl, tt)
+directions_clear (Some Out) = (refl, tt)
+
+quick_clear : (q : Bool) → NoneHasNewline (quick_words q)
+quick_clear true = (refl, tt)
+quick_clear false = tt
+
+interface_clear : (i : Option (List ℕ)) → HasNoNewline (interface_text i) → NoneHasNewline (interface_words i)
+interface_clear None h = tt
+interface_clear (Some name) h = (refl, (h, tt))
+
+family_clear : (f : Option Family) → NoneHasNewline (family_words f)
+family_clear None = tt
+family_clear (Some V4) = (refl, tt)
+family_clear (Some V6) = (refl, tt)
+
+protocols_clear : (p : Option ℕ) → NoneHasNewline (protocol_words p)
+protocols_clear None = tt
+protocols_clear (Some n) = (refl, (protocol_clear n, tt))
+
+states_clear : (a : Action) → NoneHasNewline (state_words a)
+states_clear (Pass true) = (refl, (refl, tt))
+states_clear (Pass false) = (refl, (refl, tt))
+states_clear Block = tt
+
+canonical_clear : (r : PlainRule) → HasNoNewline (interface_text r.interface) → NoneHasNewline (canonical r)
+canonical_clear r h =
+    let states = states_clear r.action in
+    let hosts = clear-append (host_words r.source r.destination) (state_words r.action) (hosts_clear r.source r.destination) states in
+    let protocol = clear-append (protocol_words r.protocol) _ (protocols_clear r.protocol) hosts in
+    let family = clear-append (family_words r.family) _ (family_clear r.family) protocol in
+    let interface = clear-append (interface_words r.interface) _ (interface_clear r.interface h) family in
+    let quick = clear-append (quick_words r.quick) _ (quick_clear r.quick) interface in
+    (pass_or_block r.action, clear-append (direction_words r.direction) _ (directions_clear r.direction) quick)
+
+rule_text_clear : (r : PlainRule) → HasNoNewline (interface_text r.interface) → HasNoNewline (rule_text r)
+unfolding rule_text
+rule_text_clear r h = join_clear 32 refl (canonical r) (canonical_clear r h)
+
+rule_line_clear : (n : ℕ) (r : PlainRule) → HasNoNewline (interface_text r.interface) → HasNoNewline (rule_line n r)
+rule_line_clear n r h = joined (64 ∷ decimal n) (32 ∷ rule_text r) (joined (64 ∷ []) (decimal n) refl (number_clear n)) (joined (32 ∷ []) (rule_text r) refl (rule_text_clear r h))
+
+abbrev interface_of : PlainRule → List ℕ
+interface_of r = interface_text r.interface
+
+lines_clear : (n : ℕ) (rs : List PlainRule) → NoneHasNewline (map interface_of rs) → NoneHasNewline (rule_lines n rs)
+lines_clear n [] all = tt
+lines_clear n (r ∷ rs) all = (rule_line_clear n r all.0, lines_clear (n + 1) rs all.1)
+
+length-rule_lines : (n : ℕ) (rs : List PlainRule) → length (rule_lines n rs) ≡ length rs
+length-rule_lines n [] = refl
+length-rule_lines n (r ∷ rs) = omega (arith, length-rule_lines (n + 1) rs)
+
+pub reply_lined : (r : Reply) → NoneHasNewline (names_in r) → HasLines (line_count r) (reply_text r)
+reply_lined r all =
+    let rules = rule_lines 0 (shown_in r) in
+    (reply_lines r, refl, clear-append rules (last_line r ∷ []) (lines_clear 0 (shown_in r) all.1) (words_clear r all.0, tt), omega (arith, length-append rules (last_line r ∷ []), length-rule_lines 0 (shown_in r)))
