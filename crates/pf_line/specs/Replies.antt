@@ -1,9 +1,5 @@
 -- The text of each reply: one line, before which a shown ruleset has a line for each rule.
-<<<<<<< HEAD
-use Rattle.std.specs.Prelude.{◌≡◌, ℕ, ◌+◌, ◌==◌, not, true, List, [], ◌∷◌, ◌++◌, length, All, codes, decimal, Option, Some, None, map, if◌then◌else◌}
-=======
 use Rattle.std.specs.Prelude.{◌≡◌, ℕ, ◌+◌, ◌==◌, not, true, List, [], ◌∷◌, ◌++◌, length, codes, decimal, Option, Some, None, map, if◌then◌else◌}
->>>>>>> line
 use Rattle.std.specs.List.{list_all}
 use Rattle.pf_rule.specs.declared.rule.Action.{Action}
 use Rattle.pf_rule.specs.declared.rule.Action.TheVariants.{Pass, Block}
@@ -110,11 +106,6 @@ reply_text r = lines_text (reply_lines r)
 abbrev pub HasNoNewline : List ℕ → Type 0
 HasNoNewline text = list_all (λ b. not (b == 10)) text ≡ true
 
-<<<<<<< HEAD
--- A text of so many lines: each ends in a newline and has no other.
-abbrev pub HasLines : ℕ → List ℕ → Type 0
-HasLines n text = (lines : List (List ℕ)) × (text ≡ lines_text lines) × All HasNoNewline lines × (length lines ≡ n)
-=======
 abbrev pub NoneHasNewline : List (List ℕ) → Type 0
 NoneHasNewline [] = Unit {0}
 NoneHasNewline (text ∷ texts) = HasNoNewline text × NoneHasNewline texts
@@ -122,7 +113,6 @@ NoneHasNewline (text ∷ texts) = HasNoNewline text × NoneHasNewline texts
 -- A text of so many lines: each ends in a newline and has no other.
 abbrev pub HasLines : ℕ → List ℕ → Type 0
 HasLines n text = (lines : List (List ℕ)) × (text ≡ lines_text lines) × NoneHasNewline lines × (length lines ≡ n)
->>>>>>> line
 
 -- A shown ruleset has a line for each rule more than the others.
 abbrev pub line_count : Reply → ℕ

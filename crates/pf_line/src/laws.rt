@@ -1,14 +1,10 @@
 //! Laws of the texts. Each function's contract is the law, and its body does nothing.
-ghost use Rattle.std.specs.Prelude.{◌≡◌, ℕ, ◌^◌, ◌<◌, List, length, All, Some, Err};
+ghost use Rattle.std.specs.Prelude.{◌≡◌, ℕ, ◌^◌, ◌<◌, List, length, Some, Err};
 ghost use Rattle.pf_core.specs.declared.command.Ticket.{Ticket};
 ghost use Rattle.pf_core.specs.declared.reply.Refusal.TheVariants.{BadLine};
 ghost use Rattle.pf_core.specs.declared.reply.Reply.{Reply};
 ghost use Rattle.pf_line.specs.Lines.{line_limit, line_at};
-<<<<<<< HEAD
-ghost use Rattle.pf_line.specs.Replies.{HasNoNewline, HasLines, line_count, names_in, reply_text};
-=======
 ghost use Rattle.pf_line.specs.Replies.{NoneHasNewline, HasLines, line_count, names_in, reply_text};
->>>>>>> line
 ghost use Rattle.pf_line.specs.Tickets.{ticket_of, ticket_text};
 
 /// The text that a ticket is written as is read back as that ticket.
@@ -19,11 +15,7 @@ pub fn written_ticket_is_read_again()
 /// A reply is one line, and of a shown ruleset one more for each rule; unless a path or an interface that it names has a
 /// newline.
 pub fn reply_has_its_lines()
-<<<<<<< HEAD
-    ensures { (r : Reply) → All HasNoNewline (names_in r) → HasLines (line_count r) (reply_text r) }
-=======
     ensures { (r : Reply) → NoneHasNewline (names_in r) → HasLines (line_count r) (reply_text r) }
->>>>>>> line
 {}
 
 /// A line that is too long is bad, whatever its bytes are.

@@ -53,11 +53,7 @@ fn write_behind_space<W: Write>(out: &mut W, rule: &Rule) -> io::Result<()>
 {
     write_text(out, b" ")?;
     rule.write(out)?;
-<<<<<<< HEAD
-    write_text(out, b"\n")
-=======
     end_line(out)
->>>>>>> line
 }
 
 fn write_last<W: Write>(out: &mut W, reply: &Reply) -> io::Result<()>

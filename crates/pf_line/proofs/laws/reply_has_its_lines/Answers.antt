@@ -1,8 +1,4 @@
-<<<<<<< HEAD
-use Rattle.pf_line.proofs.Lining.{reply_lined}
-=======
 use Rattle.pf_line.proofs.ReplyLines.{reply_lined}
->>>>>>> line
 use Rattle.pf_line.proofs.laws.reply_has_its_lines.Goals as goal
 
 pub returns : goal.returns
