@@ -5,6 +5,7 @@ pub mod Counting
 pub mod Once
 pub mod Growth
 pub mod Maps
+pub mod OneMap
 pub mod Switching
 pub mod Voiding
 pub mod MapOrder

@@ -57,7 +57,7 @@ upper : (p : List ℕ) (es : List Ruled) → AllBehind p (filter (is_on_side Gre
 upper p [] = tt
 upper p (e ∷ es) = upper-step p e (filter (is_on_side Greater p) es) (is_on_side Greater p e) refl (upper p es)
 
-behind-trans : (a p : List ℕ) (es : List Ruled) → path_order a p ≡ Less → AllBehind p es → AllBehind a es
+pub behind-trans : (a p : List ℕ) (es : List Ruled) → path_order a p ≡ Less → AllBehind p es → AllBehind a es
 behind-trans a p [] l all = tt
 behind-trans a p (e ∷ es) l all = (nat_list_cmp_total.trans a p e.path l all.0, behind-trans a p es l all.1)
 

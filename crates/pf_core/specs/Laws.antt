@@ -32,6 +32,10 @@ pub record IsReplaced (d : Kept) (items : List Ruled) (new : Kept) : Type 0 wher
 abbrev pub ReplacesExactly : Type 0
 ReplacesExactly = (d : Kept) (items : List Ruled) → IsMap d.rulesets → IsReplaced d items (applied d (commits items))
 
+-- paths that are the same are equal
+abbrev pub SamePathIsEqual : Type 0
+SamePathIsEqual = (p q : List ℕ) → same_path p q ≡ true → p ≡ q
+
 -- two maps of which the same is read at each path are one
 abbrev pub OneMap : Type 0
 OneMap = (a b : List Ruled) → IsMap a → IsMap b → ((q : List ℕ) → rules_at q a ≡ rules_at q b) → a ≡ b

@@ -1,5 +1,5 @@
 //! What follows from the definitions that contracts cite: functions that do nothing, whose contracts are the laws.
-ghost use Rattle.pf_core.specs.Laws.{ReplacesTheNamed, ReplacesExactly, SwitchesAll, VoidsTheNamed, KeepsNoneValid};
+ghost use Rattle.pf_core.specs.Laws.{ReplacesTheNamed, ReplacesExactly, SamePathIsEqual, OneMap, SwitchesAll, VoidsTheNamed, KeepsNoneValid};
 ghost use Rattle.pf_core.specs.PathLaws.{FaultsNoPath, FaultsAllElse, ReadsWhatIsSpelled, ReadsAllThatIsSpelled, WritesWhatWasRead, ReadsWhatIsWritten};
 
 /// Exactly the named ruleset is replaced, and all else stays.
@@ -10,6 +10,12 @@ pub fn replaces_the_named()
 /// After a commit's change the epoch stays, each path has the rules that the change gives it or else its own, and what has no rules isn't there.
 pub fn replaces_exactly()
     ensures { ReplacesExactly }
+{}
+
+/// Two maps of which the same is read at each path are one, and paths that are the same are equal.
+pub fn one_map()
+    ensures same { SamePathIsEqual }
+    ensures one { OneMap }
 {}
 
 /// A commit that isn't refused switches all rulesets that it names, each to what was offered for it, and no other.

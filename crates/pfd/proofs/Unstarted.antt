@@ -1,5 +1,5 @@
 -- A session that didn't begin.
-use Rattle.std.proofs.Common.{ℕ, List, [], Option, Err, refl}
+use Rattle.std.proofs.Common.{ℕ, List, [], Option, Err, refl, arith}
 use Rattle.std.specs.Io.KnownBytes.{Keeps}
 use Rattle.pf_core.specs.Edits.{kept}
 use Rattle.pf_core.specs.Tickets.{Agrees, open_with}
@@ -9,7 +9,7 @@ use Rattle.pfd.specs.Program.{Ran}
 use Rattle.pfd.proofs.Answering.{consumes-kept}
 
 abbrev empty : Page
-empty = page (whole (kept 1 []) (open_with 1 1 [])) [] 65536
+empty = page (whole (kept 1 []) (open_with 1 1 [])) [] 65536 (kept 1 [])
 
 empty-agrees : Agrees (open_with 1 1 []) []
 empty-agrees = record {
@@ -18,12 +18,13 @@ empty-agrees = record {
   next = refl;
   low = λ name u h. absurd (cc (h));
   fresh = λ name u h. refl;
+  once = tt;
 }
 
 empty-stands : StandsFor (kept 1 []) empty []
 empty-stands = record {
   legal = tt;
-  leaves = record { log = refl; calls = empty-agrees; durable = refl; epoch = refl };
+  leaves = record { log = refl; calls = empty-agrees; durable = refl; epoch = refl; shown = (0, omega arith, refl) };
 }
 
 pub ran-none : (unread unread' held held' : Option (List ℕ)) → Keeps unread unread' → Keeps held held' → Ran (Err Memory) unread unread' held held'
