@@ -72,7 +72,7 @@ fn share_side(
 fn with_ruleset(alloc: Global, rulesets: &[Placed], new: &Placed) -> Result<Vec<Placed>, AllocError>
     ensures { IfOk result (λ v. v.items ≡ with_rules rulesets.now new.now) }
 {
-    let mut kept = Vec::new(alloc);
+    let mut kept = Vec::with_capacity(alloc, rulesets.len().saturating_add(1))?;
     share_side(&mut kept, rulesets, &new.path, Ordering::Less)?;
     if new.rules.len() > 0 {
         kept.push(new.shared()?)?;
@@ -100,8 +100,11 @@ pub(crate) fn replace_all(
 ) -> Result<Vec<Placed>, AllocError>
     ensures { IfOk result (λ v. v.items ≡ fold with_rules rulesets.now items.now) }
 {
-    let mut kept = all_shared(alloc, rulesets)?;
-    for item in items {
+    let [first, rest @ ..] = items else {
+        return all_shared(alloc, rulesets);
+    };
+    let mut kept = with_ruleset(alloc, rulesets, first)?;
+    for item in rest {
         kept = with_ruleset(alloc, kept.as_slice(), item)?;
     }
     Ok(kept)
