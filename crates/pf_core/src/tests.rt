@@ -1,10 +1,16 @@
-//! Rounds of commands, with replies worked out by hand.
+//! Commands with their replies, worked out by hand.
+mod limits;
+mod lists;
+mod rollbacks;
+mod rulesets;
+
 use crate::{
     Answer, Change, Command, Core, Durable, Entries, Entry, Given, Path, Refusal, Reply,
     RuleVerdict, RulesetName, RulesetNames, Step, Ticket, Verdict,
 };
 use pf_rule::{Action, Packet, Rule, TextFault};
 use std::alloc::{AllocError, Global};
+use std::process::Abort;
 use std::sync::Arc;
 use std::test::Fail;
 
@@ -15,18 +21,39 @@ enum Told {
     Done,
     Decided(u32, Action),
     Default,
+    /// So many rules.
+    Shown(usize),
     Applied,
     Refused(Refusal),
 }
 
-const FIRST: Ticket = Ticket { epoch: 1, count: 1 };
-
-const SECOND: Ticket = Ticket { epoch: 1, count: 2 };
-
 const PASS: Action = Action::Pass { keeps_state: true };
 
-fn given(first: Ticket) -> Told {
-    Told::Given(Given { first, number: 1 })
+const BAD_COUNT: Told = Told::Refused(Refusal::BadCount);
+
+const FULL: Told = Told::Refused(Refusal::RulesetFull);
+
+const TOO_MANY: Told = Told::Refused(Refusal::TooManyRulesets);
+
+fn busy(at: usize) -> Told {
+    Told::Refused(Refusal::Busy { at })
+}
+
+fn twice(at: usize) -> Told {
+    Told::Refused(Refusal::Twice { at })
+}
+
+// A ticket of the opening that all these tests are in.
+fn ticket(count: u32) -> Ticket {
+    Ticket { epoch: 1, count }
+}
+
+// So many tickets from a count on.
+fn given(count: u32, number: u32) -> Told {
+    Told::Given(Given {
+        first: ticket(count),
+        number,
+    })
 }
 
 fn fresh(alloc: Global) -> Result<Core, AllocError> {
@@ -34,35 +61,56 @@ fn fresh(alloc: Global) -> Result<Core, AllocError> {
     Ok(Core::new(alloc, durable))
 }
 
-fn begin(alloc: Global, entries: usize) -> Result<Command, AllocError> {
+fn path(text: &str) -> Result<Path, TextFault> {
+    Path::from_ascii(text.as_bytes()).map_err(|_| TextFault::BadWord { at: 0 })
+}
+
+fn push<T: Drop>(list: &mut Vec<T>, item: T) -> Result<(), AllocError> {
+    list.push(item)?;
+    Ok(())
+}
+
+fn begin(alloc: Global, paths: &[&str]) -> Result<Command, TextFault> {
     let mut names = Vec::new(alloc);
-    for _ in 0..entries {
-        names.push(RulesetName::filter(&Path::main()))?;
+    for text in paths {
+        push(&mut names, RulesetName::filter(&path(text)?))?;
     }
     Ok(Command::Begin(RulesetNames::new(names)))
 }
 
-fn add(alloc: Global, ticket: Ticket, text: &str) -> Result<Command, TextFault> {
+fn add(alloc: Global, place: &str, count: u32, text: &str) -> Result<Command, TextFault> {
     Ok(Command::Add {
-        path: Path::main(),
-        ticket,
+        path: path(place)?,
+        ticket: ticket(count),
         rule: Rule::parse(alloc, text)?,
     })
 }
 
-fn commit(alloc: Global, entries: usize, ticket: Ticket) -> Result<Command, AllocError> {
-    let mut list = Vec::new(alloc);
-    for _ in 0..entries {
-        list.push(Entry {
-            name: RulesetName::filter(&Path::main()),
-            ticket,
-        })?;
+// Paths, each with the count of a ticket.
+fn entries(alloc: Global, list: &[(&str, u32)]) -> Result<Entries, TextFault> {
+    let mut entries = Vec::new(alloc);
+    for (text, count) in list {
+        let name = RulesetName::filter(&path(text)?);
+        let ticket = ticket(*count);
+        push(&mut entries, Entry { name, ticket })?;
     }
-    Ok(Command::Commit(Entries::new(list)))
+    Ok(Entries::new(entries))
+}
+
+fn commit(alloc: Global, list: &[(&str, u32)]) -> Result<Command, TextFault> {
+    Ok(Command::Commit(entries(alloc, list)?))
+}
+
+fn rollback(alloc: Global, list: &[(&str, u32)]) -> Result<Command, TextFault> {
+    Ok(Command::Rollback(entries(alloc, list)?))
 }
 
 fn judge(alloc: Global, text: &str) -> Result<Command, TextFault> {
     Ok(Command::Judge(Packet::parse(alloc, text)?))
+}
+
+fn show(text: &str) -> Result<Command, TextFault> {
+    Ok(Command::ShowRules(path(text)?))
 }
 
 fn plain(answer: &Answer) -> Told {
@@ -73,6 +121,7 @@ fn plain(answer: &Answer) -> Told {
         Answer::Judged(Verdict::Rules(RuleVerdict::Rule { number, action, .. })) => {
             Told::Decided(*number, *action)
         }
+        Answer::Rules(rules) => Told::Shown(rules.as_slice().len()),
     }
 }
 
@@ -91,40 +140,57 @@ fn run(core: &mut Core, command: &Command) -> Told {
     }
 }
 
+// Each command in turn is told what is wanted.
+fn check(rt: &impl Abort, core: &mut Core, rows: &[(Command, Told)]) {
+    for (place, (command, want)) in rows.iter().enumerate() {
+        assert_eq!(rt; run(core, command), *want, "at {place}");
+    }
+}
+
+// Whether the rules at a path have these texts, each with a newline.
+fn shows(alloc: Global, core: &mut Core, text: &str, want: &[u8]) -> Result<bool, Fail> {
+    let Ok(Step::Done(Answer::Rules(rules))) = core.step(&show(text)?) else {
+        return Err(Fail::new("rules are shown"));
+    };
+    let mut texts = Vec::new(alloc);
+    for rule in rules.as_slice() {
+        rule.write(&mut texts)?;
+        texts.push(b'\n')?;
+    }
+    Ok(texts.as_slice() == want)
+}
+
+// Whether these are the paths of what is kept, each with a space.
+fn keeps(alloc: Global, durable: &Durable, want: &[u8]) -> Result<bool, AllocError> {
+    let mut paths = Vec::new(alloc);
+    for placed in durable.rulesets() {
+        paths.extend_from_slice(placed.path().as_bytes())?;
+        paths.push(b' ')?;
+    }
+    Ok(paths.as_slice() == want)
+}
+
 #[test]
 fn begin_add_commit_judge(rt: HostRuntime) -> Result<(), Fail> {
     let alloc = rt.alloc();
     let mut core = fresh(alloc)?;
-    let packet = judge(alloc, "in em0 udp 10.0.0.1 5 10.0.0.2 53")?;
-    for (place, (command, want)) in [
-        (begin(alloc, 1)?, given(FIRST)),
-        (add(alloc, FIRST, "block in all")?, Told::Done),
-        (
-            judge(alloc, "in em0 udp 10.0.0.1 5 10.0.0.2 53")?,
-            Told::Default,
-        ),
-        (commit(alloc, 1, FIRST)?, Told::Applied),
-        (packet, Told::Decided(0, Action::Block)),
-        (
-            commit(alloc, 1, FIRST)?,
-            Told::Refused(Refusal::Busy { at: 0 }),
-        ),
-        (
-            add(alloc, FIRST, "pass all")?,
-            Told::Refused(Refusal::Busy { at: 0 }),
-        ),
-        (begin(alloc, 1)?, given(SECOND)),
-        (commit(alloc, 1, SECOND)?, Told::Applied),
-        (
-            judge(alloc, "in em0 udp 10.0.0.1 5 10.0.0.2 53")?,
-            Told::Default,
-        ),
-    ]
-    .iter()
-    .enumerate()
-    {
-        assert_eq!(rt; run(&mut core, command), *want, "at {place}");
-    }
+    let packet = "in em0 udp 10.0.0.1 5 10.0.0.2 53";
+    check(
+        &rt,
+        &mut core,
+        &[
+            (begin(alloc, &["-"])?, given(1, 1)),
+            (add(alloc, "-", 1, "block in all")?, Told::Done),
+            (judge(alloc, packet)?, Told::Default),
+            (commit(alloc, &[("-", 1)])?, Told::Applied),
+            (judge(alloc, packet)?, Told::Decided(0, Action::Block)),
+            (commit(alloc, &[("-", 1)])?, busy(0)),
+            (add(alloc, "-", 1, "pass all")?, busy(0)),
+            (begin(alloc, &["-"])?, given(2, 1)),
+            (commit(alloc, &[("-", 2)])?, Told::Applied),
+            (judge(alloc, packet)?, Told::Default),
+        ],
+    );
     Ok(())
 }
 
@@ -132,35 +198,25 @@ fn begin_add_commit_judge(rt: HostRuntime) -> Result<(), Fail> {
 fn a_second_begin_voids_the_older_ticket(rt: HostRuntime) -> Result<(), Fail> {
     let alloc = rt.alloc();
     let mut core = fresh(alloc)?;
-    assert_eq!(rt; run(&mut core, &begin(alloc, 1)?), given(FIRST));
-    assert_eq!(rt;
-        run(&mut core, &add(alloc, FIRST, "block all")?),
-        Told::Done
+    let mut later = Vec::new(alloc);
+    later.push(Entry {
+        name: RulesetName::filter(&Path::main()),
+        ticket: Ticket { epoch: 2, count: 2 },
+    })?;
+    check(
+        &rt,
+        &mut core,
+        &[
+            (begin(alloc, &["-"])?, given(1, 1)),
+            (add(alloc, "-", 1, "block all")?, Told::Done),
+            (begin(alloc, &["-"])?, given(2, 1)),
+            (add(alloc, "-", 1, "block all")?, busy(0)),
+            (commit(alloc, &[("-", 1)])?, busy(0)),
+            // a ticket of another opening
+            (Command::Commit(Entries::new(later)), busy(0)),
+            (commit(alloc, &[("-", 2)])?, Told::Applied),
+        ],
     );
-    assert_eq!(rt; run(&mut core, &begin(alloc, 1)?), given(SECOND));
-    let busy = Told::Refused(Refusal::Busy { at: 0 });
-    assert_eq!(rt; run(&mut core, &add(alloc, FIRST, "block all")?), busy);
-    assert_eq!(rt; run(&mut core, &commit(alloc, 1, FIRST)?), busy);
-    let later = Ticket { epoch: 2, count: 2 };
-    assert_eq!(rt; run(&mut core, &commit(alloc, 1, later)?), busy);
-    assert_eq!(rt; run(&mut core, &commit(alloc, 1, SECOND)?), Told::Applied);
-    Ok(())
-}
-
-#[test]
-fn a_ruleset_takes_1024_rules(rt: HostRuntime) -> Result<(), Fail> {
-    let alloc = rt.alloc();
-    let mut core = fresh(alloc)?;
-    assert_eq!(rt; run(&mut core, &begin(alloc, 1)?), given(FIRST));
-    let rule = add(alloc, FIRST, "block in all")?;
-    for _ in 0..1024 {
-        assert_eq!(rt; run(&mut core, &rule), Told::Done);
-    }
-    let full = Told::Refused(Refusal::RulesetFull);
-    assert_eq!(rt; run(&mut core, &rule), full);
-    assert_eq!(rt; run(&mut core, &commit(alloc, 1, FIRST)?), Told::Applied);
-    let packet = judge(alloc, "in em0 udp 10.0.0.1 5 10.0.0.2 53")?;
-    assert_eq!(rt; run(&mut core, &packet), Told::Decided(1023, Action::Block));
     Ok(())
 }
 
@@ -168,16 +224,18 @@ fn a_ruleset_takes_1024_rules(rt: HostRuntime) -> Result<(), Fail> {
 fn the_last_match_or_the_first_quick_one_decides(rt: HostRuntime) -> Result<(), Fail> {
     let alloc = rt.alloc();
     let mut core = fresh(alloc)?;
-    assert_eq!(rt; run(&mut core, &begin(alloc, 1)?), given(FIRST));
-    for text in [
-        "block in all",
-        "pass in proto tcp all",
-        "pass in quick on em1 all",
-        "block in on em1 all",
-    ] {
-        assert_eq!(rt; run(&mut core, &add(alloc, FIRST, text)?), Told::Done);
-    }
-    assert_eq!(rt; run(&mut core, &commit(alloc, 1, FIRST)?), Told::Applied);
+    check(
+        &rt,
+        &mut core,
+        &[
+            (begin(alloc, &["-"])?, given(1, 1)),
+            (add(alloc, "-", 1, "block in all")?, Told::Done),
+            (add(alloc, "-", 1, "pass in proto tcp all")?, Told::Done),
+            (add(alloc, "-", 1, "pass in quick on em1 all")?, Told::Done),
+            (add(alloc, "-", 1, "block in on em1 all")?, Told::Done),
+            (commit(alloc, &[("-", 1)])?, Told::Applied),
+        ],
+    );
     for (text, want) in [
         ("in em0 tcp 10.0.0.1 5 10.0.0.2 53", Told::Decided(1, PASS)),
         (
@@ -192,31 +250,14 @@ fn the_last_match_or_the_first_quick_one_decides(rt: HostRuntime) -> Result<(), 
     Ok(())
 }
 
-#[test]
-fn lists_of_other_lengths(rt: HostRuntime) -> Result<(), Fail> {
-    let alloc = rt.alloc();
-    let mut core = fresh(alloc)?;
-    let bad = Told::Refused(Refusal::BadCount);
-    for entries in [0, 2] {
-        assert_eq!(rt; run(&mut core, &begin(alloc, entries)?), bad, "{entries}");
-        assert_eq!(rt;
-            run(&mut core, &commit(alloc, entries, FIRST)?),
-            bad,
-            "{entries}"
-        );
-    }
-    assert_eq!(rt; run(&mut core, &begin(alloc, 1)?), given(FIRST));
-    Ok(())
-}
-
 fn crosses_threads<T: Send + Sync + Drop>(_value: T) {}
 
 #[test]
 fn values_cross_threads(rt: HostRuntime) -> Result<(), Fail> {
     let alloc = rt.alloc();
     let mut core = fresh(alloc)?;
-    assert_eq!(rt; run(&mut core, &begin(alloc, 1)?), given(FIRST));
-    let command = commit(alloc, 1, FIRST)?;
+    assert_eq!(rt; run(&mut core, &begin(alloc, &["-"])?), given(1, 1));
+    let command = commit(alloc, &[("-", 1)])?;
     let Ok(Step::Wants(change, outcome)) = core.step(&command) else {
         return Err(Fail::new(format_args!("a commit of a valid ticket wants a change")));
     };
@@ -235,19 +276,23 @@ fn run_again(core: &mut Core, command: &Command) -> Told {
     }
 }
 
-const ROUND: usize = 8;
+const ROUND: usize = 12;
 
 fn round(alloc: Global) -> Result<[(Command, Told); ROUND], TextFault> {
     let packet = "in em0 udp 10.0.0.1 5 10.0.0.2 53";
     Ok([
-        (begin(alloc, 1)?, given(FIRST)),
-        (add(alloc, FIRST, "block in all")?, Told::Done),
-        (add(alloc, FIRST, "pass in all")?, Told::Done),
-        (commit(alloc, 1, FIRST)?, Told::Applied),
+        (begin(alloc, &["-", "web"])?, given(1, 2)),
+        (add(alloc, "-", 1, "block in all")?, Told::Done),
+        (add(alloc, "-", 1, "pass in all")?, Told::Done),
+        (add(alloc, "web", 2, "block in all")?, Told::Done),
+        (commit(alloc, &[("-", 1), ("web", 2)])?, Told::Applied),
         (judge(alloc, packet)?, Told::Decided(1, PASS)),
-        (begin(alloc, 1)?, given(SECOND)),
-        (commit(alloc, 1, SECOND)?, Told::Applied),
+        (show("web")?, Told::Shown(1)),
+        (begin(alloc, &["-", "web"])?, given(3, 2)),
+        (rollback(alloc, &[("web", 4)])?, Told::Done),
+        (commit(alloc, &[("-", 3)])?, Told::Applied),
         (judge(alloc, packet)?, Told::Default),
+        (show("-")?, Told::Shown(0)),
     ])
 }
 
