@@ -8,8 +8,8 @@ use pf_rule::Kind;
 use std::cmp::Ordering;
 use std::marker::Model;
 
-/// The path of a ruleset (pf.conf(5), Anchors), kept in place: at most 255 bytes. The main ruleset's is empty.
-/// Contracts see it as the list of its bytes.
+/// The path of a ruleset (pf.conf(5), Anchors), kept in place: the main ruleset's, which is empty, or what a word
+/// spells, of at most 255 bytes. Contracts see it as the list of its bytes.
 #[derive(Drop)]
 pub struct Path {
     bytes: [u8; 255],

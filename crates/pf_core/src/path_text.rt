@@ -14,10 +14,7 @@ pub(crate) fn fault_in(text: &[u8]) -> Option<Kind>
     if text.len() > 255 {
         return Some(Kind::NameTooLong);
     }
-    match first_fault_in(text) {
-        Some(kind) => Some(kind),
-        None => depth_fault_in(text),
-    }
+    first_fault_in(text).or_else(|| depth_fault_in(text))
 }
 
 // The fault of the first component that has one.

@@ -1,6 +1,7 @@
 //! Commands with their replies, worked out by hand.
 mod limits;
 mod lists;
+mod paths;
 mod rollbacks;
 mod rulesets;
 
