@@ -9,6 +9,7 @@ use crate::{
     Answer, Change, Command, Core, Durable, Entries, Entry, Given, Path, Refusal, Reply,
     RuleVerdict, RulesetName, RulesetNames, Step, Ticket, Verdict,
 };
+use Ask::{Add, Begin, BeginRow, Commit, CommitRow, Judge, Rollback, RollbackRow, Show};
 use pf_rule::{Action, Packet, Rule, TextFault};
 use std::alloc::{AllocError, Global};
 use std::process::Abort;
@@ -66,28 +67,48 @@ fn path(text: &str) -> Result<Path, TextFault> {
     Path::from_ascii(text.as_bytes()).map_err(|_| TextFault::BadWord { at: 0 })
 }
 
+/// A command, with paths as texts and tickets by their counts. A row is so many paths, `r` with each number from one on.
+#[derive(Clone, Copy)]
+enum Ask<'a> {
+    Begin(&'a [&'a str]),
+    /// A row from a number on, with so many paths.
+    BeginRow(u32, u32),
+    Add(&'a str, u32, &'a str),
+    Commit(&'a [(&'a str, u32)]),
+    /// The same, with tickets from a count on.
+    CommitRow(u32, u32, u32),
+    Rollback(&'a [(&'a str, u32)]),
+    RollbackRow(u32, u32, u32),
+    Judge(&'a str),
+    Show(&'a str),
+}
+
 fn push<T: Drop>(list: &mut Vec<T>, item: T) -> Result<(), AllocError> {
     list.push(item)?;
     Ok(())
 }
 
-fn begin(alloc: Global, paths: &[&str]) -> Result<Command, TextFault> {
+fn names(alloc: Global, paths: &[&str]) -> Result<RulesetNames, TextFault> {
     let mut names = Vec::new(alloc);
     for text in paths {
         push(&mut names, RulesetName::filter(&path(text)?))?;
     }
-    Ok(Command::Begin(RulesetNames::new(names)))
+    Ok(RulesetNames::new(names))
 }
 
-fn add(alloc: Global, place: &str, count: u32, text: &str) -> Result<Command, TextFault> {
-    Ok(Command::Add {
-        path: path(place)?,
-        ticket: ticket(count),
-        rule: Rule::parse(alloc, text)?,
-    })
+fn row_name(alloc: Global, place: u32) -> Result<RulesetName, TextFault> {
+    let text = format!(in alloc; "r{place}")?;
+    Ok(RulesetName::filter(&path(text.as_str())?))
 }
 
-// Paths, each with the count of a ticket.
+fn row_names(alloc: Global, start: u32, number: u32) -> Result<RulesetNames, TextFault> {
+    let mut names = Vec::new(alloc);
+    for place in 0..number {
+        push(&mut names, row_name(alloc, start.wrapping_add(place))?)?;
+    }
+    Ok(RulesetNames::new(names))
+}
+
 fn entries(alloc: Global, list: &[(&str, u32)]) -> Result<Entries, TextFault> {
     let mut entries = Vec::new(alloc);
     for (text, count) in list {
@@ -98,20 +119,38 @@ fn entries(alloc: Global, list: &[(&str, u32)]) -> Result<Entries, TextFault> {
     Ok(Entries::new(entries))
 }
 
-fn commit(alloc: Global, list: &[(&str, u32)]) -> Result<Command, TextFault> {
-    Ok(Command::Commit(entries(alloc, list)?))
+fn row_entries(alloc: Global, start: u32, number: u32, count: u32) -> Result<Entries, TextFault> {
+    let mut entries = Vec::new(alloc);
+    for place in 0..number {
+        let name = row_name(alloc, start.wrapping_add(place))?;
+        let ticket = ticket(count.wrapping_add(place));
+        push(&mut entries, Entry { name, ticket })?;
+    }
+    Ok(Entries::new(entries))
 }
 
-fn rollback(alloc: Global, list: &[(&str, u32)]) -> Result<Command, TextFault> {
-    Ok(Command::Rollback(entries(alloc, list)?))
-}
-
-fn judge(alloc: Global, text: &str) -> Result<Command, TextFault> {
-    Ok(Command::Judge(Packet::parse(alloc, text)?))
-}
-
-fn show(text: &str) -> Result<Command, TextFault> {
-    Ok(Command::ShowRules(path(text)?))
+impl Ask<'_> {
+    fn command(&self, alloc: Global) -> Result<Command, TextFault> {
+        Ok(match self {
+            Begin(paths) => Command::Begin(names(alloc, paths)?),
+            BeginRow(start, number) => Command::Begin(row_names(alloc, *start, *number)?),
+            Add(place, count, text) => Command::Add {
+                path: path(place)?,
+                ticket: ticket(*count),
+                rule: Rule::parse(alloc, text)?,
+            },
+            Commit(list) => Command::Commit(entries(alloc, list)?),
+            CommitRow(start, number, count) => {
+                Command::Commit(row_entries(alloc, *start, *number, *count)?)
+            }
+            Rollback(list) => Command::Rollback(entries(alloc, list)?),
+            RollbackRow(start, number, count) => {
+                Command::Rollback(row_entries(alloc, *start, *number, *count)?)
+            }
+            Judge(text) => Command::Judge(Packet::parse(alloc, text)?),
+            Show(text) => Command::ShowRules(path(text)?),
+        })
+    }
 }
 
 fn plain(answer: &Answer) -> Told {
@@ -142,15 +181,22 @@ fn run(core: &mut Core, command: &Command) -> Told {
 }
 
 // Each command in turn is told what is wanted.
-fn check(rt: &impl Abort, core: &mut Core, rows: &[(Command, Told)]) {
-    for (place, (command, want)) in rows.iter().enumerate() {
-        assert_eq!(rt; run(core, command), *want, "at {place}");
+fn check(
+    rt: &impl Abort,
+    alloc: Global,
+    core: &mut Core,
+    rows: &[(Ask<'_>, Told)],
+) -> Result<(), TextFault> {
+    for (place, (ask, want)) in rows.iter().enumerate() {
+        let command = ask.command(alloc)?;
+        assert_eq!(rt; run(core, &command), *want, "at {place}");
     }
+    Ok(())
 }
 
 // Whether the rules at a path have these texts, each with a newline.
 fn shows(alloc: Global, core: &mut Core, text: &str, want: &[u8]) -> Result<bool, Fail> {
-    let Ok(Step::Done(Answer::Rules(rules))) = core.step(&show(text)?) else {
+    let Ok(Step::Done(Answer::Rules(rules))) = core.step(&Command::ShowRules(path(text)?)) else {
         return Err(Fail::new("rules are shown"));
     };
     let mut texts = Vec::new(alloc);
@@ -178,20 +224,21 @@ fn begin_add_commit_judge(rt: HostRuntime) -> Result<(), Fail> {
     let packet = "in em0 udp 10.0.0.1 5 10.0.0.2 53";
     check(
         &rt,
+        alloc,
         &mut core,
         &[
-            (begin(alloc, &["-"])?, given(1, 1)),
-            (add(alloc, "-", 1, "block in all")?, Told::Done),
-            (judge(alloc, packet)?, Told::Default),
-            (commit(alloc, &[("-", 1)])?, Told::Applied),
-            (judge(alloc, packet)?, Told::Decided(0, Action::Block)),
-            (commit(alloc, &[("-", 1)])?, busy(0)),
-            (add(alloc, "-", 1, "pass all")?, busy(0)),
-            (begin(alloc, &["-"])?, given(2, 1)),
-            (commit(alloc, &[("-", 2)])?, Told::Applied),
-            (judge(alloc, packet)?, Told::Default),
+            (Begin(&["-"]), given(1, 1)),
+            (Add("-", 1, "block in all"), Told::Done),
+            (Judge(packet), Told::Default),
+            (Commit(&[("-", 1)]), Told::Applied),
+            (Judge(packet), Told::Decided(0, Action::Block)),
+            (Commit(&[("-", 1)]), busy(0)),
+            (Add("-", 1, "pass all"), busy(0)),
+            (Begin(&["-"]), given(2, 1)),
+            (Commit(&[("-", 2)]), Told::Applied),
+            (Judge(packet), Told::Default),
         ],
-    );
+    )?;
     Ok(())
 }
 
@@ -199,25 +246,31 @@ fn begin_add_commit_judge(rt: HostRuntime) -> Result<(), Fail> {
 fn a_second_begin_voids_the_older_ticket(rt: HostRuntime) -> Result<(), Fail> {
     let alloc = rt.alloc();
     let mut core = fresh(alloc)?;
+    check(
+        &rt,
+        alloc,
+        &mut core,
+        &[
+            (Begin(&["-"]), given(1, 1)),
+            (Add("-", 1, "block all"), Told::Done),
+            (Begin(&["-"]), given(2, 1)),
+            (Add("-", 1, "block all"), busy(0)),
+            (Commit(&[("-", 1)]), busy(0)),
+        ],
+    )?;
     let mut later = Vec::new(alloc);
     later.push(Entry {
         name: RulesetName::filter(&Path::main()),
         ticket: Ticket { epoch: 2, count: 2 },
     })?;
+    let command = Command::Commit(Entries::new(later));
+    assert_eq!(rt; run(&mut core, &command), busy(0), "of another opening");
     check(
         &rt,
+        alloc,
         &mut core,
-        &[
-            (begin(alloc, &["-"])?, given(1, 1)),
-            (add(alloc, "-", 1, "block all")?, Told::Done),
-            (begin(alloc, &["-"])?, given(2, 1)),
-            (add(alloc, "-", 1, "block all")?, busy(0)),
-            (commit(alloc, &[("-", 1)])?, busy(0)),
-            // a ticket of another opening
-            (Command::Commit(Entries::new(later)), busy(0)),
-            (commit(alloc, &[("-", 2)])?, Told::Applied),
-        ],
-    );
+        &[(Commit(&[("-", 2)]), Told::Applied)],
+    )?;
     Ok(())
 }
 
@@ -227,16 +280,17 @@ fn the_last_match_or_the_first_quick_one_decides(rt: HostRuntime) -> Result<(), 
     let mut core = fresh(alloc)?;
     check(
         &rt,
+        alloc,
         &mut core,
         &[
-            (begin(alloc, &["-"])?, given(1, 1)),
-            (add(alloc, "-", 1, "block in all")?, Told::Done),
-            (add(alloc, "-", 1, "pass in proto tcp all")?, Told::Done),
-            (add(alloc, "-", 1, "pass in quick on em1 all")?, Told::Done),
-            (add(alloc, "-", 1, "block in on em1 all")?, Told::Done),
-            (commit(alloc, &[("-", 1)])?, Told::Applied),
+            (Begin(&["-"]), given(1, 1)),
+            (Add("-", 1, "block in all"), Told::Done),
+            (Add("-", 1, "pass in proto tcp all"), Told::Done),
+            (Add("-", 1, "pass in quick on em1 all"), Told::Done),
+            (Add("-", 1, "block in on em1 all"), Told::Done),
+            (Commit(&[("-", 1)]), Told::Applied),
         ],
-    );
+    )?;
     for (text, want) in [
         ("in em0 tcp 10.0.0.1 5 10.0.0.2 53", Told::Decided(1, PASS)),
         (
@@ -246,7 +300,8 @@ fn the_last_match_or_the_first_quick_one_decides(rt: HostRuntime) -> Result<(), 
         ("in em1 udp 10.0.0.1 5 10.0.0.2 53", Told::Decided(2, PASS)),
         ("out em0 udp 10.0.0.1 5 10.0.0.2 53", Told::Default),
     ] {
-        assert_eq!(rt; run(&mut core, &judge(alloc, text)?), want, "of {text}");
+        let command = Judge(text).command(alloc)?;
+        assert_eq!(rt; run(&mut core, &command), want, "of {text}");
     }
     Ok(())
 }
@@ -257,8 +312,8 @@ fn crosses_threads<T: Send + Sync + Drop>(_value: T) {}
 fn values_cross_threads(rt: HostRuntime) -> Result<(), Fail> {
     let alloc = rt.alloc();
     let mut core = fresh(alloc)?;
-    assert_eq!(rt; run(&mut core, &begin(alloc, &["-"])?), given(1, 1));
-    let command = commit(alloc, &[("-", 1)])?;
+    check(&rt, alloc, &mut core, &[(Begin(&["-"]), given(1, 1))])?;
+    let command = Commit(&[("-", 1)]).command(alloc)?;
     let Ok(Step::Wants(change, outcome)) = core.step(&command) else {
         return Err(Fail::new(format_args!("a commit of a valid ticket wants a change")));
     };
@@ -277,26 +332,6 @@ fn run_again(core: &mut Core, command: &Command) -> Told {
     }
 }
 
-const ROUND: usize = 12;
-
-fn round(alloc: Global) -> Result<[(Command, Told); ROUND], TextFault> {
-    let packet = "in em0 udp 10.0.0.1 5 10.0.0.2 53";
-    Ok([
-        (begin(alloc, &["-", "web"])?, given(1, 2)),
-        (add(alloc, "-", 1, "block in all")?, Told::Done),
-        (add(alloc, "-", 1, "pass in all")?, Told::Done),
-        (add(alloc, "web", 2, "block in all")?, Told::Done),
-        (commit(alloc, &[("-", 1), ("web", 2)])?, Told::Applied),
-        (judge(alloc, packet)?, Told::Decided(1, PASS)),
-        (show("web")?, Told::Shown(1)),
-        (begin(alloc, &["-", "web"])?, given(3, 2)),
-        (rollback(alloc, &[("web", 4)])?, Told::Done),
-        (commit(alloc, &[("-", 3)])?, Told::Applied),
-        (judge(alloc, packet)?, Told::Default),
-        (show("-")?, Told::Shown(0)),
-    ])
-}
-
 // To be run with each allocation refused in turn: each call gives its answer or refuses for memory, and then gives it.
 #[test]
 fn allocations_refused(rt: HostRuntime) -> Result<(), Fail> {
@@ -305,12 +340,29 @@ fn allocations_refused(rt: HostRuntime) -> Result<(), Fail> {
         Ok(core) => core,
         Err(_) => fresh(alloc)?,
     };
-    let commands = match round(alloc) {
-        Ok(commands) => commands,
-        Err(_) => round(alloc)?,
-    };
-    for (place, (command, want)) in commands.iter().enumerate() {
-        assert_eq!(rt; run_again(&mut core, command), *want, "at {place}");
+    let packet = "in em0 udp 10.0.0.1 5 10.0.0.2 53";
+    for (place, (ask, want)) in [
+        (Begin(&["-", "web"]), given(1, 2)),
+        (Add("-", 1, "block in all"), Told::Done),
+        (Add("-", 1, "pass in all"), Told::Done),
+        (Add("web", 2, "block in all"), Told::Done),
+        (Commit(&[("-", 1), ("web", 2)]), Told::Applied),
+        (Judge(packet), Told::Decided(1, PASS)),
+        (Show("web"), Told::Shown(1)),
+        (Begin(&["-", "web"]), given(3, 2)),
+        (Rollback(&[("web", 4)]), Told::Done),
+        (Commit(&[("-", 3)]), Told::Applied),
+        (Judge(packet), Told::Default),
+        (Show("-"), Told::Shown(0)),
+    ]
+    .iter()
+    .enumerate()
+    {
+        let command = match ask.command(alloc) {
+            Ok(command) => command,
+            Err(_) => ask.command(alloc)?,
+        };
+        assert_eq!(rt; run_again(&mut core, &command), *want, "at {place}");
     }
     Ok(())
 }

@@ -9,32 +9,34 @@ fn an_emptied_ruleset_is_gone(rt: HostRuntime) -> Result<(), Fail> {
     assert!(rt; core.durable().rulesets().is_empty());
     check(
         &rt,
+        alloc,
         &mut core,
         &[
-            (begin(alloc, &["web", "-", "a", "b"])?, given(1, 4)),
-            (add(alloc, "web", 1, "block out all")?, Told::Done),
-            (add(alloc, "-", 2, "block in all")?, Told::Done),
-            (add(alloc, "a", 3, "block on em0 all")?, Told::Done),
+            (Begin(&["web", "-", "a", "b"]), given(1, 4)),
+            (Add("web", 1, "block out all"), Told::Done),
+            (Add("-", 2, "block in all"), Told::Done),
+            (Add("a", 3, "block on em0 all"), Told::Done),
             // what has no rules has no entry from the first
             (
-                commit(alloc, &[("web", 1), ("-", 2), ("a", 3), ("b", 4)])?,
+                Commit(&[("web", 1), ("-", 2), ("a", 3), ("b", 4)]),
                 Told::Applied,
             ),
         ],
-    );
+    )?;
     assert!(rt; keeps(alloc, core.durable(), b" a web ")?);
     check(
         &rt,
+        alloc,
         &mut core,
         &[
-            (begin(alloc, &["-", "web"])?, given(5, 2)),
-            (judge(alloc, packet)?, Told::Decided(0, Action::Block)),
-            (commit(alloc, &[("-", 5), ("web", 6)])?, Told::Applied),
-            (judge(alloc, packet)?, Told::Default),
-            (show("-")?, Told::Shown(0)),
-            (show("web")?, Told::Shown(0)),
+            (Begin(&["-", "web"]), given(5, 2)),
+            (Judge(packet), Told::Decided(0, Action::Block)),
+            (Commit(&[("-", 5), ("web", 6)]), Told::Applied),
+            (Judge(packet), Told::Default),
+            (Show("-"), Told::Shown(0)),
+            (Show("web"), Told::Shown(0)),
         ],
-    );
+    )?;
     assert!(rt; keeps(alloc, core.durable(), b"a ")?);
     assert!(rt; shows(alloc, &mut core, "a", b"block on em0 all\n")?);
     Ok(())
@@ -52,13 +54,14 @@ fn rulesets_are_in_the_order_of_bytes(rt: HostRuntime) -> Result<(), Fail> {
         let count = place as u32 + 1;
         check(
             &rt,
+            alloc,
             &mut core,
             &[
-                (begin(alloc, &[*text])?, given(count, 1)),
-                (add(alloc, text, count, "block all")?, Told::Done),
-                (commit(alloc, &[(*text, count)])?, Told::Applied),
+                (Begin(&[*text]), given(count, 1)),
+                (Add(text, count, "block all"), Told::Done),
+                (Commit(&[(*text, count)]), Told::Applied),
             ],
-        );
+        )?;
     }
     assert!(rt; keeps(alloc, core.durable(), b" B a a-b a.b a/b a0 ")?);
     Ok(())
@@ -70,23 +73,24 @@ fn shows_rules(rt: HostRuntime) -> Result<(), Fail> {
     let mut core = fresh(alloc)?;
     check(
         &rt,
+        alloc,
         &mut core,
         &[
-            (begin(alloc, &["web", "-"])?, given(1, 2)),
-            (add(alloc, "web", 1, "block in all")?, Told::Done),
-            (add(alloc, "web", 1, "pass quick on em0")?, Told::Done),
-            (add(alloc, "web", 1, "block in all")?, Told::Done),
-            (add(alloc, "-", 2, "block out all")?, Told::Done),
+            (Begin(&["web", "-"]), given(1, 2)),
+            (Add("web", 1, "block in all"), Told::Done),
+            (Add("web", 1, "pass quick on em0"), Told::Done),
+            (Add("web", 1, "block in all"), Told::Done),
+            (Add("-", 2, "block out all"), Told::Done),
             // what is only offered isn't shown
-            (show("web")?, Told::Shown(0)),
-            (commit(alloc, &[("web", 1), ("-", 2)])?, Told::Applied),
+            (Show("web"), Told::Shown(0)),
+            (Commit(&[("web", 1), ("-", 2)]), Told::Applied),
         ],
-    );
+    )?;
     let web = b"block in all\npass quick on em0 all keep state\nblock in all\n".as_slice();
     assert!(rt; shows(alloc, &mut core, "web", web)?);
     assert!(rt; shows(alloc, &mut core, "-", b"block out all\n")?);
     for text in ["a", "we", "web/a", "webs"] {
-        assert_eq!(rt; run(&mut core, &show(text)?), Told::Shown(0), "{text}");
+        check(&rt, alloc, &mut core, &[(Show(text), Told::Shown(0))])?;
     }
     Ok(())
 }
@@ -98,18 +102,19 @@ fn the_main_ruleset_alone_decides(rt: HostRuntime) -> Result<(), Fail> {
     let packet = "in em0 udp 10.0.0.1 5 10.0.0.2 53";
     check(
         &rt,
+        alloc,
         &mut core,
         &[
-            (begin(alloc, &["a", "-"])?, given(1, 2)),
-            (add(alloc, "a", 1, "block quick all")?, Told::Done),
-            (commit(alloc, &[("a", 1)])?, Told::Applied),
-            (judge(alloc, packet)?, Told::Default),
-            (add(alloc, "-", 2, "block out all")?, Told::Done),
-            (add(alloc, "-", 2, "pass in all")?, Told::Done),
-            (commit(alloc, &[("-", 2)])?, Told::Applied),
-            (judge(alloc, packet)?, Told::Decided(1, PASS)),
+            (Begin(&["a", "-"]), given(1, 2)),
+            (Add("a", 1, "block quick all"), Told::Done),
+            (Commit(&[("a", 1)]), Told::Applied),
+            (Judge(packet), Told::Default),
+            (Add("-", 2, "block out all"), Told::Done),
+            (Add("-", 2, "pass in all"), Told::Done),
+            (Commit(&[("-", 2)]), Told::Applied),
+            (Judge(packet), Told::Decided(1, PASS)),
         ],
-    );
+    )?;
     Ok(())
 }
 
@@ -120,30 +125,33 @@ fn a_change_is_made_ready(rt: HostRuntime) -> Result<(), Fail> {
     let mut core = fresh(alloc)?;
     check(
         &rt,
+        alloc,
         &mut core,
         &[
-            (begin(alloc, &["web", "a"])?, given(1, 2)),
-            (add(alloc, "web", 1, "block all")?, Told::Done),
+            (Begin(&["web", "a"]), given(1, 2)),
+            (Add("web", 1, "block all"), Told::Done),
         ],
-    );
-    let Ok(Step::Wants(change, _)) = core.step(&commit(alloc, &[("web", 1)])?) else {
+    )?;
+    let command = Commit(&[("web", 1)]).command(alloc)?;
+    let Ok(Step::Wants(change, _)) = core.step(&command) else {
         return Err(Fail::new("a commit of a valid ticket wants a change"));
     };
     let next = core.prepare(&change)?;
     let ready = next.durable()?;
     assert!(rt; keeps(alloc, &ready, b"web ")?);
     assert!(rt; core.durable().rulesets().is_empty());
-    assert_eq!(rt; run(&mut core, &show("web")?), Told::Shown(0));
+    check(&rt, alloc, &mut core, &[(Show("web"), Told::Shown(0))])?;
     core.accept(next);
     assert!(rt; keeps(alloc, core.durable(), b"web ")?);
     check(
         &rt,
+        alloc,
         &mut core,
         &[
-            (show("web")?, Told::Shown(1)),
-            (commit(alloc, &[("web", 1)])?, busy(0)),
-            (commit(alloc, &[("a", 2)])?, Told::Applied),
+            (Show("web"), Told::Shown(1)),
+            (Commit(&[("web", 1)]), busy(0)),
+            (Commit(&[("a", 2)]), Told::Applied),
         ],
-    );
+    )?;
     Ok(())
 }
