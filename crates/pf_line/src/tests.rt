@@ -1,11 +1,12 @@
 use super::*;
 use pf_core::{
-    Answer, Command, Entries, Entry, Given, Outcome, Path, Refusal, Reply, RuleVerdict,
-    RulesetName, Ticket, Verdict,
+    Answer, Command, Core, Durable, Entries, Entry, Given, Outcome, Path, Refusal, Reply,
+    RuleVerdict, RulesetName, Step, Ticket, Verdict,
 };
 use pf_rule::Action;
 use std::alloc::Global;
 use std::io::{self, ErrorKind, Write};
+use std::sync::Arc;
 use std::test::*;
 
 /// What a line was read as.
@@ -119,32 +120,57 @@ fn entries_of(entries: &[Entry], pairs: &[(&[u8], Ticket)]) -> bool {
         })
 }
 
+fn begins(alloc: Global, line: &[u8], paths: &[&[u8]]) -> bool {
+    match parse_line(alloc, line) {
+        Ok(Some(Command::Begin(names))) => paths_of(names.as_slice(), paths),
+        _ => false,
+    }
+}
+
+fn commits(alloc: Global, line: &[u8], pairs: &[(&[u8], Ticket)]) -> bool {
+    match parse_line(alloc, line) {
+        Ok(Some(Command::Commit(entries))) => entries_of(entries.as_slice(), pairs),
+        _ => false,
+    }
+}
+
+fn rolls_back(alloc: Global, line: &[u8], pairs: &[(&[u8], Ticket)]) -> bool {
+    match parse_line(alloc, line) {
+        Ok(Some(Command::Rollback(entries))) => entries_of(entries.as_slice(), pairs),
+        _ => false,
+    }
+}
+
+fn is_show_of(command: &Command, path: &[u8]) -> bool {
+    match command {
+        Command::ShowRules(shown) => shown.as_bytes() == path,
+        _ => false,
+    }
+}
+
+fn shows(alloc: Global, line: &[u8], path: &[u8]) -> bool {
+    match parse_line(alloc, line) {
+        Ok(Some(command)) => is_show_of(&command, path),
+        _ => false,
+    }
+}
+
 #[test]
-fn keeps_the_order_of_lists(rt: HostRuntime) -> Result<(), Fail> {
-    let begun = parse_line(rt.alloc(), b"begin filter web filter - filter web/a");
-    let Ok(Some(Command::Begin(names))) = begun else {
-        return Err("a begin".into());
-    };
+fn keeps_the_order_of_lists(rt: HostRuntime) {
     let paths = [b"web".as_slice(), b"", b"web/a"];
-    assert!(rt; paths_of(names.as_slice(), paths.as_slice()));
-    let committed = parse_line(rt.alloc(), b"commit filter web 1.3 filter - 1.2");
-    let Ok(Some(Command::Commit(entries))) = committed else {
-        return Err("a commit".into());
-    };
+    assert!(rt;
+        begins(
+            rt.alloc(),
+            b"begin filter web filter - filter web/a",
+            &paths
+        )
+    );
     let pairs = [(b"web".as_slice(), ticket(1, 3)), (b"", ticket(1, 2))];
-    assert!(rt; entries_of(entries.as_slice(), pairs.as_slice()));
-    let dropped = parse_line(rt.alloc(), b"rollback filter - 1.2 filter web 1.3");
-    let Ok(Some(Command::Rollback(entries))) = dropped else {
-        return Err("a rollback".into());
-    };
-    let pairs = [(b"".as_slice(), ticket(1, 2)), (b"web", ticket(1, 3))];
-    assert!(rt; entries_of(entries.as_slice(), pairs.as_slice()));
-    let shown = parse_line(rt.alloc(), b"show rules web/a");
-    let Ok(Some(Command::ShowRules(path))) = shown else {
-        return Err("a show".into());
-    };
-    assert!(rt; path.as_bytes() == b"web/a".as_slice());
-    Ok(())
+    assert!(rt; commits(rt.alloc(), b"commit filter web 1.3 filter - 1.2", &pairs));
+    assert!(rt; rolls_back(rt.alloc(), b"rollback filter web 1.3 filter - 1.2", &pairs));
+    assert!(rt; !rolls_back(rt.alloc(), b"rollback filter - 1.2 filter web 1.3", &pairs));
+    assert!(rt; shows(rt.alloc(), b"show rules web/a", b"web/a"));
+    assert!(rt; shows(rt.alloc(), b"show rules -", b""));
 }
 
 // The parser bounds no list: the core does, and a bad word in a longer one comes first.
@@ -508,6 +534,57 @@ fn writes_replies(rt: HostRuntime) -> Result<(), Fail> {
     ] {
         let mut out = Vec::new(rt.alloc());
         write_reply(&mut out, &reply)?;
+        assert!(rt; out.as_slice() == text);
+    }
+    Ok(())
+}
+
+// The reply to a line, where any change is put in place as the first.
+fn replied(core: &mut Core, command: &Command) -> Result<Reply, Fail> {
+    match core.step(command) {
+        Ok(Step::Done(answer)) => Ok(Reply::Answer(answer)),
+        Ok(Step::Wants(change, outcome)) => {
+            let next = core.prepare(&change)?;
+            core.accept(next);
+            Ok(Reply::Applied { seq: 1, outcome })
+        }
+        Err(refusal) => Ok(Reply::Refused(refusal)),
+    }
+}
+
+fn reply_to(core: &mut Core, alloc: Global, line: &[u8]) -> Result<Vec<u8>, Fail> {
+    let Ok(Some(command)) = parse_line(alloc, line) else {
+        return Err("a command".into());
+    };
+    let reply = replied(core, &command)?;
+    let mut out = Vec::new(alloc);
+    write_reply(&mut out, &reply)?;
+    Ok(out)
+}
+
+#[test]
+fn writes_shown_rules(rt: HostRuntime) -> Result<(), Fail> {
+    let alloc = rt.alloc();
+    let durable = Arc::new(alloc, Durable::empty(alloc, 1))?;
+    let mut core = Core::new(alloc, durable);
+    for (line, text) in [
+        (b"show rules -".as_slice(), b"end 0\n".as_slice()),
+        (b"begin filter - filter web", b"ok 1.1 1.2\n"),
+        (b"add web 1.2 pass out", b"ok\n"),
+        (
+            b"add web 1.2 block drop in quick on em0 proto 6 from 10/8 to any",
+            b"ok\n",
+        ),
+        (b"show rules web", b"end 0\n"),
+        (b"commit filter - 1.1 filter web 1.2", b"applied 1\n"),
+        (
+            b"show rules web",
+            b"@0 pass out all keep state\n@1 block in quick on em0 inet proto tcp from 10.0.0.0/8 to any\nend 2\n",
+        ),
+        (b"show rules -", b"end 0\n"),
+        (b"commit filter web 1.2 filter web 1.2", b"err twice 1\n"),
+    ] {
+        let out = reply_to(&mut core, alloc, line)?;
         assert!(rt; out.as_slice() == text);
     }
     Ok(())
