@@ -1,12 +1,20 @@
 //! Lines and their exact replies. Each row was worked out by hand from the grammar and the rules of judging.
+//!
+//! A table is a text with a row `LINE -> REPLY` for each line, or `LINE` alone where there is no reply. A reply of several
+//! lines has ` | ` between them. Empty rows and comments, which begin with `//`, say nothing.
 ghost use Rattle.std.specs.Prelude.{◌≤◌};
 
 mod blanks;
 mod commands;
 mod hosts;
 mod judging;
+mod limits;
+mod lists;
 mod packets;
+mod paths;
 mod rules;
+mod rulesets;
+mod shown;
 mod transactions;
 
 use crate::book::Book;
@@ -19,7 +27,7 @@ use std::test::Fail;
 const HISTORY: usize = 65_536;
 
 /// A transaction on the main ruleset, begun on a fresh book.
-const BEGUN: [(&str, &str); 1] = [("begin filter -", "ok 1.1")];
+const BEGUN: &str = "begin filter - -> ok 1.1";
 
 /// An input, and the output that is wanted of it.
 #[derive(Drop)]
@@ -43,19 +51,33 @@ impl Exchange {
         self.push_reply(reply)
     }
 
-    /// Appends a reply, where there is one.
+    /// Appends a line that is these parts in a row, and its reply where it has one.
+    fn push_parts(&mut self, parts: &[&str], reply: &str) -> Result<(), AllocError> {
+        for part in parts {
+            self.input.extend_from_slice(part.as_bytes())?;
+        }
+        self.input.push(b'\n')?;
+        self.push_reply(reply)
+    }
+
+    /// Appends the lines of a reply, where there is one.
     fn push_reply(&mut self, reply: &str) -> Result<(), AllocError> {
-        if !reply.is_empty() {
-            self.output.push_str(reply)?;
+        if reply.is_empty() {
+            return Ok(());
+        }
+        for line in reply.split(" | ") {
+            self.output.push_str(line)?;
             self.output.push('\n')?;
         }
         Ok(())
     }
 
-    /// Appends lines with their replies.
-    fn push_all(&mut self, rows: &[(&str, &str)]) -> Result<(), AllocError> {
-        for (line, reply) in rows {
-            self.push(line, reply)?;
+    /// Appends the rows of a table.
+    fn push_all(&mut self, table: &str) -> Result<(), AllocError> {
+        for row in table.lines() {
+            if let Some((line, reply)) = row_of(row) {
+                self.push(line, reply)?;
+            }
         }
         Ok(())
     }
@@ -86,30 +108,30 @@ impl Exchange {
     }
 }
 
+/// The line and the reply of a row, where it is one.
+fn row_of(row: &str) -> Option<(&str, &str)> {
+    if row.is_empty() || row.starts_with("//") {
+        return None;
+    }
+    Some(row.split_once(" -> ").unwrap_or((row, "")))
+}
+
 /// Each row's line after the lines `before`, on a book of its own.
-fn check(
-    rt: &impl Abort,
-    alloc: Global,
-    before: &[(&str, &str)],
-    rows: &[(&str, &str)],
-) -> Result<(), Fail> {
-    for (line, reply) in rows {
-        let mut exchange = Exchange::new(alloc);
-        exchange.push_all(before)?;
-        exchange.push(line, reply)?;
-        exchange.hold(rt, alloc, line)?;
+fn check(rt: &impl Abort, alloc: Global, before: &str, table: &str) -> Result<(), Fail> {
+    for row in table.lines() {
+        if let Some((line, reply)) = row_of(row) {
+            let mut exchange = Exchange::new(alloc);
+            exchange.push_all(before)?;
+            exchange.push(line, reply)?;
+            exchange.hold(rt, alloc, line)?;
+        }
     }
     Ok(())
 }
 
 /// All rows in turn on one book.
-fn check_in_turn(
-    rt: &impl Abort,
-    alloc: Global,
-    name: &str,
-    rows: &[(&str, &str)],
-) -> Result<(), Fail> {
+fn check_in_turn(rt: &impl Abort, alloc: Global, name: &str, table: &str) -> Result<(), Fail> {
     let mut exchange = Exchange::new(alloc);
-    exchange.push_all(rows)?;
+    exchange.push_all(table)?;
     exchange.hold(rt, alloc, name)
 }

@@ -1,6 +1,6 @@
 //! What a line is: its blanks, its bytes and its length.
 use super::Exchange;
-use std::alloc::Global;
+use std::alloc::{AllocError, Global};
 use std::process::Abort;
 use std::test::Fail;
 
@@ -87,21 +87,24 @@ const INPUTS: [(&[u8], &str); 60] = [
     ),
 ];
 
-#[test]
-fn blanks_and_bytes(rt: HostRuntime) -> Result<(), Fail> {
-    let alloc = rt.alloc();
-    for (input, output) in INPUTS {
+fn check_inputs(rt: &impl Abort, alloc: Global, rows: &[(&[u8], &str)]) -> Result<(), Fail> {
+    for (input, output) in rows {
         let mut exchange = Exchange::new(alloc);
         exchange.input.extend_from_slice(input)?;
         exchange.output.push_str(output)?;
         let row = format!(in alloc; "{input:?}")?;
-        exchange.hold(&rt, alloc, row.as_str())?;
+        exchange.hold(rt, alloc, row.as_str())?;
     }
     Ok(())
 }
 
+#[test]
+fn blanks_and_bytes(rt: HostRuntime) -> Result<(), Fail> {
+    check_inputs(&rt, rt.alloc(), &INPUTS)
+}
+
 /// A line's first bytes, a byte that fills it, its whole length without a newline, and the reply.
-const LENGTHS: [(&str, u8, usize, &str); 37] = [
+const LENGTHS: [(&str, u8, usize, &str); 39] = [
     // At most 4096 bytes, blanks and comments included.
     ("", b' ', 4_096, ""),
     ("", b' ', 4_097, "err line"),
@@ -123,7 +126,9 @@ const LENGTHS: [(&str, u8, usize, &str); 37] = [
     ("frob", b'b', 4_097, "err line"),
     // A long word is judged as any other.
     ("begin ", b'f', 4_096, "err word 1"),
-    ("begin filter ", b'-', 4_096, "err word 2"),
+    ("begin filter ", b'-', 4_096, "err name 2"),
+    ("begin filter ", b'/', 4_096, "err name 2"),
+    ("show rules ", b'w', 4_096, "err name 2"),
     ("begin filter - ", b'x', 4_096, "err word 3"),
     ("commit filter - 1.", b'0', 4_096, "err word 3"),
     ("add - 1.1 pass on ", b'e', 4_096, "err name 5"),
@@ -177,32 +182,46 @@ fn check_line(
     exchange.hold(rt, alloc, row)
 }
 
-#[test]
-fn lengths_of_lines(rt: HostRuntime) -> Result<(), Fail> {
-    let alloc = rt.alloc();
-    for (head, filler, length, reply) in LENGTHS {
+/// Appends the byte until the line has so many.
+fn fill(line: &mut Vec<u8>, filler: u8, length: usize) -> Result<(), AllocError> {
+    for _ in line.len()..length {
+        line.push(filler)?;
+    }
+    Ok(())
+}
+
+fn check_lengths(
+    rt: &impl Abort,
+    alloc: Global,
+    rows: &[(&str, u8, usize, &str)],
+) -> Result<(), Fail> {
+    for (head, filler, length, reply) in rows {
         let row = format!(in alloc; "{head:?}, {filler} up to {length} bytes")?;
         let mut line = Vec::new(alloc);
         line.extend_from_slice(head.as_bytes())?;
-        for _ in head.len()..length {
-            line.push(filler)?;
-        }
-        check_line(&rt, alloc, line.as_slice(), reply, row.as_str())?;
+        fill(&mut line, *filler, *length)?;
+        check_line(rt, alloc, line.as_slice(), reply, row.as_str())?;
+    }
+    Ok(())
+}
+
+#[test]
+fn lengths_of_lines(rt: HostRuntime) -> Result<(), Fail> {
+    check_lengths(&rt, rt.alloc(), &LENGTHS)
+}
+
+fn check_spaces(rt: &impl Abort, alloc: Global, rows: &[(usize, &str, &str)]) -> Result<(), Fail> {
+    for (spaces, words, reply) in rows {
+        let row = format!(in alloc; "{spaces} spaces, {words}")?;
+        let mut line = Vec::new(alloc);
+        fill(&mut line, b' ', *spaces)?;
+        line.extend_from_slice(words.as_bytes())?;
+        check_line(rt, alloc, line.as_slice(), reply, row.as_str())?;
     }
     Ok(())
 }
 
 #[test]
 fn words_behind_many_spaces(rt: HostRuntime) -> Result<(), Fail> {
-    let alloc = rt.alloc();
-    for (spaces, words, reply) in LEADING_SPACES {
-        let row = format!(in alloc; "{spaces} spaces, {words}")?;
-        let mut line = Vec::new(alloc);
-        for _ in 0..spaces {
-            line.push(b' ')?;
-        }
-        line.extend_from_slice(words.as_bytes())?;
-        check_line(&rt, alloc, line.as_slice(), reply, row.as_str())?;
-    }
-    Ok(())
+    check_spaces(&rt, rt.alloc(), &LEADING_SPACES)
 }

@@ -121,38 +121,34 @@ fn check_network(
     address: &str,
     verdict: &str,
 ) -> Result<(), Fail> {
-    let from = format!(in alloc; "add - 1.1 block from {network}")?;
-    let to = format!(in alloc; "add - 1.2 block to {network}")?;
-    let source = format!(in alloc; "judge in em0 tcp {address} 1 192.0.2.1 2")?;
-    let destination = format!(in alloc; "judge in em0 tcp 192.0.2.1 1 {address} 2")?;
     let mut exchange = Exchange::new(alloc);
     exchange.push("begin filter -", "ok 1.1")?;
-    exchange.push(from.as_str(), "ok")?;
+    exchange.push_parts(&["add - 1.1 block from ", network], "ok")?;
     exchange.push("commit filter - 1.1", "applied 1")?;
-    exchange.push(source.as_str(), verdict)?;
+    exchange.push_parts(&["judge in em0 tcp ", address, " 1 192.0.2.1 2"], verdict)?;
     exchange.push("begin filter -", "ok 1.2")?;
-    exchange.push(to.as_str(), "ok")?;
+    exchange.push_parts(&["add - 1.2 block to ", network], "ok")?;
     exchange.push("commit filter - 1.2", "applied 2")?;
-    exchange.push(destination.as_str(), verdict)?;
-    exchange.hold(rt, alloc, source.as_str())
+    exchange.push_parts(&["judge in em0 tcp 192.0.2.1 1 ", address, " 2"], verdict)?;
+    let row = format!(in alloc; "{network}, {address}")?;
+    exchange.hold(rt, alloc, row.as_str())
+}
+
+fn check_networks(rt: &impl Abort, alloc: Global, rows: &[(&str, &str, &str)]) -> Result<(), Fail> {
+    for (network, address, verdict) in rows {
+        check_network(rt, alloc, network, address, verdict)?;
+    }
+    Ok(())
 }
 
 #[test]
 fn networks(rt: HostRuntime) -> Result<(), Fail> {
-    let alloc = rt.alloc();
-    for (network, address, verdict) in BORDERS {
-        check_network(&rt, alloc, network, address, verdict)?;
-    }
-    Ok(())
+    check_networks(&rt, rt.alloc(), &BORDERS)
 }
 
 #[test]
 fn spellings_of_networks(rt: HostRuntime) -> Result<(), Fail> {
-    let alloc = rt.alloc();
-    for (network, address, verdict) in SPELLINGS {
-        check_network(&rt, alloc, network, address, verdict)?;
-    }
-    Ok(())
+    check_networks(&rt, rt.alloc(), &SPELLINGS)
 }
 
 /// The only rule, a packet's direction, interface and protocol, and the verdict on it.
@@ -227,132 +223,124 @@ fn check_rule(
     head: &str,
     verdict: &str,
 ) -> Result<(), Fail> {
-    let add = format!(in alloc; "add - 1.1 {rule}")?;
-    let judge = format!(in alloc; "judge {head} 10.0.0.1 0 10.0.0.2 0")?;
-    let row = format!(in alloc; "{rule}, {head}")?;
     let mut exchange = Exchange::new(alloc);
     exchange.push("begin filter -", "ok 1.1")?;
-    exchange.push(add.as_str(), "ok")?;
+    exchange.push_parts(&["add - 1.1 ", rule], "ok")?;
     exchange.push("commit filter - 1.1", "applied 1")?;
-    exchange.push(judge.as_str(), verdict)?;
+    exchange.push_parts(&["judge ", head, " 10.0.0.1 0 10.0.0.2 0"], verdict)?;
+    let row = format!(in alloc; "{rule}, {head}")?;
     exchange.hold(rt, alloc, row.as_str())
 }
 
-#[test]
-fn rules_alone(rt: HostRuntime) -> Result<(), Fail> {
-    let alloc = rt.alloc();
-    for (rule, head, verdict) in ALONE {
-        check_rule(&rt, alloc, rule, head, verdict)?;
+fn check_rules(rt: &impl Abort, alloc: Global, rows: &[(&str, &str, &str)]) -> Result<(), Fail> {
+    for (rule, head, verdict) in rows {
+        check_rule(rt, alloc, rule, head, verdict)?;
     }
     Ok(())
 }
 
-/// A rule matches where all its tests hold.
-const ALL_TESTS: [(&str, &str); 3] = [
-    ("begin filter -", "ok 1.1"),
-    (
-        "add - 1.1 pass out quick on em0 inet proto udp from 10/8 to 11/8 no state",
-        "ok",
-    ),
-    ("commit filter - 1.1", "applied 1"),
-];
+#[test]
+fn rules_alone(rt: HostRuntime) -> Result<(), Fail> {
+    check_rules(&rt, rt.alloc(), &ALONE)
+}
 
-const ONE_FAILS: [(&str, &str); 12] = [
-    ("judge out em0 udp 10.0.0.1 1 11.0.0.1 2", "pass rule 0"),
-    ("judge out em0 17 10.255.0.1 9 11.255.0.1 0", "pass rule 0"),
-    // One test doesn't hold.
-    ("judge in em0 udp 10.0.0.1 1 11.0.0.1 2", "pass default"),
-    ("judge out em1 udp 10.0.0.1 1 11.0.0.1 2", "pass default"),
-    ("judge out em0 tcp 10.0.0.1 1 11.0.0.1 2", "pass default"),
-    ("judge out em0 icmp 10.0.0.1 0 11.0.0.1 0", "pass default"),
-    ("judge out em0 udp 12.0.0.1 1 11.0.0.1 2", "pass default"),
-    ("judge out em0 udp 10.0.0.1 1 12.0.0.1 2", "pass default"),
-    ("judge out em0 udp 11.0.0.1 1 11.0.0.2 2", "pass default"),
-    ("judge out em0 udp 10.0.0.1 1 10.0.0.2 2", "pass default"),
-    // The hosts are exchanged.
-    ("judge out em0 udp 11.0.0.1 2 10.0.0.1 1", "pass default"),
-    // None holds.
-    ("judge in em1 tcp 12.0.0.1 1 12.0.0.2 2", "pass default"),
-];
+/// A rule matches where all its tests hold.
+const ALL_TESTS: &str = "
+begin filter - -> ok 1.1
+add - 1.1 pass out quick on em0 inet proto udp from 10/8 to 11/8 no state -> ok
+commit filter - 1.1 -> applied 1
+";
+
+const ONE_FAILS: &str = "
+judge out em0 udp 10.0.0.1 1 11.0.0.1 2 -> pass rule 0
+judge out em0 17 10.255.0.1 9 11.255.0.1 0 -> pass rule 0
+// One test doesn't hold.
+judge in em0 udp 10.0.0.1 1 11.0.0.1 2 -> pass default
+judge out em1 udp 10.0.0.1 1 11.0.0.1 2 -> pass default
+judge out em0 tcp 10.0.0.1 1 11.0.0.1 2 -> pass default
+judge out em0 icmp 10.0.0.1 0 11.0.0.1 0 -> pass default
+judge out em0 udp 12.0.0.1 1 11.0.0.1 2 -> pass default
+judge out em0 udp 10.0.0.1 1 12.0.0.1 2 -> pass default
+judge out em0 udp 11.0.0.1 1 11.0.0.2 2 -> pass default
+judge out em0 udp 10.0.0.1 1 10.0.0.2 2 -> pass default
+// The hosts are exchanged.
+judge out em0 udp 11.0.0.1 2 10.0.0.1 1 -> pass default
+// None holds.
+judge in em1 tcp 12.0.0.1 1 12.0.0.2 2 -> pass default
+";
 
 #[test]
 fn all_tests_of_a_rule(rt: HostRuntime) -> Result<(), Fail> {
-    check(&rt, rt.alloc(), &ALL_TESTS, &ONE_FAILS)
+    check(&rt, rt.alloc(), ALL_TESTS, ONE_FAILS)
 }
 
 /// The last matching rule decides (pf.conf(5), Packet Filtering), save that a matching `quick` rule is final.
-const LOADED: [(&str, &str); 9] = [
-    ("begin filter -", "ok 1.1"),
-    ("add - 1.1 block in all", "ok"),
-    ("add - 1.1 pass in proto tcp all", "ok"),
-    (
-        "add - 1.1 block in quick proto tcp from 10.0.0.1 to any",
-        "ok",
-    ),
-    (
-        "add - 1.1 pass in quick on em1 proto tcp from 10.0.0.0/30",
-        "ok",
-    ),
-    ("add - 1.1 block in proto tcp from 10.0.0.0/29 to any", "ok"),
-    ("add - 1.1 pass out quick all", "ok"),
-    ("add - 1.1 block out all", "ok"),
-    ("commit filter - 1.1", "applied 1"),
-];
+const LOADED: &str = "
+begin filter - -> ok 1.1
+add - 1.1 block in all -> ok
+add - 1.1 pass in proto tcp all -> ok
+add - 1.1 block in quick proto tcp from 10.0.0.1 to any -> ok
+add - 1.1 pass in quick on em1 proto tcp from 10.0.0.0/30 -> ok
+add - 1.1 block in proto tcp from 10.0.0.0/29 to any -> ok
+add - 1.1 pass out quick all -> ok
+add - 1.1 block out all -> ok
+commit filter - 1.1 -> applied 1
+";
 
-const DECIDED: [(&str, &str); 13] = [
-    // Only rule 0 matches.
-    ("judge in em0 udp 10.0.0.1 1 10.9.9.9 2", "block rule 0"),
-    ("judge in em1 icmp 10.0.0.1 0 10.9.9.9 0", "block rule 0"),
-    // Rules 0 and 1.
-    ("judge in em0 tcp 10.0.0.8 1 10.9.9.9 2", "pass rule 1"),
-    ("judge in em1 tcp 10.0.0.8 1 10.9.9.9 2", "pass rule 1"),
-    // Rules 0, 1 and 2, which is quick; rule 4, and on em1 rule 3, would match too.
-    ("judge in em0 tcp 10.0.0.1 1 10.9.9.9 2", "block rule 2"),
-    ("judge in em1 tcp 10.0.0.1 1 10.9.9.9 2", "block rule 2"),
-    // Rules 0, 1 and 3, which is quick; rule 4 would match too.
-    ("judge in em1 tcp 10.0.0.2 1 10.9.9.9 2", "pass rule 3"),
-    ("judge in em1 tcp 10.0.0.3 1 10.9.9.9 2", "pass rule 3"),
-    // Rules 0, 1 and 4. A quick rule that doesn't match ends nothing.
-    ("judge in em0 tcp 10.0.0.2 1 10.9.9.9 2", "block rule 4"),
-    ("judge in em1 tcp 10.0.0.4 1 10.9.9.9 2", "block rule 4"),
-    ("judge in em1 tcp 10.0.0.7 1 10.9.9.9 2", "block rule 4"),
-    // Rule 5, which is quick; rule 6 would match too.
-    ("judge out em0 udp 10.0.0.1 1 10.9.9.9 2", "pass rule 5"),
-    ("judge out em1 tcp 10.0.0.2 1 10.9.9.9 2", "pass rule 5"),
-];
+const DECIDED: &str = "
+// Only rule 0 matches.
+judge in em0 udp 10.0.0.1 1 10.9.9.9 2 -> block rule 0
+judge in em1 icmp 10.0.0.1 0 10.9.9.9 0 -> block rule 0
+// Rules 0 and 1.
+judge in em0 tcp 10.0.0.8 1 10.9.9.9 2 -> pass rule 1
+judge in em1 tcp 10.0.0.8 1 10.9.9.9 2 -> pass rule 1
+// Rules 0, 1 and 2, which is quick; rule 4, and on em1 rule 3, would match too.
+judge in em0 tcp 10.0.0.1 1 10.9.9.9 2 -> block rule 2
+judge in em1 tcp 10.0.0.1 1 10.9.9.9 2 -> block rule 2
+// Rules 0, 1 and 3, which is quick; rule 4 would match too.
+judge in em1 tcp 10.0.0.2 1 10.9.9.9 2 -> pass rule 3
+judge in em1 tcp 10.0.0.3 1 10.9.9.9 2 -> pass rule 3
+// Rules 0, 1 and 4. A quick rule that doesn't match ends nothing.
+judge in em0 tcp 10.0.0.2 1 10.9.9.9 2 -> block rule 4
+judge in em1 tcp 10.0.0.4 1 10.9.9.9 2 -> block rule 4
+judge in em1 tcp 10.0.0.7 1 10.9.9.9 2 -> block rule 4
+// Rule 5, which is quick; rule 6 would match too.
+judge out em0 udp 10.0.0.1 1 10.9.9.9 2 -> pass rule 5
+judge out em1 tcp 10.0.0.2 1 10.9.9.9 2 -> pass rule 5
+";
 
 /// Twelve rules, rule i being for the interface `em` with the number i, and none for any other.
-const TWELVE: [(&str, &str); 14] = [
-    ("begin filter -", "ok 1.1"),
-    ("add - 1.1 block on em0", "ok"),
-    ("add - 1.1 block on em1", "ok"),
-    ("add - 1.1 block on em2", "ok"),
-    ("add - 1.1 block on em3", "ok"),
-    ("add - 1.1 block on em4", "ok"),
-    ("add - 1.1 block on em5", "ok"),
-    ("add - 1.1 block on em6", "ok"),
-    ("add - 1.1 block on em7", "ok"),
-    ("add - 1.1 block on em8", "ok"),
-    ("add - 1.1 block on em9", "ok"),
-    ("add - 1.1 pass on em10", "ok"),
-    ("add - 1.1 block on em11", "ok"),
-    ("commit filter - 1.1", "applied 1"),
-];
+const TWELVE: &str = "
+begin filter - -> ok 1.1
+add - 1.1 block on em0 -> ok
+add - 1.1 block on em1 -> ok
+add - 1.1 block on em2 -> ok
+add - 1.1 block on em3 -> ok
+add - 1.1 block on em4 -> ok
+add - 1.1 block on em5 -> ok
+add - 1.1 block on em6 -> ok
+add - 1.1 block on em7 -> ok
+add - 1.1 block on em8 -> ok
+add - 1.1 block on em9 -> ok
+add - 1.1 pass on em10 -> ok
+add - 1.1 block on em11 -> ok
+commit filter - 1.1 -> applied 1
+";
 
-const NUMBERED: [(&str, &str); 8] = [
-    ("judge in em0 tcp 10.0.0.1 1 10.0.0.2 2", "block rule 0"),
-    ("judge in em1 tcp 10.0.0.1 1 10.0.0.2 2", "block rule 1"),
-    ("judge in em7 tcp 10.0.0.1 1 10.0.0.2 2", "block rule 7"),
-    ("judge in em8 tcp 10.0.0.1 1 10.0.0.2 2", "block rule 8"),
-    ("judge in em9 tcp 10.0.0.1 1 10.0.0.2 2", "block rule 9"),
-    ("judge in em10 tcp 10.0.0.1 1 10.0.0.2 2", "pass rule 10"),
-    ("judge in em11 tcp 10.0.0.1 1 10.0.0.2 2", "block rule 11"),
-    ("judge in em12 tcp 10.0.0.1 1 10.0.0.2 2", "pass default"),
-];
+const NUMBERED: &str = "
+judge in em0 tcp 10.0.0.1 1 10.0.0.2 2 -> block rule 0
+judge in em1 tcp 10.0.0.1 1 10.0.0.2 2 -> block rule 1
+judge in em7 tcp 10.0.0.1 1 10.0.0.2 2 -> block rule 7
+judge in em8 tcp 10.0.0.1 1 10.0.0.2 2 -> block rule 8
+judge in em9 tcp 10.0.0.1 1 10.0.0.2 2 -> block rule 9
+judge in em10 tcp 10.0.0.1 1 10.0.0.2 2 -> pass rule 10
+judge in em11 tcp 10.0.0.1 1 10.0.0.2 2 -> block rule 11
+judge in em12 tcp 10.0.0.1 1 10.0.0.2 2 -> pass default
+";
 
 #[test]
 fn several_rules(rt: HostRuntime) -> Result<(), Fail> {
     let alloc = rt.alloc();
-    check(&rt, alloc, &LOADED, &DECIDED)?;
-    check(&rt, alloc, &TWELVE, &NUMBERED)
+    check(&rt, alloc, LOADED, DECIDED)?;
+    check(&rt, alloc, TWELVE, NUMBERED)
 }
