@@ -1,9 +1,8 @@
 -- What a commit leaves of each ruleset.
-use Rattle.std.proofs.Common.{◌≡◌, ℕ, ◌+◌, Bool, true, false, cond, ◌&&◌, ◌||◌, List, [], ◌∷◌, ◌++◌, length, refl, sym, ap, ◌∙◌, Option, Some, None, Result, Ok, Err, subst}
+use Rattle.std.proofs.Common.{◌≡◌, ℕ, ◌+◌, Bool, true, false, cond, ◌&&◌, List, [], ◌∷◌, ◌++◌, length, refl, sym, ap, ◌∙◌, Option, Some, None, Result, Ok, Err, subst}
 use Rattle.std.specs.Prelude.{fold, nat_lt}
 use Rattle.pf_rule.specs.Rules.{PlainRule}
 use Rattle.pf_rule.specs.Combining.{◌>>=◌}
-use Rattle.pf_core.specs.declared.command.Command.TheVariants.{Commit}
 use Rattle.pf_core.specs.declared.command.Entry.{Entry}
 use Rattle.pf_core.specs.declared.command.RulesetKind.{RulesetKind}
 use Rattle.pf_core.specs.declared.command.RulesetKind.TheVariants.{Filter}
@@ -14,10 +13,10 @@ use Rattle.pf_core.specs.declared.reply.Refusal.{Refusal}
 use Rattle.pf_core.specs.declared.reply.Refusal.TheVariants.{BadCount, Twice, Busy, TooManyRulesets}
 use Rattle.pf_core.specs.declared.step.Step.{Step}
 use Rattle.pf_core.specs.declared.step.Step.TheVariants.{Wants}
-use Rattle.pf_core.specs.Calls.{Call, mentions, same_kind, same_name, is_named, names_of, filter_at, valid_ticket, content, facts, Facts}
-use Rattle.pf_core.specs.Edits.{Kept, Edit, commits, applied}
+use Rattle.pf_core.specs.Calls.{mentions, same_kind, same_name, is_named, names_of, filter_at, facts, Facts}
+use Rattle.pf_core.specs.Edits.{Edit, commits, applied}
 use Rattle.pf_core.specs.Laws.{rules_by, ReplacesExactly, Each, AreSwitched, SwitchesAll}
-use Rattle.pf_core.specs.Legal.{bad_count, twice_from, twice_in, busy_in, refused_at, list_check, commit_check, items, ruleset_limit, rulesets_after, legal_step}
+use Rattle.pf_core.specs.Legal.{bad_count, twice_from, twice_in, busy_in, refused_at, list_check, commit_check, items, ruleset_limit, rulesets_after}
 use Rattle.pf_core.specs.NameLaws.{paths_alike}
 use Rattle.pf_core.specs.Rulesets.{Ruled, same_path, with_rules, rules_at}
 use Rattle.pf_core.proofs.MapOrder.{map-all}

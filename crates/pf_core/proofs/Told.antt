@@ -1,13 +1,11 @@
 -- The facts that replies read are the same, read off the open transactions or off the calls.
 use Rattle.std.proofs.Common.{◌≡◌, ℕ, List, ap, ◌∙◌, length, Option}
-use Rattle.std.specs.Prelude.{fold, Result}
+use Rattle.std.specs.Prelude.{fold}
 use Rattle.pf_rule.specs.Rules.{PlainRule}
 use Rattle.pf_core.specs.declared.command.Command.{Command}
 use Rattle.pf_core.specs.declared.command.RulesetName.{RulesetName}
 use Rattle.pf_core.specs.declared.command.Ticket.{Ticket}
-use Rattle.pf_core.specs.declared.reply.Refusal.{Refusal}
-use Rattle.pf_core.specs.declared.step.Step.{Step}
-use Rattle.pf_core.specs.Calls.{Call, Mention, mentions, with_name, valid_ticket, content, next_count, opened_with, Facts, facts}
+use Rattle.pf_core.specs.Calls.{Call, Mention, mentions, with_name, valid_ticket, content, next_count, Facts, facts}
 use Rattle.pf_core.specs.Edits.{Kept}
 use Rattle.pf_core.specs.Legal.{step_by, legal_step}
 use Rattle.pf_core.specs.Tickets.{Open, Agrees, AgreesWith, ticket_at, rules_under, names_under, facts_in}

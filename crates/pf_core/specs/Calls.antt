@@ -1,5 +1,5 @@
 -- Calls, and what they say of tickets: which ticket is valid, and what is offered with it (pf(4), DIOCXBEGIN and DIOCXCOMMIT). That a ticket is an epoch and a count, with one counter for all rulesets, is own.
-use Rattle.std.specs.Prelude.{◌≡◌, ℕ, zero, suc, ◌+◌, ◌==◌, ◌&&◌, Bool, true, false, cond, List, [], ◌∷◌, ◌++◌, length, Option, Some, None, fold, filter, map, flat_map}
+use Rattle.std.specs.Prelude.{ℕ, zero, suc, ◌+◌, ◌==◌, ◌&&◌, Bool, true, false, cond, List, [], ◌∷◌, ◌++◌, length, Option, Some, None, fold, filter, map, flat_map}
 use Rattle.std.specs.List.{list_any}
 use Rattle.pf_rule.specs.Rules.{PlainRule}
 use Rattle.pf_core.specs.declared.command.Command.{Command}

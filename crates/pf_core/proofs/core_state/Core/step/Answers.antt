@@ -1,5 +1,4 @@
-use Rattle.std.proofs.Common.{subst, sym, ap, ◌∙◌, ◌≡◌, ℕ, List}
-use Rattle.std.specs.Arc.{arc_value}
+use Rattle.std.proofs.Common.{subst, sym, ap, ◌∙◌, ◌≡◌, List}
 use Rattle.pf_core.specs.declared.command.Command.{Command}
 use Rattle.pf_core.specs.declared.command.Entry.{Entry}
 use Rattle.pf_core.specs.declared.command.RulesetName.{RulesetName}
