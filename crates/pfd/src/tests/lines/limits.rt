@@ -1,4 +1,6 @@
 //! Limits of rules and of rulesets, each reached and passed by one.
+ghost use Rattle.std.specs.Prelude.{◌≤◌};
+
 use super::Exchange;
 use super::lists::{begin_line, entries_line, tickets};
 use std::alloc::{AllocError, Global};

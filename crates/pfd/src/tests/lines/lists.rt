@@ -1,5 +1,5 @@
 //! Lists of one to 64 entries, and the order in which a list's faults are told.
-use super::{Exchange, check, check_in_turn};
+use super::{Exchange, check, check_in_turn, row_of};
 use std::alloc::{AllocError, Global};
 use std::process::Abort;
 use std::test::Fail;
@@ -164,143 +164,127 @@ pub(super) fn entries_line(
     Ok(line)
 }
 
-/// What stands behind a begin of so many rulesets, and the reply on a fresh book.
-const LONG_BEGINS: [(usize, &str, &str); 17] = [
-    (65, "", "err count"),
-    (66, "", "err count"),
-    (300, "", "err count"),
-    // A ruleset that was named before counts as any other.
-    (64, " filter r1", "err count"),
-    (64, " filter -", "err count"),
-    // Words come first.
-    (64, " filter", "err word 130"),
-    (64, " -", "err word 129"),
-    (64, " 1.1", "err word 129"),
-    (64, " table r65", "err word 129"),
-    (64, " r65 filter", "err word 129"),
-    (64, " filter ..", "err word 130"),
-    (64, " filter a//b", "err word 130"),
-    (
-        64,
-        " filter a123456789b123456789c123456789d123456789e123456789f123456789g123",
-        "err name 130",
-    ),
-    (63, " filter", "err word 128"),
-    (63, " table r64", "err word 127"),
-    (65, " filter", "err word 132"),
-    (65, " frob", "err word 131"),
-];
+/// On a fresh book. `[N]` stands for an entry of each ruleset from r1 to rN.
+const LONG_BEGINS: &str = "
+begin [65] -> err count
+begin [66] -> err count
+begin [300] -> err count
+// A ruleset that was named before counts as any other.
+begin [64] filter r1 -> err count
+begin [64] filter - -> err count
+// Words come first.
+begin [64] filter -> err word 130
+begin [64] - -> err word 129
+begin [64] 1.1 -> err word 129
+begin [64] table r65 -> err word 129
+begin [64] r65 filter -> err word 129
+begin [64] filter .. -> err word 130
+begin [64] filter a//b -> err word 130
+begin [64] filter a123456789b123456789c123456789d123456789e123456789f123456789g123 -> err name 130
+begin [63] filter -> err word 128
+begin [63] table r64 -> err word 127
+begin [65] filter -> err word 132
+begin [65] frob -> err word 131
+";
 
-/// The first words of a line, a number of entries behind them, what follows, and the reply on a fresh book.
-const LONG_LISTS: [(&str, usize, &str, &str); 37] = [
-    ("commit", 64, "", "busy 0"),
-    ("commit", 65, "", "err count"),
-    ("commit", 66, "", "err count"),
-    ("commit", 200, "", "err count"),
-    // The number of entries comes before a ruleset that is named twice, and that before tickets.
-    ("commit", 64, " filter r1 1.1", "err count"),
-    ("commit", 63, " filter r1 1.1", "err twice 63"),
-    ("commit", 63, " filter r63 1.1", "err twice 63"),
-    ("commit", 62, " filter r5 1.1 filter r7 1.1", "err twice 62"),
-    ("commit filter r3 1.1", 63, "", "err twice 3"),
-    ("commit filter r63 1.1", 63, "", "err twice 63"),
-    // Words come before all of them.
-    ("commit", 64, " filter", "err word 194"),
-    ("commit", 64, " filter r65", "err word 195"),
-    ("commit", 64, " table r65 1.65", "err word 193"),
-    ("commit", 64, " 1.1", "err word 193"),
-    ("commit", 64, " filter a/ 1.65", "err word 194"),
-    ("commit", 64, " filter r65 65", "err word 195"),
-    ("commit", 65, " frob", "err word 196"),
-    ("commit filter - 1", 64, "", "err word 3"),
-    ("commit filter -", 64, "", "err word 3"),
-    ("commit table - 1.1", 64, "", "err word 1"),
-    ("commit filter - 1.1 filter", 64, "", "err word 6"),
-    ("commit", 63, " filter r1", "err word 192"),
-    ("rollback", 64, "", "ok"),
-    ("rollback", 65, "", "err count"),
-    ("rollback", 200, "", "err count"),
-    ("rollback", 64, " filter r1 1.1", "err count"),
-    ("rollback", 63, " filter r1 1.1", "err twice 63"),
-    ("rollback filter r3 1.1", 63, "", "err twice 3"),
-    ("rollback", 64, " filter", "err word 194"),
-    ("rollback", 64, " filter r65", "err word 195"),
-    ("rollback", 64, " table r65 1.65", "err word 193"),
-    ("rollback", 64, " filter a/ 1.65", "err word 194"),
-    ("rollback", 64, " filter r65 65", "err word 195"),
-    ("rollback", 65, " frob", "err word 196"),
-    ("rollback filter - 1", 64, "", "err word 3"),
-    ("rollback table - 1.1", 64, "", "err word 1"),
-    ("rollback", 63, " filter r1", "err word 192"),
-];
+/// The same, where each entry has the ticket that counts as its ruleset.
+const LONG_LISTS: &str = "
+commit [64] -> busy 0
+commit [65] -> err count
+commit [66] -> err count
+commit [200] -> err count
+// The number of entries comes before a ruleset that is named twice, and that before tickets.
+commit [64] filter r1 1.1 -> err count
+commit [63] filter r1 1.1 -> err twice 63
+commit [63] filter r63 1.1 -> err twice 63
+commit [62] filter r5 1.1 filter r7 1.1 -> err twice 62
+commit filter r3 1.1 [63] -> err twice 3
+commit filter r63 1.1 [63] -> err twice 63
+// Words come before all of them.
+commit [64] filter -> err word 194
+commit [64] filter r65 -> err word 195
+commit [64] table r65 1.65 -> err word 193
+commit [64] 1.1 -> err word 193
+commit [64] filter a/ 1.65 -> err word 194
+commit [64] filter r65 65 -> err word 195
+commit [65] frob -> err word 196
+commit filter - 1 [64] -> err word 3
+commit filter - [64] -> err word 3
+commit table - 1.1 [64] -> err word 1
+commit filter - 1.1 filter [64] -> err word 6
+commit [63] filter r1 -> err word 192
+rollback [64] -> ok
+rollback [65] -> err count
+rollback [200] -> err count
+rollback [64] filter r1 1.1 -> err count
+rollback [63] filter r1 1.1 -> err twice 63
+rollback filter r3 1.1 [63] -> err twice 3
+rollback [64] filter -> err word 194
+rollback [64] filter r65 -> err word 195
+rollback [64] table r65 1.65 -> err word 193
+rollback [64] filter a/ 1.65 -> err word 194
+rollback [64] filter r65 65 -> err word 195
+rollback [65] frob -> err word 196
+rollback filter - 1 [64] -> err word 3
+rollback table - 1.1 [64] -> err word 1
+rollback [63] filter r1 -> err word 192
+";
 
-/// As above, where 64 rulesets have the valid tickets 1.1 to 1.64.
-const LISTS_OF_VALID: [(&str, usize, &str, &str); 14] = [
-    ("commit", 64, "", "applied 1"),
-    ("commit", 63, "", "applied 1"),
-    ("commit", 1, "", "applied 1"),
-    ("commit filter r64 1.64", 63, "", "applied 1"),
-    ("commit", 63, " filter r64 1.63", "busy 63"),
-    ("commit", 63, " filter r64 1.65", "busy 63"),
-    ("commit", 63, " filter - 1.64", "busy 63"),
-    ("commit", 10, " filter r12 1.11 filter r11 1.12", "busy 10"),
-    ("commit filter r64 1.63", 63, "", "busy 0"),
-    ("commit", 63, " filter r1 1.1", "err twice 63"),
-    ("commit", 64, " filter r65 1.65", "err count"),
-    ("commit", 64, " filter r1 1.1", "err count"),
-    ("rollback", 64, "", "ok"),
-    ("rollback", 64, " filter r65 1.65", "err count"),
-];
+/// The same, where 64 rulesets have the valid tickets 1.1 to 1.64.
+const LISTS_OF_VALID: &str = "
+commit [64] -> applied 1
+commit [63] -> applied 1
+commit [1] -> applied 1
+commit filter r64 1.64 [63] -> applied 1
+commit [63] filter r64 1.63 -> busy 63
+commit [63] filter r64 1.65 -> busy 63
+commit [63] filter - 1.64 -> busy 63
+commit [10] filter r12 1.11 filter r11 1.12 -> busy 10
+commit filter r64 1.63 [63] -> busy 0
+commit [63] filter r1 1.1 -> err twice 63
+commit [64] filter r65 1.65 -> err count
+commit [64] filter r1 1.1 -> err count
+rollback [64] -> ok
+rollback [64] filter r65 1.65 -> err count
+";
 
-/// A begin of so many rulesets, with what stands behind them, and then another one.
-fn check_begins(rt: &impl Abort, alloc: Global, rows: &[(usize, &str, &str)]) -> Result<(), Fail> {
-    for (count, tail, reply) in rows {
-        let mut line = begin_line(alloc, 1, *count)?;
-        line.push_str(tail)?;
-        let mut exchange = Exchange::new(alloc);
-        exchange.push(line.as_str(), reply)?;
-        // The refused one took no number.
-        exchange.push("begin filter r1", "ok 1.1")?;
-        exchange.hold(rt, alloc, line.as_str())?;
-    }
-    Ok(())
+/// The line for which a row stands.
+fn written_out(alloc: Global, row: &str) -> Result<String, Fail> {
+    let (head, rest) = row.split_once(" [").unwrap_or((row, "0]"));
+    let (count, tail) = rest.split_once(']').unwrap_or((rest, ""));
+    let count = count.parse::<usize>()?;
+    let mut line = if head == "begin" {
+        begin_line(alloc, 1, count)?
+    } else {
+        entries_line(alloc, head, 1, count)?
+    };
+    line.push_str(tail)?;
+    Ok(line)
 }
 
-#[test]
-fn long_begins(rt: HostRuntime) -> Result<(), Fail> {
-    check_begins(&rt, rt.alloc(), &LONG_BEGINS)
-}
-
-/// Each row's line after what was begun, on a book of its own.
-fn check_lists(
-    rt: &impl Abort,
-    alloc: Global,
-    begun: &str,
-    rows: &[(&str, usize, &str, &str)],
-) -> Result<(), Fail> {
-    for (head, count, tail, reply) in rows {
-        let mut line = entries_line(alloc, head, 1, *count)?;
-        line.push_str(tail)?;
-        let mut exchange = Exchange::new(alloc);
-        exchange.push_all(begun)?;
-        exchange.push(line.as_str(), reply)?;
-        exchange.hold(rt, alloc, line.as_str())?;
+/// Each row's line after the lines `before`, on a book of its own.
+fn check_long(rt: &impl Abort, alloc: Global, before: &str, table: &str) -> Result<(), Fail> {
+    for row in table.lines() {
+        if let Some((line, reply)) = row_of(row) {
+            let line = written_out(alloc, line)?;
+            let mut exchange = Exchange::new(alloc);
+            exchange.push_all(before)?;
+            exchange.push(line.as_str(), reply)?;
+            exchange.hold(rt, alloc, line.as_str())?;
+        }
     }
     Ok(())
 }
 
 #[test]
 fn long_lists(rt: HostRuntime) -> Result<(), Fail> {
-    check_lists(&rt, rt.alloc(), "", &LONG_LISTS)
-}
-
-#[test]
-fn long_lists_of_valid_tickets(rt: HostRuntime) -> Result<(), Fail> {
     let alloc = rt.alloc();
     let mut begun = begin_line(alloc, 1, 64)?;
     begun.push_str(" -> ")?;
     begun.push_str(tickets(alloc, 1, 64)?.as_str())?;
-    check_lists(&rt, alloc, begun.as_str(), &LISTS_OF_VALID)
+    check_long(&rt, alloc, "", LONG_BEGINS)?;
+    check_long(&rt, alloc, "", LONG_LISTS)?;
+    check_long(&rt, alloc, begun.as_str(), LISTS_OF_VALID)
 }
 
 /// After the tickets 1.1 to 1.64 were given to 64 rulesets.
@@ -321,7 +305,7 @@ commit filter - 1.64 -> applied 1
 begin filter - -> ok 1.65
 ";
 
-/// A begin of 64 rulesets, each of them by this name.
+/// A begin that names one ruleset so many times.
 fn begin_often(alloc: Global, name: &str, count: usize) -> Result<String, AllocError> {
     let mut line = String::from_str(alloc, "begin")?;
     for _ in 0..count {
@@ -335,6 +319,8 @@ fn a_begin_of_64_rulesets(rt: HostRuntime) -> Result<(), Fail> {
     let alloc = rt.alloc();
     let given = tickets(alloc, 1, 64)?;
     let mut exchange = Exchange::new(alloc);
+    // A refused begin takes no number, and voids no ticket.
+    exchange.push(begin_line(alloc, 1, 65)?.as_str(), "err count")?;
     exchange.push(begin_line(alloc, 1, 64)?.as_str(), given.as_str())?;
     exchange.push(begin_line(alloc, 1, 65)?.as_str(), "err count")?;
     exchange.push_all(AFTER_64)?;

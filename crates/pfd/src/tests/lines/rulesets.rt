@@ -1,4 +1,6 @@
 //! Rulesets at paths, begun, committed and rolled back, line by line on one book.
+ghost use Rattle.std.specs.Prelude.{◌≤◌};
+
 use super::{Exchange, check_in_turn};
 use std::alloc::Global;
 use std::process::Abort;
