@@ -6,6 +6,8 @@ mod lines;
 use crate::book::Book;
 use crate::engine::{EngineFault, serve_alone};
 use crate::program::start;
+use pf_core::{RuleVerdict, Verdict};
+use pf_rule::{Action, Packet};
 use std::alloc::Global;
 use std::cell::Cell;
 use std::io::{self, ErrorKind, Read, Write};
@@ -335,6 +337,43 @@ fn the_history_has_a_limit(rt: HostRuntime) -> Result<(), Fail> {
         2,
         "ok 1.1\napplied 1\nok 1.2\napplied 2\nbusy 0\nok 1.3\nerr history\nok\n",
     )
+}
+
+fn blocks(verdict: &Verdict) -> bool {
+    matches!(
+        verdict,
+        Verdict::Rules(RuleVerdict::Rule {
+            number: 0,
+            action: Action::Block,
+            ..
+        })
+    )
+}
+
+// What is shown is only promised to be the fold of some front of the history; this body shows each change at once.
+#[test]
+fn shows_what_was_committed(rt: HostRuntime) -> Result<(), Fail> {
+    let alloc = rt.alloc();
+    let mut book = book(alloc)?;
+    let packet = Packet::parse(alloc, "in em0 tcp 10.0.0.1 1234 10.0.0.2 80")?;
+    for (lines, shown) in [
+        (b"".as_slice(), false),
+        (
+            b"begin filter - filter web\nadd - 1.1 block in all\n",
+            false,
+        ),
+        (b"commit filter - 1.1\n", true),
+        (b"commit filter - 1.1\n", true),
+        (b"commit filter web 1.2\n", true),
+        (b"begin filter -\nrollback filter - 1.3\n", true),
+        (b"begin filter -\ncommit filter - 1.4\n", false),
+    ] {
+        let mut reader = lines;
+        let mut writer = Vec::new(alloc);
+        serve_alone(alloc, &mut reader, &mut writer, &mut book)?;
+        assert_eq!(rt; blocks(&book.shown_judge(&packet)), shown);
+    }
+    Ok(())
 }
 
 #[test]
