@@ -123,7 +123,7 @@ fn commit(
 }
 
 impl Next {
-    /// What the change leaves, shared.
+    /// What the change leaves, shared. `AllocError`: it can't have another owner, and nothing changes.
     pub fn durable(&self) -> Result<Arc<Durable>, AllocError>
         ensures { IfOk result (λ d. arc_value d ≡ self.now.durable) }
     {

@@ -73,7 +73,7 @@ impl Durable {
         self.rulesets.as_slice()
     }
 
-    /// The rules at a path: none where it has no ruleset. No rule is copied.
+    /// The rules at a path: none where it has no ruleset. No rule is copied. `AllocError`: nothing is made.
     pub fn rules_at(&self, alloc: Global, path: &Path) -> Result<RuleList, AllocError>
         ensures { IfOk result (λ l. l ≡ rules_at path.now self.now.rulesets) }
     {
