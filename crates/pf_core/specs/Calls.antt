@@ -1,5 +1,5 @@
 -- Calls, and what they say of tickets: which ticket is valid, and what is offered with it (pf(4), DIOCXBEGIN and DIOCXCOMMIT). That a ticket is an epoch and a count, with one counter for all rulesets, is own.
-use Rattle.std.specs.Prelude.{ℕ, zero, suc, ◌+◌, ◌==◌, ◌&&◌, Bool, true, false, cond, List, [], ◌∷◌, ◌++◌, length, Option, Some, None, fold, filter, map, flat_map}
+use Rattle.std.specs.Prelude.{◌≡◌, ℕ, zero, suc, ◌+◌, ◌==◌, ◌&&◌, Bool, true, false, cond, List, [], ◌∷◌, ◌++◌, length, Option, Some, None, fold, filter, map, flat_map}
 use Rattle.std.specs.List.{list_any}
 use Rattle.pf_rule.specs.Rules.{PlainRule}
 use Rattle.pf_core.specs.declared.command.Command.{Command}
@@ -151,19 +151,30 @@ content_under ms name (Some t) = rules_offered ms name t
 abbrev pub content : List Mention → RulesetName → List PlainRule
 content ms name = content_under ms name (valid_ticket ms name)
 
-abbrev pub given_ticket : Mention → List RulesetName
-given_ticket (gave n t) = n ∷ []
-given_ticket (added n t r) = []
-given_ticket (switched n) = []
-given_ticket (dropped n t) = []
+abbrev pub ticket_given : Mention → List Ticket
+ticket_given (gave n t) = t ∷ []
+ticket_given (added n t r) = []
+ticket_given (switched n) = []
+ticket_given (dropped n t) = []
 
--- the rulesets that were given a ticket, in order
-abbrev pub all_given : List Mention → List RulesetName
-all_given ms = flat_map given_ticket ms
+-- the tickets given so far, in order
+abbrev pub tickets_given : List Mention → List Ticket
+tickets_given ms = flat_map ticket_given ms
 
 -- the count of the next ticket: one more than the tickets given so far
 abbrev pub next_count : List Mention → ℕ
-next_count ms = length (all_given ms) + 1
+next_count ms = length (tickets_given ms) + 1
+
+-- the tickets given are (epoch, 1), (epoch, 2) and so on
+abbrev pub AreNumbered : ℕ → List Mention → Type 0
+AreNumbered epoch ms = tickets_given ms ≡ tickets_from epoch 1 (length (tickets_given ms))
+
+abbrev pub is_given : List Mention → Ticket → Bool
+is_given ms t = list_any (λ u. same_ticket u t) (tickets_given ms)
+
+-- no rule was added with a ticket that wasn't given
+abbrev pub AddsAreKnown : List Mention → Type 0
+AddsAreKnown ms = (name : RulesetName) (t : Ticket) → is_given ms t ≡ false → rules_offered ms name t ≡ []
 
 -- ---- how many rulesets have a valid ticket
 
@@ -174,9 +185,15 @@ is_named names name = list_any (λ n. same_name n name) names
 abbrev pub with_name : List RulesetName → RulesetName → List RulesetName
 with_name names name = cond (is_named names name) names (names ++ name ∷ [])
 
+abbrev pub ruleset_given : Mention → List RulesetName
+ruleset_given (gave n t) = n ∷ []
+ruleset_given (added n t r) = []
+ruleset_given (switched n) = []
+ruleset_given (dropped n t) = []
+
 -- the rulesets that were ever given a ticket, each once
 abbrev pub ever_begun : List Mention → List RulesetName
-ever_begun ms = fold with_name [] (all_given ms)
+ever_begun ms = fold with_name [] (flat_map ruleset_given ms)
 
 abbrev pub has_ticket : Option Ticket → Bool
 has_ticket None = false

@@ -13,3 +13,4 @@ pub mod Worlds
 pub mod NameLaws
 pub mod WorldLaws
 pub mod Laws
+pub mod WorldFacts

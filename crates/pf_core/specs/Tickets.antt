@@ -1,9 +1,9 @@
 -- What is kept of open transactions, and when it is what the calls say.
-use Rattle.std.specs.Prelude.{◌≡◌, ℕ, ◌<◌, ◌≤◌, false, cond, List, [], ◌∷◌, length, map, fold, Option, Some, None}
+use Rattle.std.specs.Prelude.{◌≡◌, ℕ, false, cond, List, [], ◌∷◌, length, map, fold, Option, Some, None}
 use Rattle.pf_rule.specs.Rules.{PlainRule}
 use Rattle.pf_core.specs.declared.command.RulesetName.{RulesetName}
 use Rattle.pf_core.specs.declared.command.Ticket.{Ticket}
-use Rattle.pf_core.specs.Calls.{Call, Mention, mentions, same_name, is_named, with_name, valid_ticket, content, next_count, rules_offered, Facts}
+use Rattle.pf_core.specs.Calls.{Call, Mention, mentions, same_name, is_named, with_name, valid_ticket, content, next_count, AreNumbered, AddsAreKnown, Facts}
 
 -- an inactive ruleset, its valid ticket, and the rules offered with it
 pub record Offer : Type 0 where
@@ -52,8 +52,8 @@ pub record Agrees (t : Open) (ms : List Mention) : Type 0 where
   pub offered : (name : RulesetName) → rules_under t.offers name ≡ content ms name
   pub next : t.next ≡ next_count ms
   pub once : IsDistinct (names_under t.offers)
-  pub low : (name : RulesetName) (u : Ticket) → valid_ticket ms name ≡ Some u → u.count < next_count ms
-  pub fresh : (name : RulesetName) (u : Ticket) → next_count ms ≤ u.count → rules_offered ms name u ≡ []
+  pub numbered : AreNumbered t.epoch ms
+  pub known : AddsAreKnown ms
 
 abbrev pub AgreesWith : Open → List Call → Type 0
 AgreesWith t calls = Agrees t (mentions calls)

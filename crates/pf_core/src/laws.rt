@@ -1,5 +1,6 @@
 //! What follows from the definitions that contracts cite: functions that do nothing, whose contracts are the laws.
 ghost use Rattle.pf_core.specs.Laws.{ReplacesTheNamed, ReplacesExactly, SamePathIsEqual, OneMap, SwitchesAll, VoidsTheNamed, KeepsNoneValid};
+ghost use Rattle.pf_core.specs.WorldFacts.{LeavesTheOthers, GivesEachOnce, KeepsTheLimits};
 ghost use Rattle.pf_core.specs.PathLaws.{FaultsNoPath, FaultsAllElse, ReadsWhatIsSpelled, ReadsAllThatIsSpelled, WritesWhatWasRead, ReadsWhatIsWritten};
 
 /// Exactly the named ruleset is replaced, and all else stays.
@@ -31,6 +32,21 @@ pub fn voids_the_named()
 /// After a commit none of its tickets is valid.
 pub fn keeps_none_valid()
     ensures { KeepsNoneValid }
+{}
+
+/// A call leaves the valid tickets of the rulesets that it doesn't name, and what is offered with them.
+pub fn leaves_the_others()
+    ensures { LeavesTheOthers }
+{}
+
+/// In a world whose replies are legal the tickets given are numbered from 1 on, and none is given twice.
+pub fn gives_each_ticket_once()
+    ensures { GivesEachOnce }
+{}
+
+/// After every world whose replies are legal, all limits hold: of rules, rulesets, tickets and history.
+pub fn keeps_the_limits()
+    ensures { KeepsTheLimits }
 {}
 
 /// A word has no fault exactly where it is a path by the grammar.
