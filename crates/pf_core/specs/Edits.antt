@@ -1,4 +1,4 @@
--- What is kept, what a change does to it, and what it says of a packet.
+-- What is kept, what a change does to it (pf(4), DIOCXCOMMIT), and what it says of a packet (pf.conf(5), PACKET FILTERING).
 use Rattle.std.specs.Prelude.{ℕ, List, fold, map, Option, Some, None}
 use Rattle.pf_rule.specs.Packets.{PlainPacket}
 use Rattle.pf_rule.specs.Evaluation.{Match, evaluate}

@@ -1,4 +1,4 @@
--- The one legal step that each command may get, and the order of refusals.
+-- The one legal step that each command may get, and the order of refusals (pf(4), DIOCXBEGIN, DIOCADDRULE, DIOCXCOMMIT, DIOCXROLLBACK). The limits and the order of refusals are own.
 use Rattle.std.specs.Prelude.{◌≡◌, ℕ, ◌+◌, ◌-◌, ◌==◌, Bool, not, cond, if◌then◌else◌, ◌||◌, List, [], ◌∷◌, ◌++◌, length, map, Option, Some, None, Result, Ok, Err, nat_lt, nat_le}
 use Rattle.std.specs.List.{position}
 use Rattle.pf_rule.specs.Rules.{PlainRule}

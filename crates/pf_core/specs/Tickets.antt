@@ -1,4 +1,4 @@
--- What is kept of open transactions, and when it is what the calls say.
+-- What is kept of open transactions, and when it is what the calls say. Own.
 use Rattle.std.specs.Prelude.{◌≡◌, ℕ, false, cond, List, [], ◌∷◌, length, map, fold, Option, Some, None}
 use Rattle.pf_rule.specs.Rules.{PlainRule}
 use Rattle.pf_core.specs.declared.command.RulesetName.{RulesetName}

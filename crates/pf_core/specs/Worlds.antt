@@ -1,4 +1,4 @@
--- Worlds: lists of calls with their replies, which of them are legal, and what they leave.
+-- Worlds: lists of calls with their replies, which of them are legal, and what they leave. Own.
 use Rattle.std.specs.Prelude.{◌≡◌, ℕ, ◌≤◌, ◌+◌, if◌then◌else◌, List, [], ◌∷◌, ◌++◌, length, take, fold, nat_lt, Result, Ok, Err}
 use Rattle.pf_core.specs.declared.command.Command.{Command}
 use Rattle.pf_core.specs.declared.command.RulesetName.{RulesetName}

@@ -1,4 +1,4 @@
--- The grammar of lines, and what the words of a line say.
+-- The grammar of lines, and what the words of a line say. Own, with pf(4)'s names of what a client may ask.
 use Rattle.std.specs.Prelude.{◌≡◌, ℕ, List, Result, Ok, Err}
 use Rattle.pf_rule.specs.declared.fault.Kind.{Kind}
 use Rattle.pf_rule.specs.declared.fault.Kind.TheVariants.{BadWord}

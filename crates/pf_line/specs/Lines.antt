@@ -1,4 +1,4 @@
--- Lines: which are bad, which are silent, and what any other says or why it is refused.
+-- Lines: which are bad, which are silent, and what any other says or why it is refused. Own.
 use Rattle.std.specs.Prelude.{◌≡◌, ℕ, ◌-◌, ◌<◌, ◌==◌, ◌||◌, ◌&&◌, not, nat_lt, nat_le, Bool, true, false, List, [], ◌∷◌, length, Option, Some, None, Result, Ok, Err, if◌then◌else◌, ◌⊎◌}
 use Rattle.std.specs.List.{list_all}
 use Rattle.std.proofs.Common.{refl}

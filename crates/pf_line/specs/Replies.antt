@@ -1,4 +1,4 @@
--- The text of each reply: one line, before which a shown ruleset has a line for each rule.
+-- The text of each reply: one line, before which a shown ruleset has a line for each rule. Own; rules as pfctl(8) shows them.
 use Rattle.std.specs.Prelude.{◌≡◌, ℕ, ◌+◌, ◌==◌, not, true, List, [], ◌∷◌, ◌++◌, length, codes, decimal, Option, Some, None, map, if◌then◌else◌}
 use Rattle.std.specs.List.{list_all}
 use Rattle.pf_rule.specs.declared.rule.Action.{Action}

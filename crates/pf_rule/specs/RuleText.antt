@@ -1,4 +1,4 @@
--- The one text that a rule is written as: its words, with one space between two.
+-- The one text that a rule is written as: its words, with one space between two. As pfctl(8) shows rules; own where it differs.
 use Rattle.std.specs.Prelude.{ℕ, Bool, true, false, List, [], ◌∷◌, ◌++◌, Option, Some, None, codes, decimal, ◌==◌, if◌then◌else◌}
 use Rattle.std.specs.List.{join_with_byte}
 use Rattle.pf_addr.specs.declared.addr.Family.{Family}

@@ -1,4 +1,4 @@
--- The words of a line: what stands between blanks.
+-- The words of a line: what stands between blanks. Own.
 use Rattle.std.specs.Prelude.{ℕ, ◌==◌, ◌||◌, nat_lt, Bool, List, length, filter, map}
 use Rattle.std.specs.List.{slice_split}
 use denote.Ref.{Bor}

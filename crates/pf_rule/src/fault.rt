@@ -5,6 +5,7 @@ ghost use Rattle.pf_rule.specs.declared.fault.Misread.TheVariants.{Stopped};
 ghost use Rattle.pf_rule.specs.declared.fault.TextFault.TheVariants.{Memory};
 
 use std::alloc::AllocError;
+use thiserror::Error;
 
 /// What is wrong with a word.
 #[derive(Clone, Copy, Debug, PartialEq, Eq)]
@@ -43,17 +44,22 @@ impl From<Stop> for Misread {
 }
 
 /// Why a text is no rule or no packet. `at` is the number of a word, from 0, or the number of words where one is missing.
-#[derive(Clone, Copy, Debug, PartialEq, Eq)]
+#[derive(Clone, Copy, Debug, PartialEq, Eq, Error)]
 pub enum TextFault {
     /// The first word that can't stand where it stands.
+    #[error("a word that can't stand there, or is missing, at word {at}")]
     BadWord { at: usize },
     /// A name that is longer than its limit.
+    #[error("a name past its limit at word {at}")]
     NameTooLong { at: usize },
     /// A word that has to be a protocol and is none.
+    #[error("no protocol at word {at}")]
     BadProto { at: usize },
     /// All words can stand, and their addresses, networks and family aren't of one family.
+    #[error("addresses, networks or a family that differ in family")]
     MixedFamily,
     /// Memory was refused.
+    #[error("no memory")]
     Memory,
 }
 

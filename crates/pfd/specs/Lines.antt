@@ -1,4 +1,4 @@
--- The lines of a text. A line ends at a newline or at the end of the text.
+-- The lines of a text. A line ends at a newline or at the end of the text. Own.
 use Rattle.std.specs.Prelude.{ℕ, ◌==◌, cond, List, [], ◌∷◌}
 
 abbrev pub newline : ℕ

@@ -1,4 +1,4 @@
--- What the program does with the words `pfd run`.
+-- What the program does with the words `pfd run`. Own.
 use Rattle.std.specs.Prelude.{◌≡◌, ℕ, List, [], ◌∷◌, Option, Result, Ok, Err, codes}
 use Rattle.pf_core.specs.Edits.{kept}
 use Rattle.pf_core.specs.Worlds.{Page, StandsFor}
