@@ -8,6 +8,7 @@ pub mod Maps
 pub mod OneMap
 pub mod Switching
 pub mod Voiding
+pub mod Others
 pub mod MapOrder
 pub mod PathTexts
 pub mod PathsRead
