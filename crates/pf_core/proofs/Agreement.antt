@@ -8,10 +8,11 @@ use Rattle.std.proofs.lemmas.List.Concat.{flat_map-append}
 use Rattle.pf_rule.specs.Rules.{PlainRule}
 use Rattle.pf_core.specs.declared.command.RulesetName.{RulesetName}
 use Rattle.pf_core.specs.declared.command.Ticket.{Ticket}
-use Rattle.pf_core.specs.Calls.{same_name, same_ticket, ticket, tickets_from, is_ticket, Mention, gave, added, switched, dropped, drops, touched, valid_ticket, rules_added, rules_offered, content_under, given_ticket, all_given as begun, next_count, gives, switches}
+use Rattle.pf_core.specs.Calls.{same_name, same_ticket, ticket, tickets_from, is_ticket, Mention, gave, added, switched, dropped, drops, touched, valid_ticket, rules_added, rules_offered, content_under, ticket_given, tickets_given, next_count, AreNumbered, is_given, AddsAreKnown, gives, switches}
 use Rattle.pf_core.specs.Tickets.{Offer, offer, Open, found, ticket_at, rules_under, IsDistinct, Agrees}
 use Rattle.pf_core.specs.Offers.{without, grown, with_added, give, take_out, add_to, drop_out, all_begun, all_out, all_dropped, IsPlace, IsNowhere}
 use Rattle.pf_core.specs.NameLaws.{names_alike}
+use Rattle.pf_core.proofs.Mentions.{same_itself, ticket_is, valid_push, tickets_push, offered_push, silent, under_silent, same-next, never-both, gave-numbered, next-is-not-given, given-before, quiet-known, quiet-numbered, valid-is-given}
 use Rattle.pf_core.proofs.Once.{distinct-without, distinct-given, names-added}
 use Rattle.pf_core.specs.declared.command.Entry.{Entry}
 
@@ -81,47 +82,10 @@ pub own-added : (q p : RulesetName) (r : PlainRule) (u : Ticket) (os : List Offe
 own-added q p r u [] h k = absurd (cc (k))
 own-added q p r u (o ∷ os) h k = own-added-step q p r u o os (with_added p r os) (same_name o.name p) (same_name o.name q) refl refl (names_alike.symm o.name p ∙ names_alike.congr p q o.name h ∙ names_alike.symm q o.name) (λ k. own-added q p r u os h k) k
 
--- ---- one more mention
-
-pub valid_push : (ms : List Mention) (m : Mention) (q : RulesetName) → valid_ticket (ms ++ m ∷ []) q ≡ touched q (valid_ticket ms q) m
-valid_push ms m q = fold_push (touched q) None ms m
-
--- the next count after one more mention
-abbrev pub counted : ℕ → Mention → ℕ
-counted k (gave n t) = k + 1
-counted k (added n t r) = k
-counted k (switched n) = k
-counted k (dropped n t) = k
-
-counted-step : (xs : List RulesetName) (m : Mention) → length (xs ++ given_ticket m) + 1 ≡ counted (length xs + 1) m
-counted-step xs (gave n t) = ap (λ (k : ℕ). k + 1) (length-append xs (n ∷ []))
-counted-step xs (added n t r) = ap (λ (ns : List RulesetName). length ns + 1) (append-nil xs)
-counted-step xs (switched n) = ap (λ (ns : List RulesetName). length ns + 1) (append-nil xs)
-counted-step xs (dropped n t) = ap (λ (ns : List RulesetName). length ns + 1) (append-nil xs)
-
-pub next_push : (ms : List Mention) (m : Mention) → next_count (ms ++ m ∷ []) ≡ counted (next_count ms) m
-next_push ms m =
-    let more : begun (ms ++ m ∷ []) ≡ begun ms ++ given_ticket m = flat_map-append given_ticket ms (m ∷ []) ∙ ap (λ (ns : List RulesetName). begun ms ++ ns) (append-nil (given_ticket m)) in
-    ap (λ (ns : List RulesetName). length ns + 1) more ∙ counted-step (begun ms) m
-
-pub offered_push : (ms : List Mention) (m : Mention) (q : RulesetName) (u : Ticket) → rules_offered (ms ++ m ∷ []) q u ≡ rules_offered ms q u ++ rules_added q u m
-offered_push ms m q u = flat_map-append (rules_added q u) ms (m ∷ []) ∙ ap (λ (z : List PlainRule). rules_offered ms q u ++ z) (append-nil (rules_added q u m))
-
-silent : (ms : List Mention) (m : Mention) (q : RulesetName) (u : Ticket) → rules_added q u m ≡ [] → rules_offered (ms ++ m ∷ []) q u ≡ rules_offered ms q u
-silent ms m q u h = offered_push ms m q u ∙ ap (λ (z : List PlainRule). rules_offered ms q u ++ z) h ∙ append-nil (rules_offered ms q u)
-
-under_silent : (ms : List Mention) (m : Mention) (q : RulesetName) (v : Option Ticket) → ((u : Ticket) → rules_added q u m ≡ []) → content_under (ms ++ m ∷ []) q v ≡ content_under ms q v
-under_silent ms m q None h = refl
-under_silent ms m q (Some u) h = silent ms m q u (h u)
-
 -- a begin's mention
 gave_content : (ms : List Mention) (p q : RulesetName) (u : Ticket) (b : Bool) (v : Option Ticket) → rules_offered ms q u ≡ [] → cond b [] (content_under ms q v) ≡ content_under (ms ++ gave p u ∷ []) q (cond b (Some u) v)
 gave_content ms p q u true v h = sym (silent ms (gave p u) q u refl ∙ h)
 gave_content ms p q u false v h = sym (under_silent ms (gave p u) q v (λ w. refl))
-
-gave_low : (b : Bool) (k u : Ticket) (next : ℕ) (v : Option Ticket) → k.count ≡ next → (v ≡ Some u → u.count < next) → cond b (Some k) v ≡ Some u → u.count < next + 1
-gave_low true k u next v e h i = let s : k ≡ u = cc (i) in let c : k.count ≡ u.count = ap (λ (x : Ticket). x.count) s in omega (arith, e, c)
-gave_low false k u next v e h i = let l : u.count < next = h i in omega (arith, l)
 
 pub agrees-gave : (t : Open) (ms : List Mention) (p : RulesetName) → Agrees t ms → Agrees (give t p) (ms ++ gave p (ticket t.epoch t.next) ∷ [])
 agrees-gave t ms p a =
@@ -130,11 +94,11 @@ agrees-gave t ms p a =
     record {
       valid = λ q. found-given (λ o. Some o.ticket) None q p new [] t.offers ∙ ap (λ (v : Option Ticket). cond (same_name p q) (Some new) v) (a.valid q) ∙ sym (valid_push ms (gave p new) q);
       offered = λ q. found-given (λ o. o.rules) [] q p new [] t.offers ∙ ap (λ (v : List PlainRule). cond (same_name p q) [] v) (a.offered q)
-          ∙ gave_content ms p q new (same_name p q) (valid_ticket ms q) (a.fresh q new (omega (arith, e)))
+          ∙ gave_content ms p q new (same_name p q) (valid_ticket ms q) (a.known q new (ap (λ (n : ℕ). is_given ms (ticket t.epoch n)) e ∙ next-is-not-given t.epoch ms a.numbered))
           ∙ ap (λ (v : Option Ticket). content_under (ms ++ gave p new ∷ []) q v) (sym (valid_push ms (gave p new) q));
-      next = ap (λ (n : ℕ). n + 1) e ∙ sym (next_push ms (gave p new));
-      low = λ q u h. subst (λ (k : ℕ). u.count < k) (sym (next_push ms (gave p new))) (gave_low (same_name p q) new u (next_count ms) (valid_ticket ms q) e (a.low q u) (sym (valid_push ms (gave p new) q) ∙ h));
-      fresh = λ q u h. silent ms (gave p new) q u refl ∙ a.fresh q u (let k = next_push ms (gave p new) in omega (arith, k, h));
+      next = ap (λ (n : ℕ). n + 1) e ∙ sym (ap (λ (ts : List Ticket). length ts + 1) (tickets_push ms (gave p new)) ∙ ap (λ (n : ℕ). n + 1) (length-append (tickets_given ms) (new ∷ [])));
+      numbered = subst (λ (n : ℕ). AreNumbered t.epoch (ms ++ gave p (ticket t.epoch n) ∷ [])) (sym e) (gave-numbered t.epoch ms p a.numbered);
+      known = quiet-known ms (gave p new) (λ q u. refl) a.known;
       once = distinct-given p new [] t.offers a.once;
     }
 
@@ -143,27 +107,22 @@ out_content : (ms : List Mention) (m : Mention) (q : RulesetName) (b : Bool) (v 
 out_content ms m q true v h = refl
 out_content ms m q false v h = sym (under_silent ms m q v h)
 
-out_low : (b : Bool) (u : Ticket) (next : ℕ) (v : Option Ticket) → (v ≡ Some u → u.count < next) → cond b None v ≡ Some u → u.count < next
-out_low true u next v h i = absurd (cc (i))
-out_low false u next v h i = h i
-
-agrees-out : (t : Open) (ms : List Mention) (p : RulesetName) (m : Mention) → ((q : RulesetName) → touched q (valid_ticket ms q) m ≡ cond (same_name p q) None (valid_ticket ms q)) → ((q : RulesetName) (u : Ticket) → rules_added q u m ≡ []) → ((k : ℕ) → counted k m ≡ k) → Agrees t ms → Agrees (take_out t p) (ms ++ m ∷ [])
-agrees-out t ms p m out quiet same a =
+agrees-out : (t : Open) (ms : List Mention) (p : RulesetName) (m : Mention) → ((q : RulesetName) → touched q (valid_ticket ms q) m ≡ cond (same_name p q) None (valid_ticket ms q)) → ((q : RulesetName) (u : Ticket) → rules_added q u m ≡ []) → ticket_given m ≡ [] → Agrees t ms → Agrees (take_out t p) (ms ++ m ∷ [])
+agrees-out t ms p m out quiet none a =
     let push : (q : RulesetName) → valid_ticket (ms ++ m ∷ []) q ≡ cond (same_name p q) None (valid_ticket ms q) = λ q. valid_push ms m q ∙ out q in
-    let count : next_count (ms ++ m ∷ []) ≡ next_count ms = next_push ms m ∙ same (next_count ms) in
     record {
       valid = λ q. found-without (λ o. Some o.ticket) None q p t.offers ∙ ap (λ (v : Option Ticket). cond (same_name p q) None v) (a.valid q) ∙ sym (push q);
       offered = λ q. found-without (λ o. o.rules) [] q p t.offers ∙ ap (λ (v : List PlainRule). cond (same_name p q) [] v) (a.offered q)
           ∙ out_content ms m q (same_name p q) (valid_ticket ms q) (quiet q)
           ∙ ap (λ (v : Option Ticket). content_under (ms ++ m ∷ []) q v) (sym (push q));
-      next = a.next ∙ sym count;
-      low = λ q u h. subst (λ (k : ℕ). u.count < k) (sym count) (out_low (same_name p q) u (next_count ms) (valid_ticket ms q) (a.low q u) (sym (push q) ∙ h));
-      fresh = λ q u h. silent ms m q u (quiet q u) ∙ a.fresh q u (omega (arith, count, h));
+      next = a.next ∙ sym (same-next ms m none);
+      numbered = quiet-numbered t.epoch ms m none a.numbered;
+      known = quiet-known ms m quiet a.known;
       once = distinct-without p t.offers a.once;
     }
 
 pub agrees-switched : (t : Open) (ms : List Mention) (p : RulesetName) → Agrees t ms → Agrees (take_out t p) (ms ++ switched p ∷ [])
-agrees-switched t ms p a = agrees-out t ms p (switched p) (λ q. refl) (λ q u. refl) (λ k. refl) a
+agrees-switched t ms p a = agrees-out t ms p (switched p) (λ q. refl) (λ q u. refl) refl a
 
 -- an add's. One ruleset has one offer
 found-alike : {A : Type 0} (f : Offer → A) (d : A) (p q : RulesetName) (os : List Offer) → same_name p q ≡ true → found f d p os ≡ found f d q os
@@ -171,22 +130,6 @@ found-alike f d p q [] h = refl
 found-alike f d p q (o ∷ os) h =
     let k : same_name o.name p ≡ same_name o.name q = names_alike.symm o.name p ∙ names_alike.congr p q o.name h ∙ names_alike.symm q o.name in
     ap (λ b. cond b (f o) (found f d p os)) k ∙ ap (λ z. cond (same_name o.name q) (f o) z) (found-alike f d p q os h)
-
-same_itself : (u w : Ticket) → w ≡ u → same_ticket u w ≡ true
-same_itself u w e =
-    let k : (u.epoch == w.epoch) ≡ true = eq-eqb u.epoch w.epoch (ap (λ (x : Ticket). x.epoch) (sym e)) in
-    let l : (u.count == w.count) ≡ true = eq-eqb u.count w.count (ap (λ (x : Ticket). x.count) (sym e)) in
-    ap (λ (b : Bool). b && (u.count == w.count)) k ∙ l
-
-both-true : (a b : Bool) → (a && b) ≡ true → (a ≡ true) × (b ≡ true)
-both-true true b h = (refl, h)
-both-true false b h = absurd (cc (h))
-
--- two tickets that are the same are one
-pub ticket_is : (u w : Ticket) → same_ticket u w ≡ true → u ≡ w
-ticket_is u w h =
-    let both : (u.epoch == w.epoch ≡ true) × (u.count == w.count ≡ true) = both-true (u.epoch == w.epoch) (u.count == w.count) h in
-    ap (λ (k : ℕ). ticket k u.count) (eqb-true u.epoch w.epoch both.0) ∙ ap (λ (k : ℕ). ticket w.epoch k) (eqb-true u.count w.count both.1)
 
 added_content : (ms : List Mention) (p q : RulesetName) (u : Ticket) (r : PlainRule) (b : Bool) (xs ys : List PlainRule) (v : Option Ticket) → same_name p q ≡ b → (b ≡ true → v ≡ Some u) → ys ≡ content_under ms q v → (b ≡ true → xs ≡ ys ++ r ∷ []) → (b ≡ false → xs ≡ ys) → xs ≡ content_under (ms ++ added p u r ∷ []) q v
 added_content ms p q u r true xs ys None s h e own other = let k : None ≡ Some u = h refl in absurd (cc (k))
@@ -196,41 +139,38 @@ added_content ms p q u r true xs ys (Some w) s h e own other =
     own refl ∙ ap (λ (z : List PlainRule). z ++ r ∷ []) e ∙ sym (offered_push ms (added p u r) q w ∙ ap (λ (z : List PlainRule). rules_offered ms q w ++ z) one)
 added_content ms p q u r false xs ys v s h e own other = other refl ∙ e ∙ sym (under_silent ms (added p u r) q v (λ w. ap (λ (b : Bool). cond (b && same_ticket u w) (r ∷ []) []) s))
 
-other_ticket : (a : Bool) (u w : Ticket) → u.count < w.count → (a && (u.count == w.count)) ≡ false
-other_ticket true u w l = grind (arith, nat_tests, l)
-other_ticket false u w l = refl
-
-added_fresh : (b : Bool) (u w : Ticket) (r : PlainRule) → u.count < w.count → ◌≡◌ {A = List PlainRule} (cond (b && same_ticket u w) (r ∷ []) []) []
-added_fresh true u w r l = ap (λ (b : Bool). cond b (r ∷ []) []) (other_ticket (u.epoch == w.epoch) u w l)
-added_fresh false u w r l = refl
+-- what was added with a valid ticket wasn't added with one that wasn't given
+added-known : (b : Bool) (u w : Ticket) (r : PlainRule) → (u ≡ w → ⊥) → ◌≡◌ {A = List PlainRule} (cond (b && same_ticket u w) (r ∷ []) []) []
+added-known b u w r other = ap (λ (c : Bool). cond c (r ∷ []) []) (never-both b (same_ticket u w) (λ h. other (ticket_is u w h)))
 
 pub agrees-added : (t : Open) (ms : List Mention) (p : RulesetName) (u : Ticket) (r : PlainRule) → ticket_at t.offers p ≡ Some u → Agrees t ms → Agrees (add_to t p r) (ms ++ added p u r ∷ [])
 agrees-added t ms p u r h a =
     let push : (q : RulesetName) → valid_ticket (ms ++ added p u r ∷ []) q ≡ valid_ticket ms q = λ q. valid_push ms (added p u r) q in
-    let count : next_count (ms ++ added p u r ∷ []) ≡ next_count ms = next_push ms (added p u r) in
     let held : (q : RulesetName) → same_name p q ≡ true → ticket_at t.offers q ≡ Some u = λ q s. sym (found-alike (λ o. Some o.ticket) None p q t.offers s) ∙ h in
     record {
       valid = λ q. ticket-added q p r t.offers ∙ a.valid q ∙ sym (push q);
       offered = λ q. added_content ms p q u r (same_name p q) (rules_under (with_added p r t.offers) q) (rules_under t.offers q) (valid_ticket ms q) refl (λ s. sym (a.valid q) ∙ held q s) (a.offered q) (λ s. own-added q p r u t.offers s (held q s)) (λ s. other-added q p r t.offers s)
           ∙ ap (λ (v : Option Ticket). content_under (ms ++ added p u r ∷ []) q v) (sym (push q));
-      next = a.next ∙ sym count;
-      low = λ q w l. subst (λ (x : ℕ). w.count < x) (sym count) (a.low q w (sym (push q) ∙ l));
-      fresh = λ q w l. let below : u.count < next_count ms = a.low p u (sym (a.valid p) ∙ h) in
-          offered_push ms (added p u r) q w ∙ ap (λ (z : List PlainRule). rules_offered ms q w ++ z) (added_fresh (same_name p q) u w r (omega (arith, below, count, l))) ∙ append-nil (rules_offered ms q w) ∙ a.fresh q w (omega (arith, count, l));
+      next = a.next ∙ sym (same-next ms (added p u r) refl);
+      numbered = quiet-numbered t.epoch ms (added p u r) refl a.numbered;
+      known = λ q w not.
+          let given : is_given ms u ≡ true = valid-is-given ms p u (sym (a.valid p) ∙ h) in
+          let before : is_given ms w ≡ false = given-before ms (added p u r) w not in
+          let other : u ≡ w → ⊥ = λ same. let k : true ≡ false = sym given ∙ ap (λ (x : Ticket). is_given ms x) same ∙ before in cc (k) in
+          offered_push ms (added p u r) q w ∙ ap (λ (z : List PlainRule). rules_offered ms q w ++ z) (added-known (same_name p q) u w r other) ∙ append-nil (rules_offered ms q w) ∙ a.known q w before;
       once = subst (λ (ns : List RulesetName). IsDistinct ns) (sym (names-added p r t.offers)) a.once;
     }
 
 -- a mention that touches nothing
-agrees-quiet : (t : Open) (ms : List Mention) (m : Mention) → ((q : RulesetName) → touched q (valid_ticket ms q) m ≡ valid_ticket ms q) → ((q : RulesetName) (u : Ticket) → rules_added q u m ≡ []) → ((k : ℕ) → counted k m ≡ k) → Agrees t ms → Agrees t (ms ++ m ∷ [])
-agrees-quiet t ms m still quiet same a =
+agrees-quiet : (t : Open) (ms : List Mention) (m : Mention) → ((q : RulesetName) → touched q (valid_ticket ms q) m ≡ valid_ticket ms q) → ((q : RulesetName) (u : Ticket) → rules_added q u m ≡ []) → ticket_given m ≡ [] → Agrees t ms → Agrees t (ms ++ m ∷ [])
+agrees-quiet t ms m still quiet none a =
     let push : (q : RulesetName) → valid_ticket (ms ++ m ∷ []) q ≡ valid_ticket ms q = λ q. valid_push ms m q ∙ still q in
-    let count : next_count (ms ++ m ∷ []) ≡ next_count ms = next_push ms m ∙ same (next_count ms) in
     record {
       valid = λ q. a.valid q ∙ sym (push q);
       offered = λ q. a.offered q ∙ sym (under_silent ms m q (valid_ticket ms q) (quiet q)) ∙ ap (λ (v : Option Ticket). content_under (ms ++ m ∷ []) q v) (sym (push q));
-      next = a.next ∙ sym count;
-      low = λ q u h. subst (λ (k : ℕ). u.count < k) (sym count) (a.low q u (sym (push q) ∙ h));
-      fresh = λ q u h. silent ms m q u (quiet q u) ∙ a.fresh q u (omega (arith, count, h));
+      next = a.next ∙ sym (same-next ms m none);
+      numbered = quiet-numbered t.epoch ms m none a.numbered;
+      known = quiet-known ms m quiet a.known;
       once = a.once;
     }
 
@@ -247,11 +187,11 @@ dropped-step : (t : Open) (ms : List Mention) (p : RulesetName) (u : Ticket) (b 
 dropped-step t ms p u true e a =
     let own : (q : RulesetName) → same_name p q ≡ true → is_ticket (valid_ticket ms q) u ≡ true =
     λ q s. ap (λ (v : Option Ticket). is_ticket v u) (sym (a.valid q) ∙ sym (found-alike (λ o. Some o.ticket) None p q t.offers s)) ∙ e in
-    agrees-out t ms p (dropped p u) (λ q. drop-own (same_name p q) (is_ticket (valid_ticket ms q) u) (valid_ticket ms q) (own q)) (λ q w. refl) (λ k. refl) a
+    agrees-out t ms p (dropped p u) (λ q. drop-own (same_name p q) (is_ticket (valid_ticket ms q) u) (valid_ticket ms q) (own q)) (λ q w. refl) refl a
 dropped-step t ms p u false e a =
     let other : (q : RulesetName) → same_name p q ≡ true → is_ticket (valid_ticket ms q) u ≡ false =
     λ q s. ap (λ (v : Option Ticket). is_ticket v u) (sym (a.valid q) ∙ sym (found-alike (λ o. Some o.ticket) None p q t.offers s)) ∙ e in
-    agrees-quiet t ms (dropped p u) (λ q. drop-other (same_name p q) (is_ticket (valid_ticket ms q) u) (valid_ticket ms q) (other q)) (λ q w. refl) (λ k. refl) a
+    agrees-quiet t ms (dropped p u) (λ q. drop-other (same_name p q) (is_ticket (valid_ticket ms q) u) (valid_ticket ms q) (other q)) (λ q w. refl) refl a
 
 pub agrees-dropped : (t : Open) (ms : List Mention) (p : RulesetName) (u : Ticket) → Agrees t ms → Agrees (drop_out t p u) (ms ++ dropped p u ∷ [])
 agrees-dropped t ms p u a = dropped-step t ms p u (is_ticket (ticket_at t.offers p) u) refl a

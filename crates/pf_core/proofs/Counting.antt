@@ -5,7 +5,7 @@ use Rattle.std.proofs.lemmas.List.Sums.{fold_more}
 use Rattle.std.proofs.lemmas.List.Folds.{list_any-append}
 use Rattle.pf_core.specs.declared.command.RulesetName.{RulesetName}
 use Rattle.pf_core.specs.declared.command.Ticket.{Ticket}
-use Rattle.pf_core.specs.Calls.{same_name, is_named, with_name, Mention, gave, added, switched, dropped, touched, is_ticket, valid_ticket, given_ticket, ever_begun, has_ticket, open_rulesets, opened_with}
+use Rattle.pf_core.specs.Calls.{same_name, is_named, with_name, Mention, gave, added, switched, dropped, touched, is_ticket, valid_ticket, ruleset_given, ever_begun, has_ticket, open_rulesets, opened_with}
 use Rattle.pf_core.specs.Tickets.{Offer, Open, ticket_at, names_under, facts_in, IsDistinct}
 use Rattle.pf_core.specs.Offers.{IsPlace, IsNowhere}
 use Rattle.pf_core.specs.NameLaws.{names_alike}
@@ -156,15 +156,15 @@ gave-one : (b c : Bool) (t : Ticket) (v : Option Ticket) → (has_ticket (cond b
 gave-one true c t v h = or-true (has_ticket v) true refl
 gave-one false c t v h = h
 
-given-step : (q : RulesetName) (v : Option Ticket) (m : Mention) (ns : List RulesetName) → (has_ticket (touched q v m) || is_named ns q) ≡ true → (has_ticket v || is_named (given_ticket m ++ ns) q) ≡ true
+given-step : (q : RulesetName) (v : Option Ticket) (m : Mention) (ns : List RulesetName) → (has_ticket (touched q v m) || is_named ns q) ≡ true → (has_ticket v || is_named (ruleset_given m ++ ns) q) ≡ true
 given-step q v (gave n t) ns h = gave-one (same_name n q) (is_named ns q) t v h
 given-step q v (added n t r) ns h = h
 given-step q v (switched n) ns h = drops-none (same_name n q) (is_named ns q) v h
 given-step q v (dropped n t) ns h = drops-none (same_name n q && is_ticket v t) (is_named ns q) v h
 
-given-before : (q : RulesetName) (v : Option Ticket) (ms : List Mention) → has_ticket (fold (touched q) v ms) ≡ true → (has_ticket v || is_named (flat_map given_ticket ms) q) ≡ true
+given-before : (q : RulesetName) (v : Option Ticket) (ms : List Mention) → has_ticket (fold (touched q) v ms) ≡ true → (has_ticket v || is_named (flat_map ruleset_given ms) q) ≡ true
 given-before q v [] h = or-false (has_ticket v) ∙ h
-given-before q v (m ∷ ms) h = given-step q v m (flat_map given_ticket ms) (given-before q (touched q v m) ms h)
+given-before q v (m ∷ ms) h = given-step q v m (flat_map ruleset_given ms) (given-before q (touched q v m) ms h)
 
 implied : (a b : Bool) → (b ≡ true → a ≡ true) → (a && b) ≡ b
 implied true b h = refl
@@ -174,7 +174,7 @@ implied false false h = refl
 pub named-open : (ms : List Mention) (q : RulesetName) → is_named (open_rulesets ms) q ≡ has_ticket (valid_ticket ms q)
 named-open ms q =
     named-filtered (λ n. has_ticket (valid_ticket ms n)) (λ p r h. ap has_ticket (valid-alike ms p r h)) (ever_begun ms) q
-    ∙ implied (is_named (ever_begun ms) q) (has_ticket (valid_ticket ms q)) (λ h. named-with [] (flat_map given_ticket ms) q ∙ given-before q None ms h)
+    ∙ implied (is_named (ever_begun ms) q) (has_ticket (valid_ticket ms q)) (λ h. named-with [] (flat_map ruleset_given ms) q ∙ given-before q None ms h)
 
 unnamed-step : (x q : RulesetName) (ws : List RulesetName) (b : Bool) → same_name x q ≡ false → is_named ws q ≡ false → is_named (cond b (x ∷ ws) ws) q ≡ false
 unnamed-step x q ws true h k = ap (λ (c : Bool). c || is_named ws q) h ∙ k
@@ -195,7 +195,7 @@ distinct-filtered test [] d = tt
 distinct-filtered test (x ∷ xs) d = distinct-step x (filter test xs) (test x) (unnamed-filtered test xs x d.0) (distinct-filtered test xs d.1)
 
 pub distinct-open : (ms : List Mention) → IsDistinct (open_rulesets ms)
-distinct-open ms = distinct-filtered (λ n. has_ticket (valid_ticket ms n)) (ever_begun ms) (distinct-with [] (flat_map given_ticket ms) tt)
+distinct-open ms = distinct-filtered (λ n. has_ticket (valid_ticket ms n)) (ever_begun ms) (distinct-with [] (flat_map ruleset_given ms) tt)
 
 -- ---- what is kept counts as the mentions do
 

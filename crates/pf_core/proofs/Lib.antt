@@ -1,4 +1,5 @@
 pub mod Agreement
+pub mod Mentions
 pub mod Told
 pub mod Twice
 pub mod Counting

@@ -5,7 +5,8 @@ use Rattle.pf_core.specs.declared.command.Ticket.{Ticket}
 use Rattle.pf_core.specs.Calls.{added, filter_at, same_ticket}
 use Rattle.pf_core.specs.Tickets.{Open, Agrees, ticket_at}
 use Rattle.pf_core.specs.Offers.{IsPlace, add_to}
-use Rattle.pf_core.proofs.Agreement.{agrees-added, ticket_is}
+use Rattle.pf_core.proofs.Agreement.{agrees-added}
+use Rattle.pf_core.proofs.Mentions.{ticket_is}
 use Rattle.pf_core.proofs.tickets.Tickets.add_rule.Goals as goal
 
 pub returns-in-Ok-clause-agrees : goal.returns-in-Ok-clause-agrees
