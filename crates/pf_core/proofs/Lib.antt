@@ -10,6 +10,9 @@ pub mod OneMap
 pub mod Switching
 pub mod Voiding
 pub mod Others
+pub mod LegalCalls
+pub mod Standing
+pub mod Limits
 pub mod MapOrder
 pub mod PathTexts
 pub mod PathsRead

@@ -11,8 +11,8 @@ use Rattle.pf_core.specs.declared.command.Entry.{Entry}
 use Rattle.pf_core.specs.declared.command.RulesetName.{RulesetName}
 use Rattle.pf_core.specs.declared.command.Ticket.{Ticket}
 use Rattle.pf_core.specs.declared.reply.Reply.{Reply}
-use Rattle.pf_core.specs.Calls.{Call, call, filter_at, same_name, same_ticket, is_named, names_of, is_ticket, Mention, added, gives, switches, drops, tickets_in, is_accepted, mentioned, mentions, mentions_of, touched, valid_ticket, rules_added, rules_offered, content, content_under}
-use Rattle.pf_core.specs.WorldFacts.{names_in, IsLeftAlone, LeavesTheOthers}
+use Rattle.pf_core.specs.Calls.{filter_at, same_name, same_ticket, is_named, names_of, is_ticket, Mention, added, gives, switches, drops, tickets_in, is_accepted, mentioned, mentions, mentions_of, touched, valid_ticket, rules_added, rules_offered, content, content_under}
+use Rattle.pf_core.specs.WorldFacts.{names_in, LeavesTheOthers}
 use Rattle.pf_core.specs.WorldLaws.{mentions-push}
 use Rattle.pf_core.proofs.Once.{neither}
 
