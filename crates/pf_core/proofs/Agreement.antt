@@ -1,18 +1,14 @@
 -- What each mention does to what is kept of open transactions.
-use Rattle.std.proofs.Common.{◌≡◌, ℕ, ◌+◌, ◌<◌, Bool, true, false, not, cond, ◌&&◌, List, [], ◌∷◌, ◌++◌, length, refl, sym, ap, ◌∙◌, subst, Option, Some, None, arith, get_or, append_assoc, eq-eqb, ◌==◌, zero, suc}
-use Rattle.std.proofs.lemmas.Bool.{eqb-true}
-use Rattle.std.proofs.lemmas.Bool.Decides.{nat_tests}
-use Rattle.std.proofs.lemmas.List.{append-nil, length-append}
-use Rattle.std.proofs.lemmas.List.Sums.{fold_push}
-use Rattle.std.proofs.lemmas.List.Concat.{flat_map-append}
+use Rattle.std.proofs.Common.{◌≡◌, ℕ, ◌+◌, ◌<◌, Bool, true, false, not, cond, ◌&&◌, List, [], ◌∷◌, ◌++◌, length, refl, sym, ap, ◌∙◌, subst, Option, Some, None, arith, get_or, append_assoc, zero, suc}
+use Rattle.std.proofs.lemmas.List.{append-nil}
 use Rattle.pf_rule.specs.Rules.{PlainRule}
 use Rattle.pf_core.specs.declared.command.RulesetName.{RulesetName}
 use Rattle.pf_core.specs.declared.command.Ticket.{Ticket}
-use Rattle.pf_core.specs.Calls.{same_name, same_ticket, ticket, tickets_from, is_ticket, Mention, gave, added, switched, dropped, drops, touched, valid_ticket, rules_added, rules_offered, content_under, ticket_given, tickets_given, next_count, AreNumbered, is_given, AddsAreKnown, gives, switches}
+use Rattle.pf_core.specs.Calls.{same_name, same_ticket, ticket, tickets_from, is_ticket, Mention, gave, added, switched, dropped, drops, touched, valid_ticket, rules_added, rules_offered, content_under, ticket_given, next_count, AreNumbered, is_given, gives, switches}
 use Rattle.pf_core.specs.Tickets.{Offer, offer, Open, found, ticket_at, rules_under, IsDistinct, Agrees}
 use Rattle.pf_core.specs.Offers.{without, grown, with_added, give, take_out, add_to, drop_out, all_begun, all_out, all_dropped, IsPlace, IsNowhere}
 use Rattle.pf_core.specs.NameLaws.{names_alike}
-use Rattle.pf_core.proofs.Mentions.{same_itself, ticket_is, valid_push, tickets_push, offered_push, silent, under_silent, same-next, never-both, gave-numbered, next-is-not-given, given-before, quiet-known, quiet-numbered, valid-is-given}
+use Rattle.pf_core.proofs.Mentions.{same_itself, valid_push, offered_push, silent, under_silent, same-next, next-gave, gave-numbered, next-is-not-given, quiet-known, quiet-numbered, added-known, valid-is-given}
 use Rattle.pf_core.proofs.Once.{distinct-without, distinct-given, names-added}
 use Rattle.pf_core.specs.declared.command.Entry.{Entry}
 
@@ -96,7 +92,7 @@ agrees-gave t ms p a =
       offered = λ q. found-given (λ o. o.rules) [] q p new [] t.offers ∙ ap (λ (v : List PlainRule). cond (same_name p q) [] v) (a.offered q)
           ∙ gave_content ms p q new (same_name p q) (valid_ticket ms q) (a.known q new (ap (λ (n : ℕ). is_given ms (ticket t.epoch n)) e ∙ next-is-not-given t.epoch ms a.numbered))
           ∙ ap (λ (v : Option Ticket). content_under (ms ++ gave p new ∷ []) q v) (sym (valid_push ms (gave p new) q));
-      next = ap (λ (n : ℕ). n + 1) e ∙ sym (ap (λ (ts : List Ticket). length ts + 1) (tickets_push ms (gave p new)) ∙ ap (λ (n : ℕ). n + 1) (length-append (tickets_given ms) (new ∷ [])));
+      next = ap (λ (n : ℕ). n + 1) e ∙ sym (next-gave ms p new);
       numbered = subst (λ (n : ℕ). AreNumbered t.epoch (ms ++ gave p (ticket t.epoch n) ∷ [])) (sym e) (gave-numbered t.epoch ms p a.numbered);
       known = quiet-known ms (gave p new) (λ q u. refl) a.known;
       once = distinct-given p new [] t.offers a.once;
@@ -139,10 +135,6 @@ added_content ms p q u r true xs ys (Some w) s h e own other =
     own refl ∙ ap (λ (z : List PlainRule). z ++ r ∷ []) e ∙ sym (offered_push ms (added p u r) q w ∙ ap (λ (z : List PlainRule). rules_offered ms q w ++ z) one)
 added_content ms p q u r false xs ys v s h e own other = other refl ∙ e ∙ sym (under_silent ms (added p u r) q v (λ w. ap (λ (b : Bool). cond (b && same_ticket u w) (r ∷ []) []) s))
 
--- what was added with a valid ticket wasn't added with one that wasn't given
-added-known : (b : Bool) (u w : Ticket) (r : PlainRule) → (u ≡ w → ⊥) → ◌≡◌ {A = List PlainRule} (cond (b && same_ticket u w) (r ∷ []) []) []
-added-known b u w r other = ap (λ (c : Bool). cond c (r ∷ []) []) (never-both b (same_ticket u w) (λ h. other (ticket_is u w h)))
-
 pub agrees-added : (t : Open) (ms : List Mention) (p : RulesetName) (u : Ticket) (r : PlainRule) → ticket_at t.offers p ≡ Some u → Agrees t ms → Agrees (add_to t p r) (ms ++ added p u r ∷ [])
 agrees-added t ms p u r h a =
     let push : (q : RulesetName) → valid_ticket (ms ++ added p u r ∷ []) q ≡ valid_ticket ms q = λ q. valid_push ms (added p u r) q in
@@ -153,11 +145,7 @@ agrees-added t ms p u r h a =
           ∙ ap (λ (v : Option Ticket). content_under (ms ++ added p u r ∷ []) q v) (sym (push q));
       next = a.next ∙ sym (same-next ms (added p u r) refl);
       numbered = quiet-numbered t.epoch ms (added p u r) refl a.numbered;
-      known = λ q w not.
-          let given : is_given ms u ≡ true = valid-is-given ms p u (sym (a.valid p) ∙ h) in
-          let before : is_given ms w ≡ false = given-before ms (added p u r) w not in
-          let other : u ≡ w → ⊥ = λ same. let k : true ≡ false = sym given ∙ ap (λ (x : Ticket). is_given ms x) same ∙ before in cc (k) in
-          offered_push ms (added p u r) q w ∙ ap (λ (z : List PlainRule). rules_offered ms q w ++ z) (added-known (same_name p q) u w r other) ∙ append-nil (rules_offered ms q w) ∙ a.known q w before;
+      known = added-known ms p u r (valid-is-given ms p u (sym (a.valid p) ∙ h)) a.known;
       once = subst (λ (ns : List RulesetName). IsDistinct ns) (sym (names-added p r t.offers)) a.once;
     }
 

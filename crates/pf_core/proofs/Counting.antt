@@ -94,7 +94,7 @@ apart : (x q : RulesetName) (xs : List RulesetName) (b : Bool) → same_name x q
 apart x q xs true e n k = sym k ∙ sym (named-alike xs x q e) ∙ n
 apart x q xs false e n k = refl
 
-count-le : (xs ys : List RulesetName) → IsDistinct xs → ((q : RulesetName) → is_named xs q ≡ true → is_named ys q ≡ true) → length xs ≤ length ys
+pub count-le : (xs ys : List RulesetName) → IsDistinct xs → ((q : RulesetName) → is_named xs q ≡ true → is_named ys q ≡ true) → length xs ≤ length ys
 count-le [] ys d h = omega arith
 count-le (x ∷ xs) ys d h =
     let less : length (names-but x ys) < length ys = but-lt x ys (h x (ap (λ (b : Bool). b || is_named xs x) (names_alike.refl x))) in
@@ -162,7 +162,7 @@ given-step q v (added n t r) ns h = h
 given-step q v (switched n) ns h = drops-none (same_name n q) (is_named ns q) v h
 given-step q v (dropped n t) ns h = drops-none (same_name n q && is_ticket v t) (is_named ns q) v h
 
-given-before : (q : RulesetName) (v : Option Ticket) (ms : List Mention) → has_ticket (fold (touched q) v ms) ≡ true → (has_ticket v || is_named (flat_map ruleset_given ms) q) ≡ true
+pub given-before : (q : RulesetName) (v : Option Ticket) (ms : List Mention) → has_ticket (fold (touched q) v ms) ≡ true → (has_ticket v || is_named (flat_map ruleset_given ms) q) ≡ true
 given-before q v [] h = or-false (has_ticket v) ∙ h
 given-before q v (m ∷ ms) h = given-step q v m (flat_map ruleset_given ms) (given-before q (touched q v m) ms h)
 

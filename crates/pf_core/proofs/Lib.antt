@@ -9,6 +9,10 @@ pub mod Maps
 pub mod OneMap
 pub mod Switching
 pub mod Voiding
+pub mod Others
+pub mod LegalCalls
+pub mod Standing
+pub mod Limits
 pub mod MapOrder
 pub mod PathTexts
 pub mod PathsRead

@@ -21,7 +21,7 @@ same_itself u w e =
     let l : (u.count == w.count) ≡ true = eq-eqb u.count w.count (ap (λ (x : Ticket). x.count) (sym e)) in
     ap (λ (b : Bool). b && (u.count == w.count)) k ∙ l
 
-both-true : (a b : Bool) → (a && b) ≡ true → (a ≡ true) × (b ≡ true)
+pub both-true : (a b : Bool) → (a && b) ≡ true → (a ≡ true) × (b ≡ true)
 both-true true b h = (refl, h)
 both-true false b h = absurd (cc (h))
 
@@ -61,6 +61,10 @@ other_ticket false u w l = refl
 
 pub same-next : (ms : List Mention) (m : Mention) → ticket_given m ≡ [] → next_count (ms ++ m ∷ []) ≡ next_count ms
 same-next ms m none = ap (λ (ts : List Ticket). length ts + 1) (none-given ms m none)
+
+-- a begin's ticket counts
+pub next-gave : (ms : List Mention) (p : RulesetName) (t : Ticket) → next_count (ms ++ gave p t ∷ []) ≡ next_count ms + 1
+next-gave ms p t = ap (λ (ts : List Ticket). length ts + 1) (tickets_push ms (gave p t)) ∙ ap (λ (n : ℕ). n + 1) (length-append (tickets_given ms) (t ∷ []))
 
 pub never-both : (a b : Bool) → (b ≡ true → ⊥) → (a && b) ≡ false
 never-both true true h = absurd (h refl)
@@ -130,3 +134,13 @@ given-or-not false h = absurd (h refl)
 -- a valid ticket was given
 pub valid-is-given : (ms : List Mention) (q : RulesetName) (u : Ticket) → valid_ticket ms q ≡ Some u → is_given ms u ≡ true
 valid-is-given ms q u h = given-or-not (is_given ms u) (λ not. let k : None ≡ Some u = valid-from q u None ms not h in cc (k))
+
+-- an add with a ticket that was given
+only-with-it : (b : Bool) (u w : Ticket) (r : PlainRule) → (u ≡ w → ⊥) → ◌≡◌ {A = List PlainRule} (cond (b && same_ticket u w) (r ∷ []) []) []
+only-with-it b u w r other = ap (λ (c : Bool). cond c (r ∷ []) []) (never-both b (same_ticket u w) (λ h. other (ticket_is u w h)))
+
+pub added-known : (ms : List Mention) (p : RulesetName) (u : Ticket) (r : PlainRule) → is_given ms u ≡ true → AddsAreKnown ms → AddsAreKnown (ms ++ added p u r ∷ [])
+added-known ms p u r given known q w not =
+    let before : is_given ms w ≡ false = given-before ms (added p u r) w not in
+    let other : u ≡ w → ⊥ = λ same. let k : true ≡ false = sym given ∙ ap (λ (x : Ticket). is_given ms x) same ∙ before in cc (k) in
+    silent ms (added p u r) q w (only-with-it (same_name p q) u w r other) ∙ known q w before

@@ -7,16 +7,15 @@ use Rattle.pf_core.specs.declared.command.Entry.{Entry}
 use Rattle.pf_core.specs.declared.command.RulesetKind.{RulesetKind}
 use Rattle.pf_core.specs.declared.command.RulesetKind.TheVariants.{Filter}
 use Rattle.pf_core.specs.declared.command.RulesetName.{RulesetName}
-use Rattle.pf_core.specs.declared.reply.Outcome.{Outcome}
 use Rattle.pf_core.specs.declared.reply.Outcome.TheVariants.{Committed}
 use Rattle.pf_core.specs.declared.reply.Refusal.{Refusal}
 use Rattle.pf_core.specs.declared.reply.Refusal.TheVariants.{BadCount, Twice, Busy, TooManyRulesets}
 use Rattle.pf_core.specs.declared.step.Step.{Step}
 use Rattle.pf_core.specs.declared.step.Step.TheVariants.{Wants}
 use Rattle.pf_core.specs.Calls.{mentions, same_kind, same_name, is_named, names_of, filter_at, facts, Facts}
-use Rattle.pf_core.specs.Edits.{Edit, commits, applied}
+use Rattle.pf_core.specs.Edits.{Kept, Edit, commits, applied}
 use Rattle.pf_core.specs.Laws.{rules_by, ReplacesExactly, Each, AreSwitched, SwitchesAll}
-use Rattle.pf_core.specs.Legal.{bad_count, twice_from, twice_in, busy_in, refused_at, list_check, commit_check, items, ruleset_limit, rulesets_after}
+use Rattle.pf_core.specs.Legal.{bad_count, twice_from, twice_in, busy_in, refused_at, list_check, commit_check, commit_step, items, ruleset_limit, rulesets_after}
 use Rattle.pf_core.specs.NameLaws.{paths_alike}
 use Rattle.pf_core.specs.Rulesets.{Ruled, same_path, with_rules, rules_at}
 use Rattle.pf_core.proofs.MapOrder.{map-all}
@@ -24,7 +23,7 @@ use Rattle.pf_core.proofs.Maps.{replaces-the-named}
 use Rattle.pf_core.proofs.Once.{neither}
 use Rattle.std.proofs.lemmas.List.Folds.{list_any-append}
 
-replaced : (items es : List Ruled) (q : List ℕ) → rules_at q (fold with_rules es items) ≡ rules_by items q (rules_at q es)
+pub replaced : (items es : List Ruled) (q : List ℕ) → rules_at q (fold with_rules es items) ≡ rules_by items q (rules_at q es)
 replaced [] es q = refl
 replaced (i ∷ is) es q = replaced is (with_rules es i) q ∙ ap (λ (old : List PlainRule). rules_by is q old) (replaces-the-named es i q)
 
@@ -83,9 +82,28 @@ all-switched f before n (e ∷ es) h =
 
 -- ---- out of the step
 
-unrefused : (check : Result (Unit {0}) Refusal) (r : Result Step Refusal) (e : Edit) (o : Outcome) → (check >>= λ _. r) ≡ Ok (Wants e o) → (check ≡ Ok tt) × (r ≡ Ok (Wants e o))
-unrefused (Ok u) r e o h = (refl, h)
-unrefused (Err x) r e o h = absurd (cc (h))
+pub unrefused : (check : Result (Unit {0}) Refusal) (r : Result Step Refusal) (s : Step) → (check >>= λ _. r) ≡ Ok s → (check ≡ Ok tt) × (r ≡ Ok s)
+unrefused (Ok u) r s h = (refl, h)
+unrefused (Err x) r s h = absurd (cc (h))
+
+pub not-refused : (b : Bool) (x : Refusal) (r : Result Step Refusal) (s : Step) → cond b (Err x) r ≡ Ok s → (b ≡ false) × (r ≡ Ok s)
+not-refused true x r s h = absurd (cc (h))
+not-refused false x r s h = (refl, h)
+
+-- a commit that isn't refused
+pub record IsWanted (f : Facts) (d : Kept) (entries : List Entry) (s : Step) : Type 0 where
+  pub good : commit_check f.valid entries ≡ Ok tt
+  pub few : nat_lt ruleset_limit (rulesets_after d (items f.offered entries)) ≡ false
+  pub step : Wants (commits (items f.offered entries)) Committed ≡ s
+
+pub commit-wants : (f : Facts) (d : Kept) (entries : List Entry) (s : Step) → commit_step f d entries ≡ Ok s → IsWanted f d entries s
+commit-wants f d entries s h =
+    let many : Bool = nat_lt ruleset_limit (rulesets_after d (items f.offered entries)) in
+    let wants : Result Step Refusal = Ok (Wants (commits (items f.offered entries)) Committed) in
+    let good : (commit_check f.valid entries ≡ Ok tt) × (cond many (Err TooManyRulesets) wants ≡ Ok s) = unrefused (commit_check f.valid entries) (cond many (Err TooManyRulesets) wants) s h in
+    let few : (many ≡ false) × (wants ≡ Ok s) = not-refused many TooManyRulesets wants s good.1 in
+    let same : wants ≡ Ok s = few.1 in
+    record { good = good.0; few = few.0; step = cc (same) }
 
 first-good : (a b : Result (Unit {0}) Refusal) → (a >>= λ _. b) ≡ Ok tt → a ≡ Ok tt
 first-good (Ok u) b h = refl
@@ -95,10 +113,6 @@ not-twice : (b : Bool) (place : Option ℕ) → cond b (Err BadCount) (refused_a
 not-twice true place h = absurd (cc (h))
 not-twice false None h = refl
 not-twice false (Some i) h = absurd (cc (h))
-
-not-many : (b : Bool) (x e : Edit) (o : Outcome) → cond b (Err TooManyRulesets) (Ok (Wants x Committed)) ≡ Ok (Wants e o) → x ≡ e
-not-many true x e o h = absurd (cc (h))
-not-many false x e o h = cc (h)
 
 read-all : (f : RulesetName → List PlainRule) (rs old : List Ruled) (es : List Entry) (new : List Ruled) → ((q : List ℕ) → rules_at q new ≡ rules_by rs q (rules_at q old)) → Each (λ x. (v : List PlainRule) → rules_by rs x.name.path v ≡ f x.name) es → Each (λ x. rules_at x.name.path new ≡ f x.name) es
 read-all f rs old [] new is all = tt
@@ -114,11 +128,10 @@ pub switches-all : SwitchesAll
 switches-all epoch calls d entries e o h =
     let f : Facts = facts epoch (mentions calls) in
     let change : Edit = commits (items f.offered entries) in
-    let many : Bool = nat_lt ruleset_limit (rulesets_after d (items f.offered entries)) in
-    let good : (commit_check f.valid entries ≡ Ok tt) × (cond many (Err TooManyRulesets) (Ok (Wants change Committed)) ≡ Ok (Wants e o)) =
-    unrefused (commit_check f.valid entries) (cond many (Err TooManyRulesets) (Ok (Wants change Committed))) e o h in
-    let once : twice_in entries ≡ None = not-twice (bad_count (length entries)) (twice_in entries) (first-good (list_check entries) (refused_at (λ i. Busy i) (busy_in f.valid entries)) good.0) in
-    let is : change ≡ e = not-many many change e o good.1 in
+    let wanted : IsWanted f d entries (Wants e o) = commit-wants f d entries (Wants e o) h in
+    let step : Wants change Committed ≡ Wants e o = wanted.step in
+    let is : change ≡ e = cc (step) in
+    let once : twice_in entries ≡ None = not-twice (bad_count (length entries)) (twice_in entries) (first-good (list_check entries) (refused_at (λ i. Busy i) (busy_in f.valid entries)) wanted.good) in
     let new : List Ruled = (applied d change).rulesets in
     let read : (q : List ℕ) → rules_at q new ≡ rules_by (items f.offered entries) q (rules_at q d.rulesets) = λ q. replaced (items f.offered entries) d.rulesets q in
     subst (λ (x : Edit). AreSwitched calls entries d (applied d x)) is (record {

@@ -1,5 +1,5 @@
 -- What one call leaves alone, and what holds after every world whose replies are legal.
-use Rattle.std.specs.Prelude.{◌≡◌, ℕ, ◌≤◌, Bool, true, false, List, [], ◌∷◌, ◌++◌, length}
+use Rattle.std.specs.Prelude.{◌≡◌, ℕ, ◌≤◌, false, List, [], ◌∷◌, ◌++◌, length}
 use Rattle.std.specs.List.{list_any}
 use Rattle.pf_core.specs.declared.command.Command.{Command}
 use Rattle.pf_core.specs.declared.command.Command.TheVariants.{Begin, Add, Commit, Rollback, Judge, ShowRules}

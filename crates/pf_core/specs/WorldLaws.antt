@@ -54,7 +54,7 @@ agrees-refused t calls c e a =
 kind_is : (k : RulesetKind) → Filter ≡ k
 kind_is Filter = refl
 
-filter_is : (n : RulesetName) → filter_at n.path ≡ n
+pub filter_is : (n : RulesetName) → filter_at n.path ≡ n
 filter_is n = let named : RulesetKind → RulesetName = λ k. record { kind = k; path = n.path } in ap named (kind_is n.kind)
 
 -- a commit replaces the rulesets that it names
