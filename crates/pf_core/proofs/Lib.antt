@@ -1,5 +1,6 @@
 pub mod Agreement
 pub mod Mentions
+pub mod Latest
 pub mod Told
 pub mod Twice
 pub mod Counting

@@ -1,15 +1,16 @@
 -- What follows from the definitions, as law functions promise it.
-use Rattle.std.specs.Prelude.{◌≡◌, ℕ, true, false, cond, List, [], ◌∷◌, ◌++◌, None, Ok}
+use Rattle.std.specs.Prelude.{◌≡◌, ℕ, true, false, cond, List, [], ◌∷◌, ◌++◌, Some, None, Ok}
 use Rattle.std.specs.List.{list_any}
 use Rattle.pf_rule.specs.Rules.{PlainRule}
 use Rattle.pf_core.specs.declared.command.Command.{Command}
 use Rattle.pf_core.specs.declared.command.Command.TheVariants.{Commit}
 use Rattle.pf_core.specs.declared.command.Entry.{Entry}
 use Rattle.pf_core.specs.declared.command.RulesetName.{RulesetName}
+use Rattle.pf_core.specs.declared.command.Ticket.{Ticket}
 use Rattle.pf_core.specs.declared.reply.Outcome.{Outcome}
 use Rattle.pf_core.specs.declared.reply.Reply.TheVariants.{Applied}
 use Rattle.pf_core.specs.declared.step.Step.TheVariants.{Wants}
-use Rattle.pf_core.specs.Calls.{Call, call, same_name, is_named, filter_at, switches, names_of, mentions, mentions_of, valid_ticket, content}
+use Rattle.pf_core.specs.Calls.{Call, call, Mention, gave, touches, same_name, is_named, filter_at, switches, names_of, mentions, mentions_of, valid_ticket, content}
 use Rattle.pf_core.specs.Edits.{Kept, Edit, commits, applied, voided_by}
 use Rattle.pf_core.specs.Legal.{legal_step}
 use Rattle.pf_core.specs.Rulesets.{Ruled, same_path, rules_at, with_rules, IsMap}
@@ -60,3 +61,24 @@ VoidsTheNamed = (epoch : ℕ) (calls : List Call) (d : Kept) (c : Command) (e : 
 -- after a commit no ruleset that it names has a valid ticket
 abbrev pub KeepsNoneValid : Type 0
 KeepsNoneValid = (calls : List Call) (entries : List Entry) (n : ℕ) (o : Outcome) (name : RulesetName) → list_any (λ m. same_name m name) (names_of entries) ≡ true → valid_ticket (mentions (calls ++ call (Commit entries) (Applied n o) ∷ [])) name ≡ None
+
+-- nothing here touches a ruleset whose valid ticket is this one
+abbrev pub AreQuiet : RulesetName → Ticket → List Mention → Type 0
+AreQuiet name t [] = Unit {0}
+AreQuiet name t (m ∷ ms) = (touches name (Some t) m ≡ false) × AreQuiet name t ms
+
+-- the latest mention that touched a ruleset is a begin's, which gave it this ticket
+pub record IsGivenLast (ms : List Mention) (name : RulesetName) (t : Ticket) : Type 0 where
+  pub before : List Mention
+  pub given : RulesetName
+  pub behind : List Mention
+  pub all : ms ≡ before ++ gave given t ∷ behind
+  pub same : same_name given name ≡ true
+  pub quiet : AreQuiet name t behind
+
+-- that ticket is the valid one, and no other
+abbrev pub ValidIsGivenLast : Type 0
+ValidIsGivenLast = (ms : List Mention) (name : RulesetName) (t : Ticket) → valid_ticket ms name ≡ Some t → IsGivenLast ms name t
+
+abbrev pub GivenLastIsValid : Type 0
+GivenLastIsValid = (ms : List Mention) (name : RulesetName) (t : Ticket) → IsGivenLast ms name t → valid_ticket ms name ≡ Some t

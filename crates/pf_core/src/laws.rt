@@ -1,5 +1,5 @@
 //! What follows from the definitions that contracts cite: functions that do nothing, whose contracts are the laws.
-ghost use Rattle.pf_core.specs.Laws.{ReplacesTheNamed, ReplacesExactly, SamePathIsEqual, OneMap, SwitchesAll, VoidsTheNamed, KeepsNoneValid};
+ghost use Rattle.pf_core.specs.Laws.{ReplacesTheNamed, ReplacesExactly, SamePathIsEqual, OneMap, SwitchesAll, VoidsTheNamed, KeepsNoneValid, ValidIsGivenLast, GivenLastIsValid};
 ghost use Rattle.pf_core.specs.WorldFacts.{LeavesTheOthers, GivesEachOnce, KeepsTheLimits};
 ghost use Rattle.pf_core.specs.PathLaws.{FaultsNoPath, FaultsAllElse, ReadsWhatIsSpelled, ReadsAllThatIsSpelled, WritesWhatWasRead, ReadsWhatIsWritten};
 
@@ -32,6 +32,13 @@ pub fn voids_the_named()
 /// After a commit none of its tickets is valid.
 pub fn keeps_none_valid()
     ensures { KeepsNoneValid }
+{}
+
+/// A ticket is valid for a ruleset exactly where the latest mention that touched the ruleset is a begin's that gave it
+/// this ticket.
+pub fn valid_is_given_last()
+    ensures found { ValidIsGivenLast }
+    ensures only { GivenLastIsValid }
 {}
 
 /// A call leaves the valid tickets of the rulesets that it doesn't name, and what is offered with them.
