@@ -287,38 +287,58 @@ fn matches_by_each_test(rt: HostRuntime) -> Result<(), Fail> {
 }
 
 #[test]
-fn laws_are_there(_rt: HostRuntime) {
-    what_is_written_is_read_again();
-    different_rules_have_different_texts();
-    what_is_spelled_is_kept();
-    a_refusal_has_one_place();
+fn faults_are_shown(rt: HostRuntime) -> Result<(), Fail> {
+    for (fault, text) in [
+        (
+            TextFault::NameTooLong { at: 3 },
+            "a name past its limit at word 3",
+        ),
+        (TextFault::BadProto { at: 5 }, "no protocol at word 5"),
+        (TextFault::Memory, "no memory"),
+    ]
+    .iter()
+    {
+        assert_eq!(rt; format!(in rt.alloc(); "{fault}")?.as_str(), *text);
+    }
+    Ok(())
 }
 
-// Asks again after memory was refused: then the reply has to be the one without a refusal.
-fn rule_of(alloc: Global, text: &str) -> Result<Rule, TextFault> {
+// Asks again, where it may, after memory was refused: then the reply has to be the one without a refusal.
+fn rule_of(alloc: Global, text: &str, again: bool) -> Result<Rule, TextFault> {
     match Rule::parse(alloc, text) {
-        Err(TextFault::Memory) => Rule::parse(alloc, text),
+        Err(TextFault::Memory) if again => Rule::parse(alloc, text),
         reply => reply,
     }
 }
 
-fn packet_of(alloc: Global, text: &str) -> Result<Packet, TextFault> {
+fn packet_of(alloc: Global, text: &str, again: bool) -> Result<Packet, TextFault> {
     match Packet::parse(alloc, text) {
-        Err(TextFault::Memory) => Packet::parse(alloc, text),
+        Err(TextFault::Memory) if again => Packet::parse(alloc, text),
         reply => reply,
     }
 }
 
+fn all_are_read(alloc: Global, again: bool) -> bool {
+    let rule = rule_of(alloc, "pass in all", again);
+    let packet = packet_of(alloc, "in em0 tcp 10.0.0.1 1 10.0.0.2 2", again);
+    let fault = rule_of(alloc, "pass on", again).err();
+    let family = rule_of(alloc, "pass inet6 to 10/8", again).err();
+    let protocol = packet_of(alloc, "in em0 0", again).err();
+    matches!(rule, Ok(rule) if rule.direction() == Some(Direction::In))
+        && matches!(packet, Ok(packet) if packet.destination_port() == 2)
+        && fault == Some(TextFault::BadWord { at: 2 })
+        && family == Some(TextFault::MixedFamily)
+        && protocol == Some(TextFault::BadProto { at: 2 })
+}
+
+// To be run with each allocation refused in turn: each call gives its reply or refuses for memory, and then gives it.
 #[test]
 fn allocations_refused(rt: HostRuntime) {
-    assert!(rt;
-        matches!(rule_of(rt.alloc(), "pass in all"), Ok(rule) if rule.direction() == Some(Direction::In))
-    );
-    assert!(rt; rule_of(rt.alloc(), "pass on").err() == Some(TextFault::BadWord { at: 2 }));
-    assert!(rt; rule_of(rt.alloc(), "pass inet6 to 10/8").err() == Some(TextFault::MixedFamily));
-    let text = "in em0 tcp 10.0.0.1 1 10.0.0.2 2";
-    assert!(rt;
-        matches!(packet_of(rt.alloc(), text), Ok(packet) if packet.destination_port() == 2)
-    );
-    assert!(rt; packet_of(rt.alloc(), "in em0 0").err() == Some(TextFault::BadProto { at: 2 }));
+    assert!(rt; all_are_read(rt.alloc(), true));
+}
+
+// The same without asking again: it fails exactly where a call refused for memory.
+#[test]
+fn allocations_not_refused(rt: HostRuntime) {
+    assert!(rt; all_are_read(rt.alloc(), false));
 }
