@@ -129,7 +129,7 @@ valid_by (dropped n t) = None
 abbrev pub touched : RulesetName → Option Ticket → Mention → Option Ticket
 touched name before m = cond (touches name before m) (valid_by m) before
 
--- the valid ticket of a ruleset: the latest mention that touched it is a begin's, answered with this ticket
+-- the valid ticket of a ruleset: the one it was given last, where nothing has touched it since
 abbrev pub valid_ticket : List Mention → RulesetName → Option Ticket
 valid_ticket ms name = fold (touched name) None ms
 

@@ -29,7 +29,7 @@ pub enum Direction {
 /// What a matching rule does with a packet.
 #[derive(Clone, Copy, Debug, PartialEq, Eq)]
 pub enum Action {
-    /// Lets it pass. A pass rule keeps state unless it says `no state`.
+    /// Lets it pass, and keeps state where the rule's state option says nothing else.
     Pass { keeps_state: bool },
     /// Drops it.
     Block,
