@@ -1,10 +1,9 @@
 //! Texts of paths.
 ghost use Rattle.std.specs.Prelude.{◌≡◌, ◌<◌, length, count_by, IfSome};
-ghost use Rattle.std.specs.List.{list_all, position};
-ghost use Rattle.pf_rule.specs.Names.{is_name_byte};
+ghost use Rattle.std.specs.List.{position};
 ghost use Rattle.pf_core.specs.Paths.{is_slash, components, is_component, component_fault, first_fault, depth_fault, path_fault};
 
-use pf_rule::Kind;
+use pf_rule::{Kind, has_name_bytes};
 
 const PATH_LIMIT: usize = 255;
 
@@ -79,19 +78,7 @@ fn good_component(component: &[u8]) -> bool
     ensures { result ≡ is_component component.now }
 {
     !component.is_empty()
-        && all_fit(component)
+        && has_name_bytes(component)
         && component != b"..".as_slice()
         && component != b"-".as_slice()
-}
-
-fn all_fit(component: &[u8]) -> bool
-    ensures { result ≡ list_all is_name_byte component.now }
-{
-    component.iter().all(|b| fits_name(*b))
-}
-
-fn fits_name(b: u8) -> bool
-    ensures { result ≡ is_name_byte b }
-{
-    b.is_ascii_alphanumeric() || b == b'_' || b == b'.' || b == b'-'
 }

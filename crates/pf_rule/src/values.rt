@@ -18,7 +18,8 @@ fn fits_name(b: u8) -> bool
     b.is_ascii_alphanumeric() || b == b'_' || b == b'.' || b == b'-'
 }
 
-fn all_fit(word: &[u8]) -> bool
+/// Whether each byte of a word is one that a name may have: a letter, a digit, `_`, `.` or `-`.
+pub fn has_name_bytes(word: &[u8]) -> bool
     ensures { result ≡ list_all is_name_byte word.now }
 {
     word.iter().all(|b| fits_name(*b))
@@ -29,7 +30,7 @@ fn good_name(word: &[u8]) -> bool
 {
     match word {
         [] => false,
-        [_, ..] => all_fit(word),
+        [_, ..] => has_name_bytes(word),
     }
 }
 
