@@ -1,8 +1,12 @@
 //! What a client is told.
+ghost use Rattle.std.specs.Prelude.{◌≡◌};
+ghost use Rattle.pf_core.specs.declared.reply.Refusal.TheVariants.{Memory};
+
 use crate::command::Ticket;
 use crate::path::Path;
 use crate::rule_list::RuleList;
 use pf_rule::Action;
+use std::alloc::AllocError;
 
 /// The tickets of one begin: so many, from the first on, each one greater than the one before.
 #[derive(Clone, Copy, Debug, PartialEq, Eq)]
@@ -79,6 +83,14 @@ pub enum Refusal {
     HistoryFull,
     /// A growth of memory was refused.
     Memory,
+}
+
+impl From<AllocError> for Refusal {
+    ghost from_gives = { λ _ e. e ≡ Memory };
+
+    fn from(_e: AllocError) -> Refusal {
+        Refusal::Memory
+    }
 }
 
 /// The reply to one command.
