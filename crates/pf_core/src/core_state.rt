@@ -151,6 +151,12 @@ impl Core {
     }
 
     /// One command. Where it wants a change, or is refused, the core is as before. A judge and a rollback take no memory.
+    ///
+    /// It is refused for the first of these that holds. A begin: `BadCount`, `TooManyRulesets`, `TicketsExhausted`. An
+    /// add: `Busy`, `RulesetFull`. A commit: `BadCount`, `Twice`, `Busy`, `TooManyRulesets`. A rollback: `BadCount`,
+    /// `Twice`. A judge and shown rules: none. Where a growth of memory is refused, `Memory` may come before any of them.
+    /// The history's limit isn't the core's: whoever keeps the history answers `HistoryFull` to a change that is wanted,
+    /// and doesn't accept it.
     pub fn step(&mut self, command: &Command) -> Result<Step, Refusal>
         ensures reply { (calls : List Call) → AgreesWith self.old.tickets calls → IsLegalStep result (legal_step self.old.tickets.epoch calls self.old.durable command.now) }
         ensures agrees { (calls : List Call) → AgreesWith self.old.tickets calls → AgreesAfter self.new.tickets calls command.now result }
