@@ -16,14 +16,18 @@ pub enum RulesetKind {
 /// A ruleset, as a transaction names it (pf(4), DIOCXBEGIN).
 #[derive(Drop)]
 pub struct RulesetName {
+    /// What its rules are for.
     pub kind: RulesetKind,
+    /// Where it is; the main ruleset's path has no bytes.
     pub path: Path,
 }
 
 /// What a begin gives and a commit wants (pf(4), DIOCXBEGIN): an opening, and a count within it.
 #[derive(Clone, Copy, Debug, PartialEq, Eq)]
 pub struct Ticket {
+    /// The number of the opening that gave it.
     pub epoch: u32,
+    /// Which ticket of that opening it is, for all rulesets together: from 1 to 4,294,967,295.
     pub count: u32,
 }
 
@@ -78,7 +82,9 @@ impl Ticket {
 /// A ruleset with a ticket for it, as a commit or a rollback names it.
 #[derive(Drop)]
 pub struct Entry {
+    /// The ruleset that is switched or dropped.
     pub name: RulesetName,
+    /// The ticket that has to be its valid one.
     pub ticket: Ticket,
 }
 

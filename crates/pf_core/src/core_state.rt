@@ -112,14 +112,11 @@ fn commit(
     ensures reply { IsLegalStep result (commit_step (facts_in tickets.now) durable.now entries.now) }
 {
     tickets.check_all(entries)?;
-    let Ok(items) = take_items(alloc, tickets, entries) else {
-        return Err(Refusal::Memory);
-    };
-    match are_too_many(alloc, durable.rulesets(), items.as_slice()) {
-        Ok(false) => Ok(Step::Wants(Change::commit(items), Outcome::Committed)),
-        Ok(true) => Err(Refusal::TooManyRulesets),
-        Err(_) => Err(Refusal::Memory),
+    let items = take_items(alloc, tickets, entries)?;
+    if are_too_many(alloc, durable.rulesets(), items.as_slice())? {
+        return Err(Refusal::TooManyRulesets);
     }
+    Ok(Step::Wants(Change::commit(items), Outcome::Committed))
 }
 
 impl Next {
@@ -154,6 +151,12 @@ impl Core {
     }
 
     /// One command. Where it wants a change, or is refused, the core is as before. A judge and a rollback take no memory.
+    ///
+    /// It is refused for the first of these that holds. A begin: `BadCount`, `TooManyRulesets`, `TicketsExhausted`. An
+    /// add: `Busy`, `RulesetFull`. A commit: `BadCount`, `Twice`, `Busy`, `TooManyRulesets`. A rollback: `BadCount`,
+    /// `Twice`. A judge and shown rules: none. Where a growth of memory is refused, `Memory` may come before any of them.
+    /// The history's limit isn't the core's: whoever keeps the history answers `HistoryFull` to a change that is wanted,
+    /// and doesn't accept it.
     pub fn step(&mut self, command: &Command) -> Result<Step, Refusal>
         ensures reply { (calls : List Call) → AgreesWith self.old.tickets calls → IsLegalStep result (legal_step self.old.tickets.epoch calls self.old.durable command.now) }
         ensures agrees { (calls : List Call) → AgreesWith self.old.tickets calls → AgreesAfter self.new.tickets calls command.now result }
@@ -164,15 +167,13 @@ impl Core {
         ensures rolled_back { (entries : List Entry) → command.now ≡ Command.Rollback entries → result ≡ rollback_step entries }
     {
         match command {
-            Command::Begin(names) => match self.tickets.begin(names.as_slice()) {
-                Ok(given) => Ok(Step::Done(Answer::Given(given))),
-                Err(refusal) => Err(refusal),
-            },
+            Command::Begin(names) => {
+                let given = self.tickets.begin(names.as_slice())?;
+                Ok(Step::Done(Answer::Given(given)))
+            }
             Command::Add { path, ticket, rule } => {
-                match self.tickets.add_rule(path, *ticket, *rule) {
-                    Ok(()) => Ok(Step::Done(Answer::Done)),
-                    Err(refusal) => Err(refusal),
-                }
+                self.tickets.add_rule(path, *ticket, *rule)?;
+                Ok(Step::Done(Answer::Done))
             }
             Command::Commit(entries) => commit(
                 self.alloc,
@@ -180,17 +181,17 @@ impl Core {
                 &self.tickets,
                 entries.as_slice(),
             ),
-            Command::Rollback(entries) => match self.tickets.rollback(entries.as_slice()) {
-                Ok(()) => Ok(Step::Done(Answer::Done)),
-                Err(refusal) => Err(refusal),
-            },
+            Command::Rollback(entries) => {
+                self.tickets.rollback(entries.as_slice())?;
+                Ok(Step::Done(Answer::Done))
+            }
             Command::Judge(packet) => {
                 Ok(Step::Done(Answer::Judged(self.durable.verdict(packet))))
             }
-            Command::ShowRules(path) => match self.durable.rules_at(self.alloc, path) {
-                Ok(rules) => Ok(Step::Done(Answer::Rules(rules))),
-                Err(_) => Err(Refusal::Memory),
-            },
+            Command::ShowRules(path) => {
+                let rules = self.durable.rules_at(self.alloc, path)?;
+                Ok(Step::Done(Answer::Rules(rules)))
+            }
         }
     }
 

@@ -1,5 +1,5 @@
 //! What is kept.
-ghost use Rattle.std.specs.Prelude.{◌≡◌, [], IfOk};
+ghost use Rattle.std.specs.Prelude.{◌≡◌, [], IfOk, IfSome, IfNone};
 ghost use Rattle.pf_rule.specs.Evaluation.{evaluate};
 ghost use Rattle.pf_core.specs.Rulesets.{IsMap, rules_at};
 ghost use Rattle.pf_core.specs.Edits.{kept, applied, verdict, verdict_by};
@@ -73,28 +73,37 @@ impl Durable {
         self.rulesets.as_slice()
     }
 
+    // The ruleset at a path.
+    fn placed_at(&self, path: &Path) -> Option<&Placed>
+        ensures some { IfSome result (λ p. p.now.rules ≡ rules_at path.now self.now.rulesets) }
+        ensures none { IfNone result (rules_at path.now self.now.rulesets ≡ []) }
+    {
+        for placed in &self.rulesets {
+            if placed.path.same(path) {
+                return Some(placed);
+            }
+        }
+        None
+    }
+
     /// The rules at a path: none where it has no ruleset. No rule is copied. `AllocError`: nothing is made.
     pub fn rules_at(&self, alloc: Global, path: &Path) -> Result<RuleList, AllocError>
         ensures { IfOk result (λ l. l ≡ rules_at path.now self.now.rulesets) }
     {
-        for placed in &self.rulesets {
-            if placed.path.same(path) {
-                return RuleList::of(&placed.rules);
-            }
+        match self.placed_at(path) {
+            Some(placed) => RuleList::of(&placed.rules),
+            None => RuleList::none(alloc),
         }
-        RuleList::none(alloc)
     }
 
     // What the rules at a path say of a packet.
     fn rule_verdict(&self, path: &Path, packet: &Packet) -> RuleVerdict
         ensures { result ≡ verdict_by path.now (evaluate 0 (rules_at path.now self.now.rulesets) packet.now).last }
     {
-        for placed in &self.rulesets {
-            if placed.path.same(path) {
-                return rules_verdict(path, &placed.rules, packet);
-            }
+        match self.placed_at(path) {
+            Some(placed) => rules_verdict(path, &placed.rules, packet),
+            None => RuleVerdict::Default,
         }
-        RuleVerdict::Default
     }
 
     /// What happens to a packet: the main ruleset decides, or the packet passes. It takes no memory.

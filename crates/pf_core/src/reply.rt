@@ -1,13 +1,19 @@
 //! What a client is told.
+ghost use Rattle.std.specs.Prelude.{◌≡◌};
+ghost use Rattle.pf_core.specs.declared.reply.Refusal.TheVariants.{Memory};
+
 use crate::command::Ticket;
 use crate::path::Path;
 use crate::rule_list::RuleList;
 use pf_rule::Action;
+use std::alloc::AllocError;
 
 /// The tickets of one begin: so many, from the first on, each one greater than the one before.
 #[derive(Clone, Copy, Debug, PartialEq, Eq)]
 pub struct Given {
+    /// The ticket of the ruleset that the begin names first.
     pub first: Ticket,
+    /// How many tickets there are: one for each entry, from 1 to 64. Their counts follow one another.
     pub number: u32,
 }
 
@@ -47,38 +53,54 @@ pub enum Answer {
 /// What is told, beside its number, of a change that was kept.
 #[derive(Clone, Copy, Debug, PartialEq, Eq)]
 pub enum Outcome {
+    /// The rulesets of a commit are active, each with what was offered for it, and none of its tickets is valid now.
     Committed,
 }
 
-/// Why nothing was done. After each of these all is as before.
+/// Why nothing was done. After each of these all is as before: what is kept, the valid tickets, what is offered with
+/// them, and the count of the next ticket.
 #[derive(Clone, Copy, Debug, PartialEq, Eq)]
 pub enum Refusal {
-    /// The line is too long, or has a byte that no line may have.
+    /// The line is longer than 4,096 bytes, or has a byte that no line may have. No command was read: all is as before.
     BadLine,
-    /// The first word at which the text can't go on, from 0; the number of words where one is missing.
+    /// The first word at which the text can't go on, from 0; the number of words where one is missing. No command was
+    /// read: all is as before.
     BadWord { at: usize },
-    /// The same, for a name past its limit.
+    /// The same, for a name past its limit: 15 bytes for an interface, 63 for a path's component, 255 for a path, and 16
+    /// components in a path. No command was read: all is as before.
     NameTooLong { at: usize },
-    /// The same, for a word that is no protocol.
+    /// The same, for a word that is no protocol. No command was read: all is as before.
     BadProto { at: usize },
-    /// The families of a rule's hosts and its own, or of a packet's addresses, differ.
+    /// The families of a rule's hosts and its own, or of a packet's addresses, differ. No command was read: all is as
+    /// before.
     MixedFamily,
-    /// A list with too few or too many entries.
+    /// A list without entries, or with more than 64. All is as before.
     BadCount,
-    /// The first entry, from 0, that names a ruleset named before it.
+    /// The first entry of a commit or a rollback, from 0, that names a ruleset named before it. All is as before, for the
+    /// other entries too.
     Twice { at: usize },
-    /// The first entry whose ticket isn't valid, from 0.
+    /// The first entry of a commit, from 0, whose ticket isn't valid; 0 for an add. All is as before, and the tickets of
+    /// the other entries that were valid are so still.
     Busy { at: usize },
-    /// The inactive ruleset has as many rules as a ruleset may have.
+    /// The inactive ruleset has 1,024 rules, and no ruleset may have more. All is as before, and its ticket is valid.
     RulesetFull,
-    /// There would be more rulesets, or more with a valid ticket, than there may be.
+    /// A commit would leave more than 1,024 rulesets, or a begin more than 1,024 with a valid ticket. All is as before.
     TooManyRulesets,
-    /// No number is left for a ticket.
+    /// A begin needs more counts than are left up to 4,294,967,295, the last of an opening. All is as before: none of them
+    /// is given.
     TicketsExhausted,
-    /// The history has as many changes as it may have.
+    /// The history has as many changes as it may have, which whoever keeps it says. All is as before.
     HistoryFull,
-    /// A growth of memory was refused.
+    /// A growth of memory was refused. All is as before, and the command may be asked again.
     Memory,
+}
+
+impl From<AllocError> for Refusal {
+    ghost from_gives = { λ _ e. e ≡ Memory };
+
+    fn from(_e: AllocError) -> Refusal {
+        Refusal::Memory
+    }
 }
 
 /// The reply to one command.

@@ -10,7 +10,9 @@ use std::marker::Model;
 /// The rule of a ruleset that decides: its number there from 0, and what it does.
 #[derive(Clone, Copy, Debug, PartialEq, Eq)]
 pub struct Decision {
+    /// The rule's place in its ruleset, from 0 to 1,023.
     pub number: u32,
+    /// What happens to the packet.
     pub action: Action,
 }
 

@@ -324,22 +324,33 @@ fn values_cross_threads(rt: HostRuntime) -> Result<(), Fail> {
     Ok(())
 }
 
-// The same, made again where memory was refused.
-fn run_again(core: &mut Core, command: &Command) -> Told {
-    match run(core, command) {
-        Told::Refused(Refusal::Memory) => run(core, command),
-        other => other,
+// The same, for a core that may be made again where memory was refused.
+fn fresh_again(alloc: Global, again: bool) -> Result<Core, AllocError> {
+    match fresh(alloc) {
+        Err(_) if again => fresh(alloc),
+        made => made,
     }
 }
 
-// To be run with each allocation refused in turn: each call gives its answer or refuses for memory, and then gives it.
-#[test]
-fn allocations_refused(rt: HostRuntime) -> Result<(), Fail> {
-    let alloc = rt.alloc();
-    let mut core = match fresh(alloc) {
-        Ok(core) => core,
-        Err(_) => fresh(alloc)?,
-    };
+// One command, made of its words; made once more where memory was refused, if it may be.
+fn command_again(alloc: Global, ask: &Ask<'_>, again: bool) -> Result<Command, TextFault> {
+    match ask.command(alloc) {
+        Err(TextFault::Memory) if again => ask.command(alloc),
+        made => made,
+    }
+}
+
+// What it is told; asked once more where memory was refused, if it may be.
+fn run_again(core: &mut Core, command: &Command, again: bool) -> Told {
+    match run(core, command) {
+        Told::Refused(Refusal::Memory) if again => run(core, command),
+        told => told,
+    }
+}
+
+// One command of each kind, each with its answer. Where memory is refused a command is asked again, if it may be.
+fn ask_each(rt: &impl Abort, alloc: Global, again: bool) -> Result<(), Fail> {
+    let mut core = fresh_again(alloc, again)?;
     let packet = "in em0 udp 10.0.0.1 5 10.0.0.2 53";
     for (place, (ask, want)) in [
         (Begin(&["-", "web"]), given(1, 2)),
@@ -358,11 +369,20 @@ fn allocations_refused(rt: HostRuntime) -> Result<(), Fail> {
     .iter()
     .enumerate()
     {
-        let command = match ask.command(alloc) {
-            Ok(command) => command,
-            Err(_) => ask.command(alloc)?,
-        };
-        assert_eq!(rt; run_again(&mut core, &command), *want, "at {place}");
+        let command = command_again(alloc, ask, again)?;
+        assert_eq!(rt; run_again(&mut core, &command, again), *want, "at {place}");
     }
     Ok(())
+}
+
+// To be run with each allocation refused in turn: each call gives its answer or refuses for memory, and then gives it.
+#[test]
+fn allocations_refused(rt: HostRuntime) -> Result<(), Fail> {
+    ask_each(&rt, rt.alloc(), true)
+}
+
+// To be run beside it: this one asks but once, so it fails where an allocation was refused and a call told so.
+#[test]
+fn allocations_not_refused(rt: HostRuntime) -> Result<(), Fail> {
+    ask_each(&rt, rt.alloc(), false)
 }

@@ -209,9 +209,7 @@ impl Tickets {
         if self.next + u64::from(number) - 1 > LAST_COUNT {
             return Err(Refusal::TicketsExhausted);
         }
-        if self.slots.reserve(names.len()).is_err() {
-            return Err(Refusal::Memory);
-        }
+        self.slots.reserve(names.len())?;
         let first = Ticket {
             epoch: self.epoch,
             count: self.next as u32,
@@ -248,10 +246,8 @@ impl Tickets {
         if self.slots[place].rules.len() >= Ruleset::LIMIT {
             return Err(Refusal::RulesetFull);
         }
-        match self.grow(&name, place, rule) {
-            Ok(()) => Ok(()),
-            Err(_) => Err(Refusal::Memory),
-        }
+        self.grow(&name, place, rule)?;
+        Ok(())
     }
 
     /// Whether a commit of these entries may go on. It takes no memory.
