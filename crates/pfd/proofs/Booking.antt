@@ -1,19 +1,25 @@
 -- One call of a book, from each way out of it.
 use Rattle.std.proofs.Common.{◌≡◌, ℕ, ◌+◌, ◌<◌, ◌≤◌, List, [], ◌∷◌, ◌++◌, length, Result, Ok, Err, refl, sym, ap, ◌∙◌, subst}
+use Rattle.pf_rule.specs.Combining.{◌>>=◌}
 use Rattle.pf_core.specs.declared.command.Command.{Command}
+use Rattle.pf_core.specs.declared.command.Command.TheVariants.{Rollback}
+use Rattle.pf_core.specs.declared.command.Entry.{Entry}
 use Rattle.pf_core.specs.declared.reply.Answer.{Answer}
+use Rattle.pf_core.specs.declared.reply.Answer.TheVariants as answer
 use Rattle.pf_core.specs.declared.reply.Outcome.{Outcome}
 use Rattle.pf_core.specs.declared.reply.Refusal.{Refusal}
 use Rattle.pf_core.specs.declared.reply.Refusal.TheVariants.{HistoryFull, Memory}
+use Rattle.pf_core.specs.declared.reply.Reply.{Reply}
 use Rattle.pf_core.specs.declared.reply.Reply.TheVariants.{Answer as Answered, Applied, Refused}
 use Rattle.pf_core.specs.declared.step.Step.{Step}
 use Rattle.pf_core.specs.declared.step.Step.TheVariants.{Done, Wants}
 use Rattle.pf_core.specs.Calls.{Call, call, mentions_of, switches}
 use Rattle.pf_core.specs.Edits.{Kept, Edit, applied, voided_by}
-use Rattle.pf_core.specs.Legal.{legal_step, IsLegalStep}
+use Rattle.pf_core.specs.Legal.{legal_step, list_check, rollback_step, IsLegalStep}
 use Rattle.pf_core.specs.Tickets.{AgreesWith}
-use Rattle.pf_core.specs.Worlds.{Whole, Ready, ready, Held, Page, page, IsAt, Follows, AgreesAfter}
+use Rattle.pf_core.specs.Worlds.{Whole, Ready, ready, Held, Page, page, IsAt, Follows, AgreesAfter, reply_to}
 use Rattle.pf_core.specs.WorldLaws.{applied-follows, answered-follows, refused-follows, memory-is-legal, refusal-is-legal, full-is-legal}
+use Rattle.pfd.specs.Replied.{IsRolledBack}
 
 -- what a step says of a core: its reply is legal wherever the calls have led
 abbrev pub Steps : Whole → Command → Result Step Refusal → Type 0
@@ -61,3 +67,23 @@ kept-leads core still core' log log' limit shown shown' now c e o n r is steps s
     (sym (steps h.calls at.calls (λ m. cc (m)))) low number logged (durable ∙ ap (λ (x : Ready). x.durable) from)
     (λ names. agrees h.calls c n o (names ∙ ap (λ (x : Ready). switches x.voided) (sym from)) (subst (λ (w : Whole). AgreesWith w.tickets h.calls) (sym stays) at.calls))
     (epoch ∙ ap (λ (w : Whole). w.tickets.epoch) stays) refl copied)
+
+-- ---- rollbacks
+
+-- what a step says of a rollback: it is the one that its list alone gives
+abbrev pub RollsBack : Command → Result Step Refusal → Type 0
+RollsBack c r = (entries : List Entry) → c ≡ Rollback entries → r ≡ rollback_step entries
+
+-- the reply to such a step
+pub rolled-back : (old : Page) (c : Command) (r : Result Step Refusal) → RollsBack c r → IsRolledBack old c (reply_to old.limit old.log r)
+rolled-back old (Rollback entries) r step = ap (λ (x : Result Step Refusal). reply_to old.limit old.log x) (step entries refl)
+rolled-back old c r step = tt
+
+checked-wants-none : (checked : Result (Unit {0}) Refusal) (e : Edit) (o : Outcome) → Ok (Wants e o) ≡ checked >>= (λ u. Ok (Done answer.Done)) → ⊥
+checked-wants-none (Ok u) e o h = cc (h)
+checked-wants-none (Err f) e o h = cc (h)
+
+-- where a change is wanted it was no rollback
+pub wants-no-rollback : (old : Page) (c : Command) (e : Edit) (o : Outcome) (r : Reply) → RollsBack c (Ok (Wants e o)) → IsRolledBack old c r
+wants-no-rollback old (Rollback entries) e o r step = absurd (checked-wants-none (list_check entries) e o (step entries refl))
+wants-no-rollback old c e o r step = tt

@@ -16,9 +16,9 @@ empty-agrees = record {
   valid = λ name. refl;
   offered = λ name. refl;
   next = refl;
-  low = λ name u h. absurd (cc (h));
-  fresh = λ name u h. refl;
   once = tt;
+  numbered = refl;
+  known = λ name u h. refl;
 }
 
 empty-stands : StandsFor (kept 1 []) empty []

@@ -3,7 +3,7 @@ use Rattle.std.specs.Prelude.{◌≡◌, ℕ, ◌≤◌, List, [], ◌∷◌, �
 use Rattle.std.specs.Io.KnownBytes.{Appends, Consumes, Keeps, IsAtEnd}
 use Rattle.pf_core.specs.declared.command.Command.{Command}
 use Rattle.pf_core.specs.declared.reply.Refusal.{Refusal}
-use Rattle.pf_core.specs.declared.reply.Refusal.TheVariants.{Memory}
+use Rattle.pf_core.specs.declared.reply.Refusal.TheVariants.{BadLine, Memory}
 use Rattle.pf_core.specs.declared.reply.Reply.{Reply}
 use Rattle.pf_core.specs.declared.reply.Reply.TheVariants.{Refused}
 use Rattle.pf_core.specs.Calls.{Call, call}
@@ -16,10 +16,12 @@ use Rattle.pfd.specs.declared.engine.EngineFault.TheVariants as fault
 use Rattle.pfd.specs.Lines.{lines_of, whole_lines}
 
 -- What a line says, the call that it comes to, and what is written for it: nothing for a silent line, the refusal of
--- a line that is refused, the reply to a command. Instead of any refusal it may be that of memory.
+-- a line that is refused, the reply to a command. A bad line is told just that; instead of any other refusal it may be
+-- that of memory.
 abbrev pub Says : Result (Option Command) Refusal → List Call → List ℕ → Type 0
 Says (Ok None) calls text = (calls ≡ []) × (text ≡ [])
 Says (Ok (Some c)) calls text = (r : Reply) × (calls ≡ call c r ∷ []) × (text ≡ reply_text r)
+Says (Err BadLine) calls text = (calls ≡ []) × (text ≡ reply_text (Refused BadLine))
 Says (Err e) calls text = (calls ≡ []) × ((text ≡ reply_text (Refused e)) ⊎ (text ≡ reply_text (Refused Memory)))
 
 -- These calls and this text are those of the lines, one after the other.

@@ -4,7 +4,7 @@ ghost use Rattle.std.specs.Arc.{arc_value};
 ghost use Rattle.pf_core.specs.Calls.{Call, call};
 ghost use Rattle.pf_core.specs.Edits.{Kept, kept, after, verdict};
 ghost use Rattle.pf_core.specs.Worlds.{Held, held_after, LegalReply, IsFoldOfFront, IsAt, Follows, StandsFor};
-ghost use Rattle.pfd.specs.Replied.{IsNumbered, IsJudged, StaysIfRefused};
+ghost use Rattle.pfd.specs.Replied.{IsNumbered, IsJudged, IsRolledBack, StaysIfRefused};
 
 use pf_core::{Change, Command, Core, Durable, Refusal, Reply, Step, Verdict};
 use pf_rule::Packet;
@@ -37,7 +37,8 @@ impl Model for Book {
 }
 
 impl Book {
-    /// No rulesets, in epoch 1, and no history yet. The history will have at most so many changes.
+    /// No rulesets, in epoch 1, and no history yet. The history will have at most so many changes; the caller sees to it
+    /// that these are from 1 to 1,048,576. `Err`: memory was refused, and nothing is left of what was made.
     pub fn fresh(alloc: Global, history_limit: usize) -> Result<Book, AllocError>
         requires low { 1 ≤ history_limit }
         requires high { history_limit ≤ 1_048_576 }
@@ -60,6 +61,7 @@ impl Book {
         ensures follows { (base : Kept) (h : Held) → IsAt base h self.old → Follows base h self.old self.new (call command.now result) }
         ensures numbered { IsNumbered result self.new }
         ensures judged { IsJudged self.old.whole.durable command.now result }
+        ensures rolled_back { IsRolledBack self.old command.now result }
         ensures limit { self.new.limit ≡ self.old.limit }
         ensures refused { StaysIfRefused result self.old self.new }
     {
@@ -96,13 +98,15 @@ impl Book {
     /// One call. A change is kept before it is answered, and is answered with its number, from 1.
     ///
     /// The core's refusals come first, then `HistoryFull`, where the history has as many changes as it may have. `Memory`
-    /// may come at any command but a judge, whose answer takes none. After every refusal all is as before.
+    /// may come instead of any reply but that to a judge or a rollback, which take none. After every refusal all is as
+    /// before.
     pub fn run(&mut self, command: Command) -> Reply
         ensures worlds { (base : Kept) (world : List Call) → StandsFor base self.old world → StandsFor base self.new (world ++ call command result ∷ []) }
         ensures legal { (base : Kept) (world : List Call) → StandsFor base self.old world → LegalReply base self.old.limit (held_after base world) command result }
         ensures fold { (base : Kept) (world : List Call) → StandsFor base self.old world → self.new.whole.durable ≡ after base self.new.log }
         ensures numbered { IsNumbered result self.new }
         ensures judged { IsJudged self.old.whole.durable command result }
+        ensures rolled_back { IsRolledBack self.old command result }
         ensures limit { self.new.limit ≡ self.old.limit }
         ensures refused { StaysIfRefused result self.old self.new }
         ensures shown { (base : Kept) (world : List Call) → StandsFor base self.old world → IsFoldOfFront base self.new.log self.new.shown }

@@ -82,9 +82,11 @@ fn explain<W: Write, F: Write>(error: &Error, writer: &mut W, faults: &mut F) ->
 /// The program, with its words as `env::args` gives them, the program's own name first.
 ///
 /// `pfd run` serves the reader's lines to the writer from a fresh book whose history may have 65,536 changes. Status 0:
-/// the input ended, or help was asked for, whose text goes to the writer. Status 1: a read, a write or a growth of memory
-/// failed, also one for the words; one line on the faults says `pfd: input`, `pfd: output` or `pfd: memory`. Status 2: the
-/// words were refused, as where there are none; the faults have clap's text, and nothing was read or written.
+/// the input ended, or help was asked for, whose text goes to the writer. Status 1: a read, a write, a flush or a growth
+/// of memory failed, also one for the words; one line on the faults says `pfd: input`, `pfd: output` or `pfd: memory`.
+/// Status 2: the words were refused, as where there are none; the faults have clap's text, and nothing was read or
+/// written. Where the faults can't be written, the status alone tells. Words that aren't text don't come here: `main`
+/// ends with status 2.
 ///
 /// What the texts are, and which other words are help and which are refused, is only tested.
 pub fn start<R: Read, W: Write, F: Write>(

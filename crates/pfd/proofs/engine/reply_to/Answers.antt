@@ -6,4 +6,4 @@ pub returns-in-Ok-Some : goal.returns-in-Ok-Some
 returns-in-Ok-Some c = told-reply (line_at c.args.line.now) c.in-Ok-Some.command c.run.result c.args.book.now c.run.new.self (rw c.in-Ok-Some.field-0-is at c.in-Ok-Some.ensures.exact) c.run.ensures.worlds
 
 pub returns-in-Err : goal.returns-in-Err
-returns-in-Err c = told-refusal c.args.line.now c.in-Err.refusal c.args.book.now c.in-Err.ensures.exact c.in-Err.ensures.silent
+returns-in-Err c = told-refusal c.args.line.now c.in-Err.refusal c.args.book.now c.in-Err.ensures.exact c.in-Err.ensures.silent c.in-Err.ensures.bad

@@ -1,10 +1,13 @@
-use Rattle.std.proofs.Common.{◌≡◌, sym, ◌∙◌, ◌+◌, ◌<◌, ◌++◌, ◌∷◌, [], ap, arith, List, length}
+use Rattle.std.proofs.Common.{◌≡◌, Ok, Err, sym, ◌∙◌, ◌+◌, ◌<◌, ◌++◌, ◌∷◌, [], ap, arith, List, length}
 use Rattle.std.proofs.lemmas.Grind.{common_steps}
 use Rattle.std.specs.Prelude.{map}
 use Rattle.std.specs.Arc.{arc_value}
+use Rattle.pf_core.specs.declared.reply.Refusal.TheVariants.{HistoryFull, Memory}
+use Rattle.pf_core.specs.declared.reply.Reply.TheVariants.{Applied, Refused}
+use Rattle.pf_core.specs.declared.step.Step.TheVariants.{Done}
 use Rattle.pf_core.specs.Edits.{Kept, Edit}
 use Rattle.pf_core.specs.Worlds.{Whole, page}
-use Rattle.pfd.proofs.Booking.{done-leads, full-leads, memory-leads, err-leads, kept-leads}
+use Rattle.pfd.proofs.Booking.{done-leads, full-leads, memory-leads, err-leads, kept-leads, rolled-back, wants-no-rollback}
 use Rattle.pfd.proofs.book.Book.call.Goals as goal
 
 pub returns-in-Ok-Done-clause-follows : goal.returns-in-Ok-Done-clause-follows
@@ -74,3 +77,43 @@ returns-else-is_err-clause-follows c =
     let number : c.len-in-Ok-Wants.result ≡ length log + 1 = grind (arith, common_steps, c.len-in-Ok-Wants.ensures, c.push_reserved.ensures.items, c.reserve.ensures.items) in
     kept-leads c.self.inside.core c.step.new.self c.accept.new.self log log' c.self.inside.limit shown shown' c.args.self.now c.args.command.now c.in-Ok-Wants.change c.in-Ok-Wants.outcome c.len-in-Ok-Wants.result c.in-Ok.next
     c.self.view_is e.reply e.stays low number logged c.in-Ok.ensures c.accept.ensures.durable c.accept.ensures.agrees c.accept.ensures.epoch (c.in-Ok-durable.ensures ∙ sym c.accept.ensures.durable)
+
+-- ---- rollbacks
+
+pub returns-in-Ok-Done-clause-rolled_back : goal.returns-in-Ok-Done-clause-rolled_back
+returns-in-Ok-Done-clause-rolled_back c =
+    let e = rw c.in-Ok-Done.field-0-is at c.in-Ok-Done.ensures in
+    rolled-back c.args.self.now c.args.command.now (Ok (Done c.in-Ok-Done.answer)) e.rolled_back
+
+pub returns-then-len-self-clause-rolled_back : goal.returns-then-len-self-clause-rolled_back
+returns-then-len-self-clause-rolled_back c =
+    let e = rw c.in-Ok-Wants.field-0-is at c.in-Ok-Wants.ensures in
+    wants-no-rollback c.args.self.now c.args.command.now c.in-Ok-Wants.change c.in-Ok-Wants.outcome (Refused HistoryFull) e.rolled_back
+
+pub returns-in_default-clause-rolled_back : goal.returns-in_default-clause-rolled_back
+returns-in_default-clause-rolled_back c =
+    let e = rw c.in-Ok-Wants.field-0-is at c.in-Ok-Wants.ensures in
+    wants-no-rollback c.args.self.now c.args.command.now c.in-Ok-Wants.change c.in-Ok-Wants.outcome (Refused Memory) e.rolled_back
+
+pub returns-in_default-durable-clause-rolled_back : goal.returns-in_default-durable-clause-rolled_back
+returns-in_default-durable-clause-rolled_back c =
+    let e = rw c.in-Ok-Wants.field-0-is at c.in-Ok-Wants.ensures in
+    wants-no-rollback c.args.self.now c.args.command.now c.in-Ok-Wants.change c.in-Ok-Wants.outcome (Refused Memory) e.rolled_back
+
+pub returns-in_default-new-clause-rolled_back : goal.returns-in_default-new-clause-rolled_back
+returns-in_default-new-clause-rolled_back c =
+    let e = rw c.in-Ok-Wants.field-0-is at c.in-Ok-Wants.ensures in
+    wants-no-rollback c.args.self.now c.args.command.now c.in-Ok-Wants.change c.in-Ok-Wants.outcome (Refused Memory) e.rolled_back
+
+pub returns-then-is_err-clause-rolled_back : goal.returns-then-is_err-clause-rolled_back
+returns-then-is_err-clause-rolled_back c =
+    let e = rw c.in-Ok-Wants.field-0-is at c.in-Ok-Wants.ensures in
+    wants-no-rollback c.args.self.now c.args.command.now c.in-Ok-Wants.change c.in-Ok-Wants.outcome (Refused Memory) e.rolled_back
+
+pub returns-else-is_err-clause-rolled_back : goal.returns-else-is_err-clause-rolled_back
+returns-else-is_err-clause-rolled_back c =
+    let e = rw c.in-Ok-Wants.field-0-is at c.in-Ok-Wants.ensures in
+    wants-no-rollback c.args.self.now c.args.command.now c.in-Ok-Wants.change c.in-Ok-Wants.outcome (Applied c.len-in-Ok-Wants.result c.in-Ok-Wants.outcome) e.rolled_back
+
+pub returns-in-Err-clause-rolled_back : goal.returns-in-Err-clause-rolled_back
+returns-in-Err-clause-rolled_back c = rolled-back c.args.self.now c.args.command.now (Err c.in-Err.refusal) c.in-Err.ensures.rolled_back
