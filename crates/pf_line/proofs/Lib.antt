@@ -8,5 +8,6 @@ pub mod Silence
 pub mod Writers
 pub mod ShownRules
 pub mod Lines
+pub mod SpelledTickets
 pub mod WrittenTickets
 pub mod ReplyLines

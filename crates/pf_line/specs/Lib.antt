@@ -2,6 +2,7 @@ pub mod Keywords
 pub mod Making
 pub mod Listing
 pub mod Tickets
+pub mod TicketGrammar
 pub mod Grammar
 pub mod Reading
 pub mod Commands

@@ -6,6 +6,7 @@ use pf_core::{
 use pf_rule::Action;
 use std::alloc::Global;
 use std::io::{self, ErrorKind, Write};
+use std::process::Abort;
 use std::sync::Arc;
 use std::test::*;
 
@@ -36,6 +37,12 @@ fn bad_name(at: usize) -> Told {
     Told::Refused(Refusal::NameTooLong { at })
 }
 
+fn bad_protocol(at: usize) -> Told {
+    Told::Refused(Refusal::BadProto { at })
+}
+
+const BAD_LINE: Told = Told::Refused(Refusal::BadLine);
+
 fn last_ticket(entries: &Entries) -> Ticket {
     match entries.as_slice() {
         [.., last] => last.ticket,
@@ -64,45 +71,51 @@ fn read(alloc: Global, line: &[u8]) -> Told {
     }
 }
 
+/// Reads each line as what it is told.
+fn check(rt: &impl Abort, alloc: Global, rows: &[(&str, Told)]) {
+    for (line, told) in rows {
+        assert_eq!(rt; read(alloc, line.as_bytes()), *told, "{line}");
+    }
+}
+
 #[test]
 fn reads_commands(rt: HostRuntime) {
-    for (line, told) in [
-        (b"begin filter -".as_slice(), Told::Begin(1)),
-        (b" \tbegin\r filter\t\t-\r", Told::Begin(1)),
-        (b"begin filter web", Told::Begin(1)),
-        (b"begin filter - filter -", Told::Begin(2)),
-        (b"begin filter - filter web filter web/a", Told::Begin(3)),
-        (b"begin filter filter filter begin", Told::Begin(2)),
-        (b"begin filter --", Told::Begin(1)),
-        (b"add - 1.1 pass", Told::Add(ticket(1, 1))),
-        (b"add web/a 1.1 pass", Told::Add(ticket(1, 1))),
-        (b"add 1.1 1.2 pass", Told::Add(ticket(1, 2))),
+    let rows = [
+        ("begin filter -", Told::Begin(1)),
+        (" \tbegin\r filter\t\t-\r", Told::Begin(1)),
+        ("begin filter web", Told::Begin(1)),
+        ("begin filter - filter -", Told::Begin(2)),
+        ("begin filter - filter web filter web/a", Told::Begin(3)),
+        ("begin filter filter filter begin", Told::Begin(2)),
+        ("begin filter --", Told::Begin(1)),
+        ("add - 1.1 pass", Told::Add(ticket(1, 1))),
+        ("add web/a 1.1 pass", Told::Add(ticket(1, 1))),
+        ("add 1.1 1.2 pass", Told::Add(ticket(1, 2))),
         (
-            b"add - 4294967295.0 block drop in quick on em0 inet proto tcp from 10/8 to any",
+            "add - 4294967295.0 block drop in quick on em0 inet proto tcp from 10/8 to any",
             Told::Add(ticket(4294967295, 0)),
         ),
-        (b"add - 2.3 pass out all no state", Told::Add(ticket(2, 3))),
-        (b"commit filter - 1.1", Told::Commit(1, ticket(1, 1))),
+        ("add - 2.3 pass out all no state", Told::Add(ticket(2, 3))),
+        ("commit filter - 1.1", Told::Commit(1, ticket(1, 1))),
         (
-            b"commit filter - 1.1 filter - 1.2",
+            "commit filter - 1.1 filter - 1.2",
             Told::Commit(2, ticket(1, 2)),
         ),
         (
-            b"commit filter web 1.1 filter - 1.2 filter web/a 1.3",
+            "commit filter web 1.1 filter - 1.2 filter web/a 1.3",
             Told::Commit(3, ticket(1, 3)),
         ),
-        (b"rollback filter - 1.1", Told::Rollback(1, ticket(1, 1))),
+        ("rollback filter - 1.1", Told::Rollback(1, ticket(1, 1))),
         (
-            b"rollback filter web 1.3 filter - 1.2",
+            "rollback filter web 1.3 filter - 1.2",
             Told::Rollback(2, ticket(1, 2)),
         ),
-        (b"judge in em0 tcp 10.0.0.1 1 10.0.0.2 2", Told::Judge),
-        (b"show rules -", Told::ShowRules),
-        (b"show rules web/a", Told::ShowRules),
-        (b"show rules rules", Told::ShowRules),
-    ] {
-        assert_eq!(rt; read(rt.alloc(), line), told);
-    }
+        ("judge in em0 tcp 10.0.0.1 1 10.0.0.2 2", Told::Judge),
+        ("show rules -", Told::ShowRules),
+        ("show rules web/a", Told::ShowRules),
+        ("show rules rules", Told::ShowRules),
+    ];
+    check(&rt, rt.alloc(), &rows);
 }
 
 fn paths_of(names: &[RulesetName], paths: &[&[u8]]) -> bool {
@@ -187,207 +200,220 @@ fn reads_long_lists(rt: HostRuntime) -> Result<(), Fail> {
     Ok(())
 }
 
+/// Reads each line as having a bad word there.
+fn check_places(rt: &impl Abort, alloc: Global, rows: &[(&str, usize)]) {
+    for (line, at) in rows {
+        assert_eq!(rt; read(alloc, line.as_bytes()), bad_word(*at), "{line}");
+    }
+}
+
 #[test]
 fn places_bad_words(rt: HostRuntime) {
-    for (line, at) in [
+    let rows = [
         // a first word that is no command
-        (b"frob".as_slice(), 0),
-        (b"Begin filter -", 0),
-        (b"beginx filter -", 0),
-        (b"filter", 0),
-        (b"-", 0),
-        (b"begin#", 0),
+        ("frob", 0),
+        ("Begin filter -", 0),
+        ("beginx filter -", 0),
+        ("filter", 0),
+        ("-", 0),
+        ("begin#", 0),
         // what isn't there yet
-        (b"tset - t 10/8", 0),
-        (b"rules -", 0),
+        ("tset - t 10/8", 0),
+        ("rules -", 0),
         // begin: each word missing, wrong, doubled
-        (b"begin", 1),
-        (b"begin begin filter -", 1),
-        (b"begin table -", 1),
-        (b"begin - filter", 1),
-        (b"begin filter", 2),
-        (b"begin filter ..", 2),
-        (b"begin filter /", 2),
-        (b"begin filter a//b", 2),
-        (b"begin filter a/-", 2),
-        (b"begin filter a*", 2),
-        (b"begin filter filter -", 3),
-        (b"begin filter - -", 3),
-        (b"begin filter - web", 3),
-        (b"begin filter - table -", 3),
-        (b"begin filter - filter", 4),
-        (b"begin filter - filter ..", 4),
-        (b"begin filter - filter web filter", 6),
-        (b"begin filter - filter web filter - -", 7),
+        ("begin", 1),
+        ("begin begin filter -", 1),
+        ("begin table -", 1),
+        ("begin - filter", 1),
+        ("begin filter", 2),
+        ("begin filter ..", 2),
+        ("begin filter /", 2),
+        ("begin filter a//b", 2),
+        ("begin filter a/-", 2),
+        ("begin filter a*", 2),
+        ("begin filter filter -", 3),
+        ("begin filter - -", 3),
+        ("begin filter - web", 3),
+        ("begin filter - table -", 3),
+        ("begin filter - filter", 4),
+        ("begin filter - filter ..", 4),
+        ("begin filter - filter web filter", 6),
+        ("begin filter - filter web filter - -", 7),
         // add
-        (b"add", 1),
-        (b"add add - 1.1 pass", 2),
-        (b"add .. 1.1 pass", 1),
-        (b"add filter - 1.1 pass", 2),
-        (b"add -", 2),
-        (b"add web", 2),
-        (b"add - - 1.1 pass", 2),
-        (b"add - pass", 2),
-        (b"add - 1.1", 3),
-        (b"add - 1.1 1.1 pass", 3),
-        (b"add - 1.1 frob", 3),
-        (b"add - 1.1 drop", 3),
-        (b"add - 1.1 pass pass", 4),
-        (b"add - 1.1 pass on", 5),
-        (b"add - 1.1 pass in in", 5),
-        (b"add - 1.1 block keep state", 4),
-        (b"add - 1.1 pass from ! 10/8 to any", 5),
-        (b"add - 1.1 pass all #", 5),
+        ("add", 1),
+        ("add add - 1.1 pass", 2),
+        ("add .. 1.1 pass", 1),
+        ("add filter - 1.1 pass", 2),
+        ("add -", 2),
+        ("add web", 2),
+        ("add - - 1.1 pass", 2),
+        ("add - pass", 2),
+        ("add - 1.1", 3),
+        ("add - 1.1 1.1 pass", 3),
+        ("add - 1.1 frob", 3),
+        ("add - 1.1 drop", 3),
+        ("add - 1.1 pass pass", 4),
+        ("add - 1.1 pass on", 5),
+        ("add - 1.1 pass in in", 5),
+        ("add - 1.1 block keep state", 4),
+        ("add - 1.1 pass from ! 10/8 to any", 5),
+        ("add - 1.1 pass all #", 5),
         // commit
-        (b"commit", 1),
-        (b"commit table - 1.1", 1),
-        (b"commit commit filter - 1.1", 1),
-        (b"commit filter", 2),
-        (b"commit filter ../a 1.1", 2),
-        (b"commit filter 1.1", 3),
-        (b"commit filter -", 3),
-        (b"commit filter - -", 3),
-        (b"commit filter - frob", 3),
-        (b"commit filter - 1.1 1.1", 4),
-        (b"commit filter - 1.1 1.1 filter - 1.2", 4),
-        (b"commit filter - 1.1 table - 1.2", 4),
-        (b"commit filter - 1.1 filter", 5),
-        (b"commit filter - 1.1 filter /", 5),
-        (b"commit filter - 1.1 filter -", 6),
-        (b"commit filter - 1.1 filter - -", 6),
-        (b"commit filter - 1.1 filter - filter - 1.2", 6),
-        (b"commit filter - 1.1 filter - 1.2 filter web", 9),
+        ("commit", 1),
+        ("commit table - 1.1", 1),
+        ("commit commit filter - 1.1", 1),
+        ("commit filter", 2),
+        ("commit filter ../a 1.1", 2),
+        ("commit filter 1.1", 3),
+        ("commit filter -", 3),
+        ("commit filter - -", 3),
+        ("commit filter - frob", 3),
+        ("commit filter - 1.1 1.1", 4),
+        ("commit filter - 1.1 1.1 filter - 1.2", 4),
+        ("commit filter - 1.1 table - 1.2", 4),
+        ("commit filter - 1.1 filter", 5),
+        ("commit filter - 1.1 filter /", 5),
+        ("commit filter - 1.1 filter -", 6),
+        ("commit filter - 1.1 filter - -", 6),
+        ("commit filter - 1.1 filter - filter - 1.2", 6),
+        ("commit filter - 1.1 filter - 1.2 filter web", 9),
         // rollback
-        (b"rollback", 1),
-        (b"rollback table - 1.1", 1),
-        (b"rollback filter", 2),
-        (b"rollback filter -", 3),
-        (b"rollback filter - frob", 3),
-        (b"rollback filter - 1.1 -", 4),
-        (b"rollback filter - 1.1 filter -", 6),
+        ("rollback", 1),
+        ("rollback table - 1.1", 1),
+        ("rollback filter", 2),
+        ("rollback filter -", 3),
+        ("rollback filter - frob", 3),
+        ("rollback filter - 1.1 -", 4),
+        ("rollback filter - 1.1 filter -", 6),
         // show
-        (b"show", 1),
-        (b"show tables -", 1),
-        (b"show rule -", 1),
-        (b"show show rules -", 1),
-        (b"show - rules", 1),
-        (b"show rules", 2),
-        (b"show rules ..", 2),
-        (b"show rules - x", 3),
-        (b"show rules - -", 3),
+        ("show", 1),
+        ("show tables -", 1),
+        ("show rule -", 1),
+        ("show show rules -", 1),
+        ("show - rules", 1),
+        ("show rules", 2),
+        ("show rules ..", 2),
+        ("show rules - x", 3),
+        ("show rules - -", 3),
         // judge
-        (b"judge", 1),
-        (b"judge judge in", 1),
-        (b"judge both em0", 1),
-        (b"judge in", 2),
-        (b"judge in em0", 3),
-        (b"judge in em0 tcp", 4),
-        (b"judge in em0 tcp 10.0.0.1", 5),
-        (b"judge in em0 icmp 10.0.0.1 1 10.0.0.2 0", 5),
-        (b"judge in em0 tcp 10.0.0.1 1 10.0.0.2", 7),
-        (b"judge in em0 tcp 10.0.0.1 1 10.0.0.2 65536", 7),
-        (b"judge in em0 tcp 10.0.0.1 1 10.0.0.2 2 3", 8),
-    ] {
-        assert_eq!(rt; read(rt.alloc(), line), bad_word(at));
-    }
+        ("judge", 1),
+        ("judge judge in", 1),
+        ("judge both em0", 1),
+        ("judge in", 2),
+        ("judge in em0", 3),
+        ("judge in em0 tcp", 4),
+        ("judge in em0 tcp 10.0.0.1", 5),
+        ("judge in em0 icmp 10.0.0.1 1 10.0.0.2 0", 5),
+        ("judge in em0 tcp 10.0.0.1 1 10.0.0.2", 7),
+        ("judge in em0 tcp 10.0.0.1 1 10.0.0.2 65536", 7),
+        ("judge in em0 tcp 10.0.0.1 1 10.0.0.2 2 3", 8),
+    ];
+    check_places(&rt, rt.alloc(), &rows);
 }
 
 #[test]
 fn places_names_and_protocols(rt: HostRuntime) {
-    for (line, refusal) in [
+    let rows = [
+        ("add - 1.1 pass on abcdefghijklmnop", bad_name(5)),
         (
-            b"add - 1.1 pass on abcdefghijklmnop".as_slice(),
-            Refusal::NameTooLong { at: 5 },
+            "judge in abcdefghijklmnop tcp 10.0.0.1 1 10.0.0.2 2",
+            bad_name(2),
         ),
         (
-            b"judge in abcdefghijklmnop tcp 10.0.0.1 1 10.0.0.2 2",
-            Refusal::NameTooLong { at: 2 },
+            "add aaaaaaaaaaaaaaaaaaaaaaaaaaaaaaaaaaaaaaaaaaaaaaaaaaaaaaaaaaaaaaaa 1.1 pass",
+            bad_name(1),
         ),
         (
-            b"add aaaaaaaaaaaaaaaaaaaaaaaaaaaaaaaaaaaaaaaaaaaaaaaaaaaaaaaaaaaaaaaa 1.1 pass",
-            Refusal::NameTooLong { at: 1 },
+            "begin filter - filter a/a/a/a/a/a/a/a/a/a/a/a/a/a/a/a/a",
+            bad_name(4),
         ),
         (
-            b"begin filter - filter a/a/a/a/a/a/a/a/a/a/a/a/a/a/a/a/a",
-            Refusal::NameTooLong { at: 4 },
+            "show rules a/a/a/a/a/a/a/a/a/a/a/a/a/a/a/a/a x",
+            bad_name(2),
         ),
+        ("add - 1.1 pass proto frob", bad_protocol(5)),
+        ("add - 1.1 pass proto 256", bad_protocol(5)),
+        ("judge in em0 frob 10.0.0.1 1 10.0.0.2 2", bad_protocol(3)),
         (
-            b"show rules a/a/a/a/a/a/a/a/a/a/a/a/a/a/a/a/a x",
-            Refusal::NameTooLong { at: 2 },
+            "add - 1.1 pass inet6 from 10/8 to any",
+            Told::Refused(Refusal::MixedFamily),
         ),
-        (b"add - 1.1 pass proto frob", Refusal::BadProto { at: 5 }),
-        (b"add - 1.1 pass proto 256", Refusal::BadProto { at: 5 }),
-        (
-            b"judge in em0 frob 10.0.0.1 1 10.0.0.2 2",
-            Refusal::BadProto { at: 3 },
-        ),
-        (
-            b"add - 1.1 pass inet6 from 10/8 to any",
-            Refusal::MixedFamily,
-        ),
-        (
-            b"add - 1.1 pass inet6 from 10/8 to any frob",
-            Refusal::BadWord { at: 9 },
-        ),
-    ] {
-        assert_eq!(rt; read(rt.alloc(), line), Told::Refused(refusal));
-    }
+        ("add - 1.1 pass inet6 from 10/8 to any frob", bad_word(9)),
+    ];
+    check(&rt, rt.alloc(), &rows);
 }
 
-fn commit_of(alloc: Global, word: &[u8]) -> Result<Told, Fail> {
-    let mut line = Vec::from_slice(alloc, b"commit filter - ")?;
-    line.extend_from_slice(word)?;
-    Ok(read(alloc, line.as_slice()))
+fn commit_of(alloc: Global, word: &str) -> Result<Told, Fail> {
+    let line = format!(in alloc; "commit filter - {word}")?;
+    Ok(read(alloc, line.as_bytes()))
 }
 
-#[test]
-fn reads_tickets(rt: HostRuntime) -> Result<(), Fail> {
-    for (word, epoch, count) in [
-        (b"1.1".as_slice(), 1, 1),
-        (b"01.1", 1, 1),
-        (b"0000000001.1", 1, 1),
-        (b"1.0000000001", 1, 1),
-        (b"0.0", 0, 0),
-        (b"4294967295.4294967295", 4294967295, 4294967295),
-        (b"12.345", 12, 345),
-    ] {
-        assert_eq!(rt;
-            commit_of(rt.alloc(), word)?,
-            Told::Commit(1, ticket(epoch, count))
-        );
+/// Reads each ticket as that epoch and that count.
+fn check_tickets(rt: &impl Abort, alloc: Global, rows: &[(&str, u32, u32)]) -> Result<(), Fail> {
+    for (word, epoch, count) in rows {
+        let told = Told::Commit(1, ticket(*epoch, *count));
+        assert_eq!(rt; commit_of(alloc, word)?, told, "{word}");
     }
-    for word in [
-        b"00000000001.1".as_slice(),
-        b"1.00000000001",
-        b"4294967296.1",
-        b"1.4294967296",
-        b"9999999999.1",
-        b"1",
-        b"1.",
-        b".1",
-        b".",
-        b"..",
-        b"1..1",
-        b"1.1.1",
-        b"1.1.",
-        b"+1.1",
-        b"1.+1",
-        b"-1.1",
-        b"1,1",
-        b"a.1",
-        b"1.a",
-        b"0x1.1",
-        b"1/1",
-        b"1:1",
-    ] {
-        assert_eq!(rt; commit_of(rt.alloc(), word)?, bad_word(3));
+    Ok(())
+}
+
+/// Reads each word as no ticket.
+fn check_no_tickets(rt: &impl Abort, alloc: Global, words: &[&str]) -> Result<(), Fail> {
+    for word in words {
+        assert_eq!(rt; commit_of(alloc, word)?, bad_word(3), "{word}");
     }
     Ok(())
 }
 
 #[test]
+fn reads_tickets(rt: HostRuntime) -> Result<(), Fail> {
+    let tickets = [
+        ("1.1", 1, 1),
+        ("01.1", 1, 1),
+        ("0000000001.1", 1, 1),
+        ("1.0000000001", 1, 1),
+        ("0.0", 0, 0),
+        ("4294967295.4294967295", 4294967295, 4294967295),
+        ("12.345", 12, 345),
+    ];
+    check_tickets(&rt, rt.alloc(), &tickets)?;
+    let others = [
+        "00000000001.1",
+        "1.00000000001",
+        "4294967296.1",
+        "1.4294967296",
+        "9999999999.1",
+        "1",
+        "1.",
+        ".1",
+        ".",
+        "..",
+        "1..1",
+        "1.1.1",
+        "1.1.",
+        "+1.1",
+        "1.+1",
+        "-1.1",
+        "1,1",
+        "a.1",
+        "1.a",
+        "0x1.1",
+        "1/1",
+        "1:1",
+    ];
+    check_no_tickets(&rt, rt.alloc(), &others)
+}
+
+/// The same as `check`, of lines that need not be text.
+fn check_bytes(rt: &impl Abort, alloc: Global, rows: &[(&[u8], Told)]) {
+    for (line, told) in rows {
+        assert_eq!(rt; read(alloc, line), *told, "{line:?}");
+    }
+}
+
+#[test]
 fn tells_bad_and_silent_lines(rt: HostRuntime) {
-    for (line, told) in [
+    let rows = [
         (b"".as_slice(), Told::Nothing),
         (b" ", Told::Nothing),
         (b" \t\r", Told::Nothing),
@@ -397,77 +423,101 @@ fn tells_bad_and_silent_lines(rt: HostRuntime) {
         (b" \t\r# frob", Told::Nothing),
         (b"frob #", bad_word(0)),
         (b"begin filter - # a comment", bad_word(3)),
-        (b"\x00", Told::Refused(Refusal::BadLine)),
-        (b"\x1f", Told::Refused(Refusal::BadLine)),
-        (b"\x7f", Told::Refused(Refusal::BadLine)),
-        (b"\x80", Told::Refused(Refusal::BadLine)),
-        (b"\xff", Told::Refused(Refusal::BadLine)),
-        (b"\x0b", Told::Refused(Refusal::BadLine)),
-        (b"\x0c", Told::Refused(Refusal::BadLine)),
-        (b"\n", Told::Refused(Refusal::BadLine)),
-        (b"# \x00", Told::Refused(Refusal::BadLine)),
-        (b"begin filter -\x7f", Told::Refused(Refusal::BadLine)),
+        (b"\x00", BAD_LINE),
+        (b"\x1f", BAD_LINE),
+        (b"\x7f", BAD_LINE),
+        (b"\x80", BAD_LINE),
+        (b"\xff", BAD_LINE),
+        (b"\x0b", BAD_LINE),
+        (b"\x0c", BAD_LINE),
+        (b"\n", BAD_LINE),
+        (b"# \x00", BAD_LINE),
+        (b"begin filter -\x7f", BAD_LINE),
         (b"begin filter ~", bad_word(2)),
         (b"!", bad_word(0)),
-    ] {
-        assert_eq!(rt; read(rt.alloc(), line), told);
-    }
+    ];
+    check_bytes(&rt, rt.alloc(), &rows);
 }
 
-fn padded(alloc: Global, front: &[u8], pad: u8, len: usize) -> Result<Vec<u8>, Fail> {
-    let mut line = Vec::from_slice(alloc, front)?;
+fn padded(alloc: Global, front: &str, pad: u8, len: usize) -> Result<Vec<u8>, Fail> {
+    let mut line = Vec::from_slice(alloc, front.as_bytes())?;
     for _ in front.len()..len {
         line.push(pad)?;
     }
     Ok(line)
 }
 
-#[test]
-fn limits_the_length_of_lines(rt: HostRuntime) -> Result<(), Fail> {
-    for (front, pad, told) in [
-        (b"".as_slice(), b' ', Told::Nothing),
-        (b"#", b'#', Told::Nothing),
-        (b"begin filter -", b' ', Told::Begin(1)),
-        (b"begin filter -", b'\r', Told::Begin(1)),
-        (b"begin filter ", b'-', bad_name(2)),
-    ] {
-        let whole = padded(rt.alloc(), front, pad, 4096)?;
-        assert_eq!(rt; read(rt.alloc(), whole.as_slice()), told);
-        let longer = padded(rt.alloc(), front, pad, 4097)?;
+/// Reads each line, padded to 4,096 bytes, as what it is told, and a longer one as bad.
+fn check_padded(rt: &impl Abort, alloc: Global, rows: &[(&str, u8, Told)]) -> Result<(), Fail> {
+    for (front, pad, told) in rows {
+        let whole = padded(alloc, front, *pad, 4096)?;
+        assert_eq!(rt; read(alloc, whole.as_slice()), *told, "{front}, then {pad}");
+        let longer = padded(alloc, front, *pad, 4097)?;
         assert_eq!(rt;
-            read(rt.alloc(), longer.as_slice()),
-            Told::Refused(Refusal::BadLine)
+            read(alloc, longer.as_slice()),
+            BAD_LINE,
+            "{front}, then {pad}"
         );
     }
     Ok(())
 }
 
+#[test]
+fn limits_the_length_of_lines(rt: HostRuntime) -> Result<(), Fail> {
+    let rows = [
+        ("", b' ', Told::Nothing),
+        ("#", b'#', Told::Nothing),
+        ("begin filter -", b' ', Told::Begin(1)),
+        ("begin filter -", b'\r', Told::Begin(1)),
+        ("begin filter ", b'-', bad_name(2)),
+    ];
+    check_padded(&rt, rt.alloc(), &rows)
+}
+
+/// Reads each line, and where memory was refused again, so often at most.
+fn check_again(rt: &impl Abort, alloc: Global, often: usize, rows: &[(&str, Told)]) {
+    for (line, told) in rows {
+        let mut answer = read(alloc, line.as_bytes());
+        for _ in 0..often {
+            if answer == Told::Refused(Refusal::Memory) {
+                answer = read(alloc, line.as_bytes());
+            }
+        }
+        assert_eq!(rt; answer, *told, "{line}");
+    }
+}
+
+fn check_all_again(rt: &impl Abort, alloc: Global, often: usize) {
+    let rows = [
+        ("begin filter -", Told::Begin(1)),
+        ("begin filter - filter web filter a/b", Told::Begin(3)),
+        ("add - 1.2 pass in all", Told::Add(ticket(1, 2))),
+        ("commit filter - 3.4", Told::Commit(1, ticket(3, 4))),
+        (
+            "rollback filter - 3.4 filter web 3.5",
+            Told::Rollback(2, ticket(3, 5)),
+        ),
+        ("show rules web", Told::ShowRules),
+        ("begin filter - table -", bad_word(3)),
+        ("judge in em0 tcp 10.0.0.1 1 10.0.0.2 2", Told::Judge),
+        ("frob", bad_word(0)),
+        ("", Told::Nothing),
+        ("# a comment", Told::Nothing),
+        ("\x00", BAD_LINE),
+    ];
+    check_again(rt, alloc, often, &rows);
+}
+
 // Each call gives its answer or `Memory`, and where memory was refused the next call gives the answer.
 #[test]
 fn allocations_refused(rt: HostRuntime) {
-    for (line, told) in [
-        (b"begin filter -".as_slice(), Told::Begin(1)),
-        (b"begin filter - filter web filter a/b", Told::Begin(3)),
-        (b"add - 1.2 pass in all", Told::Add(ticket(1, 2))),
-        (b"commit filter - 3.4", Told::Commit(1, ticket(3, 4))),
-        (
-            b"rollback filter - 3.4 filter web 3.5",
-            Told::Rollback(2, ticket(3, 5)),
-        ),
-        (b"show rules web", Told::ShowRules),
-        (b"begin filter - table -", bad_word(3)),
-        (b"judge in em0 tcp 10.0.0.1 1 10.0.0.2 2", Told::Judge),
-        (b"frob", bad_word(0)),
-        (b"", Told::Nothing),
-        (b"# a comment", Told::Nothing),
-        (b"\x00", Told::Refused(Refusal::BadLine)),
-    ] {
-        let mut answer = read(rt.alloc(), line);
-        if answer == Told::Refused(Refusal::Memory) {
-            answer = read(rt.alloc(), line);
-        }
-        assert_eq!(rt; answer, told);
-    }
+    check_all_again(&rt, rt.alloc(), 1);
+}
+
+// Fails exactly where memory was refused and an answer said so.
+#[test]
+fn allocations_not_refused(rt: HostRuntime) {
+    check_all_again(&rt, rt.alloc(), 0);
 }
 
 fn judged(action: Action, number: u32) -> Reply {
@@ -482,61 +532,67 @@ fn given(first: Ticket, number: u32) -> Reply {
     Reply::Answer(Answer::Given(Given { first, number }))
 }
 
+/// Writes each reply as that text.
+fn check_texts(rt: &impl Abort, alloc: Global, rows: &[(Reply, &str)]) -> Result<(), Fail> {
+    for (reply, text) in rows {
+        let mut out = Vec::new(alloc);
+        write_reply(&mut out, reply)?;
+        assert!(rt; out.as_slice() == text.as_bytes(), "{text}");
+    }
+    Ok(())
+}
+
 #[test]
 fn writes_replies(rt: HostRuntime) -> Result<(), Fail> {
-    for (reply, text) in [
-        (Reply::Answer(Answer::Done), b"ok\n".as_slice()),
-        (given(ticket(1, 1), 1), b"ok 1.1\n"),
-        (given(ticket(7, 9), 3), b"ok 7.9 7.10 7.11\n"),
+    let rows = [
+        (Reply::Answer(Answer::Done), "ok\n"),
+        (given(ticket(1, 1), 1), "ok 1.1\n"),
+        (given(ticket(7, 9), 3), "ok 7.9 7.10 7.11\n"),
         (
             given(ticket(4294967295, 4294967295), 1),
-            b"ok 4294967295.4294967295\n",
+            "ok 4294967295.4294967295\n",
         ),
         (
             judged(Action::Pass { keeps_state: true }, 0),
-            b"pass rule 0\n",
+            "pass rule 0\n",
         ),
         (
             judged(Action::Pass { keeps_state: false }, 12),
-            b"pass rule 12\n",
+            "pass rule 12\n",
         ),
-        (judged(Action::Block, 1023), b"block rule 1023\n"),
+        (judged(Action::Block, 1023), "block rule 1023\n"),
         (
             Reply::Answer(Answer::Judged(Verdict::Rules(RuleVerdict::Default))),
-            b"pass default\n",
+            "pass default\n",
         ),
         (
             Reply::Applied {
                 seq: 65536,
                 outcome: Outcome::Committed,
             },
-            b"applied 65536\n",
+            "applied 65536\n",
         ),
-        (Reply::Refused(Refusal::BadLine), b"err line\n"),
-        (Reply::Refused(Refusal::BadWord { at: 0 }), b"err word 0\n"),
+        (Reply::Refused(Refusal::BadLine), "err line\n"),
+        (Reply::Refused(Refusal::BadWord { at: 0 }), "err word 0\n"),
         (
             Reply::Refused(Refusal::NameTooLong { at: 5 }),
-            b"err name 5\n",
+            "err name 5\n",
         ),
         (
             Reply::Refused(Refusal::BadProto { at: 10 }),
-            b"err proto 10\n",
+            "err proto 10\n",
         ),
-        (Reply::Refused(Refusal::MixedFamily), b"err family\n"),
-        (Reply::Refused(Refusal::BadCount), b"err count\n"),
-        (Reply::Refused(Refusal::Twice { at: 63 }), b"err twice 63\n"),
-        (Reply::Refused(Refusal::Busy { at: 3 }), b"busy 3\n"),
-        (Reply::Refused(Refusal::RulesetFull), b"err ruleset\n"),
-        (Reply::Refused(Refusal::TooManyRulesets), b"err rulesets\n"),
-        (Reply::Refused(Refusal::TicketsExhausted), b"err tickets\n"),
-        (Reply::Refused(Refusal::HistoryFull), b"err history\n"),
-        (Reply::Refused(Refusal::Memory), b"err memory\n"),
-    ] {
-        let mut out = Vec::new(rt.alloc());
-        write_reply(&mut out, &reply)?;
-        assert!(rt; out.as_slice() == text);
-    }
-    Ok(())
+        (Reply::Refused(Refusal::MixedFamily), "err family\n"),
+        (Reply::Refused(Refusal::BadCount), "err count\n"),
+        (Reply::Refused(Refusal::Twice { at: 63 }), "err twice 63\n"),
+        (Reply::Refused(Refusal::Busy { at: 3 }), "busy 3\n"),
+        (Reply::Refused(Refusal::RulesetFull), "err ruleset\n"),
+        (Reply::Refused(Refusal::TooManyRulesets), "err rulesets\n"),
+        (Reply::Refused(Refusal::TicketsExhausted), "err tickets\n"),
+        (Reply::Refused(Refusal::HistoryFull), "err history\n"),
+        (Reply::Refused(Refusal::Memory), "err memory\n"),
+    ];
+    check_texts(&rt, rt.alloc(), &rows)
 }
 
 // The reply to a line, where any change is put in place as the first.
@@ -562,32 +618,43 @@ fn reply_to(core: &mut Core, alloc: Global, line: &[u8]) -> Result<Vec<u8>, Fail
     Ok(out)
 }
 
+/// Answers each line with that text, one line after the other.
+fn check_replies(
+    rt: &impl Abort,
+    alloc: Global,
+    core: &mut Core,
+    rows: &[(&str, &str)],
+) -> Result<(), Fail> {
+    for (line, text) in rows {
+        let out = reply_to(core, alloc, line.as_bytes())?;
+        assert!(rt; out.as_slice() == text.as_bytes(), "{line}");
+    }
+    Ok(())
+}
+
 #[test]
 fn writes_shown_rules(rt: HostRuntime) -> Result<(), Fail> {
     let alloc = rt.alloc();
     let durable = Arc::new(alloc, Durable::empty(alloc, 1))?;
     let mut core = Core::new(alloc, durable);
-    for (line, text) in [
-        (b"show rules -".as_slice(), b"end 0\n".as_slice()),
-        (b"begin filter - filter web", b"ok 1.1 1.2\n"),
-        (b"add web 1.2 pass out", b"ok\n"),
+    let rows = [
+        ("show rules -", "end 0\n"),
+        ("begin filter - filter web", "ok 1.1 1.2\n"),
+        ("add web 1.2 pass out", "ok\n"),
         (
-            b"add web 1.2 block drop in quick on em0 proto 6 from 10/8 to any",
-            b"ok\n",
+            "add web 1.2 block drop in quick on em0 proto 6 from 10/8 to any",
+            "ok\n",
         ),
-        (b"show rules web", b"end 0\n"),
-        (b"commit filter - 1.1 filter web 1.2", b"applied 1\n"),
+        ("show rules web", "end 0\n"),
+        ("commit filter - 1.1 filter web 1.2", "applied 1\n"),
         (
-            b"show rules web",
-            b"@0 pass out all keep state\n@1 block in quick on em0 inet proto tcp from 10.0.0.0/8 to any\nend 2\n",
+            "show rules web",
+            "@0 pass out all keep state\n@1 block in quick on em0 inet proto tcp from 10.0.0.0/8 to any\nend 2\n",
         ),
-        (b"show rules -", b"end 0\n"),
-        (b"commit filter web 1.2 filter web 1.2", b"err twice 1\n"),
-    ] {
-        let out = reply_to(&mut core, alloc, line)?;
-        assert!(rt; out.as_slice() == text);
-    }
-    Ok(())
+        ("show rules -", "end 0\n"),
+        ("commit filter web 1.2 filter web 1.2", "err twice 1\n"),
+    ];
+    check_replies(&rt, alloc, &mut core, &rows)
 }
 
 /// A writer that takes so many bytes, one a call, and then fails.
