@@ -11,15 +11,19 @@ use pf_core::{Refusal, Reply};
 use pf_line::{parse_line, write_reply};
 use std::alloc::Global;
 use std::io::{self, ErrorKind, Read, Write};
+use thiserror::Error;
 
 /// Why a session ended before its input did.
-#[derive(Clone, Copy, Debug, PartialEq, Eq)]
+#[derive(Clone, Copy, Debug, PartialEq, Eq, Error)]
 pub enum EngineFault {
     /// A read failed, or there were 2^62 of them.
+    #[error("input")]
     Read,
     /// A write or a flush failed.
+    #[error("output")]
     Write,
     /// The line buffer was refused.
+    #[error("memory")]
     Memory,
 }
 

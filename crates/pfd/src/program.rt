@@ -45,12 +45,7 @@ fn run<R: Read, W: Write>(alloc: Global, reader: &mut R, writer: &mut W) -> Resu
 pub(crate) fn fail<F: Write>(fault: EngineFault, faults: &mut F) -> u8
     ensures { result ≡ 1 }
 {
-    let line = match fault {
-        EngineFault::Read => "pfd: input\n",
-        EngineFault::Write => "pfd: output\n",
-        EngineFault::Memory => "pfd: memory\n",
-    };
-    let _ = faults.write_all(line.as_bytes());
+    let _ = writeln!(faults, "pfd: {fault}");
     let _ = faults.flush();
     1
 }
