@@ -84,7 +84,7 @@ impl Ticket {
 pub struct Entry {
     /// The ruleset that is switched or dropped.
     pub name: RulesetName,
-    /// The ticket that has to be its valid one.
+    /// The ticket that a commit wants to be its valid one. Where it isn't, a rollback lets the ruleset be.
     pub ticket: Ticket,
 }
 
