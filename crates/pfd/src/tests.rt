@@ -8,7 +8,7 @@ use crate::engine::{EngineFault, serve_alone};
 use crate::program::start;
 use pf_core::{RuleVerdict, Verdict};
 use pf_rule::{Action, Packet};
-use std::alloc::Global;
+use std::alloc::{AllocError, Global};
 use std::cell::Cell;
 use std::io::{self, ErrorKind, Read, Write};
 use std::process::Abort;
@@ -140,32 +140,42 @@ fn book(alloc: Global) -> Result<Book, Fail> {
     Ok(Book::fresh(alloc, 65_536)?)
 }
 
-fn check_replies(rt: &impl Abort, alloc: Global, input: &[u8], replies: &str) -> Result<(), Fail> {
+fn check_replies(
+    rt: &impl Abort,
+    alloc: Global,
+    input: &[u8],
+    replies: &str,
+    row: &str,
+) -> Result<(), Fail> {
     let mut reader = input;
     let mut writer = Vec::new(alloc);
     let mut book = book(alloc)?;
     let result = serve_alone(alloc, &mut reader, &mut writer, &mut book);
-    assert_eq!(rt; result, Ok(()));
-    assert_eq!(rt; std::str::from_utf8(writer.as_slice()), Ok(replies));
+    assert_eq!(rt; result, Ok(()), "at {row:?}");
+    let written = std::str::from_utf8(writer.as_slice());
+    assert_eq!(rt; written, Ok(replies), "at {row:?}");
     Ok(())
 }
 
 #[test]
 fn answers_the_first_session(rt: HostRuntime) -> Result<(), Fail> {
-    check_replies(&rt, rt.alloc(), FIRST, FIRST_REPLIES)
+    check_replies(&rt, rt.alloc(), FIRST, FIRST_REPLIES, "the first session")
 }
+
+/// Inputs and their replies.
+const ENDS_OF_LINES: [(&str, &str); 6] = [
+    ("", ""),
+    ("\n\n", ""),
+    ("# frob\n \t\r\nfrob\n", "err word 0\n"),
+    ("frob", "err word 0\n"),
+    ("frob\nfrob x", "err word 0\nerr word 0\n"),
+    ("\0\nfrob\r\n", "err line\nerr word 0\n"),
+];
 
 #[test]
 fn answers_what_ends_a_line(rt: HostRuntime) -> Result<(), Fail> {
-    for (input, replies) in [
-        (b"".as_slice(), ""),
-        (b"\n\n", ""),
-        (b"# frob\n \t\r\nfrob\n", "err word 0\n"),
-        (b"frob", "err word 0\n"),
-        (b"frob\nfrob x", "err word 0\nerr word 0\n"),
-        (b"\0\nfrob\r\n", "err line\nerr word 0\n"),
-    ] {
-        check_replies(&rt, rt.alloc(), input, replies)?;
+    for (input, replies) in ENDS_OF_LINES.iter() {
+        check_replies(&rt, rt.alloc(), input.as_bytes(), replies, input)?;
     }
     Ok(())
 }
@@ -190,7 +200,7 @@ fn answers_long_lines(rt: HostRuntime) -> Result<(), Fail> {
     push_long(&mut text, b"#", 200_000)?;
     push_long(&mut text, b"frob", 0)?;
     let replies = "err word 0\nerr line\nerr line\nerr line\nerr word 0\n";
-    check_replies(&rt, rt.alloc(), text.as_slice(), replies)
+    check_replies(&rt, rt.alloc(), text.as_slice(), replies, "long lines")
 }
 
 #[test]
@@ -202,7 +212,13 @@ fn answers_a_line_across_the_buffers_end(rt: HostRuntime) -> Result<(), Fail> {
     push_long(&mut text, b"#", 4_091)?;
     assert_eq!(rt; text.len(), 65_533);
     text.extend_from_slice(FIRST)?;
-    check_replies(&rt, rt.alloc(), text.as_slice(), FIRST_REPLIES)
+    check_replies(
+        &rt,
+        rt.alloc(),
+        text.as_slice(),
+        FIRST_REPLIES,
+        "a line across the buffer's end",
+    )
 }
 
 #[test]
@@ -238,9 +254,10 @@ fn check_turns(
     };
     let mut book = book(alloc)?;
     let result = serve_alone(alloc, &mut reader, &mut writer, &mut book);
-    assert_eq!(rt; result, end);
-    assert_eq!(rt; std::str::from_utf8(writer.text.as_slice()), Ok(replies));
-    assert_eq!(rt; waiting.get() && end == Ok(()), false);
+    let written = std::str::from_utf8(writer.text.as_slice());
+    assert_eq!(rt; result, end, "with room for {room}");
+    assert_eq!(rt; written, Ok(replies), "with room for {room}");
+    assert!(rt; !waiting.get() || end.is_err(), "with room for {room}");
     Ok(())
 }
 
@@ -276,17 +293,20 @@ fn answers_what_was_read_before_a_fault(rt: HostRuntime) -> Result<(), Fail> {
     )
 }
 
+/// How much room there is, how the session ends, and what is written.
+const ROOMS: [(usize, Result<(), EngineFault>, &str); 5] = [
+    (25, Ok(()), "ok 1.1\nerr word 0\nok 1.2\n"),
+    (24, Err(EngineFault::Write), "ok 1.1\nerr word 0\nok 1.2"),
+    (18, Err(EngineFault::Write), "ok 1.1\nerr word 0\n"),
+    (7, Err(EngineFault::Write), "ok 1.1\n"),
+    (0, Err(EngineFault::Write), ""),
+];
+
 #[test]
 fn writes_what_there_is_room_for(rt: HostRuntime) -> Result<(), Fail> {
     let turns = [Turn::Gives(b"begin filter -\nfrob\nbegin filter -\n")];
-    for (room, end, replies) in [
-        (25, Ok(()), "ok 1.1\nerr word 0\nok 1.2\n"),
-        (24, Err(EngineFault::Write), "ok 1.1\nerr word 0\nok 1.2"),
-        (18, Err(EngineFault::Write), "ok 1.1\nerr word 0\n"),
-        (7, Err(EngineFault::Write), "ok 1.1\n"),
-        (0, Err(EngineFault::Write), ""),
-    ] {
-        check_turns(&rt, rt.alloc(), turns.as_slice(), room, end, replies)?;
+    for (room, end, replies) in ROOMS.iter() {
+        check_turns(&rt, rt.alloc(), turns.as_slice(), *room, *end, replies)?;
     }
     Ok(())
 }
@@ -350,93 +370,114 @@ fn blocks(verdict: &Verdict) -> bool {
     )
 }
 
+/// Lines, and whether the shown copy then blocks the packet.
+const SHOWN: [(&str, bool); 7] = [
+    ("", false),
+    ("begin filter - filter web\nadd - 1.1 block in all\n", false),
+    ("commit filter - 1.1\n", true),
+    ("commit filter - 1.1\n", true),
+    ("commit filter web 1.2\n", true),
+    ("begin filter -\nrollback filter - 1.3\n", true),
+    ("begin filter -\ncommit filter - 1.4\n", false),
+];
+
 // What is shown is only promised to be the fold of some front of the history; this body shows each change at once.
 #[test]
 fn shows_what_was_committed(rt: HostRuntime) -> Result<(), Fail> {
     let alloc = rt.alloc();
     let mut book = book(alloc)?;
     let packet = Packet::parse(alloc, "in em0 tcp 10.0.0.1 1234 10.0.0.2 80")?;
-    for (lines, shown) in [
-        (b"".as_slice(), false),
-        (
-            b"begin filter - filter web\nadd - 1.1 block in all\n",
-            false,
-        ),
-        (b"commit filter - 1.1\n", true),
-        (b"commit filter - 1.1\n", true),
-        (b"commit filter web 1.2\n", true),
-        (b"begin filter -\nrollback filter - 1.3\n", true),
-        (b"begin filter -\ncommit filter - 1.4\n", false),
-    ] {
-        let mut reader = lines;
+    for (lines, shown) in SHOWN.iter() {
+        let mut reader = lines.as_bytes();
         let mut writer = Vec::new(alloc);
         serve_alone(alloc, &mut reader, &mut writer, &mut book)?;
-        assert_eq!(rt; blocks(&book.shown_judge(&packet)), shown);
+        let got = blocks(&book.shown_judge(&packet));
+        assert_eq!(rt; got, *shown, "at {lines:?}");
     }
     Ok(())
 }
 
+// The program's words, which are given with spaces between them.
+fn words_in(alloc: Global, line: &str) -> Result<Vec<String>, AllocError> {
+    let mut words = Vec::new(alloc);
+    for word in line.split(' ') {
+        words.push(String::from_str(alloc, word)?)?;
+    }
+    Ok(words)
+}
+
+/// Words, the status, and how what is written and what the faults are told begin.
+const WORDS: [(&str, u8, &str, &str); 8] = [
+    ("pfd run", 0, "err word 0\n", ""),
+    ("pfd --help", 0, "A control plane", ""),
+    ("pfd help", 0, "A control plane", ""),
+    ("pfd run --help", 0, "Answers the lines", ""),
+    ("pfd", 2, "", "error: 'pfd' requires a subcommand"),
+    ("pfd frob", 2, "", "error: unrecognized subcommand 'frob'"),
+    ("pfd run now", 2, "", "error: unexpected argument 'now'"),
+    (
+        "pfd run --size 1",
+        2,
+        "",
+        "error: unexpected argument '--size'",
+    ),
+];
+
 #[test]
 fn starts_as_its_words_say(rt: HostRuntime) -> Result<(), Fail> {
-    for (words, status, writes, faults) in [
-        (["pfd", "run"].as_slice(), 0, "err word 0\n", ""),
-        (&["pfd", "--help"], 0, "A control plane", ""),
-        (&["pfd", "help"], 0, "A control plane", ""),
-        (&["pfd", "run", "--help"], 0, "Answers the lines", ""),
-        (&["pfd"], 2, "", "error: 'pfd' requires a subcommand"),
-        (
-            &["pfd", "frob"],
-            2,
-            "",
-            "error: unrecognized subcommand 'frob'",
-        ),
-        (
-            &["pfd", "run", "now"],
-            2,
-            "",
-            "error: unexpected argument 'now'",
-        ),
-        (
-            &["pfd", "run", "--size", "1"],
-            2,
-            "",
-            "error: unexpected argument '--size'",
-        ),
-    ] {
-        let mut given = Vec::new(rt.alloc());
-        for word in words {
-            given.push(String::from_str(rt.alloc(), *word)?)?;
-        }
+    let alloc = rt.alloc();
+    for (line, status, writes, faults) in WORDS.iter() {
+        let words = words_in(alloc, line)?;
         let mut reader = b"frob".as_slice();
-        let mut writer = Vec::new(rt.alloc());
-        let mut told = Vec::new(rt.alloc());
-        let got = start(
-            rt.alloc(),
-            given.as_slice(),
-            &mut reader,
-            &mut writer,
-            &mut told,
-        );
-        assert_eq!(rt; got, status, "at {words:?}");
+        let mut writer = Vec::new(alloc);
+        let mut told = Vec::new(alloc);
+        let got = start(alloc, words.as_slice(), &mut reader, &mut writer, &mut told);
+        assert_eq!(rt; got, *status, "at {line}");
         assert!(rt;
             writer.as_slice().starts_with(writes.as_bytes()),
-            "at {words:?}"
+            "at {line}"
         );
-        assert!(rt;
-            told.as_slice().starts_with(faults.as_bytes()),
-            "at {words:?}"
-        );
-        assert_eq!(rt; writer.is_empty(), writes.is_empty(), "at {words:?}");
-        assert_eq!(rt; told.is_empty(), faults.is_empty(), "at {words:?}");
+        assert!(rt; told.as_slice().starts_with(faults.as_bytes()), "at {line}");
+        assert_eq!(rt; writer.is_empty(), writes.is_empty(), "at {line}");
+        assert_eq!(rt; told.is_empty(), faults.is_empty(), "at {line}");
     }
+    Ok(())
+}
+
+// Once it can't be written, and once it can't be flushed.
+#[test]
+fn unwritten_help_is_a_fault(rt: HostRuntime) -> Result<(), Fail> {
+    let alloc = rt.alloc();
+    let words = words_in(alloc, "pfd --help")?;
+    let waiting = Cell::new(false);
+    let mut reader = b"frob".as_slice();
+    let mut tight = Tight {
+        text: Vec::new(alloc),
+        room: 9,
+        is_interrupted: false,
+        waiting: &waiting,
+    };
+    let mut told = Vec::new(alloc);
+    let status = start(alloc, words.as_slice(), &mut reader, &mut tight, &mut told);
+    assert_eq!(rt; status, 1);
+    assert_eq!(rt; tight.text.as_slice(), b"A control".as_slice());
+    let status = start(
+        alloc,
+        words.as_slice(),
+        &mut reader,
+        &mut Unflushed,
+        &mut told,
+    );
+    assert_eq!(rt; status, 1);
+    let told = std::str::from_utf8(told.as_slice());
+    assert_eq!(rt; told, Ok("pfd: output\npfd: output\n"));
+    assert_eq!(rt; reader.len(), 4);
     Ok(())
 }
 
 #[test]
 fn says_what_failed(rt: HostRuntime) -> Result<(), Fail> {
-    let mut words = Vec::new(rt.alloc());
-    words.push(String::from_str(rt.alloc(), "pfd")?)?;
-    words.push(String::from_str(rt.alloc(), "run")?)?;
+    let words = words_in(rt.alloc(), "pfd run")?;
     let waiting = Cell::new(false);
     let mut reader = Script {
         turns: [Turn::Fails(ErrorKind::Other)].as_slice(),
