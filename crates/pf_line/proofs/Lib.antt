@@ -1,5 +1,6 @@
 pub mod Keywords
 pub mod Making
+pub mod Repeating
 pub mod Listing
 pub mod Collecting
 pub mod Parts

@@ -6,72 +6,27 @@ use Rattle.pf_rule.specs.Words.{Word}
 use Rattle.pf_rule.specs.Combining.{Grammar, Begins, Read, Reader, ◌>>=◌, then}
 use Rattle.pf_rule.specs.Parts.{bind_ok, bind_err, Stopped, Part, Anything, Part-then}
 use Rattle.pf_line.specs.Listing.{AnyNumber, onto, OneOrMore, at_most, any_number, one_or_more}
+use Rattle.pf_line.specs.Commands.{Shrinks}
 use Rattle.pf_line.proofs.Making.{Part-making}
+use Rattle.pf_line.proofs.Repeating.{good_is, in_front, others, opened, none_left, all_taken}
 
 -- nothing follows
 abbrev pub Ended : List Word → Type 0
 Ended ws = ws ≡ []
 
-abbrev good : {A : Type 0} → A → List Word → Read A
-good x ws = Ok (x, ws)
-
-good_is : {A : Type 0} (x y : A) (a b : List Word) → good x a ≡ good y b → (x ≡ y) × (a ≡ b)
-good_is x y a b e = let p : (x, a) ≡ (y, b) = cc in (ap (λ (q : _ × List Word). q.0) p, ap (λ (q : _ × List Word). q.1) p)
-
 no_err : {A : Type 0} (x : A × List Word) (d : Kind × List Word) → ◌≡◌ {A = Read A} (Ok x) (Err d) → ⊥
 no_err x d e = cc
 
--- these, and then what the others gave
-abbrev pub after : {A : Type 0} → List A → Read (List A) → Read (List A)
-after xs r = r >>= λ y. Ok (xs ++ y.0, y.1)
-
 module _ (A : Type 0) (spells : Grammar A) (read : Reader A) (p : Part A spells Anything read) (has_word : (x : A) (ws : List Word) → spells x ws → 0 < length ws) where
-  -- one in front of what the others gave
-  abbrev in_front : A → List A × List Word → Read (List A)
-  in_front x y = Ok (x ∷ y.0, y.1)
-
-  abbrev others : ℕ → A × List Word → Read (List A)
-  others n x = at_most n read x.1 >>= in_front x.0
-
-  opened : (n : ℕ) (ws : List Word) → 0 < length ws → at_most (suc n) read ws ≡ (read ws >>= others n)
-  opened n [] lt = absurd (omega (arith, lt))
-  opened n (w ∷ ws) lt = refl
-
   -- a part takes a word or more
-  pub fewer_left : (ws : List Word) (x : A) (rest : List Word) → read ws ≡ Ok (x, rest) → length rest < length ws
+  pub fewer_left : Shrinks read
   fewer_left ws x rest e = let t = p.takes ws x rest e in omega (arith, has_word x t.0 t.1, ap length t.2, length-append t.0 rest)
-
-  none_left : (n : ℕ) → at_most n read [] ≡ Ok ([], [])
-  none_left zero = refl
-  none_left (suc n) = refl
-
-  same_others : (n m : ℕ) (ws : List Word) (r : Read A) → read ws ≡ r → ((rest : List Word) → length rest < length ws → at_most n read rest ≡ at_most m read rest) → (r >>= others n) ≡ (r >>= others m)
-  same_others n m ws (Ok x) e same = ap (λ (y : Read (List A)). y >>= in_front x.0) (same x.1 (fewer_left ws x.0 x.1 e))
-  same_others n m ws (Err d) e same = refl
-
-  -- more than there are words are not wanted
-  enough : (n m : ℕ) (ws : List Word) → length ws ≤ n → length ws ≤ m → at_most n read ws ≡ at_most m read ws
-  enough n m [] a b = none_left n ∙ sym (none_left m)
-  enough zero m (w ∷ ws) a b = absurd (omega (arith, a))
-  enough (suc n) zero (w ∷ ws) a b = absurd (omega (arith, b))
-  enough (suc n) (suc m) (w ∷ ws) a b = same_others n m (w ∷ ws) (read (w ∷ ws)) refl (λ rest lt. enough n m rest (omega (arith, lt, a)) (omega (arith, lt, b)))
-
-  -- all words are taken
-  all_taken : (n : ℕ) (ws : List Word) (ys : List A) (rest : List Word) → length ws ≤ n → at_most n read ws ≡ Ok (ys, rest) → rest ≡ []
-  all_taken n [] ys rest le e = sym (good_is [] ys [] rest (sym (none_left n) ∙ e)).1
-  all_taken zero (w ∷ ws) ys rest le e = absurd (omega (arith, le))
-  all_taken (suc n) (w ∷ ws) ys rest le e =
-      let a = bind_ok (read (w ∷ ws)) (others n) (ys, rest) e in
-      let b = bind_ok (at_most n read a.0.1) (in_front a.0.0) (ys, rest) a.2 in
-      let g = good_is (a.0.0 ∷ b.0.0) ys b.0.1 rest b.2 in
-      let lt = fewer_left (w ∷ ws) a.0.0 a.0.1 a.1 in
-      sym g.1 ∙ all_taken n a.0.1 b.0.0 b.0.1 (omega (arith, lt, le)) b.1
 
   list_takes : (n : ℕ) (ws : List Word) (ys : List A) (rest : List Word) → at_most n read ws ≡ Ok (ys, rest) → (part : List Word) × AnyNumber spells ys part × (ws ≡ part ++ rest)
   list_takes zero ws ys rest e = let g = good_is [] ys ws rest e in ([], subst (λ (zs : List A). AnyNumber spells zs []) g.0 refl, g.1)
   list_takes (suc n) [] ys rest e = let g = good_is [] ys [] rest e in ([], subst (λ (zs : List A). AnyNumber spells zs []) g.0 refl, g.1)
   list_takes (suc n) (w ∷ ws) ys rest e =
-      let a = bind_ok (read (w ∷ ws)) (others n) (ys, rest) e in
+      let a = bind_ok (read (w ∷ ws)) (others A read n) (ys, rest) e in
       let b = bind_ok (at_most n read a.0.1) (in_front a.0.0) (ys, rest) a.2 in
       let g = good_is (a.0.0 ∷ b.0.0) ys b.0.1 rest b.2 in
       let first = p.takes (w ∷ ws) a.0.0 a.0.1 a.1 in
@@ -80,7 +35,7 @@ module _ (A : Type 0) (spells : Grammar A) (read : Reader A) (p : Part A spells 
       (first.0 ++ further.0, subst (λ (zs : List A). AnyNumber spells zs (first.0 ++ further.0)) g.0 (first.0, further.0, first.1, further.1, refl), whole)
 
   list_again : (n : ℕ) (ys : List A) (part : List Word) → AnyNumber spells ys part → length part ≤ n → at_most n read part ≡ Ok (ys, [])
-  list_again n [] part h le = rw h (none_left n)
+  list_again n [] part h le = rw h (none_left A read n)
   list_again zero (y ∷ ys) part (a, b, h, k, e) le = absurd (omega (arith, le, has_word y a h, ap length e, length-append a b))
   list_again (suc n) (y ∷ ys) part (a, b, h, k, e) le =
       let some = has_word y a h in
@@ -88,7 +43,7 @@ module _ (A : Type 0) (spells : Grammar A) (read : Reader A) (p : Part A spells 
       let parts : length part ≡ length (a ++ b) = ap length e in
       let first : read (a ++ b) ≡ Ok (y, b) = p.again y a b h tt in
       let further : at_most n read b ≡ Ok (ys, []) = list_again n ys b k (omega (arith, le, some, len, parts)) in
-      let unfolded : at_most (suc n) read (a ++ b) ≡ (read (a ++ b) >>= others n) = opened n (a ++ b) (omega (arith, some, len)) in
+      let unfolded : at_most (suc n) read (a ++ b) ≡ (read (a ++ b) >>= others A read n) = opened A read n (a ++ b) (omega (arith, some, len)) in
       ap (λ (m : List Word). at_most (suc n) read m) e ∙ unfolded ∙ rw (first, further) refl
 
   -- where reading a list stops, whatever follows the word at the place and however many are wanted
@@ -114,13 +69,13 @@ module _ (A : Type 0) (spells : Grammar A) (read : Reader A) (p : Part A spells 
       } where
         at_count : (m : ℕ) (front : List Word) (v : Word) (other : List Word) → length (front ++ v ∷ other) ≤ m → read (front ++ v ∷ other) ≡ Err (k, v ∷ other) → at_most m read (front ++ v ∷ other) ≡ Err (k, v ∷ other)
         at_count zero front v other le e = absurd (omega (arith, le, length-append front (v ∷ other)))
-        at_count (suc m) front v other le e = opened m (front ++ v ∷ other) (omega (arith, length-append front (v ∷ other))) ∙ rw e refl
+        at_count (suc m) front v other le e = opened A read m (front ++ v ∷ other) (omega (arith, length-append front (v ∷ other))) ∙ rw e refl
 
   behind : (m : ℕ) (ws : List Word) (v : Word) (ms other : List Word) (k : Kind) (x : A) → length ws ≤ m → read ws ≡ Ok (x, ms) → ((n : ℕ) → length ms ≤ n → at_most n read ms ≡ Err (k, v ∷ other)) → at_most m read ws ≡ Err (k, v ∷ other)
   behind zero ws v ms other k x le e same = let lt = fewer_left ws x ms e in absurd (omega (arith, lt, le))
   behind (suc m) ws v ms other k x le e same =
       let lt = fewer_left ws x ms e in
-      opened m ws (omega (arith, lt)) ∙ rw (e, same m (omega (arith, lt, le))) refl
+      opened A read m ws (omega (arith, lt)) ∙ rw (e, same m (omega (arith, lt, le))) refl
 
   further_stops : (ws : List Word) (x : A) (ms : List Word) (k : Kind) (rest : List Word) → read ws ≡ Ok (x, ms) → ListStops ms k rest → ListStops ws k rest
   further_stops ws x ms k rest e s =
@@ -141,7 +96,7 @@ module _ (A : Type 0) (spells : Grammar A) (read : Reader A) (p : Part A spells 
   list_stops : (n : ℕ) (ws : List Word) (k : Kind) (rest : List Word) → at_most n read ws ≡ Err (k, rest) → ListStops ws k rest
   list_stops zero ws k rest e = absurd (no_err ([], ws) (k, rest) e)
   list_stops (suc n) [] k rest e = absurd (no_err ([], []) (k, rest) e)
-  list_stops (suc n) (w ∷ ws) k rest e = elim (bind_err (read (w ∷ ws)) (others n) (k, rest) e) [
+  list_stops (suc n) (w ∷ ws) k rest e = elim (bind_err (read (w ∷ ws)) (others A read n) (k, rest) e) [
     | inl h ↦ first_stops (w ∷ ws) k rest h
     | inr h ↦
         elim (bind_err (at_most n read h.0.1) (in_front h.0.0) (k, rest) h.2) [
@@ -158,7 +113,7 @@ module _ (A : Type 0) (spells : Grammar A) (read : Reader A) (p : Part A spells 
 
   any_ahead : (part : List Word) (ys : List A) (v : Word) (r s : List Word) → any_number read (part ++ v ∷ r) ≡ Ok (ys, v ∷ r) → any_number read (part ++ v ∷ s) ≡ Ok (ys, v ∷ s)
   unfolding any_number
-  any_ahead part ys v r s e = absurd (not_empty (all_taken (length (part ++ v ∷ r)) (part ++ v ∷ r) ys (v ∷ r) (omega arith) e)) where
+  any_ahead part ys v r s e = absurd (not_empty (all_taken A read fewer_left (length (part ++ v ∷ r)) (part ++ v ∷ r) ys (v ∷ r) (omega arith) e)) where
     not_empty : v ∷ r ≡ [] → ⊥
     not_empty h = cc
 
@@ -176,46 +131,3 @@ module _ (A : Type 0) (spells : Grammar A) (read : Reader A) (p : Part A spells 
   pub Part-one_or_more : Part (List A) (OneOrMore spells) Ended (one_or_more read)
   Part-one_or_more =
       Part-making (A × List A) (List A) onto _ Ended (then read (λ x. any_number read)) (Part-then A (List A) spells (λ x. AnyNumber spells) Anything Ended read (λ x. any_number read) p (λ x. Part-any_number) (λ x y b rest h f. tt) (λ x. ([], [], refl)))
-
-  -- ---- a list that is read part after part
-
-  after_all : (x : A) (xs : List A) (r : Read (List A)) → after xs (r >>= in_front x) ≡ after (xs ++ x ∷ []) r
-  after_all x xs (Ok y) = ap (λ (zs : List A). good zs y.1) (sym (append_assoc xs (x ∷ []) y.0))
-  after_all x xs (Err d) = refl
-
-  abbrev pairing : A → List A × List Word → Read (A × List A)
-  pairing x y = Ok ((x, y.0), y.1)
-
-  abbrev joining : (A × List A) × List Word → Read (List A)
-  joining z = Ok (onto z.0, z.1)
-
-  pub first_read : (ws : List Word) (x : A) (rest : List Word) → read ws ≡ Ok (x, rest) → one_or_more read ws ≡ after (x ∷ []) (any_number read rest)
-  first_read ws x rest e = rw e (by_others (any_number read rest)) where
-    by_others : (r : Read (List A)) → (r >>= pairing x >>= joining) ≡ after (x ∷ []) r
-    by_others (Ok y) = refl
-    by_others (Err d) = refl
-
-  pub first_failed : (ws : List Word) (d : Kind × List Word) → read ws ≡ Err d → one_or_more read ws ≡ Err d
-  first_failed ws d e = rw e refl
-
-  one_by_one : (ws : List Word) (x : A) (rest : List Word) → 0 < length ws → read ws ≡ Ok (x, rest) → any_number read ws ≡ (any_number read rest >>= in_front x)
-  unfolding any_number
-  one_by_one [] x rest lt e = absurd (omega (arith, lt))
-  one_by_one (w ∷ ws) x rest lt e =
-      let fewer = fewer_left (w ∷ ws) x rest e in
-      let some : at_most (length (w ∷ ws)) read (w ∷ ws) ≡ at_most (suc (length ws)) read (w ∷ ws) = enough (length (w ∷ ws)) (suc (length ws)) (w ∷ ws) (omega arith) (omega arith) in
-      some ∙ rw e (ap (λ (y : Read (List A)). y >>= in_front x) (enough (length ws) (length rest) rest (omega (arith, fewer)) (omega arith)))
-
-  pub further_read : (ws : List Word) (xs : List A) (x : A) (rest : List Word) → 0 < length ws → read ws ≡ Ok (x, rest) → after xs (any_number read ws) ≡ after (xs ++ x ∷ []) (any_number read rest)
-  further_read ws xs x rest lt e = ap (after xs) (one_by_one ws x rest lt e) ∙ after_all x xs (any_number read rest)
-
-  pub further_failed : (ws : List Word) (xs : List A) (d : Kind × List Word) → 0 < length ws → read ws ≡ Err d → after xs (any_number read ws) ≡ Err d
-  unfolding any_number
-  further_failed [] xs d lt e = absurd (omega (arith, lt))
-  further_failed (w ∷ ws) xs d lt e =
-      let some : at_most (length (w ∷ ws)) read (w ∷ ws) ≡ at_most (suc (length ws)) read (w ∷ ws) = enough (length (w ∷ ws)) (suc (length ws)) (w ∷ ws) (omega arith) (omega arith) in
-      ap (after xs) some ∙ rw e refl
-
-  pub none_further : (xs : List A) → after xs (any_number read []) ≡ Ok (xs, [])
-  unfolding any_number
-  none_further xs = ap (λ (zs : List A). good zs []) (append-nil xs)

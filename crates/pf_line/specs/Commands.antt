@@ -1,10 +1,13 @@
 -- What the functions that read a command answer.
-use Rattle.std.specs.Prelude.{◌≡◌, List, length, Result, Ok, Err}
+use Rattle.std.specs.Prelude.{◌≡◌, ◌<◌, List, length, Result, Ok, Err}
+use denote.Ref.{Bor}
+use Rattle.pf_rule.specs.declared.fault.Stop.{Stop}
+use Rattle.pf_rule.specs.Readers.{Gives}
 use Rattle.pf_rule.specs.declared.fault.Misread.{Misread}
 use Rattle.pf_rule.specs.declared.fault.Misread.TheVariants.{Stopped}
 use Rattle.pf_rule.specs.declared.fault.Kind.TheVariants.{BadWord}
-use Rattle.pf_rule.specs.Words.{Word}
-use Rattle.pf_rule.specs.Combining.{◌>>=◌, whole}
+use Rattle.pf_rule.specs.Words.{Word, texts}
+use Rattle.pf_rule.specs.Combining.{Reader, ◌>>=◌, whole}
 use Rattle.pf_rule.specs.RuleReading.{stopped, rule_read}
 use Rattle.pf_rule.specs.PacketReading.{packet_read}
 use Rattle.pf_core.specs.declared.command.Command.{Command}
@@ -16,11 +19,30 @@ use Rattle.pf_line.specs.declared.commands.Unread.TheVariants as unread
 use Rattle.pf_line.specs.Grammar.{command_of}
 use Rattle.pf_line.specs.Reading.{path_at, ticket_at, names_at, entries_at, show_at}
 
--- what reading gives, or memory was refused
+-- what reading gives, as it is seen, or memory was refused
+abbrev pub ReadsBy : {X A : Type 0} → (X → A) → Result X Unread → Result A Misread → Type 0
+ReadsBy view (Ok x) read = read ≡ Ok (view x)
+ReadsBy view (Err (unread.Misread m)) read = read ≡ Err m
+ReadsBy view (Err unread.Memory) read = Unit {0}
+
 abbrev pub Reads : {A : Type 0} → Result A Unread → Result A Misread → Type 0
-Reads (Ok x) read = read ≡ Ok x
-Reads (Err (unread.Misread m)) read = read ≡ Err m
-Reads (Err unread.Memory) read = Unit {0}
+Reads r read = ReadsBy (λ x. x) r read
+
+-- a reader leaves fewer words than there were
+abbrev pub Shrinks : {A : Type 0} → Reader A → Type 0
+Shrinks {A = A} read = (ws : List Word) (x : A) (rest : List Word) → read ws ≡ Ok (x, rest) → length rest < length ws
+
+-- what a function may return, of words
+abbrev pub Returns : Type 0 → Type 1
+Returns A = Bor (List (Bor Word)) → Result (A × Bor (List (Bor Word))) Stop → Type 0
+
+-- what a function returns has fewer words behind it
+abbrev pub ReadsFewer : {A : Type 0} → Returns A → Type 0
+ReadsFewer {A = A} post = (ws : Bor (List (Bor Word))) (x : A) (rest : Bor (List (Bor Word))) → post ws (Ok (x, rest)) → length rest.now < length ws.now
+
+-- what a function returns is what reading gives
+abbrev pub IsReadBy : {A : Type 0} → Returns A → Reader A → Type 0
+IsReadBy {A = A} post read = (ws : Bor (List (Bor Word))) (r : Result (A × Bor (List (Bor Word))) Stop) → post ws r → Gives (λ x. x) r (read (texts ws.now))
 
 -- the first of these words is wrong
 abbrev pub not_at : List Word → Misread

@@ -1,11 +1,13 @@
 //! Reading the words of a line.
 ghost use Rattle.std.specs.Prelude.{◌≡◌, length};
 ghost use Rattle.pf_rule.specs.Words.{texts};
-ghost use Rattle.pf_rule.specs.Combining.{end_at};
+ghost use Rattle.pf_rule.specs.Combining.{end_at, Reader, whole};
+ghost use Rattle.pf_rule.specs.RuleReading.{stopped};
 ghost use Rattle.pf_rule.specs.Readers.{Gives, GivesAll};
 ghost use Rattle.pf_rule.specs.declared.fault.Kind.TheVariants.{BadWord};
 ghost use Rattle.pf_line.specs.Reading.{kind_at, path_at, ticket_at, name_at, entry_at, line_read};
-ghost use Rattle.pf_line.specs.Commands.{Reads, not_at, names_read, entries_read, begin_read, add_read, commit_read, rollback_read, judge_read, show_rules_read, show_read};
+ghost use Rattle.pf_line.specs.Listing.{one_or_more};
+ghost use Rattle.pf_line.specs.Commands.{Reads, ReadsBy, ReadsFewer, IsReadBy, Shrinks, not_at, names_read, entries_read, begin_read, add_read, commit_read, rollback_read, judge_read, show_rules_read, show_read};
 ghost use Rattle.pf_line.specs.declared.commands.Unread.TheVariants.{Misread as Missed, Memory};
 
 use crate::keyword::{Keyword, key_of};
@@ -126,19 +128,33 @@ fn end(words: &[&[u8]]) -> Result<(), Stop>
     }
 }
 
+/// Each of a part, up to the last word.
+fn each<'a, T: Drop, R: Fn(Words<'a>) -> Result<(T, Words<'a>), Stop>>(
+    alloc: Global,
+    words: Words<'a>,
+    read: R,
+) -> Result<Vec<T>, Unread>
+    requires callable { R.IsAlwaysCallable read }
+    requires shrinks { ReadsFewer (R.post read) }
+    ensures { (at : Reader T) → Shrinks at → IsReadBy (R.post read) at → ReadsBy (λ v. v.items) result (stopped (whole (one_or_more at) (texts words.now))) }
+{
+    let (first, further) = read(words)?;
+    let mut items = Vec::new(alloc);
+    items.push(first)?;
+    let mut rest = further;
+    while !rest.is_empty() {
+        let (next, further) = read(rest)?;
+        items.push(next)?;
+        rest = further;
+    }
+    Ok(items)
+}
+
 /// Each name, up to the last word.
 fn names<'a>(alloc: Global, words: Words<'a>) -> Result<RulesetNames, Unread>
     ensures { Reads result (names_read (texts words.now)) }
 {
-    let (first, further) = name(words)?;
-    let mut names = Vec::new(alloc);
-    names.push(first)?;
-    let mut rest = further;
-    while !rest.is_empty() {
-        let (next, further) = name(rest)?;
-        names.push(next)?;
-        rest = further;
-    }
+    let names = each(alloc, words, name)?;
     Ok(RulesetNames::new(names))
 }
 
@@ -146,15 +162,7 @@ fn names<'a>(alloc: Global, words: Words<'a>) -> Result<RulesetNames, Unread>
 fn entries<'a>(alloc: Global, words: Words<'a>) -> Result<Entries, Unread>
     ensures { Reads result (entries_read (texts words.now)) }
 {
-    let (first, further) = entry(words)?;
-    let mut entries = Vec::new(alloc);
-    entries.push(first)?;
-    let mut rest = further;
-    while !rest.is_empty() {
-        let (next, further) = entry(rest)?;
-        entries.push(next)?;
-        rest = further;
-    }
+    let entries = each(alloc, words, entry)?;
     Ok(Entries::new(entries))
 }
 

@@ -1,30 +1,23 @@
-use Rattle.std.proofs.Common.{Ok, sym, ap, ◌∙◌}
-use Rattle.pf_rule.specs.Words.{texts}
+use Rattle.std.proofs.Common.{rules, Ok, Vec, Global, refl, sym, ap, ◌∙◌}
 use Rattle.pf_core.specs.declared.command.Entry.{Entry}
 use Rattle.pf_line.specs.Grammar.{EntryText}
 use Rattle.pf_line.specs.Reading.{entry_at, entries_at}
-use Rattle.pf_line.specs.Commands.{entries_read}
-use Rattle.pf_line.proofs.Collecting.{fewer, first_fault, further_fault, one_further, all_read}
+use Rattle.pf_line.specs.Commands.{Shrinks, entries_read}
+use Rattle.pf_line.proofs.Listing.{fewer_left}
+use Rattle.pf_line.proofs.Collecting.{fewer, handed_on}
 use Rattle.pf_line.proofs.Parts.{entry_part, entry_word}
 use Rattle.pf_line.proofs.commands.entries.Goals as goal
 
-pub returns-in_err-first : goal.returns-in_err-first
+shrinks : Shrinks entry_at
+shrinks = fewer_left Entry EntryText entry_at entry_part entry_word
+
+pub each-requires : goal.each-requires
+each-requires c κs = ((refl, tt), (search rules, λ ws x rest e. fewer Entry entry_at shrinks ws.now rest.now x e))
+
+pub returns-in_err-entries : goal.returns-in_err-entries
 unfolding entries_read entries_at
-returns-in_err-first c = first_fault Entry EntryText entry_at entry_part entry_word c.from_residual.result (texts c.args.words.now) c.in_err-first.field-0.0 c.from_residual.ensures.1 c.in_err-first.ensures
-
-pub returns-in_err-next : goal.returns-in_err-next
-unfolding entries_read entries_at
-returns-in_err-next c =
-    further_fault Entry EntryText entry_at entry_part entry_word c.from_residual-in_err-next.result (texts c.args.words.now) c.loop-rest.entries.items c.loop-rest.rest.now c.in_err-next.field-0.0 c.loop-rest.invariant (sym c.is_empty.ensures ∙ c.loop-rest-test.true) c.from_residual-in_err-next.ensures.1 c.in_err-next.ensures
-
-pub loop-rest-smaller : goal.loop-rest-smaller
-loop-rest-smaller c = fewer Entry EntryText entry_at entry_part entry_word c.loop-rest.rest.now c.in_ok-next.further.now c.in_ok-next.next c.in_ok-next.ensures
-
-pub loop-rest-preserved : goal.loop-rest-preserved
-loop-rest-preserved c =
-    one_further Entry EntryText entry_at entry_part entry_word (texts c.args.words.now) c.loop-rest.entries.items c.push-in-loop-rest.new.self.items c.in_ok-next.next c.loop-rest.rest.now c.in_ok-next.further.now c.loop-rest.invariant (sym c.is_empty.ensures ∙ c.loop-rest-test.true) c.in_ok-next.ensures c.in_ok-push-2.ensures.items
+returns-in_err-entries c = handed_on {X = Vec Entry Global} (λ v. v.items) (λ x. x) c.in_err-entries.field-0.0 c.from_residual.result _ (c.in_err-entries.ensures entry_at shrinks (λ ws r h. h)) c.from_residual.ensures.1
 
 pub returns : goal.returns
 unfolding entries_read entries_at
-returns c =
-    all_read Entry EntryText entry_at entry_part entry_word (texts c.args.words.now) c.loop-rest.entries.items c.loop-rest.rest.now c.loop-rest.invariant (sym c.is_empty.ensures ∙ c.loop-rest-test.false) ∙ ap (λ r. Ok r) (sym c.new.ensures)
+returns c = c.in_ok-entries.ensures entry_at shrinks (λ ws r h. h) ∙ ap (λ r. Ok r) (sym c.new.ensures)
