@@ -43,9 +43,9 @@ one-before m ms name t v false touch is quiet = inl (is, (subst (λ (w : Option 
 stood-or-given : (ms : List Mention) (name : RulesetName) (t : Ticket) (v : Option Ticket) → fold (touched name) v ms ≡ Some t → StoodOrGiven ms name t v
 stood-or-given [] name t v is = inl (is, tt)
 stood-or-given (m ∷ ms) name t v is = elim (stood-or-given ms name t (touched name v m) is) [
-    inl stood ↦ one-before m ms name t v (touches name v m) refl stood.0 stood.1
+  | inl stood ↦ one-before m ms name t v (touches name v m) refl stood.0 stood.1
   | inr given ↦ inr (later m ms name t given)
-  ]
+]
 
 from-none : (ms : List Mention) (name : RulesetName) (t : Ticket) → StoodOrGiven ms name t None → IsGivenLast ms name t
 from-none ms name t (inl stood) = let none : None ≡ Some t = stood.0 in absurd (cc (none))
