@@ -1,9 +1,9 @@
 -- The valid ticket of a ruleset is the one that the latest mention that touched it gave.
-use Rattle.std.proofs.Common.{◌≡◌, Bool, true, false, cond, List, [], ◌∷◌, ◌++◌, fold, refl, sym, ap, ◌∙◌, subst, Option, Some, None, ◌⊎◌, inl, inr}
+use Rattle.std.proofs.Common.{◌≡◌, Bool, true, false, cond, List, [], ◌∷◌, fold, refl, ap, ◌∙◌, subst, Option, Some, None, ◌⊎◌, inl, inr}
 use Rattle.std.proofs.lemmas.List.Sums.{fold-append}
 use Rattle.pf_core.specs.declared.command.RulesetName.{RulesetName}
 use Rattle.pf_core.specs.declared.command.Ticket.{Ticket}
-use Rattle.pf_core.specs.Calls.{same_name, is_ticket, Mention, gave, added, switched, dropped, touches, valid_by, touched, valid_ticket}
+use Rattle.pf_core.specs.Calls.{Mention, gave, added, switched, dropped, touches, valid_by, touched, valid_ticket}
 use Rattle.pf_core.specs.Laws.{AreQuiet, IsGivenLast, ValidIsGivenLast, GivenLastIsValid}
 
 -- what touches nothing leaves the ticket
