@@ -51,7 +51,8 @@ pub fn gives_each_ticket_once()
     ensures { GivesEachOnce }
 {}
 
-/// After every world whose replies are legal, all limits hold: of rules, rulesets, tickets and history.
+/// After every world whose replies are legal, and that began within the limits, all of them hold: of rules, rulesets,
+/// tickets and history.
 pub fn keeps_the_limits()
     ensures { KeepsTheLimits }
 {}
