@@ -17,6 +17,3 @@ pub use laws::{
 };
 pub use net::Net;
 pub use write::{write_addr, write_net, write_number, write_text};
-
-#[cfg(test)]
-mod tests;

@@ -13,8 +13,6 @@ mod reply;
 mod rule_list;
 mod ruleset;
 mod step;
-#[cfg(test)]
-mod tests;
 mod tickets;
 
 pub use change::Change;

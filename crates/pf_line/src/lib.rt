@@ -10,6 +10,3 @@ mod ticket;
 
 pub use line::parse_line;
 pub use reply::write_reply;
-
-#[cfg(test)]
-mod tests;

@@ -25,6 +25,3 @@ pub use protocol::Protocol;
 pub use rule::{Action, Direction, Host, Rule};
 pub use splitting::words;
 pub use values::has_name_bytes;
-
-#[cfg(test)]
-mod tests;
