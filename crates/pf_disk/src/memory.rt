@@ -1,0 +1,175 @@
+// A device in memory, which keeps its calls.
+ghost use Rattle.std.specs.Prelude.{◌≡◌, ◌+◌, ◌^◌, ◌<◌, ◌≤◌, ◌++◌, [], ◌∷◌, true, ℕ, length, take, IfOk, OnOk, OnErr, Ok};
+ghost use Rattle.pf_disk.specs.Replay.{at_rest, after, all_fit, LeftSince, IsWrite};
+ghost use Rattle.pf_disk.specs.Disk.{CountsFault, IsSynced, overwritten};
+ghost use Rattle.pf_disk.specs.Past.{now_counts, now_only};
+
+use crate::image::{Fill, filled, replayed};
+use crate::{Disk, DiskFault};
+use std::alloc::{AllocError, Global};
+
+#[derive(Debug, Drop)]
+pub enum Call {
+    Read,
+    Write { at: usize, bytes: Vec<u8> },
+    Sync,
+}
+
+/// A call whose record finds no memory is a fault, changes nothing else and has no number.
+#[derive(Drop)]
+pub struct MemDisk {
+    alloc: Global,
+    first: Vec<u8>,
+    calls: Vec<Call>,
+    bytes: Vec<u8>,
+    fault_count: u64,
+    ghost seen_is: { (after (at_rest first.items) calls.items).seen ≡ bytes.items },
+    ghost size_is: { length bytes.items ≡ length first.items },
+    ghost calls_fit: { all_fit (length first.items) calls.items ≡ true },
+}
+
+impl MemDisk {
+    ghost use Rattle.pf_disk.specs.Memory.{first_of, calls_of};
+    ghost use Rattle.pf_disk.specs.Replay.{counting, state_at, IsImageAt};
+    ghost use Rattle.pf_disk.specs.Filled.{FillsAll, IsFilled};
+
+    /// A device with these bytes, all of them synced.
+    pub fn of(alloc: Global, bytes: Vec<u8>) -> Result<Self, AllocError>
+        ensures first { IfOk result (λ disk. first_of disk ≡ bytes.items) }
+        ensures calls { IfOk result (λ disk. calls_of disk ≡ []) }
+        ensures seen { IfOk result (λ disk. ⟦<MemDisk as Disk>⟧.seen disk ≡ bytes.items) }
+        ensures synced { IfOk result (λ disk. IsSynced (⟦<MemDisk as Disk>⟧.unsynced disk)) }
+        ensures faults { IfOk result (λ disk. ⟦<MemDisk as Disk>⟧.fault_count disk ≡ 0) }
+    {
+        Ok(MemDisk {
+            alloc,
+            first: bytes.to_vec(alloc)?,
+            calls: Vec::new(alloc),
+            bytes,
+            fault_count: 0,
+        })
+    }
+
+    /// The image of a crash during call number `moment`: before the first for 0, after the last for a greater one.
+    pub fn image(&self, alloc: Global, moment: u64, fill: Fill) -> Result<Vec<u8>, AllocError>
+        requires { FillsAll fill (length (first_of self.now)) }
+        ensures filled { IfOk result (λ image. IsFilled fill.entry (state_at (first_of self.now) (calls_of self.now) moment) image.items) }
+        ensures image { IfOk result (λ image. IsImageAt (first_of self.now) (calls_of self.now) moment image.items) }
+        ensures left { IfOk result (λ image. (t : ℕ) → t < moment → ⟦<MemDisk as Disk>⟧.left_since self.now t image.items) }
+    {
+        let count = self.counting(moment);
+        let replay = replayed(alloc, &self.first, &self.calls[..count])?;
+        let image = filled(alloc, &replay, fill)?;
+        Ok(image)
+    }
+
+    // How many calls count during call number `moment`: a sync counts at its end.
+    fn counting(&self, moment: u64) -> usize
+        ensures within { result ≤ length (calls_of self.now) }
+        ensures is { take result (calls_of self.now) ≡ take (counting (calls_of self.now) moment) (calls_of self.now) }
+    {
+        if moment == 0 {
+            return 0;
+        }
+        if moment > self.calls.len() as u64 {
+            return self.calls.len();
+        }
+        let before = (moment - 1) as usize;
+        match self.calls[before] {
+            Call::Sync => before,
+            _ => before + 1,
+        }
+    }
+
+    /// The number of calls so far.
+    pub fn calls(&self) -> u64
+        ensures { result ≡ length (calls_of self.now) }
+    {
+        self.calls.len() as u64
+    }
+}
+
+// Notes a call, or a fault.
+fn note(calls: &mut Vec<Call>, fault_count: &mut u64, call: Call) -> Result<(), DiskFault>
+    requires { fault_count.old < 2 ^ 63 }
+    ensures noted { OnOk result (calls.new.items ≡ calls.old.items ++ call ∷ []) }
+    ensures same { OnErr result (calls.new.items ≡ calls.old.items) }
+    ensures faults { CountsFault result fault_count.old fault_count.new }
+{
+    if calls.push(call).is_err() {
+        *fault_count += 1;
+        return Err(DiskFault);
+    }
+    Ok(())
+}
+
+fn write_call(alloc: Global, at: usize, bytes: &[u8]) -> Result<Call, AllocError>
+    ensures { IfOk result (λ call. IsWrite call at bytes.now) }
+{
+    Ok(Call::Write {
+        at,
+        bytes: bytes.to_vec(alloc)?,
+    })
+}
+
+impl Disk for MemDisk {
+    ghost seen = { λ m. m.bytes.items };
+
+    ghost unsynced = { λ m. (after (at_rest m.first.items) m.calls.items).unsynced };
+
+    ghost moment = { λ m. length m.calls.items };
+
+    ghost left_since = { λ m t c. LeftSince m.first.items m.calls.items t c };
+
+    ghost fault_count = { λ m. m.fault_count };
+
+    ghost counts_now = { λ m t c le image. now_counts m.first.items m.bytes.items m.calls.items t c m.seen_is le image };
+
+    ghost only_now = { λ m c left. now_only m.first.items m.bytes.items m.calls.items c m.seen_is left };
+
+    fn size(&self) -> usize {
+        self.bytes.len()
+    }
+
+    fn faults(&self) -> u64 {
+        self.fault_count
+    }
+
+    fn read_at(&mut self, at: usize, buf: &mut [u8]) -> Result<(), DiskFault> {
+        match note(&mut self.calls, &mut self.fault_count, Call::Read) {
+            Err(fault) => Err(fault),
+            Ok(()) => {
+                buf.copy_from_slice(&self.bytes[at..at + buf.len()]);
+                Ok(())
+            }
+        }
+    }
+
+    fn write_at(&mut self, at: usize, bytes: &[u8]) -> Result<(), DiskFault> {
+        let Ok(call) = write_call(self.alloc, at, bytes) else {
+            self.fault_count += 1;
+            return Err(DiskFault);
+        };
+        match note(&mut self.calls, &mut self.fault_count, call) {
+            Err(fault) => Err(fault),
+            Ok(()) => {
+                overwrite(&mut self.bytes, at, bytes);
+                Ok(())
+            }
+        }
+    }
+
+    fn sync(&mut self) -> Result<(), DiskFault> {
+        match note(&mut self.calls, &mut self.fault_count, Call::Sync) {
+            Err(fault) => Err(fault),
+            Ok(()) => Ok(()),
+        }
+    }
+}
+
+pub(crate) fn overwrite(bytes: &mut Vec<u8>, at: usize, new: &[u8])
+    requires { at + length new.now ≤ length bytes.old.items }
+    ensures { bytes.new.items ≡ overwritten bytes.old.items at new.now }
+{
+    bytes[at..at + new.len()].copy_from_slice(new);
+}
