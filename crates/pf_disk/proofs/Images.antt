@@ -1,15 +1,15 @@
 -- What an image is, where nothing or one range is unsynced.
-use Rattle.std.proofs.Common.{◌≡◌, inl, inr, ℕ, ◌+◌, ◌<◌, ◌≤◌, Bool, false, true, ◌&&◌, ◌||◌, leb, ltb, List, ◌++◌, length, get_or, take, drop, refl, sym, ◌∙◌, ap, arith, rules, append_assoc}
-use Rattle.std.proofs.lemmas.List.{ext_get_or, same_lists, places, length-take, length-drop, get_or-take, get_or-drop, take-append-drop, drop_at}
+use Rattle.std.proofs.Common.{◌≡◌, inl, inr, ℕ, ◌+◌, ◌<◌, ◌≤◌, Bool, false, true, ◌||◌, cond, List, ◌++◌, length, get_or, take, drop, refl, sym, ◌∙◌, ap, arith, rules, append_assoc}
+use Rattle.std.proofs.lemmas.List.{ext_get_or, places, length-take, length-drop, get_or-take, get_or-drop, drop_at}
 use Rattle.std.proofs.lemmas.Bool.{cases_lt}
 use Rattle.std.proofs.lemmas.Bool.Decides.{nat_tests}
-use Rattle.pf_disk.specs.Disk.{IsImage, IsSynced, HasNoMore, is_within, with_range, overwritten}
+use Rattle.pf_disk.specs.Disk.{IsImage, IsSynced, AreIn, is_within, with_range, overwritten}
 
-neither_left : (a b : Bool) → (a || b) ≡ false → a ≡ false
+pub neither_left : (a b : Bool) → (a || b) ≡ false → a ≡ false
 neither_left true b out = out
 neither_left false b out = refl
 
-neither_right : (a b : Bool) → (a || b) ≡ false → b ≡ false
+pub neither_right : (a b : Bool) → (a || b) ≡ false → b ≡ false
 neither_right true b out = absurd cc
 neither_right false b out = out
 
@@ -46,7 +46,7 @@ torn at n old c fits image =
 
 -- a write to a synced device, and what follows it, leave the bytes elsewhere
 pub image_after_write : (at n : ℕ) (old mid seen : List ℕ) (set0 set1 set : ℕ → Bool) (c : List ℕ) → IsSynced set0 → IsImage old (is_within at n) mid
-    → HasNoMore (with_range at n set0) set1 → seen ≡ mid → HasNoMore set1 set → IsImage seen set c → IsImage old (is_within at n) c
+    → AreIn set1 (with_range at n set0) → seen ≡ mid → AreIn set set1 → IsImage seen set c → IsImage old (is_within at n) c
 image_after_write at n old mid seen set0 set1 set c synced elsewhere marked same no_more image = record {
   same_length = image.same_length ∙ ap length same ∙ elsewhere.same_length;
   agrees = λ i out.
@@ -79,7 +79,7 @@ wide_image at old bytes set c fits image =
     }
 
 -- no more is possible where the read stays and no place is added
-pub kept_image : (seen seen2 : List ℕ) (set set2 : ℕ → Bool) (c : List ℕ) → seen2 ≡ seen → HasNoMore set set2 → IsImage seen2 set2 c → IsImage seen set c
+pub kept_image : (seen seen2 : List ℕ) (set set2 : ℕ → Bool) (c : List ℕ) → seen2 ≡ seen → AreIn set2 set → IsImage seen2 set2 c → IsImage seen set c
 kept_image seen seen2 set set2 c same no_more image = record {
   same_length = image.same_length ∙ ap length same;
   agrees = λ i out. image.agrees i (no_more i out) ∙ ap (λ (l : List ℕ). get_or l i 0) same;
@@ -98,3 +98,14 @@ pub written_there : (at : ℕ) (old bytes : List ℕ) → at ≤ length old → 
 written_there at old bytes within =
     let len : length (take at old) ≡ at = omega (arith, length-take at old) in
     ap (drop at) (append_assoc (take at old) bytes (drop (at + length bytes) old)) ∙ drop_at (take at old) (bytes ++ drop (at + length bytes) old) at len
+
+-- an image stands there where its own bytes fill the unsynced places
+pub own_bytes : (seen bytes image : List ℕ) (set : ℕ → Bool) → length image ≡ length seen
+    → ((i : ℕ) → i < length seen → get_or image i 0 ≡ cond (set i) (get_or bytes i 0) (get_or seen i 0)) → IsImage seen set bytes → image ≡ bytes
+own_bytes seen bytes image set same_length each is = ext_get_or 0 image bytes (same_length ∙ sym is.same_length) (λ i lt.
+    let here : i < length seen = omega (arith, lt, same_length) in
+    by_case (set i) i refl (each i here))
+  where
+    by_case : (b : Bool) (i : ℕ) → set i ≡ b → get_or image i 0 ≡ cond (set i) (get_or bytes i 0) (get_or seen i 0) → get_or image i 0 ≡ get_or bytes i 0
+    by_case true i is_set one = one ∙ ap (λ (b : Bool). cond b (get_or bytes i 0) (get_or seen i 0)) is_set
+    by_case false i is_set one = one ∙ ap (λ (b : Bool). cond b (get_or bytes i 0) (get_or seen i 0)) is_set ∙ sym (is.agrees i is_set)

@@ -1,27 +1,36 @@
-// Images of a crash, from a record of calls.
-ghost use Rattle.std.specs.Prelude.{◌≡◌, ◌+◌, ◌-◌, ◌^◌, ◌<◌, ◌≤◌, ◌||◌, Bool, true, false, List, ℕ, length, IfOk, OnOk, if◌then◌else◌, slice_index, slice_index_or};
+// Images of a crash, from the calls that were kept.
+ghost use Rattle.std.specs.Prelude.{◌≡◌, ◌+◌, ◌-◌, ◌^◌, ◌<◌, ◌≤◌, ◌||◌, Bool, true, false, List, ℕ, length, map, IfOk, OnOk, if◌then◌else◌, slice_index, slice_index_or};
 ghost use Rattle.pf_disk.specs.Disk.{overwritten, is_within};
-ghost use Rattle.pf_disk.specs.Replay.{State, at_rest, after_call, after, fits_in, all_fit};
+ghost use Rattle.pf_disk.specs.Calls.{State, at_rest, after_event, after, fits_in, all_fit};
+ghost use Rattle.pf_disk.specs.Kept.{event_of};
 ghost use Rattle.pf_disk.specs.Filled.{fill_byte, FillsAll, IsFilled, Shows};
 
 use crate::memory::{Call, overwrite};
 use std::alloc::{AllocError, Global};
 
-/// What stands at unsynced places after a crash.
+/// The byte of a record's gate that is open.
+pub(crate) const OPEN: u8 = 0xA5;
+
+/// What a crash leaves at the unsynced places.
 #[derive(Clone, Copy, Debug)]
 pub enum Fill<'a> {
-    /// As of the last sync.
+    /// The bytes of the last sync.
     Old,
-    /// As a read gives.
+    /// The bytes that a read gives.
     New,
+    /// 00.
     Zeros,
+    /// A5, the byte of an open gate.
     Open,
+    /// The bytes that a read gives, with all bits inverted.
     Inverted,
+    /// These bytes, one for each place of the device.
     Bytes(&'a [u8]),
 }
 
+// A device's state after some of its calls.
 #[derive(Drop)]
-pub struct Replay {
+pub(crate) struct Replay {
     seen: Vec<u8>,
     kept: Vec<u8>,
     unsynced: Vec<bool>,
@@ -39,8 +48,8 @@ impl Replay {
     }
 
     fn apply(&mut self, call: &Call)
-        requires { (s : State) × Shows self.old s × (fits_in (length s.seen) call.now ≡ true) }
-        ensures { (s : State) → Shows self.old s → fits_in (length s.seen) call.now ≡ true → Shows self.new (after_call s call.now) }
+        requires { (s : State) × Shows self.old s × (fits_in (length s.seen) (event_of call.now) ≡ true) }
+        ensures { (s : State) → Shows self.old s → fits_in (length s.seen) (event_of call.now) ≡ true → Shows self.new (after_event s (event_of call.now)) }
     {
         match call {
             Call::Read => {}
@@ -66,10 +75,10 @@ fn mark(marks: &mut Vec<bool>, at: usize, n: usize)
     }
 }
 
-/// The state after these calls.
+// The state after these calls.
 pub(crate) fn replayed(alloc: Global, first: &[u8], calls: &[Call]) -> Result<Replay, AllocError>
-    requires { all_fit (length first.now) calls.now ≡ true }
-    ensures { IfOk result (λ replay. Shows replay (after (at_rest first.now) calls.now)) }
+    requires { all_fit (length first.now) (map event_of calls.now) ≡ true }
+    ensures { IfOk result (λ replay. Shows replay (after (at_rest first.now) (map event_of calls.now))) }
 {
     let mut replay = Replay::new(alloc, first)?;
     for call in calls {
@@ -86,13 +95,13 @@ fn byte_of(fill: Fill, at: usize, kept: u8, seen: u8) -> u8
         Fill::Old => kept,
         Fill::New => seen,
         Fill::Zeros => 0,
-        Fill::Open => 0xA5,
+        Fill::Open => OPEN,
         Fill::Inverted => 255 - seen,
         Fill::Bytes(bytes) => bytes[at],
     }
 }
 
-/// The image with its unsynced places filled.
+// The image with its unsynced places filled.
 pub(crate) fn filled(alloc: Global, replay: &Replay, fill: Fill) -> Result<Vec<u8>, AllocError>
     requires fills { FillsAll fill (length replay.now.seen.items) }
     requires shows { (s : State) × Shows replay.now s }

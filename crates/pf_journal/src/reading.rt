@@ -1,6 +1,6 @@
 // Reading the records of a region.
 ghost use Rattle.std.specs.Prelude.{◌≡◌, ◌+◌, ◌-◌, ◌^◌, ◌<◌, ◌≤◌, List, ℕ, length, take, drop, IfOk, IfErr, OnOk, IsErrOf, MatchOption, slice_index, if◌then◌else◌};
-ghost use Rattle.pf_disk.specs.Disk.{EachMoment, IsImage, HasNoMore};
+ghost use Rattle.pf_disk.specs.Disk.{EachMoment, IsImage, AreIn};
 ghost use Rattle.pf_journal.specs.Records.{records, IsRecord, AreRecords, StandsFor, contents};
 ghost use Rattle.pf_journal.specs.Reading.{IsCorrupt, is_read_fault};
 
@@ -24,7 +24,7 @@ pub fn read_all<D: Disk>(
     ensures corrupt { IfErr result (λ e. IsCorrupt e → (payloads : List (List ℕ)) → ¬ StandsFor start end (D.seen disk.old) payloads) }
 
     ensures seen { D.seen disk.new ≡ D.seen disk.old }
-    ensures unsynced { HasNoMore (D.unsynced disk.old) (D.unsynced disk.new) }
+    ensures unsynced { AreIn (D.unsynced disk.new) (D.unsynced disk.old) }
     ensures any_moment { EachMoment D.moment D.left_since disk.old disk.new (IsImage (D.seen disk.old) (D.unsynced disk.old)) }
     ensures faults { D.fault_count disk.new ≡ D.fault_count disk.old + (if is_read_fault result then 1 else 0) }
 {
@@ -46,7 +46,7 @@ fn read_region<D: Disk>(
     requires few { D.fault_count disk.old < 2 ^ 63 }
     ensures bytes { IfOk result (λ bytes. bytes.items ≡ take (end - start) (drop start (D.seen disk.old))) }
     ensures seen { D.seen disk.new ≡ D.seen disk.old }
-    ensures unsynced { HasNoMore (D.unsynced disk.old) (D.unsynced disk.new) }
+    ensures unsynced { AreIn (D.unsynced disk.new) (D.unsynced disk.old) }
     ensures any_moment { EachMoment D.moment D.left_since disk.old disk.new (IsImage (D.seen disk.old) (D.unsynced disk.old)) }
     ensures not_corrupt { IfErr result (λ e. ¬ IsCorrupt e) }
     ensures faults { D.fault_count disk.new ≡ D.fault_count disk.old + (if is_read_fault result then 1 else 0) }

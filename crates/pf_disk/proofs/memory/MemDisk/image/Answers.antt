@@ -1,28 +1,23 @@
-use Rattle.std.proofs.Common.{◌≡◌, List, ℕ, length, take, true, sym, ◌∙◌, ap, subst, arith}
-use Rattle.std.proofs.lemmas.Grind.{common_steps}
-use Rattle.pf_disk.specs.declared.memory.Call.{Call}
-use Rattle.pf_disk.specs.Replay.{at_rest, after, all_fit}
-use Rattle.pf_disk.specs.Filled.{FillsAll}
-use Rattle.pf_disk.proofs.Replays.{all_fit-take, size-after_all}
+use Rattle.std.proofs.Common.{List, ℕ}
+use Rattle.pf_disk.specs.declared.image.Fill.{Fill}
+use Rattle.pf_disk.specs.declared.image.Fill.TheVariants.{Old, New, Zeros, Open, Inverted, Bytes}
+use Rattle.pf_disk.specs.Memory.{events_of}
+use Rattle.pf_disk.specs.Disk.{IsImage}
+use Rattle.pf_disk.specs.Calls.{State, state_at, IsImageAt}
+use Rattle.pf_disk.specs.Filled.{IsFilled, GivesItsBytes}
+use Rattle.pf_disk.proofs.Images.{own_bytes}
 use Rattle.pf_disk.proofs.memory.MemDisk.image.Goals as goal
 
-pub replayed-requires : goal.replayed-requires
-replayed-requires c =
-    let m = c.args.self.now in
-    let calls = take c.counting-count.result c.deref-2.result.now in
-    let first : length c.deref.result.now ≡ length m.first.items = ap length c.deref.ensures.value in
-    let fit : all_fit (length m.first.items) (take c.counting-count.result m.calls.items) ≡ true = all_fit-take (length m.first.items) m.calls.items c.counting-count.result m.calls_fit in
-    ap (λ (n : ℕ). all_fit n calls) first ∙ ap (λ (l : List Call). all_fit (length m.first.items) (take c.counting-count.result l)) c.deref-2.ensures.value ∙ fit
+own : (fill : Fill) (s : State) (image : List ℕ) (P : List ℕ → Type 0) → ((it : List ℕ) → P it → IsImage s.seen s.unsynced it) → IsFilled fill s image → GivesItsBytes fill P image
+own Old s image P is filled = tt
+own New s image P is filled = tt
+own Zeros s image P is filled = tt
+own Open s image P is filled = tt
+own Inverted s image P is filled = tt
+own (Bytes bytes) s image P is filled = λ it. own_bytes s.seen bytes.now image s.unsynced filled.same_length filled.each (is bytes.now it)
 
-pub filled-requires-clause-fills : goal.filled-requires-clause-fills
-filled-requires-clause-fills c =
+pub returns-clause-each_image : goal.returns-clause-each_image
+returns-clause-each_image c =
     let m = c.args.self.now in
-    let calls = take c.counting-count.result c.deref-2.result.now in
-    let first : length c.deref.result.now ≡ length m.first.items = ap length c.deref.ensures.value in
-    let fit : all_fit (length m.first.items) (take c.counting-count.result m.calls.items) ≡ true = all_fit-take (length m.first.items) m.calls.items c.counting-count.result m.calls_fit in
-    let fits : all_fit (length c.deref.result.now) calls ≡ true = ap (λ (n : ℕ). all_fit n calls) first ∙ ap (λ (l : List Call). all_fit (length m.first.items) (take c.counting-count.result l)) c.deref-2.ensures.value ∙ fit in
-    let size = ap length c.in_ok-replay.ensures.seen ∙ size-after_all (at_rest c.deref.result.now) calls fits ∙ first in
-    subst (λ (n : ℕ). FillsAll c.args.fill n) (sym size) c.requires
-
-pub returns-clause-left : goal.returns-clause-left
-returns-clause-left c t lt = (c.args.moment, lt, grind (arith, common_steps))
+    let s = state_at m.first.items (events_of m) c.args.moment in
+    own c.args.fill s c.in_ok-image.image.items (IsImageAt m.first.items (events_of m) c.args.moment) (λ it is. is) (c.in_ok-image.ensures s c.in_ok-replay.ensures.shows)

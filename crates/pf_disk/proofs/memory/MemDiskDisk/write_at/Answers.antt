@@ -1,31 +1,35 @@
-use Rattle.std.proofs.Common.{◌≡◌, ℕ, refl, sym, ap, false, true, ◌∙◌, length, arith, List, subst, rules}
-use Rattle.std.proofs.lemmas.List.{places}
-use Rattle.pf_disk.specs.Disk.{overwritten, with_range}
-use Rattle.pf_disk.specs.Replay.{State, at_rest, after}
-use Rattle.pf_disk.proofs.Images.{overwritten_elsewhere}
-use Rattle.pf_disk.proofs.Replays.{Holds, writes, written, unsynced_after, elapses}
+use Rattle.std.proofs.Common.{◌≡◌, ◌+◌, ◌≤◌, ◌++◌, ◌∷◌, [], List, ℕ, refl, ap, ◌∙◌, length, map}
+use Rattle.pf_disk.specs.declared.memory.MemDisk.{MemDisk}
+use Rattle.pf_disk.specs.declared.memory.Call.{Call}
+use Rattle.pf_disk.specs.Disk.{overwritten}
+use Rattle.pf_disk.specs.Calls.{Event, writing}
+use Rattle.pf_disk.specs.Kept.{event_of}
+use Rattle.pf_disk.proofs.Calls.{Wrote, wrote}
 use Rattle.pf_disk.proofs.memory.MemDiskDisk.write_at.Goals as goal
 
-pub invariant_of-self-in-Ok-note : goal.invariant_of-self-in-Ok-note
-invariant_of-self-in-Ok-note c =
-    let m = c.args.self.now in
-    let it = written m.first.items m.bytes.items m.calls.items c.note.new.calls.items c.in-Ok.call c.args.at c.args.bytes.now (writes _ _ _ c.in-Ok.ensures) c.requires.within m.seen_is m.calls_fit m.size_is c.in-Ok-note.ensures.noted in
-    let same : c.overwrite.new.bytes.items ≡ overwritten m.bytes.items c.args.at c.args.bytes.now = c.overwrite.ensures in
-    let seen_is : (after (at_rest m.first.items) c.note.new.calls.items).seen ≡ c.overwrite.new.bytes.items = it.seen ∙ sym same in
-    record { seen_is = seen_is; size_is = search (rules, places); calls_fit = it.fit }
+kept : (m : MemDisk) (at : ℕ) (bytes new_bytes : List ℕ) (new : List Event) (call : Call) → at + length bytes ≤ length m.bytes.items → new ≡ map event_of m.calls.items ++ event_of call ∷ []
+    → event_of call ≡ writing at bytes → new_bytes ≡ overwritten m.bytes.items at bytes → Wrote m.first.items new_bytes (length m.first.items) (map event_of m.calls.items) new at (length bytes)
+kept m at bytes new_bytes new call fits noted is written =
+    wrote m.first.items m.bytes.items new_bytes (length m.first.items) (map event_of m.calls.items) new at (length bytes) bytes (record { seen = m.seen_is; same_size = m.size_is; fit = m.calls_fit })
+    fits refl (noted ∙ ap (λ (event : Event). map event_of m.calls.items ++ event ∷ []) is) written
 
-pub returns-in-Ok-note-clause-unsynced : goal.returns-in-Ok-note-clause-unsynced
-returns-in-Ok-note-clause-unsynced c i out =
-    let m = c.args.self.now in
-    let same = unsynced_after m.first.items m.calls.items c.note.new.calls.items c.in-Ok.call c.in-Ok-note.ensures.noted in
-    let range = (writes c.in-Ok.call c.args.at c.args.bytes.now c.in-Ok.ensures).unsynced (after (at_rest m.first.items) m.calls.items) in
-    ap (λ f. f i) same ∙ ap (λ f. f i) range ∙ out
+pub invariant_of-self-in-Ok-keep : goal.invariant_of-self-in-Ok-keep
+invariant_of-self-in-Ok-keep c =
+    let it = kept c.args.self.now c.args.at c.args.bytes.now _ _ c.in-Ok.call c.requires.within c.in-Ok-keep.ensures.kept c.in-Ok.ensures c.overwrite.ensures in
+    record { seen_is = it.keeps.seen; size_is = it.keeps.same_size; calls_fit = it.keeps.fit }
 
-pub returns-in-Ok-note-clause-time : goal.returns-in-Ok-note-clause-time
-returns-in-Ok-note-clause-time c =
-    let m = c.args.self.now in
-    let now = after (at_rest m.first.items) m.calls.items in
-    let w = writes c.in-Ok.call c.args.at c.args.bytes.now c.in-Ok.ensures in
-    let it = written m.first.items m.bytes.items m.calls.items c.note.new.calls.items c.in-Ok.call c.args.at c.args.bytes.now w c.requires.within m.seen_is m.calls_fit m.size_is c.in-Ok-note.ensures.noted in
-    let seen : (after (at_rest m.first.items) c.note.new.calls.items).seen ≡ c.overwrite.new.bytes.items = it.seen ∙ sym c.overwrite.ensures in
-    elapses m.first.items c.overwrite.new.bytes.items m.calls.items c.note.new.calls.items c.in-Ok.call c.in-Ok-note.ensures.noted (w.fits (length now.seen) (omega (arith, c.requires.within, ap length m.seen_is))) seen
+pub returns-in-Ok-keep-clause-unsynced : goal.returns-in-Ok-keep-clause-unsynced
+returns-in-Ok-keep-clause-unsynced c i out =
+    (kept c.args.self.now c.args.at c.args.bytes.now _ _ c.in-Ok.call c.requires.within c.in-Ok-keep.ensures.kept c.in-Ok.ensures c.overwrite.ensures).unsynced i out
+
+pub returns-in-Ok-keep-clause-still : goal.returns-in-Ok-keep-clause-still
+returns-in-Ok-keep-clause-still c i out =
+    (kept c.args.self.now c.args.at c.args.bytes.now _ _ c.in-Ok.call c.requires.within c.in-Ok-keep.ensures.kept c.in-Ok.ensures c.overwrite.ensures).still i out
+
+pub returns-in-Ok-keep-clause-marked : goal.returns-in-Ok-keep-clause-marked
+returns-in-Ok-keep-clause-marked c i out =
+    (kept c.args.self.now c.args.at c.args.bytes.now _ _ c.in-Ok.call c.requires.within c.in-Ok-keep.ensures.kept c.in-Ok.ensures c.overwrite.ensures).marked i out
+
+pub returns-in-Ok-keep-clause-time : goal.returns-in-Ok-keep-clause-time
+returns-in-Ok-keep-clause-time c =
+    (kept c.args.self.now c.args.at c.args.bytes.now _ _ c.in-Ok.call c.requires.within c.in-Ok-keep.ensures.kept c.in-Ok.ensures c.overwrite.ensures).time

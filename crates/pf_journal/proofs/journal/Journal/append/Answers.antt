@@ -24,7 +24,7 @@ returns-in_err-write_synced-2-clause-any_moment g c ps k =
     let first = weakened g.D.Disk.moment g.D.Disk.left_since j.disk c.write_synced.new.disk _ P c.write_synced.ensures.any_moment
     (first_step j.start j.end ps j.gate k.gate p (g.D.Disk.seen j.disk) c.deref.result.now k.stands is_behind room c.requires.ready.end (omega arith)) in
     let second = weakened g.D.Disk.moment g.D.Disk.left_since c.write_synced.new.disk c.write_synced-2.new.disk _ P c.write_synced-2.ensures.any_moment
-    (second_step j.start j.end ps j.gate k.gate p (g.D.Disk.seen j.disk) c.deref.result.now k.stands is_behind room c.requires.ready.end (omega arith) (g.D.Disk.seen c.write_synced.new.disk) c.in_ok-write_synced.ensures.written c.write_synced.ensures.same_size) in
+    (second_step j.start j.end ps j.gate k.gate p (g.D.Disk.seen j.disk) c.deref.result.now k.stands is_behind room c.requires.ready.end (omega arith) (g.D.Disk.seen c.write_synced.new.disk) c.in_ok-write_synced.ensures.written c.write_synced.ensures.elsewhere.same_length) in
     and_then g.D.Disk.moment g.D.Disk.left_since j.disk c.write_synced.new.disk c.write_synced-2.new.disk P first second
 
 pub returns-clause-any_moment : goal.returns-clause-any_moment
@@ -37,7 +37,7 @@ returns-clause-any_moment g c ps k =
     let first = weakened g.D.Disk.moment g.D.Disk.left_since j.disk c.write_synced.new.disk _ P c.write_synced.ensures.any_moment
     (first_step j.start j.end ps j.gate k.gate p (g.D.Disk.seen j.disk) c.deref.result.now k.stands is_behind room c.requires.ready.end (omega arith)) in
     let second = weakened g.D.Disk.moment g.D.Disk.left_since c.write_synced.new.disk c.write_synced-2.new.disk _ P c.write_synced-2.ensures.any_moment
-    (second_step j.start j.end ps j.gate k.gate p (g.D.Disk.seen j.disk) c.deref.result.now k.stands is_behind room c.requires.ready.end (omega arith) (g.D.Disk.seen c.write_synced.new.disk) c.in_ok-write_synced.ensures.written c.write_synced.ensures.same_size) in
+    (second_step j.start j.end ps j.gate k.gate p (g.D.Disk.seen j.disk) c.deref.result.now k.stands is_behind room c.requires.ready.end (omega arith) (g.D.Disk.seen c.write_synced.new.disk) c.in_ok-write_synced.ensures.written c.write_synced.ensures.elsewhere.same_length) in
     and_then g.D.Disk.moment g.D.Disk.left_since j.disk c.write_synced.new.disk c.write_synced-2.new.disk P first second
 
 pub returns-clause-kept : goal.returns-clause-kept
@@ -47,6 +47,6 @@ returns-clause-kept g c ps k =
     let is_behind : c.deref.result.now ≡ counted p ++ 0 ∷ [] = c.deref.ensures.value ∙ c.in_ok-behind.ensures in
     let room : j.gate + 6 + length p ≤ j.end = omega arith in
     record {
-      stands = last_step j.start j.end ps j.gate k.gate p (g.D.Disk.seen j.disk) c.deref.result.now k.stands is_behind room c.requires.ready.end (omega arith) (g.D.Disk.seen c.write_synced.new.disk) c.in_ok-write_synced.ensures.written c.write_synced.ensures.same_size (g.D.Disk.seen c.write_synced-2.new.disk) c.in_ok-write_synced-2.ensures.written;
+      stands = last_step j.start j.end ps j.gate k.gate p (g.D.Disk.seen j.disk) c.deref.result.now k.stands is_behind room c.requires.ready.end (omega arith) (g.D.Disk.seen c.write_synced.new.disk) c.in_ok-write_synced.ensures.written c.write_synced.ensures.elsewhere.same_length (g.D.Disk.seen c.write_synced-2.new.disk) c.in_ok-write_synced-2.ensures.written;
       gate = omega (arith, k.gate, length-records-push ps p);
     }
