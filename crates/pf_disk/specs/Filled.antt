@@ -3,6 +3,7 @@ use Rattle.std.specs.Prelude.{◌≡◌, ℕ, ◌-◌, ◌<◌, false, if◌then
 use Rattle.pf_disk.specs.declared.image.Fill.{Fill}
 use Rattle.pf_disk.specs.declared.image.Fill.TheVariants.{Old, New, Zeros, Open, Inverted, Bytes}
 use Rattle.pf_disk.specs.declared.image.Replay.{Replay}
+use Rattle.pf_disk.specs.declared.image.TheConstants.{OPEN_GATE}
 use Rattle.pf_disk.specs.Calls.{State}
 
 -- what an unsynced place is filled with, from the byte of the last sync and the byte that a read returns
@@ -10,7 +11,7 @@ abbrev pub fill_byte : Fill → ℕ → ℕ → ℕ → ℕ
 fill_byte Old i kept seen = kept
 fill_byte New i kept seen = seen
 fill_byte Zeros i kept seen = 0
-fill_byte Open i kept seen = 165
+fill_byte Open i kept seen = OPEN_GATE
 fill_byte Inverted i kept seen = 255 - seen
 fill_byte (Bytes bytes) i kept seen = slice_index bytes.now i
 

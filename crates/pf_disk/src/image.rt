@@ -8,8 +8,8 @@ ghost use Rattle.pf_disk.specs.Filled.{fill_byte, FillsAll, IsFilled, Shows};
 use crate::memory::{Call, overwrite};
 use std::alloc::{AllocError, Global};
 
-/// The byte of a record's gate that is open.
-pub(crate) const OPEN: u8 = 0xA5;
+/// The byte that opens a gate of the layers above. No other byte does.
+pub const OPEN_GATE: u8 = 0xA5;
 
 /// What a crash leaves at the unsynced places.
 #[derive(Clone, Copy, Debug)]
@@ -20,7 +20,7 @@ pub enum Fill<'a> {
     New,
     /// 00.
     Zeros,
-    /// A5, the byte of an open gate.
+    /// The byte of an open gate.
     Open,
     /// The bytes that a read gives, with all bits inverted.
     Inverted,
@@ -95,7 +95,7 @@ fn byte_of(fill: Fill, at: usize, kept: u8, seen: u8) -> u8
         Fill::Old => kept,
         Fill::New => seen,
         Fill::Zeros => 0,
-        Fill::Open => OPEN,
+        Fill::Open => OPEN_GATE,
         Fill::Inverted => 255 - seen,
         Fill::Bytes(bytes) => bytes[at],
     }

@@ -1,3 +1,4 @@
+// Why an append or a reading ends without its result.
 ghost use Rattle.std.specs.Prelude.{◌≡◌};
 ghost use Rattle.pf_journal.specs.declared.fault.AppendFault.TheVariants as appending;
 ghost use Rattle.pf_journal.specs.declared.fault.ReadFault.TheVariants as reading;
@@ -5,20 +6,25 @@ ghost use Rattle.pf_journal.specs.declared.fault.ReadFault.TheVariants as readin
 use pf_disk::DiskFault;
 use std::alloc::{AllocError, AllocFailed};
 
+/// Why a record wasn't added.
 #[derive(Clone, Copy, Debug, PartialEq, Eq)]
 pub enum AppendFault {
+    /// Memory was refused. No call of the device was made, and all is as before.
     Memory,
-    /// Nothing was written.
+    /// The record and the closed gate behind it don't fit. No call of the device was made, and all is as before.
     NoRoom,
-    /// The device failed. Its closed gate isn't known any more.
+    /// A call of the device failed. The journal may hold the record or not, and has to be read again before it goes on.
     Fault,
 }
 
+/// Why no payloads were read. The device's bytes are as before.
 #[derive(Clone, Copy, Debug, PartialEq, Eq)]
 pub enum ReadFault {
+    /// Memory was refused.
     Memory,
-    /// The record with its gate here does not fit.
+    /// Behind the open gate at this place of the device no record stands whole with a gate behind it.
     Corrupt { at: usize },
+    /// A call of the device failed.
     Fault,
 }
 

@@ -1,12 +1,21 @@
-use Rattle.std.proofs.Common.{◌≡◌, rules, sym, ◌∙◌, ap, subst, List, ℕ, ◌++◌, ◌∷◌, [], ◌<◌, length}
+use Rattle.std.proofs.Common.{◌≡◌, arith, length-append, sym, ◌∙◌, ap, subst, List, ℕ, ◌++◌, ◌∷◌, [], ◌<◌, length}
 use Rattle.pf_journal.specs.Records.{IsRecord, AreShort, records, contents}
-use Rattle.pf_journal.proofs.Parsing.{one_more, one_more_short, torn_end, closed_end}
+use Rattle.pf_journal.proofs.Parsing.{one_more, one_more_short}
 use Rattle.pf_journal.proofs.reading.payloads_of.Goals as goal
 
-pub returns-in_default-clause-corrupt : goal.returns-in_default-clause-corrupt
-returns-in_default-clause-corrupt c u qs are =
+pub returns-in_default-clause-breaks : goal.returns-in_default-clause-breaks
+returns-in_default-clause-breaks c =
     let inv = c.loop-rest.invariant in
-    torn_end (contents c.loop-rest.payloads.items) c.loop-rest.rest.now c.args.bytes.now inv.read inv.short c.loop-rest-test.true (λ p after is. c.in_default.ensures p after is) qs are
+    let ps = contents c.loop-rest.payloads.items in
+    record {
+      payloads = ps;
+      rest = c.loop-rest.rest.now;
+      split = sym inv.read;
+      short = inv.short;
+      is_open = c.loop-rest-test.true;
+      torn = λ p after is. c.in_default.ensures p after is;
+      there = omega (arith, ap length inv.read, length-append (records ps) c.loop-rest.rest.now);
+    }
 
 pub loop-rest-preserved : goal.loop-rest-preserved
 loop-rest-preserved c =
