@@ -7,7 +7,8 @@ use Rattle.std.specs.Char.{digit_value}
 use Rattle.std.proofs.lemmas.Bool.Decides.{nat_tests}
 use Rattle.pf_addr.specs.declared.fault.AddrFault.{AddrFault}
 use Rattle.pf_addr.specs.Grammar.{IsNumber}
-use Rattle.pf_addr.specs.Reading.{is_digit, decimal_value, valued_at, judged_at, part_at, length_of, length_at}
+use Rattle.pf_addr.specs.Numbers.{is_digit, decimal_value}
+use Rattle.pf_addr.specs.Reading.{valued_at, judged_at, part_at, length_of, length_at}
 use Rattle.pf_addr.proofs.Split.{first_none}
 
 abbrev pub is_other : ℕ → Bool

@@ -1,7 +1,7 @@
 -- Which fault of a text is answered. Several faults may stand in one text, and the format fixes their order (parts
 -- from left to right; in a part the first byte that is no digit before its length and value; then the number of
 -- parts; then a network's length). So the fault and its place are a function of the text.
-use Rattle.std.specs.Prelude.{ℕ, ◌+◌, ◌*◌, ◌-◌, ◌==◌, ◌&&◌, not, nat_lt, nat_le, Bool, List, [], ◌∷◌, ◌++◌, length, take, drop, fold, replicate, Option, Some, None, Result, Ok, Err, if◌then◌else◌}
+use Rattle.std.specs.Prelude.{ℕ, ◌+◌, ◌==◌, not, nat_lt, nat_le, Bool, List, [], ◌∷◌, ◌++◌, length, take, drop, replicate, Option, Some, None, Result, Ok, Err, if◌then◌else◌}
 use Rattle.std.specs.List.{slice_split, position}
 use Rattle.std.specs.Int.{from_be_bytes, w32}
 use Rattle.pf_addr.specs.declared.addr.Addr.{Addr}
@@ -11,14 +11,12 @@ use Rattle.pf_addr.specs.declared.fault.AddrFault.TheVariants.{Empty, BadDigit, 
 use Rattle.pf_addr.specs.declared.reading.Parts.{Parts}
 use Rattle.pf_addr.specs.Address.{Network}
 use Rattle.pf_addr.specs.Grammar.{network_of, v4_network}
+use Rattle.pf_addr.specs.Numbers.{is_digit, decimal_value}
 
 infixl 10 ◌>>=◌
 abbrev pub ◌>>=◌ : {A B E : Type 0} → Result A E → (A → Result B E) → Result B E
 (Ok x) >>= f = f x
 (Err e) >>= f = Err e
-
-abbrev pub is_digit : ℕ → Bool
-is_digit b = nat_le 48 b && nat_le b 57
 
 abbrev pub is_dot : ℕ → Bool
 is_dot b = b == 46
@@ -27,9 +25,6 @@ abbrev pub is_slash : ℕ → Bool
 is_slash b = b == 47
 
 -- ---- one part, which begins at `at`
-
-abbrev pub decimal_value : List ℕ → ℕ
-decimal_value = fold (λ v b. v * 10 + (b - 48)) 0
 
 abbrev pub valued_at : ℕ → List ℕ → Result ℕ AddrFault
 valued_at at text = if nat_lt 3 (length text) then Err (TooBig at) else (if nat_lt 255 (decimal_value text) then Err (TooBig at) else Ok (decimal_value text))

@@ -1,9 +1,11 @@
 //! The numbers between the dots of a text.
 ghost use Rattle.std.specs.Prelude.{◌≡◌, ◌+◌, ◌-◌, ◌*◌, ◌^◌, ◌<◌, ℕ, List, [], ◌∷◌, ◌++◌, length, not, IfSome, OnOk, Ok};
 ghost use Rattle.std.specs.List.{position};
-ghost use Rattle.pf_addr.specs.Reading.{is_digit, is_dot, is_slash, part_at, valued_at, length_at, numbers_at, parts_of, kept_parts};
+ghost use Rattle.pf_addr.specs.Numbers.{is_digit};
+ghost use Rattle.pf_addr.specs.Reading.{is_dot, is_slash, part_at, valued_at, length_at, numbers_at, parts_of, kept_parts};
 
 use crate::fault::AddrFault;
+use crate::number::{digit, value_of};
 
 /// The numbers between the dots of a text.
 #[derive(Clone, Copy)]
@@ -74,7 +76,7 @@ fn read_part(at: usize, text: &[u8]) -> Result<u8, AddrFault>
     }
     match first_other(text) {
         Some(i) => Err(AddrFault::BadDigit { at: at + i }),
-        None => value_of(at, text),
+        None => byte_of(at, text),
     }
 }
 
@@ -86,30 +88,14 @@ fn first_other(text: &[u8]) -> Option<usize>
     text.iter().position(|b| !digit(*b))
 }
 
-fn digit(b: u8) -> bool
-    ensures { result ≡ is_digit b }
-{
-    b'0' <= b && b <= b'9'
-}
-
-fn figure(b: u8) -> u32
-    ensures value { result ≡ b - 48 }
-    ensures small { result < 256 }
-{
-    u32::from(b.saturating_sub(b'0'))
-}
-
 /// The value of a text of digits, which begins at this byte.
-fn value_of(at: usize, text: &[u8]) -> Result<u8, AddrFault>
+fn byte_of(at: usize, text: &[u8]) -> Result<u8, AddrFault>
     ensures { result ≡ valued_at at text.now }
 {
-    let value = match text {
-        [] => 0,
-        [a] => figure(*a),
-        [a, b] => figure(*a) * 10 + figure(*b),
-        [a, b, c] => (figure(*a) * 10 + figure(*b)) * 10 + figure(*c),
-        _ => return Err(AddrFault::TooBig { at }),
-    };
+    if text.len() > 3 {
+        return Err(AddrFault::TooBig { at });
+    }
+    let value = value_of(text);
     if value > 255 {
         return Err(AddrFault::TooBig { at });
     }
