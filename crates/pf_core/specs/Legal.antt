@@ -2,7 +2,7 @@
 use Rattle.std.specs.Prelude.{◌≡◌, ℕ, ◌+◌, ◌-◌, ◌==◌, Bool, not, cond, if◌then◌else◌, ◌||◌, List, [], ◌∷◌, ◌++◌, length, map, Option, Some, None, Result, Ok, Err, nat_lt, nat_le}
 use Rattle.std.specs.List.{position}
 use Rattle.pf_rule.specs.Rules.{PlainRule}
-use Rattle.pf_rule.specs.Combining.{◌>>=◌}
+use Rattle.pf_form.specs.Forms.{◌>>=◌}
 use Rattle.pf_core.specs.declared.command.Command.{Command}
 use Rattle.pf_core.specs.declared.command.Command.TheVariants.{Begin, Add, Commit, Rollback, Judge, ShowRules}
 use Rattle.pf_core.specs.declared.command.Entry.{Entry}
