@@ -1,4 +1,6 @@
 pub mod Words
+pub mod Numbers
+pub mod NumberLaws
 pub mod Forms
 pub mod Readers
 pub mod Laws
