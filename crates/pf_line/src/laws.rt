@@ -1,10 +1,11 @@
 //! Laws of the texts. Each function's contract is the law, and its body does nothing.
 ghost use Rattle.std.specs.Prelude.{◌≡◌, ℕ, ◌^◌, ◌<◌, List, length, Some, Err};
-ghost use Rattle.pf_rule.specs.Words.{Word};
+ghost use Rattle.pf_form.specs.Words.{Word};
 ghost use Rattle.pf_core.specs.declared.command.Ticket.{Ticket};
 ghost use Rattle.pf_core.specs.declared.reply.Refusal.TheVariants.{BadLine};
 ghost use Rattle.pf_core.specs.declared.reply.Reply.{Reply};
-ghost use Rattle.pf_line.specs.Lines.{line_limit, line_at};
+ghost use Rattle.pf_line.specs.Lines.{line_at};
+ghost use Rattle.pf_line.specs.declared.line.TheConstants.{LINE_LIMIT};
 ghost use Rattle.pf_line.specs.Replies.{NoneHasNewline, HasLines, line_count, names_in, reply_text};
 ghost use Rattle.pf_line.specs.Tickets.{ticket_of, ticket_text};
 ghost use Rattle.pf_line.specs.TicketGrammar.{SpellsTicket};
@@ -28,5 +29,5 @@ pub fn reply_has_its_lines()
 
 /// A line that is too long is bad, whatever its bytes are.
 pub fn long_line_is_bad()
-    ensures { (line : List ℕ) → line_limit < length line → line_at line ≡ Err BadLine }
+    ensures { (line : List ℕ) → LINE_LIMIT < length line → line_at line ≡ Err BadLine }
 {}
