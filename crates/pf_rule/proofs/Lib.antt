@@ -1,8 +1,4 @@
 pub mod Nets
-pub mod Kept
-pub mod Answering
-pub mod RuleAnswers
-pub mod PacketAnswers
 pub mod Spacing
-pub mod Canonical
-pub mod WordsAgain
+pub mod Answering
+pub mod Kept
