@@ -2,7 +2,7 @@
 use Rattle.std.proofs.Common.{◌≡◌, ℕ, ◌+◌, Bool, true, false, cond, ◌&&◌, List, [], ◌∷◌, ◌++◌, length, refl, sym, ap, ◌∙◌, Option, Some, None, Result, Ok, Err, subst}
 use Rattle.std.specs.Prelude.{fold, nat_lt}
 use Rattle.pf_rule.specs.Rules.{PlainRule}
-use Rattle.pf_rule.specs.Combining.{◌>>=◌}
+use Rattle.pf_form.specs.Forms.{◌>>=◌}
 use Rattle.pf_core.specs.declared.command.Entry.{Entry}
 use Rattle.pf_core.specs.declared.command.RulesetKind.{RulesetKind}
 use Rattle.pf_core.specs.declared.command.RulesetKind.TheVariants.{Filter}

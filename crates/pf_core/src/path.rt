@@ -4,7 +4,7 @@ ghost use Rattle.pf_core.specs.Paths.{path_of, path_fault, is_path};
 ghost use Rattle.pf_core.specs.Rulesets.{path_order, same_path};
 
 use crate::path_text::fault_in;
-use pf_rule::Kind;
+use pf_form::Kind;
 use std::cmp::Ordering;
 use std::marker::Model;
 

@@ -3,7 +3,8 @@ ghost use Rattle.std.specs.Prelude.{◌≡◌, ◌<◌, length, count_by, IfSome
 ghost use Rattle.std.specs.List.{position};
 ghost use Rattle.pf_core.specs.Paths.{is_slash, components, is_component, component_fault, first_fault, depth_fault, path_fault};
 
-use pf_rule::{Kind, has_name_bytes};
+use pf_form::Kind;
+use pf_rule::has_name_bytes;
 
 const PATH_LIMIT: usize = 255;
 

@@ -1,6 +1,6 @@
 -- One call of a book, from each way out of it.
 use Rattle.std.proofs.Common.{◌≡◌, ℕ, ◌+◌, ◌<◌, ◌≤◌, List, [], ◌∷◌, ◌++◌, length, Result, Ok, Err, refl, sym, ap, ◌∙◌, subst}
-use Rattle.pf_rule.specs.Combining.{◌>>=◌}
+use Rattle.pf_form.specs.Forms.{◌>>=◌}
 use Rattle.pf_core.specs.declared.command.Command.{Command}
 use Rattle.pf_core.specs.declared.command.Command.TheVariants.{Rollback}
 use Rattle.pf_core.specs.declared.command.Entry.{Entry}

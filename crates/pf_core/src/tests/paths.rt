@@ -1,6 +1,6 @@
 //! Texts of paths, with what each of them is worked out by hand.
 use crate::Path;
-use pf_rule::Kind;
+use pf_form::Kind;
 use std::alloc::{AllocError, Global};
 use std::test::Fail;
 

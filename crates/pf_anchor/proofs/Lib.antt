@@ -1,0 +1,2 @@
+pub mod PathTexts
+pub mod PathsRead

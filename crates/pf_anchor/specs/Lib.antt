@@ -1,0 +1,5 @@
+pub mod Rulesets
+pub mod Paths
+pub mod PathGrammar
+pub mod PathLaws
+pub mod Deciding

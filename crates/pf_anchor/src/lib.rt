@@ -1,0 +1,18 @@
+//! Rulesets at their paths: what is kept of filter rules, and which of them decides on a packet.
+#![tactic(auto)]
+
+pub mod laws;
+mod limits;
+mod path;
+mod path_text;
+mod placed;
+mod rule_list;
+mod ruleset;
+mod verdict;
+
+pub use limits::{COMPONENT_LIMIT, DEPTH_LIMIT, PATH_LIMIT, RULE_LIMIT, RULESET_LIMIT};
+pub use path::Path;
+pub use placed::Placed;
+pub use rule_list::RuleList;
+pub use ruleset::{Decision, Ruleset};
+pub use verdict::RuleVerdict;
