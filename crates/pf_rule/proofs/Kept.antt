@@ -13,7 +13,7 @@ use Rattle.pf_addr.specs.declared.addr.Family.{Family}
 use Rattle.pf_addr.specs.declared.addr.Family.TheVariants.{V4, V6}
 use Rattle.pf_addr.specs.declared.fault.AddrFault.{AddrFault}
 use Rattle.pf_addr.specs.Address.{Network, IsAddr, family_of, same_family}
-use Rattle.pf_addr.specs.Numbers.{number_of}
+use Rattle.pf_form.specs.Numbers.{number_of}
 use Rattle.pf_addr.specs.Reading.{net_at, addr_at}
 use Rattle.pf_rule.specs.declared.rule.Host.{Host}
 use Rattle.pf_rule.specs.declared.rule.Host.TheVariants.{Any, Net}

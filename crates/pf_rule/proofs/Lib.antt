@@ -1,4 +1,6 @@
 pub mod Nets
-pub mod Spacing
-pub mod Answering
 pub mod Kept
+pub mod Answering
+pub mod Spacing
+pub mod Written
+pub mod Canonical

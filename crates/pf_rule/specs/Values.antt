@@ -11,7 +11,7 @@ use Rattle.pf_addr.specs.declared.addr.Addr.{Addr}
 use Rattle.pf_addr.specs.declared.addr.Addr.TheVariants as addr
 use Rattle.pf_addr.specs.declared.fault.AddrFault.{AddrFault}
 use Rattle.pf_addr.specs.Address.{Network}
-use Rattle.pf_addr.specs.Numbers.{number_of}
+use Rattle.pf_form.specs.Numbers.{number_of}
 use Rattle.pf_addr.specs.Reading.{numbers_at, parts_at, part_at, net_at, addr_at}
 use Rattle.pf_rule.specs.declared.rule.Host.{Host}
 use Rattle.pf_rule.specs.declared.rule.Host.TheVariants.{Any, Net}
