@@ -1,5 +1,5 @@
 -- A text of digits is what the reader takes as one part.
-use Rattle.std.proofs.Common.{◌≡◌, ℕ, ◌<◌, ◌≤◌, ◌==◌, Bool, true, false, cond, List, [], ◌∷◌, length, Option, Some, None, Result, Ok, Err, refl, ap, ◌∙◌, arith, ltb, leb}
+use Rattle.std.proofs.Common.{◌≡◌, ℕ, ◌<◌, ◌==◌, Bool, true, false, cond, List, [], ◌∷◌, length, Option, Some, None, Ok, Err, refl, ap, ◌∙◌, arith, ltb, leb}
 use Rattle.std.specs.Prelude.{not}
 use Rattle.std.specs.List.{position, position_or_len}
 use Rattle.std.specs.Str.Parse.{AllDigits}
@@ -7,7 +7,6 @@ use Rattle.std.specs.Char.{digit_value}
 use Rattle.std.proofs.lemmas.Bool.Decides.{nat_tests}
 use Rattle.pf_form.specs.Numbers.{is_digit, number_of}
 use Rattle.pf_form.specs.NumberLaws.{number_only, number_found}
-use Rattle.pf_addr.specs.declared.fault.AddrFault.{AddrFault}
 use Rattle.pf_addr.specs.declared.fault.AddrFault.TheVariants.{BadDigit, TooBig, BadLength}
 use Rattle.pf_addr.specs.Grammar.{IsNumber}
 use Rattle.pf_addr.specs.Reading.{valued_at, judged_at, part_at, length_of, length_at}

@@ -1,10 +1,9 @@
 -- What reading a whole text answers, of any grammar whose value may be none.
-use Rattle.std.proofs.Common.{◌≡◌, ℕ, ◌-◌, true, List, length, Option, Some, None, Result, Ok, Err, refl, sym, ap, subst, ◌∙◌}
+use Rattle.std.proofs.Common.{◌≡◌, ℕ, ◌-◌, true, List, length, Option, Some, None, Result, Ok, Err, refl, sym, subst}
 use Rattle.std.specs.Prelude.{IfOk, IfErr}
-use denote.Ref.{Bor}
 use Rattle.pf_form.specs.declared.fault.Kind.{Kind}
 use Rattle.pf_form.specs.declared.fault.Kind.TheVariants as kinds
-use Rattle.pf_form.specs.Words.{Word, texts}
+use Rattle.pf_form.specs.Words.{Word}
 use Rattle.pf_form.specs.Forms.{Form, Spells, RefusedAt, read_all, is_decided}
 use Rattle.pf_form.specs.TextLaws.{found, only, refused}
 use Rattle.pf_rule.specs.declared.fault.TextFault.{TextFault}

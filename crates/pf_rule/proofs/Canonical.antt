@@ -1,5 +1,5 @@
 -- The canonical words of a rule spell it, and they are the words of its text.
-use Rattle.std.proofs.Common.{◌≡◌, ℕ, ◌<◌, ◌≤◌, ◌==◌, Bool, true, false, cond, List, [], ◌∷◌, ◌++◌, length, Option, Some, None, Result, Ok, refl, sym, ap, ◌∙◌, subst, arith}
+use Rattle.std.proofs.Common.{◌≡◌, ℕ, ◌≤◌, ◌==◌, Bool, true, false, cond, List, [], ◌∷◌, length, Option, Some, None, Result, Ok, refl, sym, ap, ◌∙◌, subst, arith}
 use Rattle.std.specs.Prelude.{codes, decimal, IfSome, nat_lt, nat_le, ◌&&◌}
 use Rattle.std.specs.List.{list_all, slice_index_or}
 use Rattle.std.specs.Str.{bytes_eq}
@@ -26,10 +26,10 @@ use Rattle.pf_rule.specs.declared.rule.Direction.TheVariants.{In, Out}
 use Rattle.pf_rule.specs.declared.rule.Host.{Host}
 use Rattle.pf_rule.specs.declared.rule.Host.TheVariants.{Any, Net}
 use Rattle.pf_rule.specs.Names.{IsInterfaceName, is_name_byte}
-use Rattle.pf_rule.specs.Values.{is_name, interface_of, protocol_names, number_named, named_or, protocol_numbered, protocol_of, host_in, host_of, a_protocol, a_host}
+use Rattle.pf_rule.specs.Values.{is_name, interface_of, protocol_names, number_named, protocol_of, host_in, host_of, a_protocol, a_host}
 use Rattle.pf_rule.specs.Rules.{PlainRule, IsRule, HostFits}
 use Rattle.pf_rule.specs.RuleGrammar.{opening, direction, quick, interface, family, protocol, destination, hosts, state, action_of, rule_with, rule_words, host_family, agreed, one_family, agreeing, rule, rule_decided}
-use Rattle.pf_rule.specs.RuleText.{action_word, direction_words, quick_words, interface_words, family_words, protocol_word, protocol_words, host_word, host_words, state_words, canonical, rule_text}
+use Rattle.pf_rule.specs.RuleText.{action_word, direction_words, quick_words, interface_words, family_words, protocol_words, host_word, host_words, state_words, canonical, rule_text}
 use Rattle.pf_rule.proofs.Kept.{IsProtocol}
 use Rattle.pf_rule.proofs.Spacing.{IsWord, words_of-join}
 use Rattle.pf_rule.proofs.Written.{Written, is_plain, plain, none_written, here, other, there, one_word, made, both, both_by}
@@ -78,7 +78,7 @@ no_blank : (b : ℕ) → (b ≡ 32 → ⊥) → (b ≡ 9 → ⊥) → (b ≡ 13 
 no_blank b p q r = rw (ne_eqb b 32 p, ne_eqb b 9 q, ne_eqb b 13 r) refl
 
 not_at : (test : ℕ → Bool) (b c : ℕ) → test c ≡ false → test b ≡ true → b ≡ c → ⊥
-not_at test b c no is e = let at_c : test c ≡ true = subst (λ (d : ℕ). test d ≡ true) e is in cc
+not_at test b c fails is e = let at_c : test c ≡ true = subst (λ (d : ℕ). test d ≡ true) e is in cc
 
 -- a test that no blank passes
 tested_word : (test : ℕ → Bool) → test 32 ≡ false → test 9 ≡ false → test 13 ≡ false → (w : Word) → nat_lt 0 (length w) ≡ true → list_all test w ≡ true → IsWord w
@@ -114,13 +114,13 @@ NoNumbers [] = Unit {0}
 NoNumbers (p ∷ ps) = (number_of 3 p.0 ≡ None) × NoNumbers ps
 
 unnamed : (ps : List (Word × ℕ)) (w : Word) (n : ℕ) → number_of 3 w ≡ Some n → NoNumbers ps → number_named ps w ≡ None
-unnamed [] w n is no = refl
-unnamed (p ∷ ps) w n is no = by (bytes_eq w p.0) refl (unnamed ps w n is no.1) where
+unnamed [] w n is nots = refl
+unnamed (p ∷ ps) w n is nots = by (bytes_eq w p.0) refl (unnamed ps w n is nots.1) where
   by : (t : Bool) → bytes_eq w p.0 ≡ t → number_named ps w ≡ None → cond t (Some p.1) (number_named ps w) ≡ None
   by true e others =
       let same : w ≡ p.0 = (bytes_eq-Decides w p.0).0 e in
       let at_p : number_of 3 p.0 ≡ Some n = subst (λ (v : Word). number_of 3 v ≡ Some n) same is in
-      let none = no.0 in absurd cc
+      let none = nots.0 in absurd cc
   by false e others = others
 
 digits_word : (w : Word) (n : ℕ) → number_of 3 w ≡ Some n → IsWord w

@@ -1,5 +1,5 @@
 -- What words spell is what a rule or a packet keeps.
-use Rattle.std.proofs.Common.{◌≡◌, ℕ, ◌<◌, Bool, true, false, cond, List, [], ◌∷◌, length, Option, Some, None, Result, Ok, Err, inl, inr, refl, sym, ap, ◌∙◌, subst, arith}
+use Rattle.std.proofs.Common.{◌≡◌, ℕ, ◌<◌, Bool, true, false, cond, List, [], ◌∷◌, length, Option, Some, None, Result, Ok, Err, inl, inr, refl, sym, subst, arith}
 use Rattle.std.specs.Prelude.{IfSome, nat_lt, ◌&&◌, codes, option_map, option_and_then}
 use Rattle.std.specs.List.{list_all}
 use Rattle.std.specs.Str.{bytes_eq}
@@ -21,8 +21,8 @@ use Rattle.pf_rule.specs.Names.{IsInterfaceName, is_name_byte}
 use Rattle.pf_rule.specs.Values.{is_name, interface_of, protocol_names, number_named, protocol_numbered, named_or, protocol_of, host_in, host_of, address_in, address_of, port_limit, port_numbered, port_of}
 use Rattle.pf_rule.specs.Packets.{PlainPacket, IsPacket, has_ports}
 use Rattle.pf_rule.specs.Rules.{PlainRule, IsRule, HostFits}
-use Rattle.pf_rule.specs.PacketGrammar.{packet_words, of_one_family, packet, packet_decided}
-use Rattle.pf_rule.specs.RuleGrammar.{interface, protocol, destination, hosts, rule_words, host_family, agreed, one_family, agreeing, rule, rule_decided}
+use Rattle.pf_rule.specs.PacketGrammar.{packet_words, packet, packet_decided}
+use Rattle.pf_rule.specs.RuleGrammar.{interface, protocol, destination, hosts, rule_words, host_family, agreed, agreeing, rule, rule_decided}
 use Rattle.pf_rule.proofs.Nets.{IsV4, net_v4, addr_is}
 
 -- ---- one word

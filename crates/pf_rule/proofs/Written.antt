@@ -1,5 +1,5 @@
 -- Texts of a form, put together: words that spell a value, each of which is a word of a line.
-use Rattle.std.proofs.Common.{◌≡◌, ℕ, Bool, true, false, List, [], ◌∷◌, ◌++◌, length, Ok, ◌⊎◌, inl, inr, refl}
+use Rattle.std.proofs.Common.{◌≡◌, ℕ, Bool, true, List, [], ◌∷◌, ◌++◌, length, Ok, inl, inr, refl}
 use Rattle.std.specs.Prelude.{not, nat_lt, ◌&&◌}
 use Rattle.std.specs.List.{list_all, slice_index_or}
 use Rattle.std.proofs.lemmas.Bool.{and_parts, not-true}

@@ -14,7 +14,8 @@ use crate::interface::Interface;
 use crate::packet::Packet;
 use crate::protocol::Protocol;
 use crate::rule_words::{
-    read_direction, read_family, read_hosts, read_interface, read_opening, read_protocol, read_state,
+    read_direction, read_family, read_hosts, read_interface, read_opening, read_protocol,
+    read_state,
 };
 use pf_addr::{Addr, Family, Net};
 use pf_form::{Stop, Words, end, takes, words};
