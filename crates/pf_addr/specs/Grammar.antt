@@ -1,7 +1,7 @@
 -- Which texts spell an address or a network: V4 in decimal numbers between dots, a network in CIDR notation.
 use Rattle.std.specs.Prelude.{◌≡◌, ℕ, ◌-◌, ◌≤◌, ◌⊎◌, List, [], ◌∷◌, ◌++◌, length, take, replicate}
-use Rattle.std.specs.Str.Parse.{IsNumeral, digits_value}
 use Rattle.std.specs.Int.{from_be_bytes, w32}
+use Rattle.pf_form.specs.Numbers as digits
 use Rattle.pf_addr.specs.declared.addr.Addr.{Addr}
 use Rattle.pf_addr.specs.declared.addr.Addr.TheVariants as addr
 use Rattle.pf_addr.specs.declared.addr.Family.TheVariants.{V4}
@@ -10,9 +10,7 @@ use Rattle.pf_addr.specs.Address.{Network, family_of, bits_of}
 
 -- a number of at most `most` in one to three decimal digits, of which the first may be zeros
 pub record IsNumber (most : ℕ) (text : List ℕ) (n : ℕ) : Type 0 where
-  pub digits : IsNumeral 10 text
-  pub few : length text ≤ 3
-  pub value : digits_value 10 text ≡ n
+  pub number : digits.IsNumber 3 text n
   pub small : n ≤ most
 
 -- one or more numbers of a byte, with dots between them

@@ -3,7 +3,6 @@ pub mod BitLaws
 pub mod Address
 pub mod Nets
 pub mod Grammar
-pub mod Numbers
 pub mod Reading
 pub mod Spelling
 pub mod SpellingLaws

@@ -5,7 +5,6 @@ mod addr;
 mod fault;
 mod laws;
 mod net;
-mod number;
 mod reading;
 mod write;
 
@@ -17,7 +16,6 @@ pub use laws::{
     written_net_is_read_again,
 };
 pub use net::Net;
-pub use number::read_number;
 pub use write::{write_addr, write_net, write_number, write_text};
 
 #[cfg(test)]

@@ -7,7 +7,7 @@ ghost use Rattle.pf_addr.specs.Spelling.{first_addr};
 
 use crate::addr::{Addr, Family};
 use crate::fault::AddrFault;
-use crate::reading::{first_slash, front_len, read_parts};
+use crate::reading::{first_slash, prefix_len, read_parts};
 use std::marker::Model;
 
 /// A network: the addresses of one family that begin with the same bits. The bits past the front are zero.
@@ -147,7 +147,7 @@ impl Net {
         if parts.count > 4 {
             return Err(AddrFault::BadGroups { at: 0 });
         }
-        let len = front_len(slash + 1, &text[slash + 1..])?;
+        let len = prefix_len(slash + 1, &text[slash + 1..])?;
         Ok(Net::new(Addr::V4(u32::from_be_bytes(parts.bytes)), len))
     }
 }

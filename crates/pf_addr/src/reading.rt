@@ -1,11 +1,11 @@
 //! The numbers between the dots of a text.
 ghost use Rattle.std.specs.Prelude.{◌≡◌, ◌+◌, ◌-◌, ◌*◌, ◌^◌, ◌<◌, ℕ, List, [], ◌∷◌, ◌++◌, length, not, IfSome, OnOk, Ok};
 ghost use Rattle.std.specs.List.{position};
-ghost use Rattle.pf_addr.specs.Numbers.{is_digit};
+ghost use Rattle.pf_form.specs.Numbers.{is_digit};
 ghost use Rattle.pf_addr.specs.Reading.{is_dot, is_slash, part_at, valued_at, length_at, numbers_at, parts_of, kept_parts};
 
 use crate::fault::AddrFault;
-use crate::number::{digit, value_of};
+use pf_form::read_number;
 
 /// The numbers between the dots of a text.
 #[derive(Clone, Copy)]
@@ -76,7 +76,7 @@ fn read_part(at: usize, text: &[u8]) -> Result<u8, AddrFault>
     }
     match first_other(text) {
         Some(i) => Err(AddrFault::BadDigit { at: at + i }),
-        None => byte_of(at, text),
+        None => byte_of(at, read_number(text, 3)),
     }
 }
 
@@ -88,27 +88,28 @@ fn first_other(text: &[u8]) -> Option<usize>
     text.iter().position(|b| !digit(*b))
 }
 
-/// The value of a text of digits, which begins at this byte.
-fn byte_of(at: usize, text: &[u8]) -> Result<u8, AddrFault>
-    ensures { result ≡ valued_at at text.now }
+/// The byte that a number writes, which begins at this place.
+fn byte_of(at: usize, number: Option<u64>) -> Result<u8, AddrFault>
+    ensures { result ≡ valued_at at number }
 {
-    if text.len() > 3 {
-        return Err(AddrFault::TooBig { at });
+    match number {
+        Some(number) if number <= 255 => Ok(number as u8),
+        _ => Err(AddrFault::TooBig { at }),
     }
-    let value = value_of(text);
-    if value > 255 {
-        return Err(AddrFault::TooBig { at });
-    }
-    Ok(value as u8)
 }
 
-/// The length of a network's front, which begins at this byte.
-pub(crate) fn front_len(at: usize, text: &[u8]) -> Result<u8, AddrFault>
-    requires { at + length text.now < 2 ^ 64 }
+fn digit(b: u8) -> bool
+    ensures { result ≡ is_digit b }
+{
+    b.is_ascii_digit()
+}
+
+/// The prefix length behind a network's slash, which begins at this byte.
+pub(crate) fn prefix_len(at: usize, text: &[u8]) -> Result<u8, AddrFault>
     ensures { result ≡ length_at at text.now }
 {
-    match read_part(at, text) {
-        Ok(len) if len <= 32 => Ok(len),
+    match read_number(text, 3) {
+        Some(len) if len <= 32 => Ok(len as u8),
         _ => Err(AddrFault::BadLength { at }),
     }
 }

@@ -10,7 +10,7 @@ use Rattle.pf_rule.specs.declared.rule.Direction.{Direction}
 use Rattle.pf_rule.specs.declared.rule.Direction.TheVariants.{In, Out}
 use Rattle.pf_rule.specs.declared.rule.Host.{Host}
 use Rattle.pf_rule.specs.declared.rule.Host.TheVariants.{Any, Net}
-use Rattle.pf_rule.specs.Words.{Word}
+use Rattle.pf_form.specs.Words.{Word}
 use Rattle.pf_rule.specs.Rules.{PlainRule}
 
 abbrev pub action_word : Action → Word

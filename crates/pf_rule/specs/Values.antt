@@ -11,7 +11,7 @@ use Rattle.pf_addr.specs.declared.addr.Addr.{Addr}
 use Rattle.pf_addr.specs.declared.addr.Addr.TheVariants as addr
 use Rattle.pf_addr.specs.declared.fault.AddrFault.{AddrFault}
 use Rattle.pf_addr.specs.Address.{Network}
-use Rattle.pf_addr.specs.Numbers.{number_of}
+use Rattle.pf_form.specs.Numbers.{number_of}
 use Rattle.pf_addr.specs.Reading.{numbers_at, parts_at, part_at, net_at, addr_at}
 use Rattle.pf_rule.specs.declared.rule.Host.{Host}
 use Rattle.pf_rule.specs.declared.rule.Host.TheVariants.{Any, Net}
@@ -72,12 +72,12 @@ address_in (Err e) = Err BadWord
 abbrev pub address_of : Word → Result Addr Kind
 address_of w = address_in (addr_at w)
 
-no_address : address_of (codes "0.0.0.0") ≡ Ok (addr.V4 0)
+pub address_taken : address_of (codes "0.0.0.0") ≡ Ok (addr.V4 0)
 unfolding numbers_at parts_at part_at
-no_address = refl
+address_taken = refl
 
 abbrev pub an_address : Form Addr
-an_address = word (record { of = address_of; sample = codes "0.0.0.0"; value = addr.V4 0; takes = no_address })
+an_address = word (record { of = address_of; sample = codes "0.0.0.0"; value = addr.V4 0; takes = address_taken })
 
 -- ---- a port, which is 0 unless the protocol has ports
 
@@ -92,9 +92,9 @@ port_numbered ports None = Err BadWord
 abbrev pub port_of : Bool → Word → Result ℕ Kind
 port_of ports w = port_numbered ports (number_of 5 w)
 
-port_zero : (ports : Bool) → port_of ports (codes "0") ≡ Ok 0
-port_zero true = refl
-port_zero false = refl
+pub port_taken : (ports : Bool) → port_of ports (codes "0") ≡ Ok 0
+port_taken true = refl
+port_taken false = refl
 
 abbrev pub a_port : Bool → Form ℕ
-a_port ports = word (record { of = port_of ports; sample = codes "0"; value = 0; takes = port_zero ports })
+a_port ports = word (record { of = port_of ports; sample = codes "0"; value = 0; takes = port_taken ports })

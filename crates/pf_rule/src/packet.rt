@@ -74,7 +74,7 @@ impl Packet {
         }))
     }
 
-    fn read_all(words: &[&[u8]]) -> Result<Option<Packet>, Stop>
+    fn read_all<'a>(words: Words<'a>) -> Result<Option<Packet>, Stop>
         ensures { ReadsWhole (λ x. x) packet result words.now }
     {
         let mut rest = words;

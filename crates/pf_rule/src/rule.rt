@@ -14,7 +14,8 @@ use crate::interface::Interface;
 use crate::packet::Packet;
 use crate::protocol::Protocol;
 use crate::rule_words::{
-    read_direction, read_family, read_hosts, read_interface, read_opening, read_protocol, read_state,
+    read_direction, read_family, read_hosts, read_interface, read_opening, read_protocol,
+    read_state,
 };
 use pf_addr::{Addr, Family, Net};
 use pf_form::{Stop, Words, end, takes, words};
@@ -122,24 +123,25 @@ impl Rule {
         let interface = read_interface(words)?;
         let written = read_family(words);
         let protocol = read_protocol(words)?;
-        let (source, destination) = read_hosts(words)?;
+        let hosts = read_hosts(words)?;
         let keeps_state = read_state(passes, words)?;
-        match one_family(written, source, destination) {
-            Some(family) => Ok(Some(Rule {
-                action: action_of(passes, keeps_state),
-                direction,
-                quick,
-                interface,
-                family,
-                protocol,
-                source,
-                destination,
-            })),
-            None => Ok(None),
-        }
+        let family = match one_family(written, hosts.0, hosts.1) {
+            Some(family) => family,
+            None => return Ok(None),
+        };
+        Ok(Some(Rule {
+            action: action_of(passes, keeps_state),
+            direction,
+            quick,
+            interface,
+            family,
+            protocol,
+            source: hosts.0,
+            destination: hosts.1,
+        }))
     }
 
-    fn read_all(words: &[&[u8]]) -> Result<Option<Rule>, Stop>
+    fn read_all<'a>(words: Words<'a>) -> Result<Option<Rule>, Stop>
         ensures { ReadsWhole (λ x. x) rule result words.now }
     {
         let mut rest = words;

@@ -1,15 +1,15 @@
 //! Words that stand for values.
 ghost use Rattle.std.specs.Prelude.{◌≡◌};
 ghost use Rattle.std.specs.List.{list_all};
-ghost use Rattle.pf_addr.specs.Numbers.{number_of};
+ghost use Rattle.pf_form.specs.Numbers.{number_of};
 ghost use Rattle.pf_rule.specs.Names.{is_name_byte};
 ghost use Rattle.pf_rule.specs.Values.{is_name, interface_of, protocol_of, protocol_numbered, port_of, host_of, address_of};
 
 use crate::interface::Interface;
 use crate::protocol::Protocol;
 use crate::rule::Host;
-use pf_addr::{Addr, Net, read_number};
-use pf_form::Kind;
+use pf_addr::{Addr, Net};
+use pf_form::{Kind, read_number};
 
 fn fits_name(b: u8) -> bool
     ensures { result ≡ is_name_byte b }
