@@ -1,7 +1,7 @@
 -- What a ticket is written as spells it, and so is read again.
 use Rattle.std.proofs.Common.{◌≡◌, ℕ, ◌^◌, ◌<◌, Some, decimal, refl, arith}
 use Rattle.std.proofs.lemmas.Fmt.{decimal_is_IsNumeral, length-decimal-le}
-use Rattle.pf_core.specs.declared.command.Ticket.{Ticket}
+use Rattle.pf_ticket.specs.declared.ticket.Ticket.{Ticket}
 use Rattle.pf_line.specs.Tickets.{ticket_of, ticket_text}
 use Rattle.pf_line.specs.TicketGrammar.{IsPart, SpellsTicket}
 use Rattle.pf_line.proofs.SpelledTickets.{spelled_is_read}

@@ -13,14 +13,14 @@ use Rattle.pf_core.specs.declared.command.Command.{Command}
 use Rattle.pf_core.specs.declared.command.Command.TheVariants.{Transact, Ask}
 use Rattle.pf_core.specs.declared.command.Transaction.TheVariants.{Begin, Add, Commit, Rollback}
 use Rattle.pf_core.specs.declared.command.Question.TheVariants.{Judge, ShowRules}
-use Rattle.pf_core.specs.declared.command.Entry.{Entry}
-use Rattle.pf_core.specs.declared.command.RulesetKind.{RulesetKind}
-use Rattle.pf_core.specs.declared.command.RulesetKind.TheVariants.{Filter}
-use Rattle.pf_core.specs.declared.command.RulesetName.{RulesetName}
-use Rattle.pf_core.specs.declared.command.Ticket.{Ticket}
-use Rattle.pf_core.specs.Calls.{ticket}
-use Rattle.pf_core.specs.Paths.{path_of}
-use Rattle.pf_core.specs.Rulesets.{main}
+use Rattle.pf_ticket.specs.declared.entry.Entry.{Entry}
+use Rattle.pf_ticket.specs.declared.name.RulesetKind.{RulesetKind}
+use Rattle.pf_ticket.specs.declared.name.RulesetKind.TheVariants.{Filter}
+use Rattle.pf_ticket.specs.declared.name.RulesetName.{RulesetName}
+use Rattle.pf_ticket.specs.declared.ticket.Ticket.{Ticket}
+use Rattle.pf_ticket.specs.Names.{ticket}
+use Rattle.pf_anchor.specs.Paths.{path_of}
+use Rattle.pf_anchor.specs.Rulesets.{main}
 use Rattle.pf_line.specs.Tickets.{ticket_of}
 
 -- ---- words that stand for values

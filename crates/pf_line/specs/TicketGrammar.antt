@@ -2,7 +2,7 @@
 use Rattle.std.specs.Prelude.{◌≡◌, ℕ, ◌<◌, ◌^◌, List, ◌∷◌, ◌++◌}
 use Rattle.pf_form.specs.Words.{Word}
 use Rattle.pf_form.specs.Numbers.{IsNumber}
-use Rattle.pf_core.specs.declared.command.Ticket.{Ticket}
+use Rattle.pf_ticket.specs.declared.ticket.Ticket.{Ticket}
 use Rattle.pf_line.specs.declared.ticket.TheConstants.{DIGIT_LIMIT}
 
 -- a number of 32 bits in 1 to 10 decimal digits, of which the first may be zeros

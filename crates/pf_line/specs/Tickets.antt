@@ -3,8 +3,8 @@ use Rattle.std.specs.Prelude.{ℕ, ◌+◌, ◌^◌, ◌==◌, nat_lt, Bool, Lis
 use Rattle.std.specs.List.{position}
 use Rattle.pf_form.specs.Words.{Word}
 use Rattle.pf_form.specs.Numbers.{number_of}
-use Rattle.pf_core.specs.declared.command.Ticket.{Ticket}
-use Rattle.pf_core.specs.Calls.{ticket}
+use Rattle.pf_ticket.specs.declared.ticket.Ticket.{Ticket}
+use Rattle.pf_ticket.specs.Names.{ticket}
 use Rattle.pf_line.specs.declared.ticket.TheConstants.{DIGIT_LIMIT}
 
 -- a number of 32 bits

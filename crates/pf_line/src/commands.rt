@@ -5,12 +5,11 @@ ghost use Rattle.pf_form.specs.Readers.{Moves, ReadsWhole, ReadsAll};
 ghost use Rattle.pf_line.specs.Grammar.{kind, path, ticket_text, name, entry, begun, added, committed, rolled_back, judged, shown, question, line};
 
 use crate::ticket::read_ticket;
-use pf_core::{
-    Command, Entries, Entry, Path, Question, RulesetKind, RulesetName, RulesetNames, Ticket,
-    Transaction,
-};
+use pf_anchor::Path;
+use pf_core::{Command, Question, Transaction};
 use pf_form::{Stop, Unread, Words, bad_word, each, end, expect, stop, takes};
 use pf_rule::{Packet, Rule};
+use pf_ticket::{Entries, Entry, RulesetKind, RulesetName, RulesetNames, Ticket};
 use std::alloc::Global;
 
 fn read_kind<'a>(words: &mut Words<'a>) -> Result<RulesetKind, Stop>
