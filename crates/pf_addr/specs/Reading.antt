@@ -9,7 +9,9 @@ use Rattle.pf_addr.specs.declared.addr.Addr.{Addr}
 use Rattle.pf_addr.specs.declared.addr.Addr.TheVariants as addr
 use Rattle.pf_addr.specs.declared.fault.AddrFault.{AddrFault}
 use Rattle.pf_addr.specs.declared.fault.AddrFault.TheVariants.{Empty, BadDigit, TooBig, BadLength, BadGroups}
+use Rattle.pf_addr.specs.declared.addr.TheConstants.{V4_BITS}
 use Rattle.pf_addr.specs.declared.reading.Parts.{Parts}
+use Rattle.pf_addr.specs.declared.reading.TheConstants.{NUMBER_DIGITS}
 use Rattle.pf_addr.specs.Address.{Network}
 use Rattle.pf_addr.specs.Grammar.{network_of, v4_network}
 
@@ -33,7 +35,7 @@ valued_at at None = Err (TooBig at)
 -- with the place of its first byte that is no digit
 abbrev pub judged_at : ℕ → List ℕ → Option ℕ → Result ℕ AddrFault
 judged_at at text (Some i) = Err (BadDigit (at + i))
-judged_at at text None = valued_at at (number_of 3 text)
+judged_at at text None = valued_at at (number_of NUMBER_DIGITS text)
 
 unfoldable pub part_at : ℕ → List ℕ → Result ℕ AddrFault
 part_at at text = if length text == 0 then Err (BadDigit at) else judged_at at text (position (λ b. not (is_digit b)) text)
@@ -70,11 +72,11 @@ at_most_four parts = if nat_le (length parts) 4 then Ok parts else Err (BadGroup
 
 -- A length has one fault, whatever is wrong with it.
 abbrev pub length_of : ℕ → Option ℕ → Result ℕ AddrFault
-length_of at (Some n) = if nat_le n 32 then Ok n else Err (BadLength at)
+length_of at (Some n) = if nat_le n V4_BITS then Ok n else Err (BadLength at)
 length_of at None = Err (BadLength at)
 
 abbrev pub length_at : ℕ → List ℕ → Result ℕ AddrFault
-length_at at text = length_of at (number_of 3 text)
+length_at at text = length_of at (number_of NUMBER_DIGITS text)
 
 -- with the place of its first slash
 abbrev pub cut_at : List ℕ → Option ℕ → Result Network AddrFault

@@ -4,8 +4,12 @@ ghost use Rattle.std.specs.List.{position};
 ghost use Rattle.pf_form.specs.Numbers.{is_digit};
 ghost use Rattle.pf_addr.specs.Reading.{is_dot, is_slash, part_at, valued_at, length_at, numbers_at, parts_of, kept_parts};
 
+use crate::addr::V4_BITS;
 use crate::fault::AddrFault;
 use pf_form::read_number;
+
+/// How many digits a part or a prefix length may have, leading zeros among them.
+pub(crate) const NUMBER_DIGITS: usize = 3;
 
 /// The numbers between the dots of a text.
 #[derive(Clone, Copy)]
@@ -76,7 +80,7 @@ fn read_part(at: usize, text: &[u8]) -> Result<u8, AddrFault>
     }
     match first_other(text) {
         Some(i) => Err(AddrFault::BadDigit { at: at + i }),
-        None => byte_of(at, read_number(text, 3)),
+        None => byte_of(at, read_number(text, NUMBER_DIGITS)),
     }
 }
 
@@ -105,11 +109,11 @@ fn digit(b: u8) -> bool
 }
 
 /// The prefix length behind a network's slash, which begins at this byte.
-pub(crate) fn prefix_len(at: usize, text: &[u8]) -> Result<u8, AddrFault>
+pub(crate) fn read_prefix_len(at: usize, text: &[u8]) -> Result<u8, AddrFault>
     ensures { result ≡ length_at at text.now }
 {
-    match read_number(text, 3) {
-        Some(len) if len <= 32 => Ok(len as u8),
+    match read_number(text, NUMBER_DIGITS) {
+        Some(len) if len <= u64::from(V4_BITS) => Ok(len as u8),
         _ => Err(AddrFault::BadLength { at }),
     }
 }

@@ -14,6 +14,7 @@ use Rattle.pf_addr.specs.declared.addr.Family.TheVariants.{V4, V6}
 use Rattle.pf_addr.specs.declared.fault.AddrFault.{AddrFault}
 use Rattle.pf_addr.specs.Address.{Network, IsAddr, family_of, same_family}
 use Rattle.pf_form.specs.Numbers.{number_of}
+use Rattle.pf_addr.specs.SpellingLaws.{IsV4Network}
 use Rattle.pf_addr.specs.Reading.{net_at, addr_at}
 use Rattle.pf_rule.specs.declared.rule.Host.{Host}
 use Rattle.pf_rule.specs.declared.rule.Host.TheVariants.{Any, Net}
@@ -23,7 +24,7 @@ use Rattle.pf_rule.specs.Packets.{PlainPacket, IsPacket, has_ports}
 use Rattle.pf_rule.specs.Rules.{PlainRule, IsRule, HostFits}
 use Rattle.pf_rule.specs.PacketGrammar.{packet_words, packet, packet_decided}
 use Rattle.pf_rule.specs.RuleGrammar.{interface, protocol, destination, hosts, rule_words, host_family, agreed, agreeing, rule, rule_decided}
-use Rattle.pf_rule.proofs.Nets.{IsV4, net_v4, addr_is}
+use Rattle.pf_rule.proofs.Nets.{addr_is, net_is}
 
 -- ---- one word
 
@@ -73,12 +74,12 @@ protocol_kept w n e = by (number_named protocol_names w) refl e where
 
 abbrev HostIs : Host → Type 0
 HostIs Any = Unit {0}
-HostIs (Net n) = IsV4 n
+HostIs (Net n) = IsV4Network n
 
 host_kept : (w : Word) (h : Host) → host_of w ≡ Ok h → HostIs h
 host_kept w h e = by (bytes_eq w (codes "any")) e where
   in_net : (r : Result Network AddrFault) → net_at w ≡ r → host_in r ≡ Ok h → HostIs h
-  in_net (Ok n) is e = let same : Net n ≡ h = cc (e) in subst HostIs same (net_v4 w n is)
+  in_net (Ok n) is e = let same : Net n ≡ h = cc (e) in subst HostIs same (net_is w n is)
   in_net (Err f) is e = absurd cc
 
   by : (t : Bool) → cond t (Ok Any) (host_in (net_at w)) ≡ Ok h → HostIs h
@@ -172,11 +173,11 @@ source_fits : (h : Host) (o f g d : Option Family) → HostIs h → agreed o (ho
 source_fits Any o f g d is e e' = tt
 source_fits (Net n) o f g d is e e' =
     let known : f ≡ Some n.family = agreed_right o n.family f e in
-    (agreed_left n.family d g (subst (λ (p : Option Family). agreed p d ≡ Some g) known e'), is.0, rw is.0 is.1)
+    (agreed_left n.family d g (subst (λ (p : Option Family). agreed p d ≡ Some g) known e'), is.family, rw is.family is.within)
 
 destination_fits : (h : Host) (f g : Option Family) → HostIs h → agreed f (host_family h) ≡ Some g → HostFits g h
 destination_fits Any f g is e = tt
-destination_fits (Net n) f g is e = (agreed_right f n.family g e, is.0, rw is.0 is.1)
+destination_fits (Net n) f g is e = (agreed_right f n.family g e, is.family, rw is.family is.within)
 
 agreeing_kept : (x r : PlainRule) → WordsAre x → Some r ≡ agreeing x → IsRule r
 agreeing_kept x r is e = first (agreed x.family (host_family x.source)) refl e where

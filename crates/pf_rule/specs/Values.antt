@@ -13,9 +13,12 @@ use Rattle.pf_addr.specs.declared.fault.AddrFault.{AddrFault}
 use Rattle.pf_addr.specs.Address.{Network}
 use Rattle.pf_form.specs.Numbers.{number_of}
 use Rattle.pf_addr.specs.Reading.{numbers_at, parts_at, part_at, net_at, addr_at}
+use Rattle.pf_rule.specs.declared.interface.TheConstants.{INTERFACE_LIMIT}
+use Rattle.pf_rule.specs.declared.protocol.TheConstants.Protocol as protocols
+use Rattle.pf_rule.specs.declared.values.TheConstants.{PROTOCOL_DIGITS, PORT_DIGITS}
 use Rattle.pf_rule.specs.declared.rule.Host.{Host}
 use Rattle.pf_rule.specs.declared.rule.Host.TheVariants.{Any, Net}
-use Rattle.pf_rule.specs.Names.{is_name_byte, interface_limit}
+use Rattle.pf_rule.specs.Names.{is_name_byte}
 
 -- ---- an interface's name; its length is tested first
 
@@ -23,15 +26,15 @@ abbrev pub is_name : Word → Bool
 is_name w = nat_lt 0 (length w) && list_all is_name_byte w
 
 abbrev pub interface_of : Word → Result (List ℕ) Kind
-interface_of w = if nat_lt interface_limit (length w) then Err NameTooLong else (if is_name w then Ok w else Err BadWord)
+interface_of w = if nat_lt INTERFACE_LIMIT (length w) then Err NameTooLong else (if is_name w then Ok w else Err BadWord)
 
 abbrev pub an_interface : Form (List ℕ)
 an_interface = word (record { of = interface_of; sample = codes "a"; value = codes "a"; takes = refl })
 
--- ---- a protocol: its name, or its number of 1 to 3 digits (IANA's protocol numbers)
+-- ---- a protocol: its name, or its number (IANA's protocol numbers)
 
 abbrev pub protocol_names : List (Word × ℕ)
-protocol_names = (codes "tcp", 6) ∷ (codes "udp", 17) ∷ (codes "icmp", 1) ∷ (codes "icmp6", 58) ∷ (codes "ipv6-icmp", 58) ∷ []
+protocol_names = (codes "tcp", protocols.TCP) ∷ (codes "udp", protocols.UDP) ∷ (codes "icmp", protocols.ICMP) ∷ (codes "icmp6", protocols.ICMP6) ∷ (codes "ipv6-icmp", protocols.ICMP6) ∷ []
 
 abbrev pub number_named : List (Word × ℕ) → Word → Option ℕ
 number_named [] w = None
@@ -46,10 +49,10 @@ named_or (Some n) other = Ok n
 named_or None other = other
 
 abbrev pub protocol_of : Word → Result ℕ Kind
-protocol_of w = named_or (number_named protocol_names w) (protocol_numbered (number_of 3 w))
+protocol_of w = named_or (number_named protocol_names w) (protocol_numbered (number_of PROTOCOL_DIGITS w))
 
 abbrev pub a_protocol : Form ℕ
-a_protocol = word (record { of = protocol_of; sample = codes "tcp"; value = 6; takes = refl })
+a_protocol = word (record { of = protocol_of; sample = codes "tcp"; value = protocols.TCP; takes = refl })
 
 -- ---- a host: "any" or a network
 
@@ -90,7 +93,7 @@ port_numbered ports (Some n) = if nat_lt n (port_limit ports) then Ok n else Err
 port_numbered ports None = Err BadWord
 
 abbrev pub port_of : Bool → Word → Result ℕ Kind
-port_of ports w = port_numbered ports (number_of 5 w)
+port_of ports w = port_numbered ports (number_of PORT_DIGITS w)
 
 pub port_taken : (ports : Bool) → port_of ports (codes "0") ≡ Ok 0
 port_taken true = refl

@@ -5,7 +5,6 @@ mod fault;
 mod interface;
 mod laws;
 mod packet;
-mod packet_words;
 mod protocol;
 mod rule;
 mod rule_text;
@@ -14,7 +13,7 @@ mod value_words;
 mod values;
 
 pub use fault::TextFault;
-pub use interface::Interface;
+pub use interface::{INTERFACE_LIMIT, Interface};
 pub use laws::{
     a_refusal_is_one, different_rules_have_different_texts, what_is_spelled_is_kept,
     what_is_written_is_read_again,

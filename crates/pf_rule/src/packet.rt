@@ -3,18 +3,17 @@ ghost use Rattle.std.specs.Prelude.{◌≡◌, IfOk, IfErr, Ok, Some};
 ghost use Rattle.pf_form.specs.Forms.{Spells};
 ghost use Rattle.pf_form.specs.Readers.{Moves, ReadsWhole};
 ghost use Rattle.pf_form.specs.Words.{words_of};
-ghost use Rattle.pf_rule.specs.PacketGrammar.{packet};
+ghost use Rattle.pf_rule.specs.PacketGrammar.{packet, way};
 ghost use Rattle.pf_rule.specs.Refusals.{Answers, Refused, reading};
 ghost use Rattle.pf_rule.specs.Packets.{PlainPacket, IsPacket};
 
 use crate::fault::{TextFault, tell};
 use crate::interface::Interface;
-use crate::packet_words::read_way;
 use crate::protocol::Protocol;
 use crate::rule::{Direction, same_family};
 use crate::value_words::{address_word, interface_word, port_word, protocol_word};
 use pf_addr::Addr;
-use pf_form::{Stop, Words, end, words};
+use pf_form::{Stop, Words, end, expect, takes, words};
 use std::alloc::Global;
 use std::marker::Model;
 
@@ -156,4 +155,16 @@ impl Packet {
     {
         self.destination_port
     }
+}
+
+/// The direction, which each packet has.
+#[tactic(auto, unfolding(crate::specs::PacketGrammar::way))]
+fn read_way<'a>(words: &mut Words<'a>) -> Result<Direction, Stop>
+    ensures { Moves way result words.old.now words.new.now }
+{
+    if takes(words, b"in") {
+        return Ok(Direction::In);
+    }
+    expect(words, b"out")?;
+    Ok(Direction::Out)
 }

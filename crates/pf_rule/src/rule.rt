@@ -125,9 +125,8 @@ impl Rule {
         let protocol = read_protocol(words)?;
         let hosts = read_hosts(words)?;
         let keeps_state = read_state(passes, words)?;
-        let family = match one_family(written, hosts.0, hosts.1) {
-            Some(family) => family,
-            None => return Ok(None),
+        let Some(family) = one_family(written, hosts.0, hosts.1) else {
+            return Ok(None);
         };
         Ok(Some(Rule {
             action: action_of(passes, keeps_state),

@@ -5,11 +5,16 @@ ghost use Rattle.pf_form.specs.Numbers.{number_of};
 ghost use Rattle.pf_rule.specs.Names.{is_name_byte};
 ghost use Rattle.pf_rule.specs.Values.{is_name, interface_of, protocol_of, protocol_numbered, port_of, host_of, address_of};
 
-use crate::interface::Interface;
+use crate::interface::{INTERFACE_LIMIT, Interface};
 use crate::protocol::Protocol;
 use crate::rule::Host;
 use pf_addr::{Addr, Net};
 use pf_form::{Kind, read_number};
+
+/// How many digits a protocol's number may have, leading zeros among them.
+pub(crate) const PROTOCOL_DIGITS: usize = 3;
+/// The same of a port.
+pub(crate) const PORT_DIGITS: usize = 5;
 
 fn fits_name(b: u8) -> bool
     ensures { result ≡ is_name_byte b }
@@ -34,7 +39,7 @@ fn is_name(word: &[u8]) -> bool
 pub(crate) fn interface_of(word: &[u8]) -> Result<Interface, Kind>
     ensures { result ≡ interface_of word.now }
 {
-    if word.len() > 15 {
+    if word.len() > INTERFACE_LIMIT {
         return Err(Kind::NameTooLong);
     }
     if is_name(word) {
@@ -53,7 +58,7 @@ fn protocol_numbered(number: Option<u64>) -> Result<Protocol, Kind>
     }
 }
 
-/// A protocol by its name or its number of 1 to 3 digits.
+/// A protocol by its name or its number.
 pub(crate) fn protocol_of(word: &[u8]) -> Result<Protocol, Kind>
     ensures { result ≡ protocol_of word.now }
 {
@@ -66,16 +71,16 @@ pub(crate) fn protocol_of(word: &[u8]) -> Result<Protocol, Kind>
     } else if word == b"icmp6".as_slice() || word == b"ipv6-icmp".as_slice() {
         Ok(Protocol::new(Protocol::ICMP6))
     } else {
-        protocol_numbered(read_number(word, 3))
+        protocol_numbered(read_number(word, PROTOCOL_DIGITS))
     }
 }
 
-/// A port of 1 to 5 digits, which is 0 where the protocol has no ports.
+/// A port, which is 0 where the protocol has no ports.
 pub(crate) fn port_of(ports: bool, word: &[u8]) -> Result<u16, Kind>
     ensures { result ≡ port_of ports word.now }
 {
     let end = if ports { 65536 } else { 1 };
-    match read_number(word, 5) {
+    match read_number(word, PORT_DIGITS) {
         Some(number) if number < end => Ok(number as u16),
         _ => Err(Kind::BadWord),
     }
