@@ -43,6 +43,13 @@ impl RuleList {
         })
     }
 
+    /// The same rules, with one owner more. `AllocError`: they can't have another.
+    pub fn shared(&self) -> Result<RuleList, AllocError>
+        ensures { IfOk result (λ l. l ≡ self.now) }
+    {
+        RuleList::of(&self.rules)
+    }
+
     /// The rules in order.
     pub fn as_slice(&self) -> &[Rule]
         ensures { result.now ≡ self.now }
