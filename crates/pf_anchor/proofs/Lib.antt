@@ -3,3 +3,4 @@ pub mod PathsRead
 pub mod Maps
 pub mod RulesetMaps
 pub mod Pages
+pub mod Evaluations

@@ -5,4 +5,5 @@ pub mod Laws
 pub mod Paths
 pub mod PathGrammar
 pub mod PathLaws
-pub mod Deciding
+pub mod Evaluation
+pub mod EvaluationLaws

@@ -2,12 +2,15 @@
 ghost use Rattle.std.specs.Prelude.{◌≡◌, ◌≤◌, ◌<◌, T, [], ◌∷◌, ◌++◌, length, take, drop, IfOk, OnOk, IfSome, IfNone, fold};
 ghost use Rattle.std.specs.FinMap.{is_sorted};
 ghost use Rattle.pf_anchor.specs.Rulesets.{Ruled, path_order, rules_at, with_rules, joined, IsMap};
+ghost use Rattle.pf_anchor.specs.Evaluation.{judged};
 ghost use Rattle.pf_anchor.specs.Pages.{starts_behind, page_before, IsPlace};
 
 use crate::page::{PAGE_LIMIT, Page, replaced};
 use crate::path::Path;
 use crate::placed::Placed;
 use crate::rule_list::RuleList;
+use crate::verdict::RuleVerdict;
+use pf_rule::Packet;
 use std::alloc::{AllocError, Global};
 use std::cmp::Ordering;
 use std::marker::Model;
@@ -190,5 +193,22 @@ impl Config {
             None => RuleList::none(alloc),
         }
     }
-}
 
+    /// What the rules say of a packet: the main ruleset's rule that decides, or the default pass. It takes no memory.
+    pub fn judge(&self, packet: &Packet) -> RuleVerdict
+        ensures { result ≡ judged self.now packet.now }
+    {
+        let main = Path::main();
+        let Some(placed) = self.placed_at(&main) else {
+            return RuleVerdict::Default;
+        };
+        match placed.rules().ruleset().evaluate(packet).last() {
+            Some(decision) => RuleVerdict::Rule {
+                path: main,
+                number: decision.number,
+                action: decision.action,
+            },
+            None => RuleVerdict::Default,
+        }
+    }
+}

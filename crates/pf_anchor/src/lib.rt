@@ -2,6 +2,7 @@
 #![tactic(auto)]
 
 mod config;
+mod evaluated;
 pub mod laws;
 mod limits;
 mod page;
@@ -13,6 +14,7 @@ mod ruleset;
 mod verdict;
 
 pub use config::Config;
+pub use evaluated::Evaluated;
 pub use limits::{COMPONENT_LIMIT, DEPTH_LIMIT, PATH_LIMIT, RULE_LIMIT, RULESET_LIMIT};
 pub use path::Path;
 pub use placed::Placed;

@@ -50,6 +50,13 @@ impl RuleList {
         RuleList::of(&self.rules)
     }
 
+    /// The ruleset that has them.
+    pub fn ruleset(&self) -> &Ruleset
+        ensures { result.now ≡ self.now }
+    {
+        &self.rules
+    }
+
     /// The rules in order.
     pub fn as_slice(&self) -> &[Rule]
         ensures { result.now ≡ self.now }
