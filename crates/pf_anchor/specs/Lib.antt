@@ -3,3 +3,4 @@ pub mod Paths
 pub mod PathGrammar
 pub mod PathLaws
 pub mod Deciding
+pub mod Shared
