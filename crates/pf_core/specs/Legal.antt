@@ -118,14 +118,14 @@ transact_step f d (Commit entries) = commit_step f d entries
 transact_step f d (Rollback entries) = rollback_step entries
 
 -- what a question is answered, of what is kept
-abbrev pub answer_to : Kept → Question → Answer
-answer_to d (Judge packet) = answer.Judged (verdict d packet)
-answer_to d (ShowRules p) = answer.Rules (rules_at p d.rulesets)
+abbrev pub answer_of : Kept → Question → Answer
+answer_of d (Judge packet) = answer.Judged (verdict d packet)
+answer_of d (ShowRules p) = answer.Rules (rules_at p d.rulesets)
 
 -- the step of a command, by what the calls say, and what is kept. A question is never refused, and changes nothing
 abbrev pub step_by : Facts → Kept → Command → Result Step Refusal
 step_by f d (Transact t) = transact_step f d t
-step_by f d (Ask q) = Ok (Done (answer_to d q))
+step_by f d (Ask q) = Ok (Done (answer_of d q))
 
 -- ---- memory
 

@@ -11,11 +11,11 @@ ghost use Rattle.pf_core.specs.declared.reply.Outcome.{Outcome};
 ghost use Rattle.pf_core.specs.declared.reply.Reply.TheVariants as reply;
 ghost use Rattle.pf_core.specs.Calls.{Call, call, mentions_of, switches};
 ghost use Rattle.pf_core.specs.Edits.{applied, voided_by, name_of, verdict};
-ghost use Rattle.pf_core.specs.Legal.{items, ruleset_limit, commit_step, rollback_step, transact_step, answer_to, legal_step, IsLegalStep};
+ghost use Rattle.pf_core.specs.Legal.{items, ruleset_limit, commit_step, rollback_step, transact_step, answer_of, legal_step, IsLegalStep};
 ghost use Rattle.pf_core.specs.Offers.{all_out, IsNeverDone};
 ghost use Rattle.pf_core.specs.Tickets.{AgreesWith, rules_under, facts_in};
 ghost use Rattle.pf_core.specs.Rulesets.{with_rules};
-ghost use Rattle.pf_core.specs.Worlds.{ready, StaysUnlessDone, AgreesAfter};
+ghost use Rattle.pf_core.specs.Wholes.{ready, StaysUnlessDone, AgreesAfter};
 
 use crate::change::{Change, Kind};
 use crate::command::{Command, Entry, Question, RulesetName, Transaction};
@@ -41,7 +41,7 @@ pub struct Core {
 
 impl Model for Core {
     ghost use Rattle.std.specs.Arc.{arc_value};
-    ghost use Rattle.pf_core.specs.Worlds.{Whole, whole};
+    ghost use Rattle.pf_core.specs.Wholes.{Whole, whole};
 
     ghost Value = { Whole };
 
@@ -57,7 +57,7 @@ pub struct Next {
 
 impl Model for Next {
     ghost use Rattle.std.specs.Arc.{arc_value};
-    ghost use Rattle.pf_core.specs.Worlds.{Ready, ready};
+    ghost use Rattle.pf_core.specs.Wholes.{Ready, ready};
 
     ghost Value = { Ready };
 
@@ -153,7 +153,7 @@ fn transact(
 
 // What a question is answered. A judge takes no memory.
 fn answer(alloc: Global, durable: &Durable, question: &Question) -> Result<Answer, AllocError>
-    ensures value { IfOk result (λ a. a ≡ answer_to durable.now question.now) }
+    ensures value { IfOk result (λ a. a ≡ answer_of durable.now question.now) }
     ensures judged { (packet : PlainPacket) → question.now ≡ Question.Judge packet → result ≡ Ok (answer.Judged (verdict durable.now packet)) }
 {
     match question {

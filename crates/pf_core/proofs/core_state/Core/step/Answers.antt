@@ -4,7 +4,7 @@ use Rattle.pf_core.specs.Calls.{Call}
 use Rattle.pf_core.specs.Edits.{Kept}
 use Rattle.pf_core.specs.Legal.{transact_step, legal_step}
 use Rattle.pf_core.specs.Tickets.{Open, AgreesWith, facts_in}
-use Rattle.pf_core.specs.Worlds.{Whole}
+use Rattle.pf_core.specs.Wholes.{Whole}
 use Rattle.pf_core.proofs.Told.{told_by_calls}
 use Rattle.pf_core.proofs.core_state.Core.step.Goals as goal
 
