@@ -5,3 +5,4 @@ pub mod Latest
 pub mod Twice
 pub mod Counting
 pub mod Beginning
+pub mod Standing

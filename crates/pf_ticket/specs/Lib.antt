@@ -5,3 +5,4 @@ pub mod Tickets
 pub mod Replies
 pub mod Offers
 pub mod Laws
+pub mod Standing

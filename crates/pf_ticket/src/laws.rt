@@ -1,5 +1,6 @@
 //! What follows from the definitions that contracts cite: functions that do nothing, whose contracts are the laws.
 ghost use Rattle.pf_ticket.specs.Laws.{ValidIsGivenLast, GivenLastIsValid, StartsWithNothing, CountsTheOpen};
+ghost use Rattle.pf_ticket.specs.Standing.{StartsSound, KeepsTheLimits, BeginBrings, AddBrings, OthersOnlyVoid};
 
 /// A ticket is valid for a ruleset exactly where the latest mention that touched the ruleset is a begin's that gave it
 /// this ticket.
@@ -16,4 +17,18 @@ pub fn starts_with_nothing()
 /// How many rulesets a begin is counted to leave with a valid ticket is how many have one after it.
 pub fn counts_the_open()
     ensures { CountsTheOpen }
+{}
+
+/// All limits of tickets hold at first, and after each step that isn't refused.
+pub fn keeps_the_limits()
+    ensures first { StartsSound }
+    ensures on { KeepsTheLimits }
+{}
+
+/// What the steps that aren't refused bring: a begin the next tickets, within the limits, an add a rule with a valid
+/// ticket, and the others neither tickets nor offers.
+pub fn brings_no_more()
+    ensures begin { BeginBrings }
+    ensures add { AddBrings }
+    ensures others { OthersOnlyVoid }
 {}
