@@ -67,10 +67,10 @@ abbrev pub step_in : Held → Command → Result Step Refusal
 step_in h c = legal_step h.base.epoch h.calls (durable_of h) c
 
 -- the reply to a step, where there is room
-abbrev pub answer_to : Held → Result Step Refusal → Reply
-answer_to h (Ok (Done a)) = Answer a
-answer_to h (Ok (Wants e o)) = Applied (length (log_of h) + 1) o
-answer_to h (Err e) = Refused e
+abbrev pub reply_to : Held → Result Step Refusal → Reply
+reply_to h (Ok (Done a)) = Answer a
+reply_to h (Ok (Wants e o)) = Applied (length (log_of h) + 1) o
+reply_to h (Err e) = Refused e
 
 -- the change that it wants
 abbrev pub changes_of : Result Step Refusal → List Edit
@@ -92,7 +92,7 @@ or_refused (Ok u) r = r
 or_refused (Err e) r = Refused e
 
 abbrev pub due_at : Held → Result Step Refusal → Reply
-due_at h step = or_refused (room_for h (changes_of step)) (answer_to h step)
+due_at h step = or_refused (room_for h (changes_of step)) (reply_to h step)
 
 -- changes that are kept together are one group, and no changes are none
 abbrev pub grouped : List Edit → List (List Edit)
