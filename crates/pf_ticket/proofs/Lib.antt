@@ -6,3 +6,5 @@ pub mod Twice
 pub mod Counting
 pub mod Beginning
 pub mod Standing
+pub mod Silence
+pub mod Told

@@ -3,7 +3,8 @@ use Rattle.std.specs.Prelude.{◌≡◌, ℕ, true, false, List, [], ◌∷◌, 
 use Rattle.pf_ticket.specs.declared.name.RulesetName.{RulesetName}
 use Rattle.pf_ticket.specs.declared.ticket.Ticket.{Ticket}
 use Rattle.pf_ticket.specs.Names.{same_name, is_named, tickets_from}
-use Rattle.pf_ticket.specs.Mentions.{Mention, gave, gives, touches, valid_ticket, nothing_for, content, next_count, AreNumbered, AddsAreKnown, open_rulesets, opened_with}
+use Rattle.pf_ticket.specs.Mentions.{Mention, gave, gives, touches, valid_ticket, nothing_for, content, next_count, AreNumbered, AddsAreKnown, open_rulesets, opened_with, facts}
+use Rattle.pf_ticket.specs.Tickets.{Open, Agrees, facts_in}
 
 -- nothing here touches a ruleset whose valid ticket is this one
 abbrev pub AreQuiet : RulesetName → Ticket → List Mention → Type 0
@@ -37,3 +38,7 @@ StartsWithNothing = (epoch : ℕ) (ms : List Mention) (names : List RulesetName)
 -- how many rulesets would have a valid ticket is how many have one after that begin
 abbrev pub CountsTheOpen : Type 0
 CountsTheOpen = (epoch : ℕ) (ms : List Mention) (names : List RulesetName) → opened_with ms names ≡ length (open_rulesets (begun epoch ms names))
+
+-- replies read the same off the open transactions and off the mentions that they agree with
+abbrev pub AgreeingIsTold : Type 0
+AgreeingIsTold = (t : Open) (ms : List Mention) → Agrees t ms → facts_in t ≡ facts t.epoch ms

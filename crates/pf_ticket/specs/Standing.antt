@@ -63,3 +63,21 @@ AddBrings = (epoch : ℕ) (ms : List Mention) (p : List ℕ) (t : Ticket) (r : P
 
 abbrev pub OthersOnlyVoid : Type 0
 OthersOnlyVoid = (names : List RulesetName) (entries : List Entry) → OnlyVoid [] × OnlyVoid (switches names) × OnlyVoid (drops entries)
+
+-- a step says nothing of the rulesets that it doesn't name
+pub record AreSilent (name : RulesetName) : Type 0 where
+  pub begin : (names : List RulesetName) (ts : List Ticket) → is_named names name ≡ false → IsSilent name (gives names ts)
+  pub add : (n : RulesetName) (t : Ticket) (r : PlainRule) → is_named (n ∷ []) name ≡ false → IsSilent name (added n t r ∷ [])
+  pub commit : (names : List RulesetName) → is_named names name ≡ false → IsSilent name (switches names)
+  pub rollback : (entries : List Entry) → is_named (names_of entries) name ≡ false → IsSilent name (drops entries)
+
+-- and so leaves their valid tickets, and what is offered with them
+pub record IsLeftAlone (ms new : List Mention) (name : RulesetName) : Type 0 where
+  pub ticket : valid_ticket (ms ++ new) name ≡ valid_ticket ms name
+  pub offered : content (ms ++ new) name ≡ content ms name
+
+abbrev pub NamesAlone : Type 0
+NamesAlone = (name : RulesetName) → AreSilent name
+
+abbrev pub SilenceLeavesAlone : Type 0
+SilenceLeavesAlone = (ms new : List Mention) (name : RulesetName) → IsSilent name new → IsLeftAlone ms new name

@@ -1,6 +1,6 @@
 //! What follows from the definitions that contracts cite: functions that do nothing, whose contracts are the laws.
-ghost use Rattle.pf_ticket.specs.Laws.{ValidIsGivenLast, GivenLastIsValid, StartsWithNothing, CountsTheOpen};
-ghost use Rattle.pf_ticket.specs.Standing.{StartsSound, KeepsTheLimits, BeginBrings, AddBrings, OthersOnlyVoid};
+ghost use Rattle.pf_ticket.specs.Laws.{ValidIsGivenLast, GivenLastIsValid, StartsWithNothing, CountsTheOpen, AgreeingIsTold};
+ghost use Rattle.pf_ticket.specs.Standing.{StartsSound, KeepsTheLimits, BeginBrings, AddBrings, OthersOnlyVoid, NamesAlone, SilenceLeavesAlone};
 
 /// A ticket is valid for a ruleset exactly where the latest mention that touched the ruleset is a begin's that gave it
 /// this ticket.
@@ -31,4 +31,15 @@ pub fn brings_no_more()
     ensures begin { BeginBrings }
     ensures add { AddBrings }
     ensures others { OthersOnlyVoid }
+{}
+
+/// A step leaves the valid tickets of the rulesets that it doesn't name, and what is offered with them.
+pub fn leaves_the_others()
+    ensures silent { NamesAlone }
+    ensures alone { SilenceLeavesAlone }
+{}
+
+/// Replies read the same off the open transactions and off the mentions that they agree with.
+pub fn reads_the_mentions()
+    ensures { AgreeingIsTold }
 {}
