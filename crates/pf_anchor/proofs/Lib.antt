@@ -1,2 +1,5 @@
 pub mod PathTexts
 pub mod PathsRead
+pub mod Maps
+pub mod RulesetMaps
+pub mod Pages

@@ -1,4 +1,7 @@
+pub mod Maps
 pub mod Rulesets
+pub mod Pages
+pub mod Laws
 pub mod Paths
 pub mod PathGrammar
 pub mod PathLaws
