@@ -1,5 +1,6 @@
 pub mod Maps
 pub mod Rulesets
+pub mod Shared
 pub mod Pages
 pub mod Laws
 pub mod Paths

@@ -185,12 +185,12 @@ impl Config {
     }
 
     /// The rules at a path: none where it has no ruleset. No rule is copied. `AllocError`: nothing is made.
-    pub fn rules_at(&self, alloc: Global, path: &Path) -> Result<RuleList, AllocError>
+    pub fn rules_at(&self, path: &Path) -> Result<RuleList, AllocError>
         ensures { IfOk result (λ l. l ≡ rules_at path.now self.now) }
     {
         match self.placed_at(path) {
             Some(placed) => placed.rules().shared(),
-            None => RuleList::none(alloc),
+            None => Ok(RuleList::none()),
         }
     }
 
@@ -202,7 +202,7 @@ impl Config {
         let Some(placed) = self.placed_at(&main) else {
             return RuleVerdict::Default;
         };
-        match placed.rules().ruleset().evaluate(packet).last() {
+        match placed.rules().evaluate(packet).last() {
             Some(decision) => RuleVerdict::Rule {
                 path: main,
                 number: decision.number,

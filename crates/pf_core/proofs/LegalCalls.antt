@@ -1,10 +1,12 @@
 -- What a call mentions whose reply is legal, and what held then.
-use Rattle.std.proofs.Common.{◌≡◌, ℕ, ◌+◌, ◌-◌, ◌<◌, ◌≤◌, Bool, true, false, not, cond, ◌&&◌, List, [], ◌∷◌, length, refl, sym, ap, ◌∙◌, subst, Option, None, Result, Ok, Err, arith}
+use Rattle.std.proofs.Common.{◌≡◌, ℕ, ◌+◌, ◌-◌, ◌<◌, ◌≤◌, Bool, true, false, not, cond, ◌&&◌, List, [], ◌∷◌, length, refl, sym, ap, ◌∙◌, subst, inl, inr, Option, None, Result, Ok, Err, arith}
 use Rattle.std.specs.Prelude.{fold, nat_lt, nat_le}
 use Rattle.std.proofs.lemmas.Bool.Decides.{nat_tests}
 use Rattle.pf_rule.specs.Rules.{PlainRule}
 use Rattle.pf_core.specs.declared.command.Command.{Command}
-use Rattle.pf_core.specs.declared.command.Command.TheVariants.{Begin, Add, Commit, Rollback, Judge, ShowRules}
+use Rattle.pf_core.specs.declared.command.Command.TheVariants.{Transact, Ask}
+use Rattle.pf_core.specs.declared.command.Transaction.{Transaction}
+use Rattle.pf_core.specs.declared.command.Transaction.TheVariants.{Begin, Add, Commit, Rollback}
 use Rattle.pf_core.specs.declared.command.Entry.{Entry}
 use Rattle.pf_core.specs.declared.command.RulesetName.{RulesetName}
 use Rattle.pf_core.specs.declared.command.Ticket.{Ticket}
@@ -19,9 +21,9 @@ use Rattle.pf_core.specs.declared.reply.Reply.TheVariants.{Answer as Answered, A
 use Rattle.pf_core.specs.declared.step.Step.{Step}
 use Rattle.pf_core.specs.declared.step.Step.TheVariants.{Done, Wants}
 use Rattle.pf_core.specs.Calls.{Call, filter_at, tickets_from, is_ticket, same_name, given_in, Mention, added, gives, switches, drops, mentioned, mentions, touched, valid_ticket, rules_offered, content, tickets_given, next_count, has_ticket, opened_with, Facts, facts}
-use Rattle.pf_core.specs.Edits.{Kept, Edit, commits, after, voided_by}
+use Rattle.pf_core.specs.Edits.{Kept, Edit, commits, voided_by}
 use Rattle.pf_core.specs.Legal.{bad_count, rule_limit, ruleset_limit, last_count, is_valid, list_check, given, begin_step, add_step, items, rulesets_after, legal_step}
-use Rattle.pf_core.specs.Worlds.{Held, step_in, reply_to, LegalReply}
+use Rattle.pf_core.specs.Worlds.{Held, log_of, durable_of, step_in, room_for, if_ok, or_refused, due_at, grouped, group_at, LegalReply}
 use Rattle.pf_core.specs.WorldLaws.{wants-mentions, refused-mentions}
 use Rattle.pf_core.proofs.Switching.{unrefused, not-refused, IsWanted, commit-wants}
 
@@ -104,7 +106,7 @@ added-well f p t s h =
     let is : done ≡ Ok s = room.1 in
     record { valid = holds (is_valid f.valid (filter_at p) t) valid.0; room = below rule_limit (length (f.offered (filter_at p))) room.0; step = cc (is) }
 
-begin-brings : (epoch : ℕ) (ms : List Mention) (names : List RulesetName) (a : Answer) → IsBegun (facts epoch ms) names (Done a) → Brings epoch ms (mentioned (Begin names) (Answered a))
+begin-brings : (epoch : ℕ) (ms : List Mention) (names : List RulesetName) (a : Answer) → IsBegun (facts epoch ms) names (Done a) → Brings epoch ms (mentioned (Transact (Begin names)) (Answered a))
 begin-brings epoch ms names a is =
     let step : Done (answer.Given (given (facts epoch ms) (length names))) ≡ Done a = is.step in
     let told : a ≡ answer.Given (given (facts epoch ms) (length names)) = cc (step) in
@@ -115,12 +117,11 @@ never-answered : (f : Facts) (d : Kept) (entries : List Entry) (a : Answer) → 
 never-answered f d entries a is = let step : Wants (commits (items f.offered entries)) Committed ≡ Done a = is.step in cc (step)
 
 answered-brings : (epoch : ℕ) (calls : List Call) (d : Kept) (c : Command) (a : Answer) → legal_step epoch calls d c ≡ Ok (Done a) → Brings epoch (mentions calls) (mentioned c (Answered a))
-answered-brings epoch calls d (Begin names) a h = begin-brings epoch (mentions calls) names a (begun (facts epoch (mentions calls)) names (Done a) h)
-answered-brings epoch calls d (Add p t r) a h = let is : IsAdded (facts epoch (mentions calls)) p t (Done a) = added-well (facts epoch (mentions calls)) p t (Done a) h in adds p t r refl is.valid is.room
-answered-brings epoch calls d (Commit entries) a h = absurd (never-answered (facts epoch (mentions calls)) d entries a (commit-wants (facts epoch (mentions calls)) d entries (Done a) h))
-answered-brings epoch calls d (Rollback entries) a h = voids (drops-void entries)
-answered-brings epoch calls d (Judge packet) a h = voids nothing-voids
-answered-brings epoch calls d (ShowRules p) a h = voids nothing-voids
+answered-brings epoch calls d (Transact (Begin names)) a h = begin-brings epoch (mentions calls) names a (begun (facts epoch (mentions calls)) names (Done a) h)
+answered-brings epoch calls d (Transact (Add p t r)) a h = let is : IsAdded (facts epoch (mentions calls)) p t (Done a) = added-well (facts epoch (mentions calls)) p t (Done a) h in adds p t r refl is.valid is.room
+answered-brings epoch calls d (Transact (Commit entries)) a h = absurd (never-answered (facts epoch (mentions calls)) d entries a (commit-wants (facts epoch (mentions calls)) d entries (Done a) h))
+answered-brings epoch calls d (Transact (Rollback entries)) a h = voids (drops-void entries)
+answered-brings epoch calls d (Ask q) a h = voids nothing-voids
 
 -- ---- what wants a change
 
@@ -129,56 +130,65 @@ pub data WantedBy (f : Facts) (d : Kept) (e : Edit) : Type 0 where
   commit : (entries : List Entry) → rulesets_after d (items f.offered entries) ≤ ruleset_limit → commits (items f.offered entries) ≡ e → WantedBy f d e
 
 pub wanted-by : (epoch : ℕ) (calls : List Call) (d : Kept) (c : Command) (e : Edit) (o : Outcome) → legal_step epoch calls d c ≡ Ok (Wants e o) → WantedBy (facts epoch (mentions calls)) d e
-wanted-by epoch calls d (Begin names) e o h =
+wanted-by epoch calls d (Transact (Begin names)) e o h =
     let f : Facts = facts epoch (mentions calls) in
     let step : Done (answer.Given (given f (length names))) ≡ Wants e o = (begun f names (Wants e o) h).step in
     absurd (cc (step))
-wanted-by epoch calls d (Add p t r) e o h =
+wanted-by epoch calls d (Transact (Add p t r)) e o h =
     let step : Done answer.Done ≡ Wants e o = (added-well (facts epoch (mentions calls)) p t (Wants e o) h).step in
     absurd (cc (step))
-wanted-by epoch calls d (Commit entries) e o h =
+wanted-by epoch calls d (Transact (Commit entries)) e o h =
     let f : Facts = facts epoch (mentions calls) in
     let is : IsWanted f d entries (Wants e o) = commit-wants f d entries (Wants e o) h in
     let step : Wants (commits (items f.offered entries)) Committed ≡ Wants e o = is.step in
     commit entries (within ruleset_limit (rulesets_after d (items f.offered entries)) is.few) (cc (step))
-wanted-by epoch calls d (Rollback entries) e o h =
+wanted-by epoch calls d (Transact (Rollback entries)) e o h =
     let done : Result Step Refusal = Ok (Done answer.Done) in
     let is : done ≡ Ok (Wants e o) = (unrefused (list_check entries) done (Wants e o) h).1 in
     absurd (cc (is))
-wanted-by epoch calls d (Judge packet) e o h = absurd (cc (h))
-wanted-by epoch calls d (ShowRules p) e o h = absurd (cc (h))
+wanted-by epoch calls d (Ask q) e o h = absurd (cc (h))
 
 -- ---- by the reply
 
-not-room : (b : Bool) (a : Answer) (n : ℕ) (o : Outcome) → Answered a ≡ cond b (Applied n o) (Refused HistoryFull) → ⊥
-not-room true a n o h = cc (h)
-not-room false a n o h = cc (h)
+no-answer : (room : Result (Unit {0}) Refusal) (a : Answer) (n : ℕ) (o : Outcome) → Answered a ≡ or_refused room (Applied n o) → ⊥
+no-answer (Ok u) a n o h = cc (h)
+no-answer (Err e) a n o h = cc (h)
 
-answered-step : (limit : ℕ) (log : List Edit) (s : Result Step Refusal) (a : Answer) → Answered a ≡ reply_to limit log s → s ≡ Ok (Done a)
-answered-step limit log (Ok (Done b)) a h = let same : a ≡ b = cc (h) in ap (λ (x : Answer). Ok (Done x)) (sym same)
-answered-step limit log (Ok (Wants e o)) a h = absurd (not-room (nat_lt (length log) limit) a (length log + 1) o h)
-answered-step limit log (Err e) a h = absurd (cc (h))
+answered-step : (h : Held) (s : Result Step Refusal) (a : Answer) → Answered a ≡ due_at h s → s ≡ Ok (Done a)
+answered-step h (Ok (Done b)) a is = let same : a ≡ b = cc (is) in ap (λ (x : Answer). Ok (Done x)) (sym same)
+answered-step h (Ok (Wants e o)) a is = absurd (no-answer (room_for h (e ∷ [])) a (length (log_of h) + 1) o is)
+answered-step h (Err e) a is = absurd (cc (is))
 
--- what was applied was wanted, and the history had room
-pub record IsApplied (limit : ℕ) (log : List Edit) (s : Result Step Refusal) (o : Outcome) : Type 0 where
+-- what was applied was wanted, and there was room for it
+pub record IsApplied (h : Held) (s : Result Step Refusal) (n : ℕ) (o : Outcome) : Type 0 where
   pub change : Edit
   pub wanted : s ≡ Ok (Wants change o)
-  pub room : length log < limit
+  pub number : n ≡ length (log_of h) + 1
+  pub room : length (log_of h) + 1 ≤ h.setting.limit
+  pub group : group_at h s ≡ (change ∷ []) ∷ []
 
-with-room : (limit k n : ℕ) (b : Bool) (o x : Outcome) → nat_lt k limit ≡ b → Applied n o ≡ cond b (Applied (k + 1) x) (Refused HistoryFull) → (o ≡ x) × (k < limit)
-with-room limit k n true o x e h = (cc (h), grind (arith, nat_tests, e))
-with-room limit k n false o x e h = absurd (cc (h))
+with-room : (h : Held) (e : Edit) (n : ℕ) (o x : Outcome) (full : Bool) → nat_lt h.setting.limit (length (log_of h) + 1) ≡ full → Applied n o ≡ or_refused (cond full (Err HistoryFull) (Ok tt)) (Applied (length (log_of h) + 1) x) → IsApplied h (Ok (Wants e x)) n o
+with-room h e n o x true k is = absurd (cc (is))
+with-room h e n o x false k is =
+    let same : o ≡ x = cc (is) in
+    record {
+      change = e;
+      wanted = ap (λ (y : Outcome). Ok (Wants e y)) (sym same);
+      number = cc (is);
+      room = grind (arith, nat_tests, k);
+      group = ap (λ (b : Bool). if_ok (cond b (Err HistoryFull) (Ok tt)) (grouped (e ∷ [])) []) k;
+    }
 
-pub applied-step : (limit : ℕ) (log : List Edit) (s : Result Step Refusal) (n : ℕ) (o : Outcome) → Applied n o ≡ reply_to limit log s → IsApplied limit log s o
-applied-step limit log (Ok (Done a)) n o h = absurd (cc (h))
-applied-step limit log (Ok (Wants e x)) n o h =
-    let both : (o ≡ x) × (length log < limit) = with-room limit (length log) n (nat_lt (length log) limit) o x refl h in
-    record { change = e; wanted = ap (λ (y : Outcome). Ok (Wants e y)) (sym both.0); room = both.1 }
-applied-step limit log (Err e) n o h = absurd (cc (h))
+pub applied-step : (h : Held) (s : Result Step Refusal) (n : ℕ) (o : Outcome) → Applied n o ≡ due_at h s → IsApplied h s n o
+applied-step h (Ok (Done a)) n o is = absurd (cc (is))
+applied-step h (Ok (Wants e x)) n o is = with-room h e n o x (nat_lt h.setting.limit (length (log_of h) + 1)) refl is
+applied-step h (Err e) n o is = absurd (cc (is))
 
-pub legal-brings : (base : Kept) (limit : ℕ) (h : Held) (c : Command) (r : Reply) → LegalReply base limit h c r → Brings base.epoch (mentions h.calls) (mentioned c r)
-legal-brings base limit h c (Answered a) legal = answered-brings base.epoch h.calls (after base h.log) c a (answered-step limit h.log (step_in base h c) a (legal (λ m. cc (m))))
-legal-brings base limit h c (Applied n o) legal =
-    let was : IsApplied limit h.log (step_in base h c) o = applied-step limit h.log (step_in base h c) n o (legal (λ m. cc (m))) in
-    voids (subst OnlyVoid (sym (wants-mentions base.epoch h.calls (after base h.log) c was.change o n was.wanted)) (switches-void (voided_by was.change)))
-legal-brings base limit h c (Refused e) legal = voids (subst OnlyVoid (sym (refused-mentions c e)) nothing-voids)
+pub legal-brings : (h : Held) (c : Command) (r : Reply) (failed : Bool) → LegalReply h c r failed → Brings h.base.epoch (mentions h.calls) (mentioned c r)
+legal-brings h c (Answered a) failed (inl is) = answered-brings h.base.epoch h.calls (durable_of h) c a (answered-step h (step_in h c) a is)
+legal-brings h c (Answered a) failed (inr none) = absurd none
+legal-brings h c (Applied n o) failed (inl is) =
+    let was : IsApplied h (step_in h c) n o = applied-step h (step_in h c) n o is in
+    voids (subst OnlyVoid (sym (wants-mentions h.base.epoch h.calls (durable_of h) c was.change o n was.wanted)) (switches-void (voided_by was.change)))
+legal-brings h c (Applied n o) failed (inr none) = absurd none
+legal-brings h c (Refused e) failed legal = voids (subst OnlyVoid (sym (refused-mentions c e)) nothing-voids)
