@@ -1,14 +1,14 @@
 -- A map in pages: where a path's entry is, and what replacing it there leaves.
-use Rattle.std.proofs.Common.{◌≡◌, ℕ, zero, suc, ◌+◌, ◌-◌, ◌<◌, ◌≤◌, T, Bool, true, false, List, [], ◌∷◌, ◌++◌, length, take, drop, get_or, ◌==◌, refl, sym, ap, subst, ◌∙◌, append_assoc, arith, add-one}
+use Rattle.std.proofs.Common.{◌≡◌, ℕ, zero, suc, ◌+◌, ◌-◌, ◌<◌, ◌≤◌, T, true, false, List, [], ◌∷◌, ◌++◌, length, take, drop, get_or, ◌==◌, refl, sym, ap, subst, ◌∙◌, append_assoc, arith, add-one}
 use Rattle.std.specs.declared.cmp.Ordering.{Ordering}
-use Rattle.std.specs.declared.cmp.Ordering.TheVariants.{Less, Equal, Greater}
+use Rattle.std.specs.declared.cmp.Ordering.TheVariants.{Less, Greater}
 use Rattle.std.specs.FinMap.{is_sorted}
 use Rattle.std.specs.Ordering.{ordering_index}
 use Rattle.std.specs.Prelude.{nat_lt}
 use Rattle.std.proofs.lemmas.Bool.{lt-ltb}
 use Rattle.std.proofs.lemmas.Cmp.{nat_list_cmp_total}
 use Rattle.std.proofs.lemmas.List.{length-append, get_or_default}
-use Rattle.pf_anchor.specs.Maps.{is_on_side, AllOn, with_value}
+use Rattle.pf_anchor.specs.Maps.{is_on_side, AllOn}
 use Rattle.pf_anchor.specs.Pages.{starts_behind, page_before, front_of, IsPlace}
 use Rattle.pf_anchor.specs.Rulesets.{Ruled, path_order, unless_empty, with_rules, rules_in, rules_at, joined}
 use Rattle.pf_anchor.proofs.Maps.{sorted_back, all_before, all_behind, with_around, find_around, is_side}

@@ -1,5 +1,5 @@
 use Rattle.pf_anchor.proofs.Pages.{counted_past}
-use Rattle.std.proofs.Common.{◌≡◌, ◌<◌, length, ap, subst, List}
+use Rattle.std.proofs.Common.{◌<◌, length, subst, List}
 use Rattle.pf_anchor.specs.Rulesets.{Ruled}
 use Rattle.pf_anchor.proofs.config.are_more_than.Goals as goal
 
