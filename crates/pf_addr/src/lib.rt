@@ -8,7 +8,7 @@ mod net;
 mod reading;
 mod write;
 
-pub use addr::{Addr, Family};
+pub use addr::{Addr, Family, V4_BITS, V6_BITS};
 pub use fault::AddrFault;
 pub use laws::{
     addrs_have_texts_of_their_own, net_text_is_one_word, nets_have_texts_of_their_own,
