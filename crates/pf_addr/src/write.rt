@@ -10,7 +10,7 @@ ghost use Rattle.std.specs.List.{join_with_byte};
 ghost use Rattle.std.specs.Net.Text.{hex, leading_zero_digits};
 ghost use Rattle.pf_addr.specs.declared.addr.Addr.TheVariants as Addr;
 ghost use Rattle.pf_addr.specs.Spelling.{addr_text, net_text, length_text, group_text};
-ghost use Rattle.pf_addr.specs.Writing.{Writes};
+ghost use Rattle.pf_addr.specs.Writing.{Writes, Continues};
 
 use crate::addr::Addr;
 use crate::net::Net;
@@ -199,4 +199,40 @@ fn group(number: u128, end: u8) -> u16
     ensures { result ≡ number / 2 ^ end % 2 ^ 16 }
 {
     ((number >> end) % 0x1_0000) as u16
+}
+
+// Texts in a row. Each call is given what became of the earlier ones, so that only the last one's answer counts.
+
+/// Writes the text behind what was written so far, unless that failed: then the error stays.
+pub fn write_more<W: Write>(out: &mut W, so_far: io::Result<()>, text: &[u8]) -> io::Result<()>
+    ensures { Continues so_far (W.contents out.old) result (W.contents out.new) text.now }
+{
+    match so_far {
+        Ok(()) => write_text(out, text),
+        Err(e) => Err(e),
+    }
+}
+
+/// The same of a number in decimal digits.
+pub fn write_more_number<W: Write>(
+    out: &mut W,
+    so_far: io::Result<()>,
+    number: u64,
+) -> io::Result<()>
+    ensures { Continues so_far (W.contents out.old) result (W.contents out.new) (decimal number) }
+{
+    match so_far {
+        Ok(()) => write_number(out, number),
+        Err(e) => Err(e),
+    }
+}
+
+/// The same of a network.
+pub fn write_more_net<W: Write>(out: &mut W, so_far: io::Result<()>, net: Net) -> io::Result<()>
+    ensures { Continues so_far (W.contents out.old) result (W.contents out.new) (net_text net) }
+{
+    match so_far {
+        Ok(()) => write_net(out, net),
+        Err(e) => Err(e),
+    }
 }
