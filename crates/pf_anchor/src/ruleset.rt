@@ -1,8 +1,8 @@
 //! Lists of rules.
 ghost use Rattle.std.specs.Prelude.{◌≡◌, ◌≤◌, ◌<◌, [], ◌∷◌, ◌++◌, length, IfOk, OnOk, OnErr};
-ghost use Rattle.pf_rule.specs.Evaluation.{evaluate};
-ghost use Rattle.pf_anchor.specs.Deciding.{decision};
+ghost use Rattle.pf_anchor.specs.Evaluation.{evaluation};
 
+use crate::evaluated::Evaluated;
 use crate::limits::RULE_LIMIT;
 use pf_rule::{Action, Packet, Rule};
 use std::alloc::{AllocError, Global};
@@ -79,23 +79,25 @@ impl Ruleset {
         })
     }
 
-    /// The rule that decides: the last that matches, or the first quick one that does (pf.conf(5), Packet Filtering). It takes no memory.
-    pub fn deciding(&self, packet: &Packet) -> Option<Decision>
-        ensures { result ≡ decision (evaluate 0 self.now packet.now).last }
+    /// What the rules give for a packet: the last that matches, or the first quick one that does (pf.conf(5), Packet
+    /// Filtering). It takes no memory.
+    #[tactic(auto, using(crate::proofs::Evaluations::none_and_then))]
+    pub fn evaluate(&self, packet: &Packet) -> Evaluated<Decision>
+        ensures { result ≡ evaluation self.now packet.now }
     {
         let mut last = None;
         for (number, rule) in self.rules.iter().enumerate() {
             if rule.matches(packet) {
-                let decision = Decision {
+                let found = Evaluated::Open(Some(Decision {
                     number: number as u32,
                     action: rule.action(),
-                };
-                if rule.is_quick() {
-                    return Some(decision);
+                }));
+                match found.settled(rule.is_quick()) {
+                    Evaluated::Open(latest) => last = latest.or(last),
+                    Evaluated::Ended(end) => return Evaluated::Ended(end),
                 }
-                last = Some(decision);
             }
         }
-        last
+        Evaluated::Open(last)
     }
 }

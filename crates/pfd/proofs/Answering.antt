@@ -4,8 +4,8 @@ use Rattle.std.proofs.lemmas.List.{append-nil}
 use Rattle.std.specs.Io.KnownBytes.{Appends, Keeps, Consumes}
 use Rattle.pf_addr.specs.Writing.{Appends-none, Appends-then, Appends-kept}
 use Rattle.pf_core.specs.declared.reply.Reply.{Reply}
-use Rattle.pf_core.specs.Calls.{Call}
-use Rattle.pf_core.specs.Worlds.{Page, StandsFor}
+use Rattle.pf_core.specs.Pages.{Page, StandsFor}
+use Rattle.pf_core.specs.Worlds.{Event}
 use Rattle.pf_line.specs.Lines.{line_at}
 use Rattle.pf_line.specs.Replies.{reply_text}
 use Rattle.pfd.specs.Serving.{Says, Served, Continues, Told, Answered, CutOff}
@@ -29,34 +29,36 @@ consumes-kept (Some xs) (Some ys) k = sym k
 
 -- ---- lines and their calls
 
-pub served-one : (line : List ℕ) (calls : List Call) (text : List ℕ) → Says (line_at line) calls text → Served (line ∷ []) calls text
-served-one line calls text says = (calls, [], text, [], says, (refl, refl), sym (append-nil calls), sym (append-nil text))
+pub served-one : (line : List ℕ) (events : List Event) (text : List ℕ) → Says (line_at line) events text → Served (line ∷ []) events text
+served-one line events text says = (events, [], text, [], says, (refl, refl), sym (append-nil events), sym (append-nil text))
 
-pub served-then : (xs ys : List (List ℕ)) (cs ds : List Call) (s t : List ℕ) → Served xs cs s → Served ys ds t → Served (xs ++ ys) (cs ++ ds) (s ++ t)
+pub served-then : (xs ys : List (List ℕ)) (cs ds : List Event) (s t : List ℕ) → Served xs cs s → Served ys ds t → Served (xs ++ ys) (cs ++ ds) (s ++ t)
 served-then [] ys cs ds s t p q =
-    let e : ds ≡ cs ++ ds = ap (λ (l : List Call). l ++ ds) (sym p.0) in
+    let e : ds ≡ cs ++ ds = ap (λ (l : List Event). l ++ ds) (sym p.0) in
     let f : t ≡ s ++ t = ap (λ (l : List ℕ). l ++ t) (sym p.1) in
-    subst (λ (l : List Call). Served ys l (s ++ t)) e (subst (λ (l : List ℕ). Served ys ds l) f q)
-served-then (x ∷ xs) ys cs ds s t (first, rest, reply, replies, says, more, calls, text) q = (
+    subst (λ (l : List Event). Served ys l (s ++ t)) e (subst (λ (l : List ℕ). Served ys ds l) f q)
+served-then (x ∷ xs) ys cs ds s t (first, rest, reply, replies, says, more, events, text) q = (
   first,
   rest ++ ds,
   reply,
   replies ++ t,
   says,
   served-then xs ys rest ds replies t more q,
-  ap (λ (l : List Call). l ++ ds) calls ∙ append_assoc first rest ds,
+  ap (λ (l : List Event). l ++ ds) events ∙ append_assoc first rest ds,
   ap (λ (l : List ℕ). l ++ t) text ∙ append_assoc reply replies t,
 )
 
-pub continues-then : (a b c : Page) (x y : List Call) → Continues a b x → Continues b c y → Continues a c (x ++ y)
-continues-then a b c x y p q = λ base world stands.
-    subst (λ (w : List Call). StandsFor base c w) (append_assoc world x y) (q base (world ++ x) (p base world stands))
+pub continues-then : (a b c : Page) (x y : List Event) → Continues a b x → Continues b c y → Continues a c (x ++ y)
+continues-then a b c x y p q = record {
+  worlds = λ first world stands. subst (λ (w : List Event). StandsFor first c w) (append_assoc world x y) (q.worlds first (world ++ x) (p.worlds first world stands));
+  limit = q.limit ∙ p.limit;
+}
 
 -- ---- lines that were answered
 
 pub answered-none : (held held' : Option (List ℕ)) (page : Page) → Keeps held held' → Answered [] held held' page page
 answered-none held held' page keeps = record {
-  calls = [];
+  events = [];
   text = [];
   served = (refl, refl);
   book = continues-still page;
@@ -65,27 +67,27 @@ answered-none held held' page keeps = record {
 
 pub answered-then : (xs ys : List (List ℕ)) (h i j : Option (List ℕ)) (a b c : Page) → Answered xs h i a b → Answered ys i j b c → Answered (xs ++ ys) h j a c
 answered-then xs ys h i j a b c p q = record {
-  calls = p.calls ++ q.calls;
+  events = p.events ++ q.events;
   text = p.text ++ q.text;
-  served = served-then xs ys p.calls q.calls p.text q.text p.served q.served;
-  book = continues-then a b c p.calls q.calls p.book q.book;
+  served = served-then xs ys p.events q.events p.text q.text p.served q.served;
+  book = continues-then a b c p.events q.events p.book q.book;
   written = Appends-then h i j p.text q.text p.written q.written;
 }
 
 -- ---- and lines that were cut off
 
 pub cut-one : (line : List ℕ) (r : Reply) (held held' : Option (List ℕ)) (old new : Page) → Told (line_at line) (Some r) old new → (k : ℕ) × Appends held held' (take k (reply_text r)) → CutOff (line ∷ []) held held' old new
-cut-one line r held held' old new (calls, says, book) (k, written) = record {
+cut-one line r held held' old new (events, says, book) (k, written) = record {
   earlier = [];
   last = line ∷ [];
   lines_are = refl;
   one = omega arith;
-  calls = [];
-  last_calls = calls;
+  events = [];
+  last_events = events;
   text = [];
   last_text = reply_text r;
   served = (refl, refl);
-  served_last = served-one line calls (reply_text r) says;
+  served_last = served-one line events (reply_text r) says;
   book = book;
   taken = k;
   written = written;
@@ -98,13 +100,13 @@ cut-behind lines h i j a b p keeps = record {
   last = [];
   lines_are = sym (append-nil lines);
   one = omega arith;
-  calls = p.calls;
-  last_calls = [];
+  events = p.events;
+  last_events = [];
   text = p.text;
   last_text = [];
   served = p.served;
   served_last = (refl, refl);
-  book = continues-then a b b p.calls [] p.book (continues-still b);
+  book = continues-then a b b p.events [] p.book (continues-still b);
   taken = 0;
   written = Appends-then h i j p.text [] p.written (appends-kept i j keeps);
 }
@@ -115,20 +117,20 @@ cut-then xs ys h i j a b c p q = record {
   last = q.last;
   lines_are = ap (λ (l : List (List ℕ)). xs ++ l) q.lines_are ∙ sym (append_assoc xs q.earlier q.last);
   one = q.one;
-  calls = p.calls ++ q.calls;
-  last_calls = q.last_calls;
+  events = p.events ++ q.events;
+  last_events = q.last_events;
   text = p.text ++ q.text;
   last_text = q.last_text;
-  served = served-then xs q.earlier p.calls q.calls p.text q.text p.served q.served;
+  served = served-then xs q.earlier p.events q.events p.text q.text p.served q.served;
   served_last = q.served_last;
-  book = subst (λ (l : List Call). Continues a c l) (sym (append_assoc p.calls q.calls q.last_calls)) (continues-then a b c p.calls (q.calls ++ q.last_calls) p.book q.book);
+  book = subst (λ (l : List Event). Continues a c l) (sym (append_assoc p.events q.events q.last_events)) (continues-then a b c p.events (q.events ++ q.last_events) p.book q.book);
   taken = q.taken;
   written = subst (λ (l : List ℕ). Appends h j l) (sym (append_assoc p.text q.text (take q.taken q.last_text))) (Appends-then h i j p.text (q.text ++ take q.taken q.last_text) p.written q.written);
 }
 
 pub answered-kept : (lines : List (List ℕ)) (h i j : Option (List ℕ)) (a b : Page) → Answered lines h i a b → Keeps i j → Answered lines h j a b
 answered-kept lines h i j a b p keeps = record {
-  calls = p.calls;
+  events = p.events;
   text = p.text;
   served = p.served;
   book = p.book;
@@ -136,10 +138,10 @@ answered-kept lines h i j a b p keeps = record {
 }
 
 pub answered-one : (line : List ℕ) (r : Reply) (held held' : Option (List ℕ)) (old new : Page) → Told (line_at line) (Some r) old new → Appends held held' (reply_text r) → Answered (line ∷ []) held held' old new
-answered-one line r held held' old new (calls, says, book) written = record {
-  calls = calls;
+answered-one line r held held' old new (events, says, book) written = record {
+  events = events;
   text = reply_text r;
-  served = served-one line calls (reply_text r) says;
+  served = served-one line events (reply_text r) says;
   book = book;
   written = written;
 }

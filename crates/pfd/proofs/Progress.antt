@@ -7,7 +7,7 @@ use Rattle.std.proofs.Common.{length-drop}
 use Rattle.std.proofs.Math.Seq.{take-length}
 use Rattle.std.specs.Result.{OnErr}
 use Rattle.std.specs.Io.KnownBytes.{Keeps}
-use Rattle.pf_core.specs.Worlds.{Page}
+use Rattle.pf_core.specs.Pages.{Page}
 use Rattle.pfd.specs.Lines.{newline}
 use Rattle.pfd.specs.Pieces.{whole_from, rest_from}
 use Rattle.pfd.specs.Serving.{Answered, CutOff, FrontCutOff}

@@ -3,8 +3,8 @@ use Rattle.std.proofs.Common.{◌≡◌, ℕ, suc, ◌<◌, ◌≤◌, true, fal
 use Rattle.std.specs.Prelude.{◌==◌}
 use Rattle.pf_core.specs.declared.command.Command.{Command}
 use Rattle.pf_core.specs.declared.reply.Refusal.{Refusal}
-use Rattle.pf_core.specs.Calls.{Call}
-use Rattle.pf_core.specs.Worlds.{Page}
+use Rattle.pf_core.specs.Pages.{Page}
+use Rattle.pf_core.specs.Worlds.{Event}
 use Rattle.pf_line.specs.Lines.{line_at, long_line}
 use Rattle.pfd.specs.Lines.{newline}
 use Rattle.pfd.specs.Pieces.{whole_from, rest_from, last_line, longest_line, SameLine}
@@ -60,12 +60,12 @@ line-same : (x y : List ℕ) → SameLine x y → line_at x ≡ line_at y
 line-same x y (inl e) = ap line_at e
 line-same x y (inr (h, k)) = long_line x h ∙ sym (long_line y k)
 
-pub served-same : (xs ys : List (List ℕ)) (calls : List Call) (text : List ℕ) → AllSame xs ys → Served xs calls text → Served ys calls text
+pub served-same : (xs ys : List (List ℕ)) (events : List Event) (text : List ℕ) → AllSame xs ys → Served xs events text → Served ys events text
 unfolding AllSame
-served-same [] [] calls text s p = p
-served-same [] (y ∷ ys) calls text s p = absurd s
-served-same (x ∷ xs) [] calls text s p = absurd s
-served-same (x ∷ xs) (y ∷ ys) calls text s (first, rest, reply, replies, says, more, c, t) =
+served-same [] [] events text s p = p
+served-same [] (y ∷ ys) events text s p = absurd s
+served-same (x ∷ xs) [] events text s p = absurd s
+served-same (x ∷ xs) (y ∷ ys) events text s (first, rest, reply, replies, says, more, c, t) =
     (first, rest, reply, replies, subst (λ (a : Result (Option Command) Refusal). Says a first reply) (line-same x y s.0) says, served-same xs ys rest replies s.1 more, c, t)
 
 pub all-length : (xs ys : List (List ℕ)) → AllSame xs ys → length xs ≡ length ys
@@ -84,9 +84,9 @@ same-split (x ∷ a) b (y ∷ ys) s =
 
 pub answered-same : (xs ys : List (List ℕ)) (h i : Option (List ℕ)) (a b : Page) → AllSame xs ys → Answered xs h i a b → Answered ys h i a b
 answered-same xs ys h i a b s p = record {
-  calls = p.calls;
+  events = p.events;
   text = p.text;
-  served = served-same xs ys p.calls p.text s p.served;
+  served = served-same xs ys p.events p.text s p.served;
   book = p.book;
   written = p.written;
 }
@@ -99,12 +99,12 @@ cut-same xs ys h i a b s p =
       last = d;
       lines_are = e;
       one = let k : length p.last ≡ length d = all-length p.last d r in let j : length p.last ≤ 1 = p.one in omega arith;
-      calls = p.calls;
-      last_calls = p.last_calls;
+      events = p.events;
+      last_events = p.last_events;
       text = p.text;
       last_text = p.last_text;
-      served = served-same p.earlier c p.calls p.text q p.served;
-      served_last = served-same p.last d p.last_calls p.last_text r p.served_last;
+      served = served-same p.earlier c p.events p.text q p.served;
+      served_last = served-same p.last d p.last_events p.last_text r p.served_last;
       book = p.book;
       taken = p.taken;
       written = p.written;

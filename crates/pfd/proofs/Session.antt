@@ -2,7 +2,7 @@
 use Rattle.std.proofs.Common.{◌≡◌, ℕ, ◌+◌, List, [], ◌++◌, length, take, Option, Ok, Err, inl, inr, refl, sym, ap, ◌∙◌, subst, append_assoc, arith, length-take}
 use Rattle.std.proofs.lemmas.List.{append-nil, length-take, nil_from_length}
 use Rattle.std.specs.Io.KnownBytes.{Consumes, Keeps, IsAtEnd}
-use Rattle.pf_core.specs.Worlds.{Page}
+use Rattle.pf_core.specs.Pages.{Page}
 use Rattle.pfd.specs.declared.engine.EngineFault.TheVariants as fault
 use Rattle.pfd.specs.Pieces.{whole_from, rest_from, last_line, longest_line, SameLine, ReadsBehind, ReadsNothing}
 use Rattle.pfd.specs.Serving.{Answered, CutOff, IsFrontOf, FrontCutOff, IsSession}

@@ -1,7 +1,10 @@
 -- What the program does with the words `pfd run`. Own.
 use Rattle.std.specs.Prelude.{◌≡◌, ℕ, List, [], ◌∷◌, Option, Result, Ok, Err, codes}
+use Rattle.std.specs.declared.io.ErrorKind.{ErrorKind}
+use Rattle.std.specs.declared.io.ErrorKind.TheVariants.{OutOfMemory}
 use Rattle.pf_core.specs.Edits.{kept}
-use Rattle.pf_core.specs.Worlds.{Page, StandsFor}
+use Rattle.pf_core.specs.Pages.{Page, StandsFor}
+use Rattle.pf_core.specs.Worlds.{setting_with, opened}
 use Rattle.pfd.specs.declared.engine.EngineFault.{EngineFault}
 use Rattle.pfd.specs.Serving.{IsSession}
 
@@ -13,7 +16,7 @@ IsRun words = (name : List ℕ) × (words ≡ name ∷ codes "run" ∷ [])
 pub record Ran (result : Result (Unit {0}) EngineFault) (unread unread' held held' : Option (List ℕ)) : Type 0 where
   pub old : Page
   pub new : Page
-  pub fresh : StandsFor (kept 1 []) old []
+  pub fresh : StandsFor (kept 0 []) old (opened (setting_with 65536) ∷ [])
   pub limit : old.limit ≡ 65536
   pub session : IsSession result unread unread' held held' old new
 
@@ -24,3 +27,8 @@ status_of (Err fault) = 1
 -- The same, and the status says whether it came to the input's end.
 abbrev pub RanWith : ℕ → Option (List ℕ) → Option (List ℕ) → Option (List ℕ) → Option (List ℕ) → Type 0
 RanWith status unread unread' held held' = (result : Result (Unit {0}) EngineFault) × (status ≡ status_of result) × Ran result unread unread' held held'
+
+-- The status where the words couldn't be had: 1 for want of memory, else 2.
+abbrev pub status_without_words : ErrorKind → ℕ
+status_without_words OutOfMemory = 1
+status_without_words _ = 2
