@@ -84,3 +84,7 @@ pub Continues-err : {A B : Type 0} (q : Result A Error) (e : Error) (mid : Optio
 Continues-err {A = A} q e mid text is = record {
   behind = λ old front w. let h : Wrote {A = A} (Err e) old mid front = subst (λ (x : Result A Error). Wrote x old mid front) is w in (WritesFront-longer old mid front text h.0, h.1);
 }
+
+-- behind nothing
+pub Continues-whole : {A B : Type 0} (u : A) {r : Result B Error} {mid new : Option (List ℕ)} {text : List ℕ} → Continues {A = A} (Ok u) mid r new text → Wrote r mid new text
+Continues-whole u {mid = mid} all = all.behind mid [] (Appends-none mid, tt)

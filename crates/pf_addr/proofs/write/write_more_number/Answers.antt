@@ -1,9 +1,0 @@
-use Rattle.std.specs.Prelude.{decimal}
-use Rattle.pf_addr.specs.Writing.{Continues-ok, Continues-err}
-use Rattle.pf_addr.proofs.write.write_more_number.Goals as goal
-
-pub returns-in-Ok : goal.returns-in-Ok
-returns-in-Ok g c = Continues-ok c.args.so_far _ c.write_number.result (g.W.Write.contents c.args.out.now) (g.W.Write.contents c.write_number.new.out) (decimal c.args.number) c.in-Ok.is c.write_number.ensures.text c.write_number.ensures.retried
-
-pub returns-in-Err : goal.returns-in-Err
-returns-in-Err g c = Continues-err c.args.so_far c.in-Err.e (g.W.Write.contents c.args.out.now) (decimal c.args.number) c.in-Err.is
