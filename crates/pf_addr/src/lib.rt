@@ -16,4 +16,6 @@ pub use laws::{
     written_net_is_read_again,
 };
 pub use net::Net;
-pub use write::{write_addr, write_net, write_number, write_text};
+pub use write::{
+    write_addr, write_more, write_more_net, write_more_number, write_net, write_number, write_text,
+};

@@ -1,29 +1,16 @@
 -- What is read as a network or an address is one.
 use Rattle.std.proofs.Common.{◌≡◌, ℕ, ◌<◌, ◌≤◌, ◌^◌, Bool, List, [], ◌∷◌, length, take, Ok, inl, inr, refl, sym, subst, arith}
-use Rattle.std.proofs.lemmas.List.{length-take}
 use Rattle.std.specs.Int.{from_be_bytes, w32}
 use Rattle.pf_addr.specs.declared.addr.Addr.{Addr}
 use Rattle.pf_addr.specs.declared.addr.Addr.TheVariants as addr
 use Rattle.pf_addr.specs.Address.{Network, IsAddr}
-use Rattle.pf_addr.specs.Bits.{bits}
-use Rattle.pf_addr.specs.BitLaws.{length-bits}
-use Rattle.pf_addr.specs.Grammar.{v4_network, four_bytes, Dotted, SpellsAddr, SpellsNet}
-use Rattle.pf_addr.specs.SpellingLaws.{IsV4Network}
+use Rattle.pf_addr.specs.Grammar.{Dotted, SpellsAddr}
+use Rattle.pf_addr.specs.SpellingLaws.{IsV4Network, IsV4Network-spelled}
 use Rattle.pf_addr.specs.Reading.{addr_at, net_at}
 use Rattle.pf_addr.proofs.Texts.{addr_found, net_found}
 
-front_fits : (parts : List ℕ) (len : ℕ) → IsV4Network (v4_network parts len)
-front_fits parts len =
-    let all : List Bool = bits 32 (from_be_bytes w32 (four_bytes parts)) in
-    record { family = refl; within = omega (arith, length-take len all, length-bits 32 (from_be_bytes w32 (four_bytes parts))) }
-
-net_fits : (w : List ℕ) (n : Network) → SpellsNet w n → IsV4Network n
-net_fits w n (inl (addr.V4 m, one, is)) = subst IsV4Network (sym is) (record { family = refl; within = omega (arith, length-bits 32 m) })
-net_fits w n (inl (addr.V6 m, one, is)) = absurd one
-net_fits w n (inr (parts, front, digits, len, dotted, few, number, all, is)) = subst IsV4Network (sym is) (front_fits parts len)
-
 pub net_is : (w : List ℕ) (n : Network) → net_at w ≡ Ok n → IsV4Network n
-net_is w n e = net_fits w n (net_found w n e)
+net_is w n e = IsV4Network-spelled w n (net_found w n e)
 
 -- ---- the number of an address
 
