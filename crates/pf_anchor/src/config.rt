@@ -1,9 +1,9 @@
 //! The active rulesets.
 ghost use Rattle.std.specs.Prelude.{◌≡◌, ◌≤◌, ◌<◌, T, [], ◌∷◌, ◌++◌, length, take, drop, IfOk, OnOk, IfSome, IfNone, fold, nat_lt};
 ghost use Rattle.std.specs.FinMap.{is_sorted};
-ghost use Rattle.pf_anchor.specs.Rulesets.{Ruled, path_order, rules_at, with_rules, joined, IsMap};
+ghost use Rattle.pf_anchor.specs.Rulesets.{Ruled, path_order, rules_at, with_rules, IsMap};
 ghost use Rattle.pf_anchor.specs.Evaluation.{judged};
-ghost use Rattle.pf_anchor.specs.Pages.{starts_behind, page_before, IsPlace};
+ghost use Rattle.pf_anchor.specs.Pages.{joined, starts_behind, page_before, IsPlace};
 
 use crate::limits::RULESET_LIMIT;
 use crate::page::{PAGE_LIMIT, Page, replaced};
@@ -26,7 +26,8 @@ pub struct Config {
 
 impl Model for Config {
     ghost use Rattle.std.specs.Prelude.{List};
-    ghost use Rattle.pf_anchor.specs.Rulesets.{Ruled, joined, IsMap};
+    ghost use Rattle.pf_anchor.specs.Pages.{joined};
+    ghost use Rattle.pf_anchor.specs.Rulesets.{Ruled, IsMap};
 
     ghost Value = { List Ruled };
 
@@ -37,7 +38,7 @@ impl Model for Config {
 
 // Whether a page's rulesets come behind a path: whether its first one does.
 fn starts_behind(page: &Page, path: &Path) -> bool
-    ensures value { result ≡ starts_behind path.now page.now }
+    ensures value { result ≡ starts_behind path_order path.now page.now }
     ensures some { 0 < length page.now }
 {
     match page.as_slice() {
@@ -49,7 +50,7 @@ fn starts_behind(page: &Page, path: &Path) -> bool
 // How many pages there are up to the one where a path's ruleset is, or would be: the last that doesn't start behind the path,
 // or else the first.
 fn place_in(pages: &[Page], path: &Path) -> usize
-    ensures { IsPlace path.now pages.now result }
+    ensures { IsPlace path_order path.now pages.now result }
 {
     for index in 1..pages.len() {
         if starts_behind(&pages[index], path) {

@@ -19,5 +19,5 @@ pub use limits::{COMPONENT_LIMIT, DEPTH_LIMIT, PATH_LIMIT, RULE_LIMIT, RULESET_L
 pub use path::Path;
 pub use placed::Placed;
 pub use rule_list::RuleList;
-pub use ruleset::{Decision, Ruleset};
+pub use ruleset::Decision;
 pub use verdict::RuleVerdict;

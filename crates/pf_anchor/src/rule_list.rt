@@ -52,8 +52,8 @@ impl RuleList {
         RuleList { rules: None }
     }
 
-    /// A ruleset's rules, none of them copied.
-    pub fn of(rules: &Arc<Ruleset>) -> Result<RuleList, AllocError>
+    // A ruleset's rules, none of them copied.
+    fn of(rules: &Arc<Ruleset>) -> Result<RuleList, AllocError>
         ensures { IfOk result (λ l. l ≡ arc_value rules.now) }
     {
         Ok(RuleList {

@@ -19,7 +19,7 @@ pub struct Decision {
 
 /// Filter rules in order, at most 1,024. Contracts see it as the list.
 #[derive(Drop)]
-pub struct Ruleset {
+pub(crate) struct Ruleset {
     rules: Vec<Rule>,
 }
 
@@ -37,7 +37,7 @@ impl Model for Ruleset {
 
 impl Ruleset {
     /// No rules. It takes no memory.
-    pub fn new(alloc: Global) -> Ruleset
+    pub(crate) fn new(alloc: Global) -> Ruleset
         ensures { result ≡ [] }
     {
         Ruleset {
@@ -45,23 +45,15 @@ impl Ruleset {
         }
     }
 
-    /// How many rules there are.
-    pub fn len(&self) -> usize
-        ensures value { result ≡ length self.now }
-        ensures within { result ≤ RULE_LIMIT }
-    {
-        self.rules.len()
-    }
-
     /// The rules in order.
-    pub fn as_slice(&self) -> &[Rule]
+    pub(crate) fn as_slice(&self) -> &[Rule]
         ensures { result.now ≡ self.now }
     {
         self.rules.as_slice()
     }
 
     /// Appends a rule, where there are fewer than 1,024. Where memory is refused all is as before.
-    pub fn add(&mut self, rule: Rule) -> Result<(), AllocError>
+    pub(crate) fn add(&mut self, rule: Rule) -> Result<(), AllocError>
         requires { length self.old < RULE_LIMIT }
         ensures ok { OnOk result (self.new ≡ self.old ++ rule ∷ []) }
         ensures err { OnErr result (self.new ≡ self.old) }
@@ -71,7 +63,7 @@ impl Ruleset {
     }
 
     /// A copy of its own.
-    pub fn copied(&self, alloc: Global) -> Result<Ruleset, AllocError>
+    pub(crate) fn copied(&self, alloc: Global) -> Result<Ruleset, AllocError>
         ensures { IfOk result (λ r. r ≡ self.now) }
     {
         Ok(Ruleset {
@@ -82,7 +74,7 @@ impl Ruleset {
     /// What the rules give for a packet: the last that matches, or the first quick one that does (pf.conf(5), Packet
     /// Filtering). It takes no memory.
     #[tactic(auto, using(crate::proofs::Evaluations::none_and_then))]
-    pub fn evaluate(&self, packet: &Packet) -> Evaluated<Decision>
+    pub(crate) fn evaluate(&self, packet: &Packet) -> Evaluated<Decision>
         ensures { result ≡ evaluation self.now packet.now }
     {
         let mut last = None;

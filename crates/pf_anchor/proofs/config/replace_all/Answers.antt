@@ -1,8 +1,9 @@
 use Rattle.std.proofs.Common.{T, List, ◌+◌, drop, sym, ap, subst, ◌∙◌}
 use Rattle.std.specs.Prelude.{fold}
 use Rattle.std.specs.FinMap.{is_sorted}
-use Rattle.pf_anchor.specs.Rulesets.{Ruled, path_order, unless_empty, with_rules, joined}
+use Rattle.pf_anchor.specs.Rulesets.{Ruled, path_order, unless_empty, with_rules}
 use Rattle.std.proofs.lemmas.Cmp.{nat_list_cmp_total}
+use Rattle.pf_anchor.specs.Pages.{joined}
 use Rattle.pf_anchor.proofs.Maps.{stays_sorted}
 use Rattle.pf_anchor.proofs.RulesetMaps.{fold_next}
 use Rattle.pf_anchor.proofs.config.replace_all.Goals as goal
