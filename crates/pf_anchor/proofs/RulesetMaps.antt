@@ -64,7 +64,7 @@ pub map_all : (items es : List Ruled) → IsMap es → IsMap (fold with_rules es
 map_all [] es is = is
 map_all (i ∷ items) es is = map_all items (with_rules es i) (map_with es i is)
 
-replaced_in_turn : (items es : List Ruled) (q : List ℕ) → rules_at q (fold with_rules es items) ≡ rules_by items q (rules_at q es)
+pub replaced_in_turn : (items es : List Ruled) (q : List ℕ) → rules_at q (fold with_rules es items) ≡ rules_by items q (rules_at q es)
 replaced_in_turn [] es q = refl
 replaced_in_turn (i ∷ is) es q = replaced_in_turn is (with_rules es i) q ∙ ap (λ (old : List PlainRule). rules_by is q old) (replaces_the_named es i q)
 
