@@ -1,6 +1,6 @@
 //! What follows from the definitions that contracts cite: functions that do nothing, whose contracts are the laws.
 ghost use Rattle.pf_anchor.specs.Laws.{ReplacesTheKey, StaysSorted, OneList, ReplacesTheNamed, ReplacesExactly, SamePathIsEqual, OneMap};
-ghost use Rattle.pf_anchor.specs.EvaluationLaws.{TellsWhatDecides, WhatDecidesIsTold, NoneMatches, DefaultWhereNone};
+ghost use Rattle.pf_anchor.specs.EvaluationLaws.{TellsWhatDecides};
 ghost use Rattle.pf_anchor.specs.PathLaws.{FaultsNoPath, FaultsAllElse, ReadsWhatIsSpelled, ReadsAllThatIsSpelled, WritesWhatWasRead, ReadsWhatIsWritten};
 
 /// A word has no fault exactly where it is a path by the grammar.
@@ -46,11 +46,9 @@ pub fn one_map()
     ensures one { OneMap }
 {}
 
-/// A packet is decided by the main ruleset's rule that matches, with no quick rule that matches before it, and that is quick
-/// or has no later rule that matches; the default is told exactly where no rule matches.
+/// The default is told where no rule of the main ruleset matches; else the number of a rule that matches, with no quick
+/// rule that matches before it, and that is quick or has no later rule that matches.
+#[tactic(auto, using(crate::proofs::Evaluations::tells_what_decides))]
 pub fn the_last_or_quick_rule_decides()
-    ensures rule { TellsWhatDecides }
-    ensures told { WhatDecidesIsTold }
-    ensures none { NoneMatches }
-    ensures default { DefaultWhereNone }
+    ensures { TellsWhatDecides }
 {}
