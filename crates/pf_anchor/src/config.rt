@@ -72,11 +72,7 @@ fn page_before(pages: &[Page], place: usize) -> &[Placed]
 }
 
 // Adds a page behind those that are there, unless it would have no rulesets.
-fn push_page(
-    alloc: Global,
-    pages: &mut Vec<Page>,
-    entries: Vec<Placed>,
-) -> Result<(), AllocError>
+fn push_page(alloc: Global, pages: &mut Vec<Page>, entries: Vec<Placed>) -> Result<(), AllocError>
     ensures { OnOk result (joined pages.new.items ≡ joined pages.old.items ++ entries.items) }
 {
     if !entries.is_empty() {
@@ -117,11 +113,7 @@ fn replace(alloc: Global, pages: &mut Vec<Page>, new: &Placed) -> Result<(), All
 }
 
 // The rulesets replaced in order.
-fn replace_all(
-    alloc: Global,
-    pages: &mut Vec<Page>,
-    items: &[Placed],
-) -> Result<(), AllocError>
+fn replace_all(alloc: Global, pages: &mut Vec<Page>, items: &[Placed]) -> Result<(), AllocError>
     requires { T (is_sorted path_order (joined pages.old.items)) }
     ensures { OnOk result (joined pages.new.items ≡ fold with_rules (joined pages.old.items) items.now) }
 {
@@ -210,10 +202,7 @@ impl Config {
         ensures none { IfNone result (rules_at path.now self.now ≡ []) }
         ensures map { IsMap self.now }
     {
-        find(
-            page_before(&self.pages, place_in(&self.pages, path)),
-            path,
-        )
+        find(page_before(&self.pages, place_in(&self.pages, path)), path)
     }
 
     /// The rules at a path: none where it has no ruleset. No rule is copied. `AllocError`: nothing is made.
