@@ -9,7 +9,7 @@ use Rattle.pf_ticket.specs.Names.{same_name, is_named, with_name, is_ticket}
 use Rattle.pf_ticket.specs.Mentions.{Mention, gave, added, switched, dropped, touched, valid_ticket, ruleset_given, ever_begun, has_ticket, open_rulesets, opened_with}
 use Rattle.pf_ticket.specs.Tickets.{Offer, Open, ticket_at, names_under, facts_in, IsDistinct}
 use Rattle.pf_ticket.specs.Offers.{IsPlace, IsNowhere}
-use Rattle.pf_ticket.specs.NameLaws.{names_alike}
+use Rattle.pf_ticket.specs.NameLaws.{names_alike, name_is}
 use Rattle.pf_ticket.proofs.Once.{neither, distinct-behind}
 
 pub or-false : (b : Bool) → (b || false) ≡ b
@@ -26,13 +26,6 @@ or_assoc false b c = refl
 
 -- ---- names
 
-alike-to : (n p q : RulesetName) → same_name p q ≡ true → same_name n p ≡ same_name n q
-alike-to n p q h = names_alike.symm n p ∙ names_alike.congr p q n h ∙ names_alike.symm q n
-
-pub named-alike : (ns : List RulesetName) (p q : RulesetName) → same_name p q ≡ true → is_named ns p ≡ is_named ns q
-named-alike [] p q h = refl
-named-alike (n ∷ ns) p q h = ap (λ (b : Bool). b || is_named ns p) (alike-to n p q h) ∙ ap (λ (b : Bool). same_name n q || b) (named-alike ns p q h)
-
 named-behind-is : (xs : List RulesetName) (n q : RulesetName) → is_named (xs ++ n ∷ []) q ≡ (is_named xs q || same_name n q)
 named-behind-is xs n q = list_any-append (λ m. same_name m q) xs (n ∷ []) ∙ ap (λ (b : Bool). is_named xs q || b) (or-false (same_name n q))
 
@@ -42,7 +35,7 @@ already false true h = h refl
 already false false h = refl
 
 with-one-step : (xs : List RulesetName) (n q : RulesetName) (b : Bool) → is_named xs n ≡ b → is_named (cond b xs (xs ++ n ∷ [])) q ≡ (is_named xs q || same_name n q)
-with-one-step xs n q true e = already (is_named xs q) (same_name n q) (λ h. sym (named-alike xs n q h) ∙ e)
+with-one-step xs n q true e = already (is_named xs q) (same_name n q) (λ h. sym (ap (λ (m : RulesetName). is_named xs m) (name_is n q h)) ∙ e)
 with-one-step xs n q false e = named-behind-is xs n q
 
 named-with-one : (xs : List RulesetName) (n q : RulesetName) → is_named (with_name xs n) q ≡ (is_named xs q || same_name n q)
@@ -92,7 +85,7 @@ named-but x q (y ∷ ys) h = named-but-step x q y ys (names-but x ys) (same_name
 
 -- a name of the rest isn't the first one
 apart : (x q : RulesetName) (xs : List RulesetName) (b : Bool) → same_name x q ≡ b → is_named xs x ≡ false → is_named xs q ≡ true → b ≡ false
-apart x q xs true e n k = sym k ∙ sym (named-alike xs x q e) ∙ n
+apart x q xs true e n k = sym k ∙ sym (ap (λ (m : RulesetName). is_named xs m) (name_is x q e)) ∙ n
 apart x q xs false e n k = refl
 
 pub count-le : (xs ys : List RulesetName) → IsDistinct xs → ((q : RulesetName) → is_named xs q ≡ true → is_named ys q ≡ true) → length xs ≤ length ys
@@ -121,19 +114,6 @@ named-under (o ∷ os) q = named-under-step o os q (same_name o.name q) (named-u
 
 -- ---- the rulesets with a valid ticket
 
-touched-alike : (p q : RulesetName) (v : Option Ticket) (m : Mention) → same_name p q ≡ true → touched p v m ≡ touched q v m
-touched-alike p q v (gave n t) h = ap (λ (b : Bool). cond b (Some t) v) (alike-to n p q h)
-touched-alike p q v (added n t r) h = refl
-touched-alike p q v (switched n) h = ap (λ (b : Bool). cond b None v) (alike-to n p q h)
-touched-alike p q v (dropped n t) h = ap (λ (b : Bool). cond (b && is_ticket v t) None v) (alike-to n p q h)
-
-fold-alike : (p q : RulesetName) (v : Option Ticket) (ms : List Mention) → same_name p q ≡ true → fold (touched p) v ms ≡ fold (touched q) v ms
-fold-alike p q v [] h = refl
-fold-alike p q v (m ∷ ms) h = fold-alike p q (touched p v m) ms h ∙ ap (λ (w : Option Ticket). fold (touched q) w ms) (touched-alike p q v m h)
-
-pub valid-alike : (ms : List Mention) (p q : RulesetName) → same_name p q ≡ true → valid_ticket ms p ≡ valid_ticket ms q
-valid-alike ms p q h = fold-alike p q None ms h
-
 both-false : (a : Bool) → (a && false) ≡ false
 both-false true = refl
 both-false false = refl
@@ -144,9 +124,9 @@ filtered-step x q xs ws true false d e h ih = ap (λ (a : Bool). a || is_named w
 filtered-step x q xs ws false true d e h ih = ih ∙ ap (λ (a : Bool). is_named xs q && a) (sym (h refl)) ∙ both-false (is_named xs q) ∙ h refl
 filtered-step x q xs ws false false d e h ih = ih
 
-named-filtered : (test : RulesetName → Bool) → ((p q : RulesetName) → same_name p q ≡ true → test p ≡ test q) → (xs : List RulesetName) (q : RulesetName) → is_named (filter test xs) q ≡ (is_named xs q && test q)
-named-filtered test alike [] q = refl
-named-filtered test alike (x ∷ xs) q = filtered-step x q xs (filter test xs) (test x) (same_name x q) (test q) refl (λ h. alike x q h) (named-filtered test alike xs q)
+named-filtered : (test : RulesetName → Bool) (xs : List RulesetName) (q : RulesetName) → is_named (filter test xs) q ≡ (is_named xs q && test q)
+named-filtered test [] q = refl
+named-filtered test (x ∷ xs) q = filtered-step x q xs (filter test xs) (test x) (same_name x q) (test q) refl (λ h. ap test (name_is x q h)) (named-filtered test xs q)
 
 -- a ruleset with a valid ticket was given one
 drops-none : (b c : Bool) (v : Option Ticket) → (has_ticket (cond b None v) || c) ≡ true → (has_ticket v || c) ≡ true
@@ -174,18 +154,11 @@ implied false false h = refl
 
 pub named-open : (ms : List Mention) (q : RulesetName) → is_named (open_rulesets ms) q ≡ has_ticket (valid_ticket ms q)
 named-open ms q =
-    named-filtered (λ n. has_ticket (valid_ticket ms n)) (λ p r h. ap has_ticket (valid-alike ms p r h)) (ever_begun ms) q
+    named-filtered (λ n. has_ticket (valid_ticket ms n)) (ever_begun ms) q
     ∙ implied (is_named (ever_begun ms) q) (has_ticket (valid_ticket ms q)) (λ h. named-with [] (flat_map ruleset_given ms) q ∙ given-before q None ms h)
 
-unnamed-step : (x q : RulesetName) (ws : List RulesetName) (b : Bool) → same_name x q ≡ false → is_named ws q ≡ false → is_named (cond b (x ∷ ws) ws) q ≡ false
-unnamed-step x q ws true h k = ap (λ (c : Bool). c || is_named ws q) h ∙ k
-unnamed-step x q ws false h k = k
-
 unnamed-filtered : (test : RulesetName → Bool) (xs : List RulesetName) (q : RulesetName) → is_named xs q ≡ false → is_named (filter test xs) q ≡ false
-unnamed-filtered test [] q h = refl
-unnamed-filtered test (x ∷ xs) q h =
-    let other : (same_name x q ≡ false) × (is_named xs q ≡ false) = neither (same_name x q) (is_named xs q) h in
-    unnamed-step x q (filter test xs) (test x) other.0 (unnamed-filtered test xs q other.1)
+unnamed-filtered test xs q h = named-filtered test xs q ∙ ap (λ (b : Bool). b && test q) h
 
 distinct-step : (x : RulesetName) (ws : List RulesetName) (b : Bool) → is_named ws x ≡ false → IsDistinct ws → IsDistinct (cond b (x ∷ ws) ws)
 distinct-step x ws true h d = (h, d)
