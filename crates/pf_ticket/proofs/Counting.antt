@@ -3,6 +3,10 @@ use Rattle.std.proofs.Common.{◌≡◌, ℕ, ◌+◌, ◌<◌, ◌≤◌, Bool,
 use Rattle.std.specs.Prelude.{fold, filter, flat_map}
 use Rattle.std.proofs.lemmas.List.Sums.{fold_more}
 use Rattle.std.proofs.lemmas.List.Folds.{list_any-append}
+use Rattle.std.proofs.lemmas.Map.Made.{length-le_from_is_member, length-from_same_keys}
+use Rattle.std.specs.Cmp.{IsEquivalence}
+use Rattle.std.specs.List as list
+use Rattle.std.specs.List.{AllByRecursion}
 use Rattle.pf_ticket.specs.declared.name.RulesetName.{RulesetName}
 use Rattle.pf_ticket.specs.declared.ticket.Ticket.{Ticket}
 use Rattle.pf_ticket.specs.Names.{same_name, is_named, with_name, is_ticket}
@@ -56,51 +60,26 @@ distinct-with xs (n ∷ ns) d = distinct-with (with_name xs n) ns (distinct-with
 
 -- ---- lists that name the same rulesets, each once, are as long
 
-abbrev names-but : RulesetName → List RulesetName → List RulesetName
-names-but x ys = filter (λ y. not (same_name y x)) ys
+abbrev names_it : RulesetName → RulesetName → Bool
+names_it a b = same_name b a
 
-but-le-step : (y : RulesetName) (ys ws : List RulesetName) (b : Bool) → length ws ≤ length ys → length (cond b (y ∷ ws) ws) ≤ length (y ∷ ys)
-but-le-step y ys ws true h = omega (arith, h)
-but-le-step y ys ws false h = omega (arith, h)
+names_it_alike : IsEquivalence names_it
+names_it_alike = record { refl = names_alike.refl; symm = λ a b. names_alike.symm b a; congr = λ a b c h. names_alike.symm c a ∙ names_alike.congr a b c (names_alike.symm a b ∙ h) ∙ names_alike.symm b c }
 
-but-le : (x : RulesetName) (ys : List RulesetName) → length (names-but x ys) ≤ length ys
-but-le x [] = omega arith
-but-le x (y ∷ ys) = but-le-step y ys (names-but x ys) (not (same_name y x)) (but-le x ys)
+all-others : (n : RulesetName) (ns : List RulesetName) → is_named ns n ≡ false → AllByRecursion (λ m. names_it n m ≡ false) ns
+all-others n [] h = tt
+all-others n (m ∷ ns) h = let both : (same_name m n ≡ false) × (is_named ns n ≡ false) = neither (same_name m n) (is_named ns n) h in (both.0, all-others n ns both.1)
 
-but-lt-step : (y : RulesetName) (ys ws : List RulesetName) (b c : Bool) → length ws ≤ length ys → (c ≡ true → length ws < length ys) → (b || c) ≡ true → length (cond (not b) (y ∷ ws) ws) < length (y ∷ ys)
-but-lt-step y ys ws true c l h e = omega (arith, l)
-but-lt-step y ys ws false c l h e = let k : length ws < length ys = h e in omega (arith, k)
-
-but-lt : (x : RulesetName) (ys : List RulesetName) → is_named ys x ≡ true → length (names-but x ys) < length ys
-but-lt x [] e = absurd (cc (e))
-but-lt x (y ∷ ys) e = but-lt-step y ys (names-but x ys) (same_name y x) (is_named ys x) (but-le x ys) (λ k. but-lt x ys k) e
-
-named-but-step : (x q y : RulesetName) (ys ws : List RulesetName) (b : Bool) → same_name y x ≡ b → same_name x q ≡ false → is_named ws q ≡ is_named ys q → is_named (cond (not b) (y ∷ ws) ws) q ≡ is_named (y ∷ ys) q
-named-but-step x q y ys ws true e h ih = ih ∙ sym (ap (λ (c : Bool). c || is_named ys q) (names_alike.congr y x q e ∙ h))
-named-but-step x q y ys ws false e h ih = ap (λ (c : Bool). same_name y q || c) ih
-
-named-but : (x q : RulesetName) (ys : List RulesetName) → same_name x q ≡ false → is_named (names-but x ys) q ≡ is_named ys q
-named-but x q [] h = refl
-named-but x q (y ∷ ys) h = named-but-step x q y ys (names-but x ys) (same_name y x) refl h (named-but x q ys h)
-
--- a name of the rest isn't the first one
-apart : (x q : RulesetName) (xs : List RulesetName) (b : Bool) → same_name x q ≡ b → is_named xs x ≡ false → is_named xs q ≡ true → b ≡ false
-apart x q xs true e n k = sym k ∙ sym (ap (λ (m : RulesetName). is_named xs m) (name_is x q e)) ∙ n
-apart x q xs false e n k = refl
+by-std : (ns : List RulesetName) → IsDistinct ns → list.IsDistinct names_it ns
+unfolding list.IsDistinct
+by-std [] d = tt
+by-std (n ∷ ns) d = (all-others n ns d.0, by-std ns d.1)
 
 pub count-le : (xs ys : List RulesetName) → IsDistinct xs → ((q : RulesetName) → is_named xs q ≡ true → is_named ys q ≡ true) → length xs ≤ length ys
-count-le [] ys d h = omega arith
-count-le (x ∷ xs) ys d h =
-    let less : length (names-but x ys) < length ys = but-lt x ys (h x (ap (λ (b : Bool). b || is_named xs x) (names_alike.refl x))) in
-    let rest : length xs ≤ length (names-but x ys) = count-le xs (names-but x ys) d.1
-    (λ q k. named-but x q ys (apart x q xs (same_name x q) refl d.0 k) ∙ h q (or-true (same_name x q) (is_named xs q) k)) in
-    omega (arith, less, rest)
+count-le xs ys d h = length-le_from_is_member names_it_alike xs ys (by-std xs d) h
 
 pub alike-count : (xs ys : List RulesetName) → IsDistinct xs → IsDistinct ys → ((q : RulesetName) → is_named xs q ≡ is_named ys q) → length xs ≡ length ys
-alike-count xs ys d e h =
-    let one : length xs ≤ length ys = count-le xs ys d (λ q k. sym (h q) ∙ k) in
-    let other : length ys ≤ length xs = count-le ys xs e (λ q k. h q ∙ k) in
-    omega (arith, one, other)
+alike-count xs ys d e h = length-from_same_keys names_it_alike xs ys (by-std xs d) (by-std ys e) h
 
 -- ---- the rulesets with an offer
 
