@@ -4,30 +4,24 @@ use Rattle.std.specs.Prelude.{nat_lt}
 use Rattle.std.proofs.lemmas.Bool.Decides.{nat_tests}
 use Rattle.std.proofs.lemmas.List.{length-append, take_all}
 use Rattle.std.proofs.lemmas.List.Sums.{fold_push}
-use Rattle.pf_rule.specs.Combining.{◌>>=◌}
 use Rattle.pf_core.specs.declared.command.Command.{Command}
-use Rattle.pf_core.specs.declared.command.Command.TheVariants.{Rollback}
-use Rattle.pf_core.specs.declared.command.Entry.{Entry}
 use Rattle.pf_core.specs.declared.reply.Answer.{Answer}
-use Rattle.pf_core.specs.declared.reply.Answer.TheVariants as answer
 use Rattle.pf_core.specs.declared.reply.Outcome.{Outcome}
 use Rattle.pf_core.specs.declared.reply.Refusal.{Refusal}
 use Rattle.pf_core.specs.declared.reply.Refusal.TheVariants.{HistoryFull, Memory}
-use Rattle.pf_core.specs.declared.reply.Reply.{Reply}
 use Rattle.pf_core.specs.declared.reply.Reply.TheVariants.{Answer as Answered, Applied, Refused}
 use Rattle.pf_core.specs.declared.step.Step.{Step}
 use Rattle.pf_core.specs.declared.step.Step.TheVariants.{Done, Wants}
 use Rattle.pf_core.specs.Calls.{Call, call}
 use Rattle.pf_core.specs.Edits.{Kept, Edit, applied, after}
-use Rattle.pf_core.specs.Legal.{legal_step, list_check, rollback_step, IsLegalStep}
+use Rattle.pf_core.specs.Legal.{legal_step, IsLegalStep}
 use Rattle.pf_core.specs.Pages.{Page, IsFolded, IsAt, Leads}
 use Rattle.pf_core.specs.Tickets.{AgreesWith}
 use Rattle.pf_core.specs.Wholes.{Whole}
 use Rattle.pf_core.specs.WorldLaws.{wants-mentions, agrees-refused}
-use Rattle.pf_core.specs.Worlds.{Held, upshot, flat, log_of, durable_of, step_in, if_ok, or_refused, due_at, grouped, group_at, due, group_in, LegalReply, StandsIn}
+use Rattle.pf_core.specs.Worlds.{Held, upshot, flat, log_of, durable_of, step_in, if_ok, or_refused, due_at, grouped, group_at, due, group_in, LegalReply}
 use Rattle.pf_core.proofs.LongerWorlds.{flat-push}
 use Rattle.pfd.specs.Books.{singles, IsMore, IsUnkept}
-use Rattle.pfd.specs.Replied.{IsRolledBack, done_unless}
 
 pub flat-singles : (es : List Edit) → flat (singles es) ≡ es
 flat-singles [] = refl

@@ -1,7 +1,7 @@
 use Rattle.std.proofs.Common.{◌∙◌, sym, []}
 use Rattle.pfd.specs.Pieces.{whole_from}
 use Rattle.pfd.specs.Serving.{FrontCutOff}
-use Rattle.pfd.proofs.Progress.{progress-more, progress-cut, progress-end, at-err}
+use Rattle.pfd.proofs.Progress.{progress-more, progress-cut, progress-end, at-err, progress-start}
 use Rattle.pfd.proofs.engine.answer_lines.Goals as goal
 
 pub returns-in_err-answer_line-clause-err : goal.returns-in_err-answer_line-clause-err
@@ -19,3 +19,6 @@ returns-clause-ok g c = (progress-end c.args.text.now c.loop-len.used (g.W.Write
 
 pub returns-clause-used : goal.returns-clause-used
 returns-clause-used g c = (c.loop-len.invariant.within, (progress-end c.args.text.now c.loop-len.used (g.W.Write.contents c.args.writer.now) (g.W.Write.contents c.loop-len.writer) c.args.book.now c.loop-len.book c.loop-len.invariant (sym c.line_len.ensures ∙ c.in_default.is)).1)
+
+pub loop-len-init : goal.loop-len-init
+loop-len-init g c = progress-start c.args.text.now (g.W.Write.contents c.args.writer.now) c.args.book.now
