@@ -1,4 +1,3 @@
-pub mod Booking
 pub mod Calling
 pub mod Answering
 pub mod Splitting
