@@ -1,3 +1,4 @@
+pub mod Booking
 pub mod Calling
 pub mod Answering
 pub mod Splitting

@@ -6,7 +6,7 @@ ghost use Rattle.pfd.specs.Serving.{Told, Answered, CutOff, FrontCutOff, IsSessi
 ghost use Rattle.pfd.specs.Lines.{newline};
 ghost use Rattle.pfd.specs.Pieces.{whole_from, rest_from, last_line, longest_line, ReadsBehind, ReadsNothing};
 
-use pf_book::Book;
+use crate::book::Book;
 use pf_core::{Refusal, Reply};
 use pf_line::{parse_line, write_reply};
 use std::alloc::Global;

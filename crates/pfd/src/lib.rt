@@ -1,9 +1,10 @@
 //! A control plane for rulesets of pf: commands come as lines, and each gets a reply. The program is a `main` over this.
 #![tactic(auto)]
 
+mod book;
 mod engine;
 mod program;
 
-pub use pf_book::Book;
+pub use book::Book;
 pub use engine::{EngineFault, serve_alone};
 pub use program::{start, without_words};

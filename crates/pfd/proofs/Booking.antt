@@ -21,7 +21,7 @@ use Rattle.pf_core.specs.Wholes.{Whole}
 use Rattle.pf_core.specs.WorldLaws.{wants-mentions, agrees-refused}
 use Rattle.pf_core.specs.Worlds.{Held, upshot, flat, log_of, durable_of, step_in, if_ok, or_refused, due_at, grouped, group_at, due, group_in, LegalReply}
 use Rattle.pf_core.proofs.LongerWorlds.{flat-push}
-use Rattle.pf_book.specs.Books.{singles, IsMore, IsUnkept}
+use Rattle.pfd.specs.Books.{singles, IsMore, IsUnkept}
 
 pub flat-singles : (es : List Edit) → flat (singles es) ≡ es
 flat-singles [] = refl

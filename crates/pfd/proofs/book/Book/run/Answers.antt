@@ -2,7 +2,7 @@ use Rattle.std.proofs.Common.{false}
 use Rattle.pf_core.specs.Calls.{call}
 use Rattle.pf_core.specs.Worlds.{upshot}
 use Rattle.pf_core.proofs.LongerWorlds.{stands-on}
-use Rattle.pf_book.proofs.book.Book.run.Goals as goal
+use Rattle.pfd.proofs.book.Book.run.Goals as goal
 
 pub returns-clause-worlds : goal.returns-clause-worlds
 returns-clause-worlds c = λ first world stands.

@@ -7,9 +7,9 @@ use Rattle.pf_core.specs.Edits.{Edit}
 use Rattle.pf_core.specs.Pages.{Page}
 use Rattle.pf_core.specs.Wholes.{Ready}
 use Rattle.pf_core.specs.Worlds.{flat}
-use Rattle.pf_book.specs.Books.{page_in, singles}
-use Rattle.pf_book.proofs.Booking.{flat-singles, singles-push, more-from, folded-more}
-use Rattle.pf_book.proofs.book.Book.keep.Goals as goal
+use Rattle.pfd.specs.Books.{page_in, singles}
+use Rattle.pfd.proofs.Booking.{flat-singles, singles-push, more-from, folded-more}
+use Rattle.pfd.proofs.book.Book.keep.Goals as goal
 
 pub returns-then-len-self-clause-err : goal.returns-then-len-self-clause-err
 returns-then-len-self-clause-err c =

@@ -1,8 +1,8 @@
 use Rattle.std.proofs.Common.{◌≡◌, sym, ap, ◌∙◌, subst, refl}
 use Rattle.pf_core.specs.Pages.{Page, IsAt}
-use Rattle.pf_book.specs.Books.{page_in, IsMore, IsUnkept}
-use Rattle.pf_book.proofs.Booking.{with_core, done-leads, refused-leads, refusal-is-legal, kept-leads, number-is, unkept-leads}
-use Rattle.pf_book.proofs.book.Book.call.Goals as goal
+use Rattle.pfd.specs.Books.{page_in, IsMore, IsUnkept}
+use Rattle.pfd.proofs.Booking.{with_core, done-leads, refused-leads, refusal-is-legal, kept-leads, number-is, unkept-leads}
+use Rattle.pfd.proofs.book.Book.call.Goals as goal
 
 pub returns-in-Ok-Done-clause-leads : goal.returns-in-Ok-Done-clause-leads
 returns-in-Ok-Done-clause-leads c = λ h now.

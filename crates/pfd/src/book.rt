@@ -4,8 +4,8 @@ ghost use Rattle.pf_core.specs.Calls.{call};
 ghost use Rattle.pf_core.specs.Edits.{Kept, kept, after, verdict};
 ghost use Rattle.pf_core.specs.Worlds.{Held, setting_with, upshot, Event, called, opened, flat, LegalReply, shown_by};
 ghost use Rattle.pf_core.specs.Pages.{IsAt, IsFolded, StandsFor, Leads};
-ghost use Rattle.pf_book.specs.Books.{IsMore, IsUnkept};
-ghost use Rattle.pf_book.specs.Replied.{IsNumbered, IsJudged, IsRolledBack, StaysIfRefused};
+ghost use Rattle.pfd.specs.Books.{IsMore, IsUnkept};
+ghost use Rattle.pfd.specs.Replied.{IsNumbered, IsJudged, IsRolledBack, StaysIfRefused};
 
 use pf_core::{Change, Command, Core, Durable, Refusal, Reply, Step, Verdict};
 use pf_rule::Packet;
@@ -34,7 +34,7 @@ impl Model for Book {
 
     ghost Value = { Page };
 
-    ghost use Rattle.pf_book.specs.Books.{page_in};
+    ghost use Rattle.pfd.specs.Books.{page_in};
 
     ghost view = { λ b. page_in b };
 

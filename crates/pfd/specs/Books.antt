@@ -11,7 +11,7 @@ use Rattle.pf_core.specs.Edits.{Edit, voided_by}
 use Rattle.pf_core.specs.Pages.{Page}
 use Rattle.pf_core.specs.Tickets.{AgreesWith}
 use Rattle.pf_core.specs.Worlds.{flat}
-use Rattle.pf_book.specs.declared.book.Book.TheInside.{Inside}
+use Rattle.pfd.specs.declared.book.Book.TheInside.{Inside}
 
 -- each change is a group of its own
 abbrev pub singles : List Edit → List (List Edit)

@@ -4,8 +4,8 @@ use Rattle.std.specs.Arc.{arc_value}
 use Rattle.pf_core.specs.Edits.{Kept, kept}
 use Rattle.pf_core.specs.Worlds.{setting_with}
 use Rattle.pf_core.proofs.LongerWorlds.{stands-opened}
-use Rattle.pf_book.specs.Books.{singles}
-use Rattle.pf_book.proofs.book.Book.fresh.Goals as goal
+use Rattle.pfd.specs.Books.{singles}
+use Rattle.pfd.proofs.book.Book.fresh.Goals as goal
 
 pub returns-clause-stands : goal.returns-clause-stands
 returns-clause-stands c =
