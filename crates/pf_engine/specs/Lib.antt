@@ -1,0 +1,4 @@
+pub mod Lines
+pub mod Laws
+pub mod Sessions
+pub mod Pieces
