@@ -10,6 +10,7 @@ use Rattle.pf_engine.specs.Lines.{newline, whole_lines, rest_of, seen}
 use Rattle.pf_engine.specs.declared.fault.EngineFault.{EngineFault}
 use Rattle.pf_engine.specs.declared.fault.EngineFault.TheVariants as fault
 use Rattle.pf_engine.specs.Sessions.{Answered, CutOff}
+use Rattle.pf_engine.specs.SessionLaws.{keeps-self}
 use Rattle.pf_engine.specs.Pieces.{Answers}
 use Rattle.pf_engine.proofs.Splitting.{first-line, no-line}
 
@@ -28,11 +29,7 @@ ServesSeen {S = S} Serves = (old new : S) (lines : List (List ℕ)) (text : List
 
 -- ---- bytes that are known
 
-pub keeps-self : (held : Option (List ℕ)) → Keeps held held
-keeps-self None = tt
-keeps-self (Some xs) = refl
-
-pub appends-kept : (held held' : Option (List ℕ)) → Keeps held held' → Appends held held' []
+appends-kept : (held held' : Option (List ℕ)) → Keeps held held' → Appends held held' []
 appends-kept held held' keeps = Appends-kept held held held' [] (Appends-none held) keeps
 
 -- ---- lines that were answered

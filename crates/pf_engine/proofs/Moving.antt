@@ -2,23 +2,13 @@
 use Rattle.std.proofs.Common.{◌≡◌, ℕ, zero, suc, ◌+◌, ◌<◌, ◌≤◌, List, [], ◌∷◌, ◌++◌, length, take, drop, refl, sym, ap, ◌∙◌, arith, length-drop, ◌⊎◌, inl, inr}
 use Rattle.std.specs.Prelude.{◌-◌, min}
 use Rattle.std.specs.List.{copy_within}
-use Rattle.std.proofs.lemmas.List.{take-take, take-append-le, drop-take, length-take}
-
-pub all-of : (m : ℕ) (xs : List ℕ) → length xs ≤ m → take m xs ≡ xs
-all-of zero [] h = refl
-all-of zero (x ∷ xs) h = absurd (omega arith)
-all-of (suc m) [] h = refl
-all-of (suc m) (x ∷ xs) h = ap (λ (l : List ℕ). x ∷ l) (all-of m xs (omega arith))
-
-pub low-or-high : (k m : ℕ) → (k ≤ m) ⊎ (m < k)
-low-or-high zero m = inl (omega arith)
-low-or-high (suc k) zero = inr (omega arith)
-low-or-high (suc k) (suc m) = elim (low-or-high k m) [ inl h ↦ inl (omega arith) | inr h ↦ inr (omega arith) ]
+use Rattle.std.proofs.lemmas.Bool.{cases_lt}
+use Rattle.std.proofs.lemmas.List.{take_all, take-take, take-append-le, drop-take, length-take}
 
 pub take-min : (m r : ℕ) (xs : List ℕ) → r ≡ min (length xs) m → take r xs ≡ take m xs
-take-min m r xs e = elim (low-or-high (length xs) m) [
-  | inl h ↦ all-of r xs (omega arith) ∙ sym (all-of m xs h)
-  | inr h ↦ let f : r ≡ m = omega arith in ap (λ (k : ℕ). take k xs) f
+take-min m r xs e = elim (cases_lt m (length xs)) [
+  | inl h ↦ let f : r ≡ m = omega arith in ap (λ (k : ℕ). take k xs) f
+  | inr h ↦ take_all r xs (omega arith) ∙ sym (take_all m xs h)
 ]
 
 pub moved : (buffer : List ℕ) (filled used rest m : ℕ) → filled ≤ length buffer → used ≤ length (take filled buffer) → rest ≡ min (filled - used) m →

@@ -6,8 +6,9 @@ use Rattle.pf_engine.specs.declared.fault.EngineFault.{EngineFault}
 use Rattle.pf_engine.specs.declared.fault.EngineFault.TheVariants as fault
 use Rattle.pf_engine.specs.Lines.{whole_lines, rest_of, last_line, lines_of, seen}
 use Rattle.pf_engine.specs.Sessions.{Answered, CutOff, IsSession}
+use Rattle.pf_engine.specs.SessionLaws.{keeps-self, consumes-kept}
 use Rattle.pf_engine.specs.Pieces.{Answers, ReadsBehind, ReadsNothing}
-use Rattle.pf_engine.proofs.Answering.{Server, ServesNone, ServesThen, ServesSeen, keeps-self, answered-none, answered-then, answered-kept, cut-behind, cut-then, answered-seen, cut-seen}
+use Rattle.pf_engine.proofs.Answering.{Server, ServesNone, ServesThen, ServesSeen, answered-none, answered-then, answered-kept, cut-behind, cut-then, answered-seen, cut-seen}
 use Rattle.pf_engine.proofs.Splitting.{lines-more, rest-more, lines-end}
 
 -- the whole lines of the input are answered, and what is kept is what is seen of the rest
@@ -24,11 +25,6 @@ consumes-then None b c x y p q = tt
 consumes-then (Some xs) None c x y p q = absurd p
 consumes-then (Some xs) (Some ys) None x y p q = absurd q
 consumes-then (Some xs) (Some ys) (Some zs) x y p q = p ∙ ap (λ (t : List ℕ). x ++ t) q ∙ sym (append_assoc x y zs)
-
-pub consumes-kept : (a b : Option (List ℕ)) → Keeps a b → Consumes a b []
-consumes-kept None b k = tt
-consumes-kept (Some xs) None k = absurd k
-consumes-kept (Some xs) (Some ys) k = sym k
 
 consumes-still : (u v w : Option (List ℕ)) (x : List ℕ) → Consumes u v x → Consumes v w [] → Consumes u w x
 consumes-still u v w x p none = subst (λ (l : List ℕ). Consumes u w l) (append-nil x) (consumes-then u v w x [] p none)

@@ -17,9 +17,7 @@ use Rattle.pf_rule.specs.declared.fault.Kind.TheVariants as kinds
 use Rattle.pf_rule.specs.declared.fault.Misread.{Misread}
 use Rattle.pf_rule.specs.declared.fault.Misread.TheVariants.{Stopped, MixedFamily}
 use Rattle.pfd.specs.Serving.{Says, Continues, Told}
-
-pub continues-still : (page : Page) → Continues page page []
-continues-still page = λ base world stands. subst (λ (w : List Call). StandsFor base page w) (sym (append-nil world)) stands
+use Rattle.pfd.specs.ServingLaws.{continues-still}
 
 pub told-silence : (at : Result (Option Command) Refusal) (page : Page) → Parses (Ok None) at → Told at None page page
 told-silence at page (inl e) = subst (λ (a : Result (Option Command) Refusal). Told a None page page) e ([], (refl, refl), continues-still page)
@@ -37,7 +35,7 @@ says-refusal e = (refl, inl refl)
 -- in place of a command or of another refusal there was no memory
 instead : (at : Result (Option Command) Refusal) (page : Page) → (at ≡ Ok None → ⊥) → (at ≡ Err BadLine → ⊥) → Told at (Some (Refused Memory)) page page
 instead (Ok None) page loud good = absurd (loud refl)
-instead (Ok (Some c)) page loud good = (call c (Refused Memory) ∷ [], (Refused Memory, refl, refl), λ base world stands. stands-refused base page world c stands)
+instead (Ok (Some c)) page loud good = (call c (Refused Memory) ∷ [], (Refused Memory, refl, refl), record { stands = λ base world stands. stands-refused base page world c stands; limit = refl; })
 instead (Err BadLine) page loud good = absurd (good refl)
 instead (Err e) page loud good = ([], (refl, inr refl), continues-still page)
 

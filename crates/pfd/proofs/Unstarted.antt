@@ -4,9 +4,10 @@ use Rattle.std.specs.Io.KnownBytes.{Keeps}
 use Rattle.pf_core.specs.Edits.{kept}
 use Rattle.pf_core.specs.Tickets.{Agrees, open_with}
 use Rattle.pf_core.specs.Worlds.{Page, page, whole, StandsFor}
-use Rattle.pfd.specs.declared.engine.EngineFault.TheVariants.{Memory}
+use Rattle.pf_engine.specs.declared.fault.EngineFault.TheVariants.{Memory}
+use Rattle.pf_engine.specs.SessionLaws.{session-unstarted}
+use Rattle.pfd.specs.Serving.{Serves}
 use Rattle.pfd.specs.Program.{Ran}
-use Rattle.pfd.proofs.Answering.{consumes-kept}
 
 abbrev empty : Page
 empty = page (whole (kept 1 []) (open_with 1 1 [])) [] 65536 (kept 1 [])
@@ -33,5 +34,5 @@ ran-none unread unread' held held' r w = record {
   new = empty;
   fresh = empty-stands;
   limit = refl;
-  session = ([], consumes-kept unread unread' r, (refl, w, refl));
+  session = session-unstarted Serves empty unread unread' held held' r w;
 }

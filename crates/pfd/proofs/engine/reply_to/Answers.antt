@@ -3,7 +3,7 @@ use Rattle.pfd.proofs.Calling.{told-reply, told-refusal}
 use Rattle.pfd.proofs.engine.reply_to.Goals as goal
 
 pub returns-in-Ok-Some : goal.returns-in-Ok-Some
-returns-in-Ok-Some c = told-reply (line_at c.args.line.now) c.in-Ok-Some.command c.run.result c.args.book.now c.run.new.self (rw c.in-Ok-Some.field-0-is at c.in-Ok-Some.ensures.exact) c.run.ensures.worlds
+returns-in-Ok-Some c = told-reply (line_at c.args.line.now) c.in-Ok-Some.command c.run.result c.args.book.now c.run.new.self (rw c.in-Ok-Some.field-0-is at c.in-Ok-Some.ensures.exact) (record { stands = c.run.ensures.worlds; limit = c.run.ensures.limit; })
 
 pub returns-in-Err : goal.returns-in-Err
 returns-in-Err c = told-refusal c.args.line.now c.in-Err.refusal c.args.book.now c.in-Err.ensures.exact c.in-Err.ensures.silent c.in-Err.ensures.bad
