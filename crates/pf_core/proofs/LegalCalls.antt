@@ -1,5 +1,5 @@
 -- What a call mentions whose reply is legal, and what held then.
-use Rattle.std.proofs.Common.{◌≡◌, ℕ, ◌+◌, ◌-◌, ◌<◌, ◌≤◌, Bool, true, false, not, cond, ◌&&◌, List, [], ◌∷◌, length, refl, sym, ap, ◌∙◌, subst, Option, None, Result, Ok, Err, arith}
+use Rattle.std.proofs.Common.{◌≡◌, ℕ, ◌+◌, ◌-◌, ◌<◌, ◌≤◌, Bool, true, false, not, cond, ◌&&◌, List, [], ◌∷◌, length, refl, sym, ap, ◌∙◌, subst, inl, inr, Option, None, Result, Ok, Err, arith}
 use Rattle.std.specs.Prelude.{fold, nat_lt, nat_le}
 use Rattle.std.proofs.lemmas.Bool.Decides.{nat_tests}
 use Rattle.pf_rule.specs.Rules.{PlainRule}
@@ -19,9 +19,9 @@ use Rattle.pf_core.specs.declared.reply.Reply.TheVariants.{Answer as Answered, A
 use Rattle.pf_core.specs.declared.step.Step.{Step}
 use Rattle.pf_core.specs.declared.step.Step.TheVariants.{Done, Wants}
 use Rattle.pf_core.specs.Calls.{Call, filter_at, tickets_from, is_ticket, same_name, given_in, Mention, added, gives, switches, drops, mentioned, mentions, touched, valid_ticket, rules_offered, content, tickets_given, next_count, has_ticket, opened_with, Facts, facts}
-use Rattle.pf_core.specs.Edits.{Kept, Edit, commits, after, voided_by}
+use Rattle.pf_core.specs.Edits.{Kept, Edit, commits, voided_by}
 use Rattle.pf_core.specs.Legal.{bad_count, rule_limit, ruleset_limit, last_count, is_valid, list_check, given, begin_step, add_step, items, rulesets_after, legal_step}
-use Rattle.pf_core.specs.Worlds.{Held, step_in, reply_to, LegalReply}
+use Rattle.pf_core.specs.Worlds.{Held, log_of, durable_of, step_in, room_for, if_ok, or_refused, due_at, grouped, group_at, LegalReply}
 use Rattle.pf_core.specs.WorldLaws.{wants-mentions, refused-mentions}
 use Rattle.pf_core.proofs.Switching.{unrefused, not-refused, IsWanted, commit-wants}
 
@@ -150,35 +150,45 @@ wanted-by epoch calls d (ShowRules p) e o h = absurd (cc (h))
 
 -- ---- by the reply
 
-not-room : (b : Bool) (a : Answer) (n : ℕ) (o : Outcome) → Answered a ≡ cond b (Applied n o) (Refused HistoryFull) → ⊥
-not-room true a n o h = cc (h)
-not-room false a n o h = cc (h)
+no-answer : (room : Result (Unit {0}) Refusal) (a : Answer) (n : ℕ) (o : Outcome) → Answered a ≡ or_refused room (Applied n o) → ⊥
+no-answer (Ok u) a n o h = cc (h)
+no-answer (Err e) a n o h = cc (h)
 
-answered-step : (limit : ℕ) (log : List Edit) (s : Result Step Refusal) (a : Answer) → Answered a ≡ reply_to limit log s → s ≡ Ok (Done a)
-answered-step limit log (Ok (Done b)) a h = let same : a ≡ b = cc (h) in ap (λ (x : Answer). Ok (Done x)) (sym same)
-answered-step limit log (Ok (Wants e o)) a h = absurd (not-room (nat_lt (length log) limit) a (length log + 1) o h)
-answered-step limit log (Err e) a h = absurd (cc (h))
+answered-step : (h : Held) (s : Result Step Refusal) (a : Answer) → Answered a ≡ due_at h s → s ≡ Ok (Done a)
+answered-step h (Ok (Done b)) a is = let same : a ≡ b = cc (is) in ap (λ (x : Answer). Ok (Done x)) (sym same)
+answered-step h (Ok (Wants e o)) a is = absurd (no-answer (room_for h (e ∷ [])) a (length (log_of h) + 1) o is)
+answered-step h (Err e) a is = absurd (cc (is))
 
--- what was applied was wanted, and the history had room
-pub record IsApplied (limit : ℕ) (log : List Edit) (s : Result Step Refusal) (o : Outcome) : Type 0 where
+-- what was applied was wanted, and there was room for it
+pub record IsApplied (h : Held) (s : Result Step Refusal) (n : ℕ) (o : Outcome) : Type 0 where
   pub change : Edit
   pub wanted : s ≡ Ok (Wants change o)
-  pub room : length log < limit
+  pub number : n ≡ length (log_of h) + 1
+  pub room : length (log_of h) + 1 ≤ h.setting.limit
+  pub group : group_at h s ≡ (change ∷ []) ∷ []
 
-with-room : (limit k n : ℕ) (b : Bool) (o x : Outcome) → nat_lt k limit ≡ b → Applied n o ≡ cond b (Applied (k + 1) x) (Refused HistoryFull) → (o ≡ x) × (k < limit)
-with-room limit k n true o x e h = (cc (h), grind (arith, nat_tests, e))
-with-room limit k n false o x e h = absurd (cc (h))
+with-room : (h : Held) (e : Edit) (n : ℕ) (o x : Outcome) (full : Bool) → nat_lt h.setting.limit (length (log_of h) + 1) ≡ full → Applied n o ≡ or_refused (cond full (Err HistoryFull) (Ok tt)) (Applied (length (log_of h) + 1) x) → IsApplied h (Ok (Wants e x)) n o
+with-room h e n o x true k is = absurd (cc (is))
+with-room h e n o x false k is =
+    let same : o ≡ x = cc (is) in
+    record {
+      change = e;
+      wanted = ap (λ (y : Outcome). Ok (Wants e y)) (sym same);
+      number = cc (is);
+      room = grind (arith, nat_tests, k);
+      group = ap (λ (b : Bool). if_ok (cond b (Err HistoryFull) (Ok tt)) (grouped (e ∷ [])) []) k;
+    }
 
-pub applied-step : (limit : ℕ) (log : List Edit) (s : Result Step Refusal) (n : ℕ) (o : Outcome) → Applied n o ≡ reply_to limit log s → IsApplied limit log s o
-applied-step limit log (Ok (Done a)) n o h = absurd (cc (h))
-applied-step limit log (Ok (Wants e x)) n o h =
-    let both : (o ≡ x) × (length log < limit) = with-room limit (length log) n (nat_lt (length log) limit) o x refl h in
-    record { change = e; wanted = ap (λ (y : Outcome). Ok (Wants e y)) (sym both.0); room = both.1 }
-applied-step limit log (Err e) n o h = absurd (cc (h))
+pub applied-step : (h : Held) (s : Result Step Refusal) (n : ℕ) (o : Outcome) → Applied n o ≡ due_at h s → IsApplied h s n o
+applied-step h (Ok (Done a)) n o is = absurd (cc (is))
+applied-step h (Ok (Wants e x)) n o is = with-room h e n o x (nat_lt h.setting.limit (length (log_of h) + 1)) refl is
+applied-step h (Err e) n o is = absurd (cc (is))
 
-pub legal-brings : (base : Kept) (limit : ℕ) (h : Held) (c : Command) (r : Reply) → LegalReply base limit h c r → Brings base.epoch (mentions h.calls) (mentioned c r)
-legal-brings base limit h c (Answered a) legal = answered-brings base.epoch h.calls (after base h.log) c a (answered-step limit h.log (step_in base h c) a (legal (λ m. cc (m))))
-legal-brings base limit h c (Applied n o) legal =
-    let was : IsApplied limit h.log (step_in base h c) o = applied-step limit h.log (step_in base h c) n o (legal (λ m. cc (m))) in
-    voids (subst OnlyVoid (sym (wants-mentions base.epoch h.calls (after base h.log) c was.change o n was.wanted)) (switches-void (voided_by was.change)))
-legal-brings base limit h c (Refused e) legal = voids (subst OnlyVoid (sym (refused-mentions c e)) nothing-voids)
+pub legal-brings : (h : Held) (c : Command) (r : Reply) (failed : Bool) → LegalReply h c r failed → Brings h.base.epoch (mentions h.calls) (mentioned c r)
+legal-brings h c (Answered a) failed (inl is) = answered-brings h.base.epoch h.calls (durable_of h) c a (answered-step h (step_in h c) a is)
+legal-brings h c (Answered a) failed (inr none) = absurd none
+legal-brings h c (Applied n o) failed (inl is) =
+    let was : IsApplied h (step_in h c) n o = applied-step h (step_in h c) n o is in
+    voids (subst OnlyVoid (sym (wants-mentions h.base.epoch h.calls (durable_of h) c was.change o n was.wanted)) (switches-void (voided_by was.change)))
+legal-brings h c (Applied n o) failed (inr none) = absurd none
+legal-brings h c (Refused e) failed legal = voids (subst OnlyVoid (sym (refused-mentions c e)) nothing-voids)

@@ -13,6 +13,7 @@ pub mod Voiding
 pub mod Others
 pub mod LegalCalls
 pub mod Standing
+pub mod LongerWorlds
 pub mod Limits
 pub mod MapOrder
 pub mod PathTexts

@@ -9,7 +9,9 @@ pub mod Calls
 pub mod Tickets
 pub mod Legal
 pub mod Offers
+pub mod Wholes
 pub mod Worlds
+pub mod Pages
 pub mod NameLaws
 pub mod WorldLaws
 pub mod Laws

@@ -1,4 +1,4 @@
--- What one call leaves alone, and what holds after every world whose replies are legal.
+-- What one call leaves alone, and what holds after every world.
 use Rattle.std.specs.Prelude.{◌≡◌, ℕ, ◌≤◌, false, List, [], ◌∷◌, ◌++◌, length}
 use Rattle.std.specs.List.{list_any}
 use Rattle.pf_core.specs.declared.command.Command.{Command}
@@ -6,10 +6,10 @@ use Rattle.pf_core.specs.declared.command.Command.TheVariants.{Begin, Add, Commi
 use Rattle.pf_core.specs.declared.command.RulesetName.{RulesetName}
 use Rattle.pf_core.specs.declared.command.Ticket.{Ticket}
 use Rattle.pf_core.specs.Calls.{Call, Mention, mentions, is_named, names_of, filter_at, same_ticket, valid_ticket, content, open_rulesets, tickets_given, AreNumbered}
-use Rattle.pf_core.specs.Edits.{Kept, after}
+use Rattle.pf_core.specs.Edits.{Kept}
 use Rattle.pf_core.specs.Legal.{rule_limit, ruleset_limit, last_count}
 use Rattle.pf_core.specs.Rulesets.{rules_at}
-use Rattle.pf_core.specs.Worlds.{at_start, held_after, IsLegalFrom}
+use Rattle.pf_core.specs.Worlds.{Held, up, down, Event, flat, log_of, durable_of, state_after, IsWorld}
 
 -- ---- what one call leaves alone
 
@@ -31,7 +31,7 @@ pub record IsLeftAlone (calls : List Call) (c : Call) (name : RulesetName) : Typ
 abbrev pub LeavesTheOthers : Type 0
 LeavesTheOthers = (calls : List Call) (c : Call) (name : RulesetName) → is_named (names_in c.command) name ≡ false → IsLeftAlone calls c name
 
--- ---- what holds after every legal world
+-- ---- what holds after every world
 
 -- no ticket stands twice
 abbrev pub AreOnce : List Ticket → Type 0
@@ -43,21 +43,30 @@ pub record AreGivenOnce (epoch : ℕ) (ms : List Mention) : Type 0 where
   pub numbered : AreNumbered epoch ms
   pub once : AreOnce (tickets_given ms)
 
+-- of each opening that a world comes to
 abbrev pub GivesEachOnce : Type 0
-GivesEachOnce = (base : Kept) (limit : ℕ) (world : List Call) → IsLegalFrom base limit at_start world → AreGivenOnce base.epoch (mentions world)
+GivesEachOnce = (first : Kept) (world : List Event) (h : Held) → IsWorld first world → state_after (down first) world ≡ up h → AreGivenOnce h.base.epoch (mentions h.calls)
 
 -- what is kept is within the limits
 pub record IsWithin (d : Kept) : Type 0 where
   pub rulesets : length d.rulesets ≤ ruleset_limit
   pub rules : (p : List ℕ) → length (rules_at p d.rulesets) ≤ rule_limit
 
--- what the calls say is within the limits, and so is what they kept
-pub record AreWithin (base : Kept) (limit : ℕ) (world : List Call) : Type 0 where
-  pub given : length (tickets_given (mentions world)) ≤ last_count
-  pub opened : length (open_rulesets (mentions world)) ≤ ruleset_limit
-  pub offered : (name : RulesetName) → length (content (mentions world) name) ≤ rule_limit
-  pub log : length (held_after base world).log ≤ limit
-  pub kept : IsWithin (after base (held_after base world).log)
+-- what the calls of an opening say is within the limits, and so is what they kept
+pub record AreWithin (h : Held) : Type 0 where
+  pub given : length (tickets_given (mentions h.calls)) ≤ last_count
+  pub opened : length (open_rulesets (mentions h.calls)) ≤ ruleset_limit
+  pub offered : (name : RulesetName) → length (content (mentions h.calls) name) ≤ rule_limit
+  pub log : length (log_of h) ≤ h.setting.limit
+  pub kept : IsWithin (durable_of h)
 
 abbrev pub KeepsTheLimits : Type 0
-KeepsTheLimits = (base : Kept) (limit : ℕ) (world : List Call) → IsWithin base → IsLegalFrom base limit at_start world → AreWithin base limit world
+KeepsTheLimits = (first : Kept) (world : List Event) (h : Held) → IsWithin first → IsWorld first world → state_after (down first) world ≡ up h → AreWithin h
+
+-- every change is acknowledged, and every acknowledged change is shown
+pub record AllIsShown (h : Held) : Type 0 where
+  pub acknowledged : log_of h ≡ flat h.acked
+  pub shown : h.shown ≡ length (flat h.acked)
+
+abbrev pub ShowsAll : Type 0
+ShowsAll = (first : Kept) (world : List Event) (h : Held) → IsWorld first world → state_after (down first) world ≡ up h → AllIsShown h

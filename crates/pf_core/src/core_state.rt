@@ -13,7 +13,7 @@ ghost use Rattle.pf_core.specs.Legal.{items, ruleset_limit, commit_step, rollbac
 ghost use Rattle.pf_core.specs.Offers.{all_out, IsNeverDone};
 ghost use Rattle.pf_core.specs.Tickets.{AgreesWith, rules_under, facts_in};
 ghost use Rattle.pf_core.specs.Rulesets.{with_rules};
-ghost use Rattle.pf_core.specs.Worlds.{ready, StaysUnlessDone, AgreesAfter};
+ghost use Rattle.pf_core.specs.Wholes.{ready, StaysUnlessDone, AgreesAfter};
 
 use crate::change::{Change, Kind};
 use crate::command::{Command, Entry, RulesetName};
@@ -39,7 +39,7 @@ pub struct Core {
 
 impl Model for Core {
     ghost use Rattle.std.specs.Arc.{arc_value};
-    ghost use Rattle.pf_core.specs.Worlds.{Whole, whole};
+    ghost use Rattle.pf_core.specs.Wholes.{Whole, whole};
 
     ghost Value = { Whole };
 
@@ -55,7 +55,7 @@ pub struct Next {
 
 impl Model for Next {
     ghost use Rattle.std.specs.Arc.{arc_value};
-    ghost use Rattle.pf_core.specs.Worlds.{Ready, ready};
+    ghost use Rattle.pf_core.specs.Wholes.{Ready, ready};
 
     ghost Value = { Ready };
 

@@ -1,6 +1,6 @@
 //! What follows from the definitions that contracts cite: functions that do nothing, whose contracts are the laws.
 ghost use Rattle.pf_core.specs.Laws.{ReplacesTheNamed, ReplacesExactly, SamePathIsEqual, OneMap, SwitchesAll, VoidsTheNamed, KeepsNoneValid, ValidIsGivenLast, GivenLastIsValid};
-ghost use Rattle.pf_core.specs.WorldFacts.{LeavesTheOthers, GivesEachOnce, KeepsTheLimits};
+ghost use Rattle.pf_core.specs.WorldFacts.{LeavesTheOthers, GivesEachOnce, KeepsTheLimits, ShowsAll};
 ghost use Rattle.pf_core.specs.PathLaws.{FaultsNoPath, FaultsAllElse, ReadsWhatIsSpelled, ReadsAllThatIsSpelled, WritesWhatWasRead, ReadsWhatIsWritten};
 
 /// Exactly the named ruleset is replaced, and all else stays.
@@ -46,15 +46,20 @@ pub fn leaves_the_others()
     ensures { LeavesTheOthers }
 {}
 
-/// In a world whose replies are legal the tickets given are numbered from 1 on, and none is given twice.
+/// In each opening that a world comes to the tickets given are numbered from 1 on, and none is given twice.
 pub fn gives_each_ticket_once()
     ensures { GivesEachOnce }
 {}
 
-/// After every world whose replies are legal, and that began within the limits, all of them hold: of rules, rulesets,
-/// tickets and history.
+/// In each opening that a world comes to, where what was held first is within the limits, all of them hold: of rules,
+/// rulesets, tickets and history.
 pub fn keeps_the_limits()
     ensures { KeepsTheLimits }
+{}
+
+/// In each opening that a world comes to every change is acknowledged, and is shown.
+pub fn shows_all()
+    ensures { ShowsAll }
 {}
 
 /// A word has no fault exactly where it is a path by the grammar.

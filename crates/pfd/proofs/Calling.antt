@@ -6,9 +6,10 @@ use Rattle.pf_core.specs.declared.reply.Refusal.{Refusal}
 use Rattle.pf_core.specs.declared.reply.Refusal.TheVariants.{BadLine, Memory}
 use Rattle.pf_core.specs.declared.reply.Reply.{Reply}
 use Rattle.pf_core.specs.declared.reply.Reply.TheVariants.{Refused}
-use Rattle.pf_core.specs.Calls.{Call, call}
-use Rattle.pf_core.specs.Worlds.{Page, StandsFor}
-use Rattle.pf_core.specs.WorldLaws.{stands-refused}
+use Rattle.pf_core.specs.Calls.{call}
+use Rattle.pf_core.specs.Pages.{Page, StandsFor}
+use Rattle.pf_core.specs.Worlds.{Upshot, upshot, Event, called}
+use Rattle.pf_core.proofs.LongerWorlds.{stands-refused}
 use Rattle.pf_line.specs.Lines.{Parses, line_at, is_bad_line, is_silent, refusal_at, refusal_in, said, said_by}
 use Rattle.pf_line.specs.Reading.{line_read}
 use Rattle.pf_line.specs.Replies.{reply_text}
@@ -23,9 +24,9 @@ pub told-silence : (at : Result (Option Command) Refusal) (page : Page) → Pars
 told-silence at page (inl e) = subst (λ (a : Result (Option Command) Refusal). Told a None page page) e ([], (refl, refl), continues-still page)
 told-silence at page (inr m) = absurd (cc (m))
 
-pub told-reply : (at : Result (Option Command) Refusal) (c : Command) (r : Reply) (old new : Page) → Parses (Ok (Some c)) at → Continues old new (call c r ∷ []) → Told at (Some r) old new
-told-reply at c r old new (inl e) continues = subst (λ (a : Result (Option Command) Refusal). Told a (Some r) old new) e (call c r ∷ [], (r, refl, refl), continues)
-told-reply at c r old new (inr m) continues = absurd (cc (m))
+pub told-reply : (at : Result (Option Command) Refusal) (c : Command) (r : Reply) (t : Upshot) (old new : Page) → Parses (Ok (Some c)) at → Continues old new (called (call c r) t ∷ []) → Told at (Some r) old new
+told-reply at c r t old new (inl e) continues = subst (λ (a : Result (Option Command) Refusal). Told a (Some r) old new) e (called (call c r) t ∷ [], (r, t, refl, refl), continues)
+told-reply at c r t old new (inr m) continues = absurd (cc (m))
 
 -- a refusal is told by its own reply
 says-refusal : (e : Refusal) → Says (Err e) [] (reply_text (Refused e))
@@ -35,7 +36,9 @@ says-refusal e = (refl, inl refl)
 -- in place of a command or of another refusal there was no memory
 instead : (at : Result (Option Command) Refusal) (page : Page) → (at ≡ Ok None → ⊥) → (at ≡ Err BadLine → ⊥) → Told at (Some (Refused Memory)) page page
 instead (Ok None) page loud good = absurd (loud refl)
-instead (Ok (Some c)) page loud good = (call c (Refused Memory) ∷ [], (Refused Memory, refl, refl), record { stands = λ base world stands. stands-refused base page world c stands; limit = refl; })
+instead (Ok (Some c)) page loud good =
+    let t : Upshot = upshot page.shown false in
+    (called (call c (Refused Memory)) t ∷ [], (Refused Memory, t, refl, refl), record { worlds = λ first world stands. stands-refused first page world c stands; limit = refl })
 instead (Err BadLine) page loud good = absurd (good refl)
 instead (Err e) page loud good = ([], (refl, inr refl), continues-still page)
 

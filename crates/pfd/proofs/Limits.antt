@@ -1,6 +1,6 @@
 -- A session keeps the history's limit.
 use Rattle.std.proofs.Common.{◌≡◌, ℕ, List, Option, Result, Ok, Err, inl, inr, ap, ◌∙◌}
-use Rattle.pf_core.specs.Worlds.{Page}
+use Rattle.pf_core.specs.Pages.{Page}
 use Rattle.pf_engine.specs.declared.fault.EngineFault.{EngineFault}
 use Rattle.pf_engine.specs.declared.fault.EngineFault.TheVariants as fault
 use Rattle.pf_engine.specs.Sessions.{CutOff, Ends}

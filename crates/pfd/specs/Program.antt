@@ -3,7 +3,8 @@ use Rattle.std.specs.Prelude.{◌≡◌, ℕ, List, [], ◌∷◌, Option, Resul
 use Rattle.std.specs.declared.io.ErrorKind.{ErrorKind}
 use Rattle.std.specs.declared.io.ErrorKind.TheVariants.{OutOfMemory}
 use Rattle.pf_core.specs.Edits.{kept}
-use Rattle.pf_core.specs.Worlds.{Page, StandsFor}
+use Rattle.pf_core.specs.Pages.{Page, StandsFor}
+use Rattle.pf_core.specs.Worlds.{setting_with, opened}
 use Rattle.pf_engine.specs.declared.fault.EngineFault.{EngineFault}
 use Rattle.pf_engine.specs.Sessions.{IsSession}
 use Rattle.pfd.specs.Serving.{Serves}
@@ -16,7 +17,7 @@ IsRun words = (name : List ℕ) × (words ≡ name ∷ codes "run" ∷ [])
 pub record Ran (result : Result (Unit {0}) EngineFault) (unread unread' held held' : Option (List ℕ)) : Type 0 where
   pub old : Page
   pub new : Page
-  pub fresh : StandsFor (kept 1 []) old []
+  pub fresh : StandsFor (kept 0 []) old (opened (setting_with 65536) ∷ [])
   pub limit : old.limit ≡ 65536
   pub session : IsSession Serves result unread unread' old new held held'
 

@@ -1,37 +1,35 @@
 -- What a book's replies say by themselves.
-use Rattle.std.specs.Prelude.{◌≡◌, length, ⊤}
+use Rattle.std.specs.Prelude.{◌≡◌, length, ⊤, Result, Ok, Err}
 use Rattle.pf_core.specs.declared.command.Command.{Command}
-use Rattle.pf_core.specs.declared.command.Command.TheVariants.{Begin, Add, Commit, Rollback, Judge, ShowRules}
+use Rattle.pf_core.specs.declared.command.Command.TheVariants.{Rollback, Judge}
 use Rattle.pf_core.specs.declared.reply.Answer.TheVariants as answer
+use Rattle.pf_core.specs.declared.reply.Refusal.{Refusal}
 use Rattle.pf_core.specs.declared.reply.Reply.{Reply}
 use Rattle.pf_core.specs.declared.reply.Reply.TheVariants.{Answer, Applied, Refused}
 use Rattle.pf_core.specs.Edits.{Kept, verdict}
-use Rattle.pf_core.specs.Legal.{rollback_step}
-use Rattle.pf_core.specs.Worlds.{Page, reply_to}
+use Rattle.pf_core.specs.Legal.{list_check}
+use Rattle.pf_core.specs.Pages.{Page}
+use Rattle.pf_core.specs.Worlds.{flat}
 
--- a change's number is how many changes the log then has
+-- a change's number is how many changes were acknowledged by then
 abbrev pub IsNumbered : Reply → Page → Type 0
 IsNumbered (Answer a) new = ⊤
-IsNumbered (Applied seq outcome) new = seq ≡ length new.log
+IsNumbered (Applied seq outcome) new = seq ≡ length (flat new.acked)
 IsNumbered (Refused e) new = ⊤
 
 -- a packet is always judged, and by what is kept
 abbrev pub IsJudged : Kept → Command → Reply → Type 0
-IsJudged d (Begin names) r = ⊤
-IsJudged d (Add p t rule) r = ⊤
-IsJudged d (Commit entries) r = ⊤
-IsJudged d (Rollback entries) r = ⊤
 IsJudged d (Judge packet) r = r ≡ Answer (answer.Judged (verdict d packet))
-IsJudged d (ShowRules p) r = ⊤
+IsJudged d c r = ⊤
 
--- a rollback always gets the one legal reply: memory is never refused for it
-abbrev pub IsRolledBack : Page → Command → Reply → Type 0
-IsRolledBack old (Begin names) r = ⊤
-IsRolledBack old (Add p t rule) r = ⊤
-IsRolledBack old (Commit entries) r = ⊤
-IsRolledBack old (Rollback entries) r = r ≡ reply_to old.limit old.log (rollback_step entries)
-IsRolledBack old (Judge packet) r = ⊤
-IsRolledBack old (ShowRules p) r = ⊤
+abbrev pub done_unless : Result (Unit {0}) Refusal → Reply
+done_unless (Ok u) = Answer answer.Done
+done_unless (Err e) = Refused e
+
+-- a rollback is done, or refused for its list: memory is never refused for it
+abbrev pub IsRolledBack : Command → Reply → Type 0
+IsRolledBack (Rollback entries) r = r ≡ done_unless (list_check entries)
+IsRolledBack c r = ⊤
 
 -- nothing changes where a command is refused
 abbrev pub StaysIfRefused : Reply → Page → Page → Type 0

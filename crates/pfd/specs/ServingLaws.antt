@@ -4,37 +4,37 @@ use Rattle.std.proofs.lemmas.List.{append-nil, length-take, take_all}
 use Rattle.std.proofs.lemmas.Bool.{cases_lt}
 use Rattle.pf_core.specs.declared.command.Command.{Command}
 use Rattle.pf_core.specs.declared.reply.Refusal.{Refusal}
-use Rattle.pf_core.specs.Calls.{Call}
-use Rattle.pf_core.specs.Worlds.{Page, StandsFor}
+use Rattle.pf_core.specs.Pages.{Page, StandsFor}
+use Rattle.pf_core.specs.Worlds.{Event}
 use Rattle.pf_line.specs.Lines.{line_at, long_line}
 use Rattle.pf_engine.specs.Lines.{seen}
 use Rattle.pfd.specs.Serving.{Says, Served, Continues, Serves}
 
 pub continues-still : (page : Page) → Continues page page []
 continues-still page = record {
-  stands = λ base world stands. subst (λ (w : List Call). StandsFor base page w) (sym (append-nil world)) stands;
+  worlds = λ first world stands. subst (λ (w : List Event). StandsFor first page w) (sym (append-nil world)) stands;
   limit = refl;
 }
 
-continues-then : (a b c : Page) (x y : List Call) → Continues a b x → Continues b c y → Continues a c (x ++ y)
+continues-then : (a b c : Page) (x y : List Event) → Continues a b x → Continues b c y → Continues a c (x ++ y)
 continues-then a b c x y p q = record {
-  stands = λ base world stands. subst (λ (w : List Call). StandsFor base c w) (append_assoc world x y) (q.stands base (world ++ x) (p.stands base world stands));
+  worlds = λ first world stands. subst (λ (w : List Event). StandsFor first c w) (append_assoc world x y) (q.worlds first (world ++ x) (p.worlds first world stands));
   limit = q.limit ∙ p.limit;
 }
 
-served-then : (xs ys : List (List ℕ)) (cs ds : List Call) (s t : List ℕ) → Served xs cs s → Served ys ds t → Served (xs ++ ys) (cs ++ ds) (s ++ t)
+served-then : (xs ys : List (List ℕ)) (cs ds : List Event) (s t : List ℕ) → Served xs cs s → Served ys ds t → Served (xs ++ ys) (cs ++ ds) (s ++ t)
 served-then [] ys cs ds s t p q =
-    let e : ds ≡ cs ++ ds = ap (λ (l : List Call). l ++ ds) (sym p.0) in
+    let e : ds ≡ cs ++ ds = ap (λ (l : List Event). l ++ ds) (sym p.0) in
     let f : t ≡ s ++ t = ap (λ (l : List ℕ). l ++ t) (sym p.1) in
-    subst (λ (l : List Call). Served ys l (s ++ t)) e (subst (λ (l : List ℕ). Served ys ds l) f q)
-served-then (x ∷ xs) ys cs ds s t (first, rest, reply, replies, says, more, calls, text) q = (
+    subst (λ (l : List Event). Served ys l (s ++ t)) e (subst (λ (l : List ℕ). Served ys ds l) f q)
+served-then (x ∷ xs) ys cs ds s t (first, rest, reply, replies, says, more, events, text) q = (
   first,
   rest ++ ds,
   reply,
   replies ++ t,
   says,
   served-then xs ys rest ds replies t more q,
-  ap (λ (l : List Call). l ++ ds) calls ∙ append_assoc first rest ds,
+  ap (λ (l : List Event). l ++ ds) events ∙ append_assoc first rest ds,
   ap (λ (l : List ℕ). l ++ t) text ∙ append_assoc reply replies t,
 )
 
@@ -45,20 +45,20 @@ seen-says line = elim (cases_lt 4097 (length line)) [
   | inr h ↦ ap line_at (take_all 4097 line h)
 ]
 
-served-seen : (lines : List (List ℕ)) (calls : List Call) (text : List ℕ) → Served (map seen lines) calls text → Served lines calls text
-served-seen [] calls text p = p
-served-seen (line ∷ lines) calls text (first, rest, reply, replies, says, more, c, t) =
+served-seen : (lines : List (List ℕ)) (events : List Event) (text : List ℕ) → Served (map seen lines) events text → Served lines events text
+served-seen [] events text p = p
+served-seen (line ∷ lines) events text (first, rest, reply, replies, says, more, c, t) =
     (first, rest, reply, replies, subst (λ (said : Result (Option Command) Refusal). Says said first reply) (seen-says line) says, served-seen lines rest replies more, c, t)
 
 pub serves-none : (page : Page) → Serves page page [] []
-serves-none page = record { calls = []; served = (refl, refl); book = continues-still page; }
+serves-none page = record { events = []; served = (refl, refl); book = continues-still page; }
 
 pub serves-then : (old mid new : Page) (lines others : List (List ℕ)) (text more : List ℕ) → Serves old mid lines text → Serves mid new others more → Serves old new (lines ++ others) (text ++ more)
 serves-then old mid new lines others text more p q = record {
-  calls = p.calls ++ q.calls;
-  served = served-then lines others p.calls q.calls text more p.served q.served;
-  book = continues-then old mid new p.calls q.calls p.book q.book;
+  events = p.events ++ q.events;
+  served = served-then lines others p.events q.events text more p.served q.served;
+  book = continues-then old mid new p.events q.events p.book q.book;
 }
 
 pub serves-seen : (old new : Page) (lines : List (List ℕ)) (text : List ℕ) → Serves old new (map seen lines) text → Serves old new lines text
-serves-seen old new lines text p = record { calls = p.calls; served = served-seen lines p.calls text p.served; book = p.book; }
+serves-seen old new lines text p = record { events = p.events; served = served-seen lines p.events text p.served; book = p.book; }

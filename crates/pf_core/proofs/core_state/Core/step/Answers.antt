@@ -12,7 +12,7 @@ use Rattle.pf_core.specs.Edits.{Kept}
 use Rattle.pf_core.specs.Legal.{begin_step, commit_step, step_by, legal_step}
 use Rattle.pf_core.specs.Offers.{told}
 use Rattle.pf_core.specs.Tickets.{Open, AgreesWith, facts_in}
-use Rattle.pf_core.specs.Worlds.{Whole}
+use Rattle.pf_core.specs.Wholes.{Whole}
 use Rattle.pf_core.proofs.Told.{told_by_calls}
 use Rattle.pf_core.proofs.core_state.Core.step.Goals as goal
 
