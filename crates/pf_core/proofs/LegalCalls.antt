@@ -4,7 +4,9 @@ use Rattle.std.specs.Prelude.{fold, nat_lt, nat_le}
 use Rattle.std.proofs.lemmas.Bool.Decides.{nat_tests}
 use Rattle.pf_rule.specs.Rules.{PlainRule}
 use Rattle.pf_core.specs.declared.command.Command.{Command}
-use Rattle.pf_core.specs.declared.command.Command.TheVariants.{Begin, Add, Commit, Rollback, Judge, ShowRules}
+use Rattle.pf_core.specs.declared.command.Command.TheVariants.{Transact, Ask}
+use Rattle.pf_core.specs.declared.command.Transaction.{Transaction}
+use Rattle.pf_core.specs.declared.command.Transaction.TheVariants.{Begin, Add, Commit, Rollback}
 use Rattle.pf_core.specs.declared.command.Entry.{Entry}
 use Rattle.pf_core.specs.declared.command.RulesetName.{RulesetName}
 use Rattle.pf_core.specs.declared.command.Ticket.{Ticket}
@@ -104,7 +106,7 @@ added-well f p t s h =
     let is : done ≡ Ok s = room.1 in
     record { valid = holds (is_valid f.valid (filter_at p) t) valid.0; room = below rule_limit (length (f.offered (filter_at p))) room.0; step = cc (is) }
 
-begin-brings : (epoch : ℕ) (ms : List Mention) (names : List RulesetName) (a : Answer) → IsBegun (facts epoch ms) names (Done a) → Brings epoch ms (mentioned (Begin names) (Answered a))
+begin-brings : (epoch : ℕ) (ms : List Mention) (names : List RulesetName) (a : Answer) → IsBegun (facts epoch ms) names (Done a) → Brings epoch ms (mentioned (Transact (Begin names)) (Answered a))
 begin-brings epoch ms names a is =
     let step : Done (answer.Given (given (facts epoch ms) (length names))) ≡ Done a = is.step in
     let told : a ≡ answer.Given (given (facts epoch ms) (length names)) = cc (step) in
@@ -115,12 +117,11 @@ never-answered : (f : Facts) (d : Kept) (entries : List Entry) (a : Answer) → 
 never-answered f d entries a is = let step : Wants (commits (items f.offered entries)) Committed ≡ Done a = is.step in cc (step)
 
 answered-brings : (epoch : ℕ) (calls : List Call) (d : Kept) (c : Command) (a : Answer) → legal_step epoch calls d c ≡ Ok (Done a) → Brings epoch (mentions calls) (mentioned c (Answered a))
-answered-brings epoch calls d (Begin names) a h = begin-brings epoch (mentions calls) names a (begun (facts epoch (mentions calls)) names (Done a) h)
-answered-brings epoch calls d (Add p t r) a h = let is : IsAdded (facts epoch (mentions calls)) p t (Done a) = added-well (facts epoch (mentions calls)) p t (Done a) h in adds p t r refl is.valid is.room
-answered-brings epoch calls d (Commit entries) a h = absurd (never-answered (facts epoch (mentions calls)) d entries a (commit-wants (facts epoch (mentions calls)) d entries (Done a) h))
-answered-brings epoch calls d (Rollback entries) a h = voids (drops-void entries)
-answered-brings epoch calls d (Judge packet) a h = voids nothing-voids
-answered-brings epoch calls d (ShowRules p) a h = voids nothing-voids
+answered-brings epoch calls d (Transact (Begin names)) a h = begin-brings epoch (mentions calls) names a (begun (facts epoch (mentions calls)) names (Done a) h)
+answered-brings epoch calls d (Transact (Add p t r)) a h = let is : IsAdded (facts epoch (mentions calls)) p t (Done a) = added-well (facts epoch (mentions calls)) p t (Done a) h in adds p t r refl is.valid is.room
+answered-brings epoch calls d (Transact (Commit entries)) a h = absurd (never-answered (facts epoch (mentions calls)) d entries a (commit-wants (facts epoch (mentions calls)) d entries (Done a) h))
+answered-brings epoch calls d (Transact (Rollback entries)) a h = voids (drops-void entries)
+answered-brings epoch calls d (Ask q) a h = voids nothing-voids
 
 -- ---- what wants a change
 
@@ -129,24 +130,23 @@ pub data WantedBy (f : Facts) (d : Kept) (e : Edit) : Type 0 where
   commit : (entries : List Entry) → rulesets_after d (items f.offered entries) ≤ ruleset_limit → commits (items f.offered entries) ≡ e → WantedBy f d e
 
 pub wanted-by : (epoch : ℕ) (calls : List Call) (d : Kept) (c : Command) (e : Edit) (o : Outcome) → legal_step epoch calls d c ≡ Ok (Wants e o) → WantedBy (facts epoch (mentions calls)) d e
-wanted-by epoch calls d (Begin names) e o h =
+wanted-by epoch calls d (Transact (Begin names)) e o h =
     let f : Facts = facts epoch (mentions calls) in
     let step : Done (answer.Given (given f (length names))) ≡ Wants e o = (begun f names (Wants e o) h).step in
     absurd (cc (step))
-wanted-by epoch calls d (Add p t r) e o h =
+wanted-by epoch calls d (Transact (Add p t r)) e o h =
     let step : Done answer.Done ≡ Wants e o = (added-well (facts epoch (mentions calls)) p t (Wants e o) h).step in
     absurd (cc (step))
-wanted-by epoch calls d (Commit entries) e o h =
+wanted-by epoch calls d (Transact (Commit entries)) e o h =
     let f : Facts = facts epoch (mentions calls) in
     let is : IsWanted f d entries (Wants e o) = commit-wants f d entries (Wants e o) h in
     let step : Wants (commits (items f.offered entries)) Committed ≡ Wants e o = is.step in
     commit entries (within ruleset_limit (rulesets_after d (items f.offered entries)) is.few) (cc (step))
-wanted-by epoch calls d (Rollback entries) e o h =
+wanted-by epoch calls d (Transact (Rollback entries)) e o h =
     let done : Result Step Refusal = Ok (Done answer.Done) in
     let is : done ≡ Ok (Wants e o) = (unrefused (list_check entries) done (Wants e o) h).1 in
     absurd (cc (is))
-wanted-by epoch calls d (Judge packet) e o h = absurd (cc (h))
-wanted-by epoch calls d (ShowRules p) e o h = absurd (cc (h))
+wanted-by epoch calls d (Ask q) e o h = absurd (cc (h))
 
 -- ---- by the reply
 

@@ -6,13 +6,15 @@ use Rattle.std.proofs.lemmas.List.Concat.{flat_map-append}
 use Rattle.std.proofs.lemmas.List.Sums.{fold-append}
 use Rattle.pf_rule.specs.Rules.{PlainRule}
 use Rattle.pf_core.specs.declared.command.Command.{Command}
-use Rattle.pf_core.specs.declared.command.Command.TheVariants.{Begin, Add, Commit, Rollback, Judge, ShowRules}
+use Rattle.pf_core.specs.declared.command.Command.TheVariants.{Transact, Ask}
+use Rattle.pf_core.specs.declared.command.Transaction.{Transaction}
+use Rattle.pf_core.specs.declared.command.Transaction.TheVariants.{Begin, Add, Commit, Rollback}
 use Rattle.pf_core.specs.declared.command.Entry.{Entry}
 use Rattle.pf_core.specs.declared.command.RulesetName.{RulesetName}
 use Rattle.pf_core.specs.declared.command.Ticket.{Ticket}
 use Rattle.pf_core.specs.declared.reply.Reply.{Reply}
-use Rattle.pf_core.specs.Calls.{filter_at, same_name, same_ticket, is_named, names_of, is_ticket, Mention, added, gives, switches, drops, tickets_in, is_accepted, mentioned, mentions, mentions_of, touched, valid_ticket, rules_added, rules_offered, content, content_under}
-use Rattle.pf_core.specs.WorldFacts.{names_in, LeavesTheOthers}
+use Rattle.pf_core.specs.Calls.{filter_at, same_name, same_ticket, is_named, names_of, is_ticket, Mention, added, gives, switches, drops, tickets_in, is_accepted, transacted, mentioned, mentions, mentions_of, touched, valid_ticket, rules_added, rules_offered, content, content_under}
+use Rattle.pf_core.specs.WorldFacts.{named_by, names_in, LeavesTheOthers}
 use Rattle.pf_core.specs.WorldLaws.{mentions-push}
 use Rattle.pf_core.proofs.Once.{neither}
 
@@ -53,13 +55,15 @@ silent-unless : (name : RulesetName) (b : Bool) (new : List Mention) → IsSilen
 silent-unless name true new s = s
 silent-unless name false new s = nothing name
 
+silent-transaction : (name : RulesetName) (t : Transaction) (given : List Ticket) → is_named (named_by t) name ≡ false → IsSilent name (transacted t given)
+silent-transaction name (Begin names) given h = silent-gives name names given h
+silent-transaction name (Add p t rule) given h = silent-added name p t rule (neither (same_name (filter_at p) name) false h).0
+silent-transaction name (Commit entries) given h = silent-switches name (names_of entries) h
+silent-transaction name (Rollback entries) given h = silent-drops name entries h
+
 silent-call : (name : RulesetName) (c : Command) (r : Reply) → is_named (names_in c) name ≡ false → IsSilent name (mentioned c r)
-silent-call name (Begin names) r h = silent-gives name names (tickets_in r) h
-silent-call name (Add p t rule) r h = silent-unless name (is_accepted r) (added (filter_at p) t rule ∷ []) (silent-added name p t rule (neither (same_name (filter_at p) name) false h).0)
-silent-call name (Commit entries) r h = silent-unless name (is_accepted r) (switches (names_of entries)) (silent-switches name (names_of entries) h)
-silent-call name (Rollback entries) r h = silent-unless name (is_accepted r) (drops entries) (silent-drops name entries h)
-silent-call name (Judge packet) r h = nothing name
-silent-call name (ShowRules p) r h = nothing name
+silent-call name (Transact t) r h = silent-unless name (is_accepted r) (transacted t (tickets_in r)) (silent-transaction name t (tickets_in r) h)
+silent-call name (Ask q) r h = nothing name
 
 valid-stays : (ms new : List Mention) (name : RulesetName) → IsSilent name new → valid_ticket (ms ++ new) name ≡ valid_ticket ms name
 valid-stays ms new name s = fold-append (touched name) None ms new ∙ s.ticket (valid_ticket ms name)

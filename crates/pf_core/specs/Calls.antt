@@ -3,7 +3,9 @@ use Rattle.std.specs.Prelude.{◌≡◌, ℕ, zero, suc, ◌+◌, ◌==◌, ◌&
 use Rattle.std.specs.List.{list_any}
 use Rattle.pf_rule.specs.Rules.{PlainRule}
 use Rattle.pf_core.specs.declared.command.Command.{Command}
-use Rattle.pf_core.specs.declared.command.Command.TheVariants.{Begin, Add, Commit, Rollback, Judge, ShowRules}
+use Rattle.pf_core.specs.declared.command.Command.TheVariants.{Transact, Ask}
+use Rattle.pf_core.specs.declared.command.Transaction.{Transaction}
+use Rattle.pf_core.specs.declared.command.Transaction.TheVariants.{Begin, Add, Commit, Rollback}
 use Rattle.pf_core.specs.declared.command.Entry.{Entry}
 use Rattle.pf_core.specs.declared.command.RulesetKind.{RulesetKind}
 use Rattle.pf_core.specs.declared.command.RulesetKind.TheVariants.{Filter}
@@ -92,13 +94,17 @@ is_accepted (Answered a) = true
 is_accepted (Applied n o) = true
 is_accepted (Refused e) = false
 
+-- what an accepted step of a transaction mentions, where these are the tickets that it was given
+abbrev pub transacted : Transaction → List Ticket → List Mention
+transacted (Begin names) given = gives names given
+transacted (Add p t rule) given = added (filter_at p) t rule ∷ []
+transacted (Commit entries) given = switches (names_of entries)
+transacted (Rollback entries) given = drops entries
+
+-- a refused command mentions nothing, and no more does a question
 abbrev pub mentioned : Command → Reply → List Mention
-mentioned (Begin names) r = gives names (tickets_in r)
-mentioned (Add p t rule) r = cond (is_accepted r) (added (filter_at p) t rule ∷ []) []
-mentioned (Commit entries) r = cond (is_accepted r) (switches (names_of entries)) []
-mentioned (Rollback entries) r = cond (is_accepted r) (drops entries) []
-mentioned (Judge packet) r = []
-mentioned (ShowRules p) r = []
+mentioned (Transact t) r = cond (is_accepted r) (transacted t (tickets_in r)) []
+mentioned (Ask q) r = []
 
 abbrev pub mentions_of : Call → List Mention
 mentions_of c = mentioned c.command c.reply

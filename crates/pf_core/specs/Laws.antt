@@ -3,9 +3,10 @@ use Rattle.std.specs.Prelude.{◌≡◌, ℕ, true, false, cond, List, [], ◌�
 use Rattle.std.specs.List.{list_any}
 use Rattle.pf_rule.specs.Rules.{PlainRule}
 use Rattle.pf_core.specs.declared.command.Command.{Command}
-use Rattle.pf_core.specs.declared.command.Command.TheVariants.{Commit}
+use Rattle.pf_core.specs.declared.command.Command.TheVariants.{Transact}
 use Rattle.pf_core.specs.declared.command.Entry.{Entry}
 use Rattle.pf_core.specs.declared.command.RulesetName.{RulesetName}
+use Rattle.pf_core.specs.declared.command.Transaction.TheVariants.{Commit}
 use Rattle.pf_core.specs.declared.command.Ticket.{Ticket}
 use Rattle.pf_core.specs.declared.reply.Outcome.{Outcome}
 use Rattle.pf_core.specs.declared.reply.Reply.TheVariants.{Applied}
@@ -52,7 +53,7 @@ pub record AreSwitched (calls : List Call) (entries : List Entry) (old new : Kep
 
 -- a commit that isn't refused switches all rulesets that it names, and no other
 abbrev pub SwitchesAll : Type 0
-SwitchesAll = (epoch : ℕ) (calls : List Call) (d : Kept) (entries : List Entry) (e : Edit) (o : Outcome) → legal_step epoch calls d (Commit entries) ≡ Ok (Wants e o) → AreSwitched calls entries d (applied d e)
+SwitchesAll = (epoch : ℕ) (calls : List Call) (d : Kept) (entries : List Entry) (e : Edit) (o : Outcome) → legal_step epoch calls d (Transact (Commit entries)) ≡ Ok (Wants e o) → AreSwitched calls entries d (applied d e)
 
 -- a command that wants a change mentions, once it is applied, exactly what the change voids
 abbrev pub VoidsTheNamed : Type 0
@@ -60,7 +61,7 @@ VoidsTheNamed = (epoch : ℕ) (calls : List Call) (d : Kept) (c : Command) (e : 
 
 -- after a commit no ruleset that it names has a valid ticket
 abbrev pub KeepsNoneValid : Type 0
-KeepsNoneValid = (calls : List Call) (entries : List Entry) (n : ℕ) (o : Outcome) (name : RulesetName) → list_any (λ m. same_name m name) (names_of entries) ≡ true → valid_ticket (mentions (calls ++ call (Commit entries) (Applied n o) ∷ [])) name ≡ None
+KeepsNoneValid = (calls : List Call) (entries : List Entry) (n : ℕ) (o : Outcome) (name : RulesetName) → list_any (λ m. same_name m name) (names_of entries) ≡ true → valid_ticket (mentions (calls ++ call (Transact (Commit entries)) (Applied n o) ∷ [])) name ≡ None
 
 -- nothing here touches a ruleset whose valid ticket is this one
 abbrev pub AreQuiet : RulesetName → Ticket → List Mention → Type 0

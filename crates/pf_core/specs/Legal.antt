@@ -1,13 +1,18 @@
 -- The one legal step that each command may get, and the order of refusals (pf(4), DIOCXBEGIN, DIOCADDRULE, DIOCXCOMMIT, DIOCXROLLBACK). The limits and the order of refusals are own.
-use Rattle.std.specs.Prelude.{◌≡◌, ℕ, ◌+◌, ◌-◌, ◌==◌, Bool, not, cond, if◌then◌else◌, ◌||◌, List, [], ◌∷◌, ◌++◌, length, map, Option, Some, None, Result, Ok, Err, nat_lt, nat_le}
+use Rattle.std.specs.Prelude.{◌≡◌, ℕ, ◌+◌, ◌-◌, ◌==◌, Bool, true, false, not, cond, if◌then◌else◌, ◌||◌, List, [], ◌∷◌, ◌++◌, length, map, Option, Some, None, Result, Ok, Err, nat_lt, nat_le}
 use Rattle.std.specs.List.{position}
 use Rattle.pf_rule.specs.Rules.{PlainRule}
 use Rattle.pf_rule.specs.Combining.{◌>>=◌}
 use Rattle.pf_core.specs.declared.command.Command.{Command}
-use Rattle.pf_core.specs.declared.command.Command.TheVariants.{Begin, Add, Commit, Rollback, Judge, ShowRules}
+use Rattle.pf_core.specs.declared.command.Command.TheVariants.{Transact, Ask}
+use Rattle.pf_core.specs.declared.command.Question.{Question}
+use Rattle.pf_core.specs.declared.command.Question.TheVariants.{Judge, ShowRules}
+use Rattle.pf_core.specs.declared.command.Transaction.{Transaction}
+use Rattle.pf_core.specs.declared.command.Transaction.TheVariants.{Begin, Add, Commit, Rollback}
 use Rattle.pf_core.specs.declared.command.Entry.{Entry}
 use Rattle.pf_core.specs.declared.command.RulesetName.{RulesetName}
 use Rattle.pf_core.specs.declared.command.Ticket.{Ticket}
+use Rattle.pf_core.specs.declared.reply.Answer.{Answer}
 use Rattle.pf_core.specs.declared.reply.Answer.TheVariants as answer
 use Rattle.pf_core.specs.declared.reply.Given.{Given}
 use Rattle.pf_core.specs.declared.reply.Outcome.TheVariants.{Committed}
@@ -106,14 +111,38 @@ commit_step f d entries = commit_check f.valid entries >>= λ _.
 abbrev pub rollback_step : List Entry → Result Step Refusal
 rollback_step entries = list_check entries >>= λ _. Ok (Done answer.Done)
 
--- the step of a command, by what the calls say, and what is kept
+abbrev pub transact_step : Facts → Kept → Transaction → Result Step Refusal
+transact_step f d (Begin names) = begin_step f names
+transact_step f d (Add p t r) = add_step f p t
+transact_step f d (Commit entries) = commit_step f d entries
+transact_step f d (Rollback entries) = rollback_step entries
+
+-- what a question is answered, of what is kept
+abbrev pub answer_of : Kept → Question → Answer
+answer_of d (Judge packet) = answer.Judged (verdict d packet)
+answer_of d (ShowRules p) = answer.Rules (rules_at p d.rulesets)
+
+-- the step of a command, by what the calls say, and what is kept. A question is never refused, and changes nothing
 abbrev pub step_by : Facts → Kept → Command → Result Step Refusal
-step_by f d (Begin names) = begin_step f names
-step_by f d (Add p t r) = add_step f p t
-step_by f d (Commit entries) = commit_step f d entries
-step_by f d (Rollback entries) = rollback_step entries
-step_by f d (Judge packet) = Ok (Done (answer.Judged (verdict d packet)))
-step_by f d (ShowRules p) = Ok (Done (answer.Rules (rules_at p d.rulesets)))
+step_by f d (Transact t) = transact_step f d t
+step_by f d (Ask q) = Ok (Done (answer_of d q))
+
+-- ---- memory
+
+abbrev pub transacts_in_memory : Transaction → Bool
+transacts_in_memory (Begin names) = true
+transacts_in_memory (Add p t r) = true
+transacts_in_memory (Commit entries) = true
+transacts_in_memory (Rollback entries) = false
+
+abbrev pub asks_for_memory : Question → Bool
+asks_for_memory (Judge packet) = false
+asks_for_memory (ShowRules p) = true
+
+-- whether a command may be refused because memory was
+abbrev pub takes_memory : Command → Bool
+takes_memory (Transact t) = transacts_in_memory t
+takes_memory (Ask q) = asks_for_memory q
 
 -- the one legal step after these calls
 abbrev pub legal_step : ℕ → List Call → Kept → Command → Result Step Refusal

@@ -26,8 +26,8 @@ pub record Ready : Type 0 where
 abbrev pub ready : Kept → List RulesetName → Ready
 ready d names = record { durable = d; voided = names }
 
--- a step that wants a change kept, or is refused, leaves the core as it was
-abbrev pub StaysUnlessDone : Result Step Refusal → Whole → Whole → Type 0
+-- a step that wants a change kept, or is refused, leaves all as it was
+abbrev pub StaysUnlessDone : {A : Type 0} → Result Step Refusal → A → A → Type 0
 StaysUnlessDone (Ok (Done a)) old new = Unit {0}
 StaysUnlessDone (Ok (Wants e o)) old new = new ≡ old
 StaysUnlessDone (Err e) old new = new ≡ old

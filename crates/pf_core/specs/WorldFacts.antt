@@ -2,7 +2,9 @@
 use Rattle.std.specs.Prelude.{◌≡◌, ℕ, ◌≤◌, false, List, [], ◌∷◌, ◌++◌, length}
 use Rattle.std.specs.List.{list_any}
 use Rattle.pf_core.specs.declared.command.Command.{Command}
-use Rattle.pf_core.specs.declared.command.Command.TheVariants.{Begin, Add, Commit, Rollback, Judge, ShowRules}
+use Rattle.pf_core.specs.declared.command.Command.TheVariants.{Transact, Ask}
+use Rattle.pf_core.specs.declared.command.Transaction.{Transaction}
+use Rattle.pf_core.specs.declared.command.Transaction.TheVariants.{Begin, Add, Commit, Rollback}
 use Rattle.pf_core.specs.declared.command.RulesetName.{RulesetName}
 use Rattle.pf_core.specs.declared.command.Ticket.{Ticket}
 use Rattle.pf_core.specs.Calls.{Call, Mention, mentions, is_named, names_of, filter_at, same_ticket, valid_ticket, content, open_rulesets, tickets_given, AreNumbered}
@@ -13,14 +15,16 @@ use Rattle.pf_core.specs.Worlds.{Held, up, down, Event, flat, log_of, durable_of
 
 -- ---- what one call leaves alone
 
+abbrev pub named_by : Transaction → List RulesetName
+named_by (Begin names) = names
+named_by (Add p t r) = filter_at p ∷ []
+named_by (Commit entries) = names_of entries
+named_by (Rollback entries) = names_of entries
+
 -- the rulesets whose tickets a command speaks of
 abbrev pub names_in : Command → List RulesetName
-names_in (Begin names) = names
-names_in (Add p t r) = filter_at p ∷ []
-names_in (Commit entries) = names_of entries
-names_in (Rollback entries) = names_of entries
-names_in (Judge packet) = []
-names_in (ShowRules p) = []
+names_in (Transact t) = named_by t
+names_in (Ask q) = []
 
 -- a ruleset's ticket is valid as before, and what is offered with it is as before
 pub record IsLeftAlone (calls : List Call) (c : Call) (name : RulesetName) : Type 0 where

@@ -6,7 +6,9 @@ use Rattle.std.proofs.lemmas.List.Concat.{flat_map-append}
 use Rattle.pf_rule.specs.Rules.{PlainRule}
 use Rattle.pf_rule.specs.Combining.{◌>>=◌}
 use Rattle.pf_core.specs.declared.command.Command.{Command}
-use Rattle.pf_core.specs.declared.command.Command.TheVariants.{Begin, Add, Commit, Rollback, Judge, ShowRules}
+use Rattle.pf_core.specs.declared.command.Command.TheVariants.{Transact, Ask}
+use Rattle.pf_core.specs.declared.command.Transaction.{Transaction}
+use Rattle.pf_core.specs.declared.command.Transaction.TheVariants.{Begin, Add, Commit, Rollback}
 use Rattle.pf_core.specs.declared.command.Entry.{Entry}
 use Rattle.pf_core.specs.declared.command.RulesetKind.{RulesetKind}
 use Rattle.pf_core.specs.declared.command.RulesetKind.TheVariants.{Filter}
@@ -29,18 +31,10 @@ use Rattle.pf_core.specs.Tickets.{Open, Agrees, AgreesWith}
 pub mentions-push : (calls : List Call) (c : Call) → mentions (calls ++ c ∷ []) ≡ mentions calls ++ mentions_of c
 mentions-push calls c = flat_map-append mentions_of calls (c ∷ []) ∙ ap (λ (ms : List Mention). mentions calls ++ ms) (append-nil (mentions_of c))
 
-none-given : (names : List RulesetName) → gives names [] ≡ []
-none-given [] = refl
-none-given (n ∷ ns) = refl
-
 -- a refused call mentions nothing
 pub refused-mentions : (c : Command) (e : Refusal) → mentions_of (call c (Refused e)) ≡ []
-refused-mentions (Begin names) e = none-given names
-refused-mentions (Add p t r) e = refl
-refused-mentions (Commit entries) e = refl
-refused-mentions (Rollback entries) e = refl
-refused-mentions (Judge packet) e = refl
-refused-mentions (ShowRules p) e = refl
+refused-mentions (Transact t) e = refl
+refused-mentions (Ask q) e = refl
 
 pub agrees-refused : (t : Open) (calls : List Call) (c : Command) (e : Refusal) → AgreesWith t calls → AgreesWith t (calls ++ call c (Refused e) ∷ [])
 agrees-refused t calls c e a =
@@ -69,7 +63,7 @@ checked (Err x) r e o h = absurd (cc (h))
 
 -- a command that wants a change mentions, once it is applied, exactly what the change voids
 pub wants-mentions : (epoch : ℕ) (calls : List Call) (d : Kept) (c : Command) (e : Edit) (o : Outcome) (n : ℕ) → legal_step epoch calls d c ≡ Ok (Wants e o) → mentions_of (call c (Applied n o)) ≡ switches (voided_by e)
-wants-mentions epoch calls d (Begin names) e o n h =
+wants-mentions epoch calls d (Transact (Begin names)) e o n h =
     let f : Facts = facts epoch (mentions calls) in
     let done : Result Step Refusal = Ok (Done (answer.Given (given f (length names)))) in
     let numbered : Result Step Refusal = cond (nat_lt last_count (f.next + length names - 1)) (Err TicketsExhausted) done in
@@ -77,13 +71,13 @@ wants-mentions epoch calls d (Begin names) e o n h =
     (behind (nat_lt ruleset_limit (f.opened names)) TooManyRulesets numbered e o
     (behind (bad_count (length names)) BadCount (cond (nat_lt ruleset_limit (f.opened names)) (Err TooManyRulesets) numbered) e o h)) in
     absurd (cc (is))
-wants-mentions epoch calls d (Add p t r) e o n h =
+wants-mentions epoch calls d (Transact (Add p t r)) e o n h =
     let f : Facts = facts epoch (mentions calls) in
     let full : Bool = nat_le rule_limit (length (f.offered (filter_at p))) in
     let done : Result Step Refusal = Ok (Done answer.Done) in
     let is : done ≡ Ok (Wants e o) = behind full RulesetFull done e o (behind (not (is_valid f.valid (filter_at p) t)) (Busy 0) (cond full (Err RulesetFull) done) e o h) in
     absurd (cc (is))
-wants-mentions epoch calls d (Commit entries) e o n h =
+wants-mentions epoch calls d (Transact (Commit entries)) e o n h =
     let f : Facts = facts epoch (mentions calls) in
     let change : Edit = commits (items f.offered entries) in
     let many : Bool = nat_lt ruleset_limit (rulesets_after d (items f.offered entries)) in
@@ -91,9 +85,8 @@ wants-mentions epoch calls d (Commit entries) e o n h =
     let is : wants ≡ Ok (Wants e o) = behind many TooManyRulesets wants e o (checked (commit_check f.valid entries) (cond many (Err TooManyRulesets) wants) e o h) in
     let same : change ≡ e = cc (is) in
     ap switches (sym (names-items f.offered entries)) ∙ ap (λ (x : Edit). switches (voided_by x)) same
-wants-mentions epoch calls d (Rollback entries) e o n h =
+wants-mentions epoch calls d (Transact (Rollback entries)) e o n h =
     let done : Result Step Refusal = Ok (Done answer.Done) in
     let is : done ≡ Ok (Wants e o) = checked (list_check entries) done e o h in
     absurd (cc (is))
-wants-mentions epoch calls d (Judge packet) e o n h = absurd (cc (h))
-wants-mentions epoch calls d (ShowRules p) e o n h = absurd (cc (h))
+wants-mentions epoch calls d (Ask q) e o n h = absurd (cc (h))

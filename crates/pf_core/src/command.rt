@@ -164,9 +164,9 @@ impl Entries {
     }
 }
 
-/// One command.
+/// One step of a transaction (pf(4), DIOCXBEGIN, DIOCADDRULE, DIOCXCOMMIT, DIOCXROLLBACK).
 #[derive(Drop)]
-pub enum Command {
+pub enum Transaction {
     /// Clears the inactive ruleset of each name and gives a ticket for it.
     Begin(RulesetNames),
     /// Appends a rule to the inactive filter ruleset at a path.
@@ -179,8 +179,22 @@ pub enum Command {
     Commit(Entries),
     /// Drops the inactive rulesets whose tickets are valid, and lets the others be.
     Rollback(Entries),
+}
+
+/// What is asked of what is kept. It changes nothing.
+#[derive(Drop)]
+pub enum Question {
     /// Says what happens to a packet.
     Judge(Packet),
     /// Shows the active rules at a path.
     ShowRules(Path),
+}
+
+/// One command.
+#[derive(Drop)]
+pub enum Command {
+    /// A step of a transaction.
+    Transact(Transaction),
+    /// A question.
+    Ask(Question),
 }

@@ -3,20 +3,22 @@ ghost use Rattle.std.specs.Prelude.{◌≡◌, ℕ, List, [], ◌∷◌, ◌++�
 ghost use Rattle.std.specs.Arc.{arc_value};
 ghost use Rattle.pf_rule.specs.Packets.{PlainPacket};
 ghost use Rattle.pf_core.specs.declared.command.Command.{Command};
+ghost use Rattle.pf_core.specs.declared.command.Question.{Question};
+ghost use Rattle.pf_core.specs.declared.command.Transaction.{Transaction};
 ghost use Rattle.pf_core.specs.declared.command.Entry.{Entry};
 ghost use Rattle.pf_core.specs.declared.reply.Answer.TheVariants as answer;
 ghost use Rattle.pf_core.specs.declared.reply.Outcome.{Outcome};
 ghost use Rattle.pf_core.specs.declared.reply.Reply.TheVariants as reply;
 ghost use Rattle.pf_core.specs.Calls.{Call, call, mentions_of, switches};
 ghost use Rattle.pf_core.specs.Edits.{applied, voided_by, name_of, verdict};
-ghost use Rattle.pf_core.specs.Legal.{items, ruleset_limit, commit_step, rollback_step, legal_step, IsLegalStep};
+ghost use Rattle.pf_core.specs.Legal.{items, ruleset_limit, commit_step, rollback_step, transact_step, answer_of, legal_step, IsLegalStep};
 ghost use Rattle.pf_core.specs.Offers.{all_out, IsNeverDone};
 ghost use Rattle.pf_core.specs.Tickets.{AgreesWith, rules_under, facts_in};
 ghost use Rattle.pf_core.specs.Rulesets.{with_rules};
 ghost use Rattle.pf_core.specs.Wholes.{ready, StaysUnlessDone, AgreesAfter};
 
 use crate::change::{Change, Kind};
-use crate::command::{Command, Entry, RulesetName};
+use crate::command::{Command, Entry, Question, RulesetName, Transaction};
 use crate::durable::Durable;
 use crate::placed::{Placed, replace_all};
 use crate::reply::{Answer, Outcome, Refusal};
@@ -119,6 +121,47 @@ fn commit(
     Ok(Step::Wants(Change::commit(items), Outcome::Committed))
 }
 
+// A step of a transaction. Where it wants a change, or is refused, the tickets are as before.
+fn transact(
+    alloc: Global,
+    durable: &Durable,
+    tickets: &mut Tickets,
+    transaction: &Transaction,
+) -> Result<Step, Refusal>
+    ensures reply { IsLegalStep result (transact_step (facts_in tickets.old) durable.now transaction.now) }
+    ensures agrees { (calls : List Call) → AgreesWith tickets.old calls → AgreesAfter tickets.new calls (Command.Transact transaction.now) result }
+    ensures stays { StaysUnlessDone result tickets.old tickets.new }
+    ensures epoch { tickets.new.epoch ≡ tickets.old.epoch }
+    ensures rolled_back { (entries : List Entry) → transaction.now ≡ Transaction.Rollback entries → result ≡ rollback_step entries }
+{
+    match transaction {
+        Transaction::Begin(names) => {
+            let given = tickets.begin(names.as_slice())?;
+            Ok(Step::Done(Answer::Given(given)))
+        }
+        Transaction::Add { path, ticket, rule } => {
+            tickets.add_rule(path, *ticket, *rule)?;
+            Ok(Step::Done(Answer::Done))
+        }
+        Transaction::Commit(entries) => commit(alloc, durable, tickets, entries.as_slice()),
+        Transaction::Rollback(entries) => {
+            tickets.rollback(entries.as_slice())?;
+            Ok(Step::Done(Answer::Done))
+        }
+    }
+}
+
+// What a question is answered. A judge takes no memory.
+fn answer(alloc: Global, durable: &Durable, question: &Question) -> Result<Answer, AllocError>
+    ensures value { IfOk result (λ a. a ≡ answer_of durable.now question.now) }
+    ensures judged { (packet : PlainPacket) → question.now ≡ Question.Judge packet → result ≡ Ok (answer.Judged (verdict durable.now packet)) }
+{
+    match question {
+        Question::Judge(packet) => Ok(Answer::Judged(durable.verdict(packet))),
+        Question::ShowRules(path) => Ok(Answer::Rules(durable.rules_at(alloc, path)?)),
+    }
+}
+
 impl Next {
     /// What the change leaves, shared. `AllocError`: it can't have another owner, and nothing changes.
     pub fn durable(&self) -> Result<Arc<Durable>, AllocError>
@@ -163,34 +206,18 @@ impl Core {
         ensures durable { self.new.durable ≡ self.old.durable }
         ensures stays { StaysUnlessDone result self.old self.new }
         ensures epoch { self.new.tickets.epoch ≡ self.old.tickets.epoch }
-        ensures judged { (packet : PlainPacket) → command.now ≡ Command.Judge packet → result ≡ Ok (Step.Done (answer.Judged (verdict self.old.durable packet))) }
-        ensures rolled_back { (entries : List Entry) → command.now ≡ Command.Rollback entries → result ≡ rollback_step entries }
+        ensures judged { (packet : PlainPacket) → command.now ≡ Command.Ask (Question.Judge packet) → result ≡ Ok (Step.Done (answer.Judged (verdict self.old.durable packet))) }
+        ensures rolled_back { (entries : List Entry) → command.now ≡ Command.Transact (Transaction.Rollback entries) → result ≡ rollback_step entries }
     {
         match command {
-            Command::Begin(names) => {
-                let given = self.tickets.begin(names.as_slice())?;
-                Ok(Step::Done(Answer::Given(given)))
-            }
-            Command::Add { path, ticket, rule } => {
-                self.tickets.add_rule(path, *ticket, *rule)?;
-                Ok(Step::Done(Answer::Done))
-            }
-            Command::Commit(entries) => commit(
+            Command::Transact(transaction) => transact(
                 self.alloc,
                 &self.durable,
-                &self.tickets,
-                entries.as_slice(),
+                &mut self.tickets,
+                transaction,
             ),
-            Command::Rollback(entries) => {
-                self.tickets.rollback(entries.as_slice())?;
-                Ok(Step::Done(Answer::Done))
-            }
-            Command::Judge(packet) => {
-                Ok(Step::Done(Answer::Judged(self.durable.verdict(packet))))
-            }
-            Command::ShowRules(path) => {
-                let rules = self.durable.rules_at(self.alloc, path)?;
-                Ok(Step::Done(Answer::Rules(rules)))
+            Command::Ask(question) => {
+                Ok(Step::Done(answer(self.alloc, &self.durable, question)?))
             }
         }
     }

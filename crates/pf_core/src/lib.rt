@@ -18,7 +18,7 @@ mod tests;
 mod tickets;
 
 pub use change::Change;
-pub use command::{Command, Entries, Entry, RulesetKind, RulesetName, RulesetNames, Ticket};
+pub use command::{Command, Entries, Entry, Question, RulesetKind, RulesetName, RulesetNames, Ticket, Transaction};
 pub use core_state::{Core, Next};
 pub use durable::Durable;
 pub use path::Path;

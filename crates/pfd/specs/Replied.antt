@@ -1,7 +1,9 @@
 -- What a book's replies say by themselves.
 use Rattle.std.specs.Prelude.{◌≡◌, length, ⊤, Result, Ok, Err}
 use Rattle.pf_core.specs.declared.command.Command.{Command}
-use Rattle.pf_core.specs.declared.command.Command.TheVariants.{Rollback, Judge}
+use Rattle.pf_core.specs.declared.command.Command.TheVariants.{Transact, Ask}
+use Rattle.pf_core.specs.declared.command.Question.TheVariants.{Judge}
+use Rattle.pf_core.specs.declared.command.Transaction.TheVariants.{Rollback}
 use Rattle.pf_core.specs.declared.reply.Answer.TheVariants as answer
 use Rattle.pf_core.specs.declared.reply.Refusal.{Refusal}
 use Rattle.pf_core.specs.declared.reply.Reply.{Reply}
@@ -19,7 +21,7 @@ IsNumbered (Refused e) new = ⊤
 
 -- a packet is always judged, and by what is kept
 abbrev pub IsJudged : Kept → Command → Reply → Type 0
-IsJudged d (Judge packet) r = r ≡ Answer (answer.Judged (verdict d packet))
+IsJudged d (Ask (Judge packet)) r = r ≡ Answer (answer.Judged (verdict d packet))
 IsJudged d c r = ⊤
 
 abbrev pub done_unless : Result (Unit {0}) Refusal → Reply
@@ -28,7 +30,7 @@ done_unless (Err e) = Refused e
 
 -- a rollback is done, or refused for its list: memory is never refused for it
 abbrev pub IsRolledBack : Command → Reply → Type 0
-IsRolledBack (Rollback entries) r = r ≡ done_unless (list_check entries)
+IsRolledBack (Transact (Rollback entries)) r = r ≡ done_unless (list_check entries)
 IsRolledBack c r = ⊤
 
 -- nothing changes where a command is refused

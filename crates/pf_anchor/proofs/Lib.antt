@@ -1,0 +1,6 @@
+pub mod PathTexts
+pub mod PathsRead
+pub mod Maps
+pub mod RulesetMaps
+pub mod Pages
+pub mod Evaluations

@@ -1,0 +1,152 @@
+// A device over a file.
+ghost use Rattle.std.specs.Prelude.{◌≡◌, ◌+◌, ◌^◌, ◌<◌, ◌≤◌, ◌++◌, [], ◌∷◌, true, ℕ, length, replicate, IfOk, OnOk, OnErr, take, drop};
+ghost use Rattle.pf_disk.specs.Calls.{at_rest, after, all_fit, LeftSince};
+ghost use Rattle.pf_disk.specs.Disk.{IsSynced};
+ghost use Rattle.pf_disk.specs.declared.file.FileFault.TheVariants.{Memory};
+ghost use Rattle.pf_disk.specs.Past.{now_counts, now_only};
+
+use crate::memory::overwrite;
+use crate::history::History;
+use crate::{Disk, DiskFault};
+use std::alloc::{AllocError, Global};
+use std::fs::File;
+use std::os::unix::fs::FileExt;
+
+/// Why a file isn't taken as a device. Nothing was written to it.
+#[derive(Clone, Copy, Debug, PartialEq, Eq)]
+pub enum FileFault {
+    /// The file hasn't the length that it has to have.
+    WrongLength,
+    /// Its length couldn't be read, or its bytes, or they couldn't be synced.
+    Fault,
+    /// Memory for its bytes was refused.
+    Memory,
+}
+
+impl From<AllocError> for FileFault {
+    ghost from_gives = { λ _ e. e ≡ Memory };
+
+    fn from(_: AllocError) -> Self {
+        FileFault::Memory
+    }
+}
+
+/// A device over a file of fixed length, by positioned reads and writes; a sync reaches the file's own device.
+///
+/// The bytes that a read has to give are kept in memory too, and a read that finds others in the file is a fault. No clause
+/// can say what a file holds: that its bytes after a crash are as a `Disk` says is a premise, and no promise.
+#[derive(Drop)]
+pub struct FileDisk {
+    file: File,
+    size: usize,
+    bytes: Vec<u8>,
+    fault_count: u64,
+    history: History,
+    ghost seen_is: { (after (at_rest (replicate size 0)) history.events).seen ≡ bytes.items },
+    ghost size_is: { length bytes.items ≡ size },
+    ghost calls_fit: { all_fit size history.events ≡ true },
+}
+
+impl FileDisk {
+    /// The file as a device. It is read and synced, so that nothing of it is unsynced. It has to be open for reading and
+    /// writing, and to have `size` bytes; nobody else writes it.
+    pub fn of(alloc: Global, file: File, size: usize) -> Result<FileDisk, FileFault>
+        ensures size { IfOk result (λ disk. length (⟦<FileDisk as Disk>⟧.seen disk) ≡ size) }
+        ensures synced { IfOk result (λ disk. IsSynced (⟦<FileDisk as Disk>⟧.unsynced disk)) }
+        ensures faults { IfOk result (λ disk. ⟦<FileDisk as Disk>⟧.fault_count disk ≡ 0) }
+    {
+        let Ok(metadata) = file.metadata() else {
+            return Err(FileFault::Fault);
+        };
+        if metadata.len() != size as u64 {
+            return Err(FileFault::WrongLength);
+        }
+        let bytes = file_bytes(alloc, &file, size)?;
+        let history = started(&bytes);
+        Ok(FileDisk {
+            file,
+            size,
+            bytes,
+            fault_count: 0,
+            history,
+        })
+    }
+}
+
+// The file's bytes, once they are synced.
+fn file_bytes(alloc: Global, file: &File, size: usize) -> Result<Vec<u8>, FileFault>
+    ensures { IfOk result (λ bytes. length bytes.items ≡ size) }
+{
+    let mut bytes = vec![in alloc; 0u8; size]?;
+    if file.sync_all().is_err() || file.read_exact_at(bytes.as_mut_slice(), 0).is_err() {
+        return Err(FileFault::Fault);
+    }
+    Ok(bytes)
+}
+
+// The history of a file that was found with these bytes: as if they had been written and synced.
+fn started(bytes: &[u8]) -> History
+    ensures seen { (after (at_rest (replicate (length bytes.now) 0)) result.events).seen ≡ bytes.now }
+    ensures synced { IsSynced (after (at_rest (replicate (length bytes.now) 0)) result.events).unsynced }
+    ensures fit { all_fit (length bytes.now) result.events ≡ true }
+{
+    let mut history = History::new();
+    history.note(&[0], bytes);
+    history.note(&[], &[]);
+    history
+}
+
+impl Disk for FileDisk {
+    ghost seen = { λ f. f.bytes.items };
+
+    ghost unsynced = { λ f. (after (at_rest (replicate f.size 0)) f.history.events).unsynced };
+
+    ghost moment = { λ f. length f.history.events };
+
+    ghost left_since = { λ f t c. LeftSince (replicate f.size 0) f.history.events t c };
+
+    ghost fault_count = { λ f. f.fault_count };
+
+    ghost counts_now = { λ f t c le image. now_counts (replicate f.size 0) f.bytes.items f.history.events t c f.seen_is le image };
+
+    ghost only_now = { λ f c left. now_only (replicate f.size 0) f.bytes.items f.history.events c f.seen_is left };
+
+    fn size(&self) -> usize {
+        self.size
+    }
+
+    fn faults(&self) -> u64 {
+        self.fault_count
+    }
+
+    fn read_at(&mut self, at: usize, buf: &mut [u8]) -> Result<(), DiskFault> {
+        let expected = &self.bytes[at..at + buf.len()];
+        let found = self.file.read_exact_at(buf, at as u64).is_ok();
+        if !found || *buf != *expected {
+            self.fault_count += 1;
+            return Err(DiskFault);
+        }
+        Ok(())
+    }
+
+    fn write_at(&mut self, at: usize, bytes: &[u8]) -> Result<(), DiskFault> {
+        if self.file.write_all_at(bytes, at as u64).is_err() {
+            // Some of it may have been written: the range is unsynced.
+            self.history.note(&[at], &self.bytes[at..at + bytes.len()]);
+            self.fault_count += 1;
+            return Err(DiskFault);
+        }
+        self.history.note(&[at], bytes);
+        overwrite(&mut self.bytes, at, bytes);
+        Ok(())
+    }
+
+    fn sync(&mut self) -> Result<(), DiskFault> {
+        if self.file.sync_data().is_err() {
+            self.fault_count += 1;
+            return Err(DiskFault);
+        }
+        self.history.note(&[], &[]);
+        Ok(())
+    }
+}

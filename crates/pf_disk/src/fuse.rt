@@ -1,0 +1,172 @@
+// A device that fails where it is told to.
+ghost use Rattle.std.specs.Prelude.{◌≡◌, ◌+◌, ◌-◌, ◌^◌, ◌<◌, ◌≤◌, true, false, List, ℕ, length, take, drop, OnOk, OnErr, MatchResult};
+ghost use Rattle.pf_disk.specs.Disk.{IsImage, IsSynced, AreIn, is_within, with_range, overwritten, Elapses, CountsFault};
+ghost use Rattle.pf_disk.specs.Burning.{blows, burnt, counted};
+
+use crate::{Disk, DiskFault};
+
+/// Which calls fail. A call is a read, a write or a sync.
+#[derive(Clone, Copy, Debug, PartialEq, Eq)]
+pub enum Fuse {
+    /// None.
+    Whole,
+    /// All behind so many more.
+    After(u64),
+    /// The one behind so many more, alone.
+    Once(u64),
+}
+
+/// Passes calls on to another device, and fails where its fuse says. A call that it fails isn't passed on and changes nothing
+/// but the count of faults.
+#[derive(Drop)]
+pub struct FuseDisk<D: Disk> {
+    inner: D,
+    fuse: Fuse,
+    refused: u64,
+    ghost few: { D.fault_count inner + refused ≤ 2 ^ 63 },
+}
+
+impl<D: Disk> FuseDisk<D> {
+    ghost use Rattle.pf_disk.specs.declared.fuse.Fuse.TheVariants.{After, Once};
+    ghost use Rattle.pf_disk.specs.Fuse.{inner_of, fuse_of, refused_of};
+
+    /// Passes `k` calls on, and then fails all.
+    pub fn after(disk: D, k: u64) -> FuseDisk<D>
+        requires { D.fault_count disk ≤ 2 ^ 63 }
+        ensures inner { inner_of result ≡ disk }
+        ensures fuse { fuse_of result ≡ After k }
+        ensures none_refused { refused_of result ≡ 0 }
+    {
+        FuseDisk {
+            inner: disk,
+            fuse: Fuse::After(k),
+            refused: 0,
+        }
+    }
+
+    /// Fails call number `k + 1` alone.
+    pub fn once(disk: D, k: u64) -> FuseDisk<D>
+        requires { D.fault_count disk ≤ 2 ^ 63 }
+        ensures inner { inner_of result ≡ disk }
+        ensures fuse { fuse_of result ≡ Once k }
+        ensures none_refused { refused_of result ≡ 0 }
+    {
+        FuseDisk {
+            inner: disk,
+            fuse: Fuse::Once(k),
+            refused: 0,
+        }
+    }
+
+    /// The device as it stands.
+    pub fn into_inner(self) -> D
+        ensures { result ≡ inner_of self }
+    {
+        let FuseDisk {
+            inner,
+            fuse: _,
+            refused: _,
+        } = self;
+        inner
+    }
+}
+
+// One call: it passes, or it is refused and counted.
+fn burn(fuse: &mut Fuse, refused: &mut u64) -> Result<(), DiskFault>
+    requires { refused.old < 2 ^ 63 }
+    ensures fuse { fuse.new ≡ burnt fuse.old }
+    ensures refuses { MatchResult result (λ _. blows fuse.old ≡ false) (λ _. blows fuse.old ≡ true) }
+    ensures refused { refused.new ≡ counted fuse.old refused.old }
+{
+    let (next, passes) = match *fuse {
+        Fuse::Whole => (Fuse::Whole, true),
+        Fuse::After(0) => (Fuse::After(0), false),
+        Fuse::After(calls) => (Fuse::After(calls - 1), true),
+        Fuse::Once(0) => (Fuse::Whole, false),
+        Fuse::Once(calls) => (Fuse::Once(calls - 1), true),
+    };
+    *fuse = next;
+    if passes {
+        return Ok(());
+    }
+    *refused += 1;
+    Err(DiskFault)
+}
+
+impl<D: Disk> Disk for FuseDisk<D> {
+    ghost seen = { λ f. D.seen f.inner };
+
+    ghost unsynced = { λ f. D.unsynced f.inner };
+
+    ghost moment = { λ f. D.moment f.inner };
+
+    ghost left_since = { λ f. D.left_since f.inner };
+
+    ghost fault_count = { λ f. D.fault_count f.inner + f.refused };
+
+    ghost counts_now = { λ f. D.counts_now f.inner };
+
+    ghost only_now = { λ f. D.only_now f.inner };
+
+    fn size(&self) -> usize {
+        self.inner.size()
+    }
+
+    fn faults(&self) -> u64 {
+        self.inner.faults() + self.refused
+    }
+
+    fn read_at(&mut self, at: usize, buf: &mut [u8]) -> Result<(), DiskFault>
+        requires within { at + length buf.old ≤ length (D.seen self.old.inner) }
+        requires few { D.fault_count self.old.inner + self.old.refused < 2 ^ 63 }
+        ensures fuse { self.new.fuse ≡ burnt self.old.fuse }
+        ensures refused { self.new.refused ≡ counted self.old.fuse self.old.refused }
+        ensures not_passed_on { blows self.old.fuse ≡ true → self.new.inner ≡ self.old.inner }
+        ensures refuses { OnOk result (blows self.old.fuse ≡ false) }
+        ensures read { OnOk result (buf.new ≡ take (length buf.old) (drop at (D.seen self.old.inner))) }
+        ensures seen { D.seen self.new.inner ≡ D.seen self.old.inner }
+        ensures unsynced { AreIn (D.unsynced self.new.inner) (D.unsynced self.old.inner) }
+        ensures still { AreIn (D.unsynced self.old.inner) (D.unsynced self.new.inner) }
+        ensures time { Elapses (D.moment self.old.inner) (D.moment self.new.inner) (D.left_since self.old.inner) (D.left_since self.new.inner) (D.seen self.new.inner) (D.unsynced self.new.inner) }
+        ensures faults { CountsFault result (D.fault_count self.old.inner + self.old.refused) (D.fault_count self.new.inner + self.new.refused) }
+    {
+        burn(&mut self.fuse, &mut self.refused)?;
+        self.inner.read_at(at, buf)
+    }
+
+    fn write_at(&mut self, at: usize, bytes: &[u8]) -> Result<(), DiskFault>
+        requires within { at + length bytes.now ≤ length (D.seen self.old.inner) }
+        requires few { D.fault_count self.old.inner + self.old.refused < 2 ^ 63 }
+        ensures fuse { self.new.fuse ≡ burnt self.old.fuse }
+        ensures refused { self.new.refused ≡ counted self.old.fuse self.old.refused }
+        ensures not_passed_on { blows self.old.fuse ≡ true → self.new.inner ≡ self.old.inner }
+        ensures refuses { OnOk result (blows self.old.fuse ≡ false) }
+        ensures written { OnOk result (D.seen self.new.inner ≡ overwritten (D.seen self.old.inner) at bytes.now) }
+        ensures elsewhere { IsImage (D.seen self.old.inner) (is_within at (length bytes.now)) (D.seen self.new.inner) }
+        ensures unsynced { AreIn (D.unsynced self.new.inner) (with_range at (length bytes.now) (D.unsynced self.old.inner)) }
+        ensures still { AreIn (D.unsynced self.old.inner) (D.unsynced self.new.inner) }
+        ensures marked { OnOk result (AreIn (is_within at (length bytes.now)) (D.unsynced self.new.inner)) }
+        ensures time { Elapses (D.moment self.old.inner) (D.moment self.new.inner) (D.left_since self.old.inner) (D.left_since self.new.inner) (D.seen self.new.inner) (D.unsynced self.new.inner) }
+        ensures faults { CountsFault result (D.fault_count self.old.inner + self.old.refused) (D.fault_count self.new.inner + self.new.refused) }
+    {
+        burn(&mut self.fuse, &mut self.refused)?;
+        self.inner.write_at(at, bytes)
+    }
+
+    fn sync(&mut self) -> Result<(), DiskFault>
+        requires few { D.fault_count self.old.inner + self.old.refused < 2 ^ 63 }
+        ensures fuse { self.new.fuse ≡ burnt self.old.fuse }
+        ensures refused { self.new.refused ≡ counted self.old.fuse self.old.refused }
+        ensures not_passed_on { blows self.old.fuse ≡ true → self.new.inner ≡ self.old.inner }
+        ensures refuses { OnOk result (blows self.old.fuse ≡ false) }
+        ensures synced { OnOk result (IsSynced (D.unsynced self.new.inner)) }
+        ensures seen { D.seen self.new.inner ≡ D.seen self.old.inner }
+        ensures unsynced { AreIn (D.unsynced self.new.inner) (D.unsynced self.old.inner) }
+        ensures still { OnErr result (AreIn (D.unsynced self.old.inner) (D.unsynced self.new.inner)) }
+        ensures time { Elapses (D.moment self.old.inner) (D.moment self.new.inner) (D.left_since self.old.inner) (D.left_since self.new.inner) (D.seen self.new.inner) (D.unsynced self.new.inner) }
+        ensures faults { CountsFault result (D.fault_count self.old.inner + self.old.refused) (D.fault_count self.new.inner + self.new.refused) }
+    {
+        burn(&mut self.fuse, &mut self.refused)?;
+        self.inner.sync()
+    }
+}

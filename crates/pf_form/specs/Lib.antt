@@ -1,0 +1,11 @@
+pub mod Words
+pub mod Forms
+pub mod Readers
+pub mod Laws
+pub mod WordLaws
+pub mod PairLaws
+pub mod ListLaws
+pub mod FormLaws
+pub mod TextLaws
+pub mod Saying
+pub mod Lists

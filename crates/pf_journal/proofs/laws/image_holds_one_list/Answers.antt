@@ -1,0 +1,5 @@
+use Rattle.pf_journal.proofs.Parsing.{unique}
+use Rattle.pf_journal.proofs.laws.image_holds_one_list.Goals as goal
+
+pub returns : goal.returns
+returns c start end image ps qs a b = unique start end image ps qs a b

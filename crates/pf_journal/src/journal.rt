@@ -1,0 +1,77 @@
+// Adding a record.
+ghost use Rattle.std.specs.Prelude.{◌≡◌, ◌↔◌, ◌+◌, ◌^◌, ◌<◌, ◌≤◌, ◌++◌, [], ◌∷◌, List, ℕ, length, IfOk, OnOk, IsErrOf, if◌then◌else◌};
+ghost use Rattle.pf_disk.specs.Disk.{EachMoment, IsImage};
+ghost use Rattle.pf_journal.specs.Records.{counted, StandsFor, HasBeforeOrAfter};
+ghost use Rattle.pf_journal.specs.Journal.{IsReady, Keeps};
+ghost use Rattle.pf_journal.specs.Faults.{is_append_fault};
+
+use crate::AppendFault;
+use pf_disk::{Disk, OPEN_GATE, write_synced};
+use std::alloc::{AllocError, Global};
+
+/// The byte that a closed gate is written as. Each byte but the open one closes it too.
+pub const CLOSED_GATE: u8 = 0;
+
+/// Bytes of a gate and the length behind it.
+pub const HEADER: usize = 5;
+
+/// The records between two places of a device, `start` and `end`, the last not counted. `gate` is the place of the closed gate
+/// behind them. Places are bytes from the device's start.
+#[derive(Drop)]
+pub struct Journal<D: Disk> {
+    pub disk: D,
+    pub start: usize,
+    pub gate: usize,
+    pub end: usize,
+}
+
+impl<D: Disk> Journal<D> {
+    /// Adds a record, by four calls of the device: what stands behind the gate is written and synced, and then the gate. All
+    /// memory is taken before the first.
+    ///
+    /// At its start nothing is unsynced, and no earlier append has answered `Fault`: the journal is ready, which `Ok`, `NoRoom`
+    /// and `Memory` leave it.
+    pub fn append(&mut self, alloc: Global, payload: &[u8]) -> Result<(), AppendFault>
+        requires ready { IsReady D.seen D.unsynced self.old }
+        requires few { D.fault_count self.old.disk < 2 ^ 63 }
+
+        // At each moment of the call an image has the records from before, or those and the new one.
+        ensures any_moment { (payloads : List (List ℕ)) → Keeps D.seen self.old payloads
+            → EachMoment D.moment D.left_since self.old.disk self.new.disk (HasBeforeOrAfter self.old.start self.old.end payloads payload.now) }
+
+        // After `Ok` each image has the new one, and so does the read.
+        ensures images { OnOk result ((payloads : List (List ℕ)) → Keeps D.seen self.old payloads → (c : List ℕ)
+            → IsImage (D.seen self.new.disk) (D.unsynced self.new.disk) c → StandsFor self.old.start self.old.end c (payloads ++ payload.now ∷ [])) }
+        ensures kept { OnOk result ((payloads : List (List ℕ)) → Keeps D.seen self.old payloads → Keeps D.seen self.new (payloads ++ payload.now ∷ [])) }
+        ensures ready { OnOk result (IsReady D.seen D.unsynced self.new) }
+
+        ensures same_size { length (D.seen self.new.disk) ≡ length (D.seen self.old.disk) }
+        ensures region { (self.new.start ≡ self.old.start) × (self.new.end ≡ self.old.end) }
+        ensures no_room { IsErrOf result AppendFault.NoRoom ↔ (self.old.end < self.old.gate + HEADER + length payload.now + 1) }
+        ensures unchanged_without_room { IsErrOf result AppendFault.NoRoom → self.new ≡ self.old }
+        ensures unchanged_without_memory { IsErrOf result AppendFault.Memory → self.new ≡ self.old }
+        ensures faults { D.fault_count self.new.disk ≡ D.fault_count self.old.disk + (if is_append_fault result then 1 else 0) }
+    {
+        let room = self.end - self.gate;
+        if room <= HEADER || room - HEADER - 1 < payload.len() {
+            return Err(AppendFault::NoRoom);
+        }
+        let behind = behind_gate(alloc, payload)?;
+        write_synced(&mut self.disk, self.gate + 1, &behind)?;
+        write_synced(&mut self.disk, self.gate, &[OPEN_GATE])?;
+        self.gate += HEADER + payload.len();
+        Ok(())
+    }
+}
+
+// What is written behind a closed gate: the length, the payload, and the next closed gate.
+fn behind_gate(alloc: Global, payload: &[u8]) -> Result<Vec<u8>, AllocError>
+    requires { length payload.now < 2 ^ 32 }
+    ensures { IfOk result (λ bytes. bytes.items ≡ counted payload.now ++ CLOSED_GATE ∷ []) }
+{
+    let mut bytes = Vec::new(alloc);
+    bytes.extend_from_slice(&(payload.len() as u32).to_be_bytes())?;
+    bytes.extend_from_slice(payload)?;
+    bytes.push(CLOSED_GATE)?;
+    Ok(bytes)
+}
