@@ -1,6 +1,5 @@
-pub mod Lines
-pub mod Pieces
 pub mod Books
 pub mod Serving
+pub mod ServingLaws
 pub mod Replied
 pub mod Program
