@@ -95,11 +95,11 @@ fn write_len<W: Write>(out: &mut W, net: Net) -> io::Result<()>
     ensures text { Writes result (W.contents out.old) (W.contents out.new) (length_text net) }
     ensures retried { IfErr result (λ e. error_kind e ≢ ErrorKind.Interrupted) }
 {
-    if net.len() == net.family().width() {
+    if net.prefix_len() == net.family().width() {
         return Ok(());
     }
     write_text(out, b"/")?;
-    write_number(out, u64::from(net.len()))
+    write_number(out, u64::from(net.prefix_len()))
 }
 
 fn write_v4<W: Write>(out: &mut W, number: u32) -> io::Result<()>

@@ -1,17 +1,14 @@
 -- Which rule an evaluation finds.
 use Rattle.std.proofs.Common.{◌≡◌, ◌⊎◌, inl, inr, ℕ, suc, ◌+◌, Bool, true, false, not, ◌&&◌, ◌||◌, cond, List, [], ◌∷◌, ◌++◌, length, Option, Some, None, refl, sym, ap, subst, ◌∙◌, arith}
 use Rattle.std.specs.List.{list_all, list_any}
-use Rattle.pf_rule.specs.Packets.{PlainPacket}
 use Rattle.pf_rule.specs.Rules.{PlainRule}
-use Rattle.pf_rule.specs.declared.rule.Action.{Action}
 use Rattle.pf_anchor.specs.declared.evaluated.Evaluated.{Evaluated}
 use Rattle.pf_anchor.specs.declared.evaluated.Evaluated.TheVariants.{Open, Ended}
 use Rattle.pf_anchor.specs.declared.ruleset.Decision.{Decision}
-use Rattle.pf_anchor.specs.declared.verdict.RuleVerdict.{RuleVerdict}
 use Rattle.pf_anchor.specs.declared.verdict.RuleVerdict.TheVariants as by
-use Rattle.pf_anchor.specs.Evaluation.{and_then, settled, said, rules_from, decision, decides, matching, evaluation, last_of, verdict_by, judged}
+use Rattle.pf_anchor.specs.Evaluation.{and_then, settled, rules_from, decision, decides, matching, evaluation, last_of, verdict_by}
 use Rattle.pf_anchor.specs.EvaluationLaws.{IsDeciding, TellsWhatDecides, WhatDecidesIsTold, NoneMatches, DefaultWhereNone}
-use Rattle.pf_anchor.specs.Rulesets.{Ruled, main, rules_at}
+use Rattle.pf_anchor.specs.Rulesets.{main, rules_at}
 
 pub none_and_then : {M : Type 0} (x : Evaluated M) → and_then (Open None) x ≡ x
 none_and_then (Ended m) = refl

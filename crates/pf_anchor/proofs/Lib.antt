@@ -3,4 +3,5 @@ pub mod PathsRead
 pub mod Maps
 pub mod RulesetMaps
 pub mod Pages
+pub mod Growth
 pub mod Evaluations

@@ -1,11 +1,14 @@
 -- A map in pages: where a path's entry is, and what replacing it there leaves.
-use Rattle.std.proofs.Common.{◌≡◌, ℕ, zero, suc, ◌+◌, ◌-◌, ◌<◌, ◌≤◌, T, Bool, true, false, List, [], ◌∷◌, ◌++◌, length, take, drop, get_or, ◌==◌, refl, sym, ap, subst, ◌∙◌, append_assoc, arith, add-one}
+use Rattle.std.proofs.Common.{◌≡◌, ℕ, zero, suc, ◌+◌, ◌-◌, ◌<◌, ◌≤◌, T, true, false, List, [], ◌∷◌, ◌++◌, length, take, drop, get_or, ◌==◌, refl, sym, ap, subst, ◌∙◌, append_assoc, arith, add-one}
 use Rattle.std.specs.declared.cmp.Ordering.{Ordering}
-use Rattle.std.specs.declared.cmp.Ordering.TheVariants.{Less, Equal, Greater}
+use Rattle.std.specs.declared.cmp.Ordering.TheVariants.{Less, Greater}
 use Rattle.std.specs.FinMap.{is_sorted}
 use Rattle.std.specs.Ordering.{ordering_index}
+use Rattle.std.specs.Prelude.{nat_lt}
+use Rattle.std.proofs.lemmas.Bool.{lt-ltb}
 use Rattle.std.proofs.lemmas.Cmp.{nat_list_cmp_total}
-use Rattle.pf_anchor.specs.Maps.{is_on_side, AllOn, with_value}
+use Rattle.std.proofs.lemmas.List.{length-append, get_or_default}
+use Rattle.pf_anchor.specs.Maps.{is_on_side, AllOn}
 use Rattle.pf_anchor.specs.Pages.{starts_behind, page_before, front_of, IsPlace}
 use Rattle.pf_anchor.specs.Rulesets.{Ruled, path_order, unless_empty, with_rules, rules_in, rules_at, joined}
 use Rattle.pf_anchor.proofs.Maps.{sorted_back, all_before, all_behind, with_around, find_around, is_side}
@@ -76,3 +79,15 @@ pub read_there : (pages : List (List Ruled)) (p : List ℕ) (n : ℕ) → IsPlac
 read_there pages p n at is =
     ap (λ (z : List Ruled). rules_at p z) (split_there pages n at.within)
     ∙ ap rules_in (find_around nat_list_cmp_total p (joined (front_of n pages)) (page_before n pages) (joined (drop n pages)) (at.before is) (at.behind is))
+
+-- a count that is past a limit at one page is so at all of them
+pub counted_past : (pages : List (List Ruled)) (i left limit : ℕ) (page : List Ruled) → i < length pages → page ≡ get_or pages i page → left + length (joined (take i pages)) ≡ limit → left < length page → true ≡ nat_lt limit (length (joined pages))
+counted_past pages i left limit page h is counted past =
+    let here : List Ruled = get_or pages i [] in
+    let front : List Ruled = joined (take i pages) in
+    let back : List Ruled = joined (drop (suc i) pages) in
+    let whole : length (joined pages) ≡ length (front ++ here) + length back = ap (λ (es : List Ruled). length es) (around pages i h) ∙ length-append (front ++ here) back in
+    let two : length (front ++ here) ≡ length front + length here = length-append front here in
+    let one : length page ≡ length here = ap (λ (es : List Ruled). length es) (is ∙ get_or_default pages i page [] h) in
+    let more : limit < length (joined pages) = omega (arith, whole, two, one, counted, past) in
+    sym (lt-ltb limit (length (joined pages)) more)

@@ -10,10 +10,10 @@ use Rattle.std.proofs.lemmas.Bool.Decides.{nat_tests}
 use Rattle.std.proofs.lemmas.List.Splits.{slice_split_at, slice_split_none, join_with_byte-slice_split}
 use Rattle.std.proofs.lemmas.List.Sums.{AllPass-from_list_all}
 use Rattle.std.proofs.lemmas.Slice.Eq.{bytes_eq-Decides}
-use Rattle.pf_rule.specs.declared.fault.Kind.{Kind}
-use Rattle.pf_rule.specs.declared.fault.Kind.TheVariants.{BadWord, NameTooLong}
+use Rattle.pf_form.specs.declared.fault.Kind.{Kind}
+use Rattle.pf_form.specs.declared.fault.Kind.TheVariants.{BadWord, NameTooLong}
 use Rattle.pf_rule.specs.Names.{is_name_byte}
-use Rattle.pf_rule.specs.Words.{Word}
+use Rattle.pf_form.specs.Words.{Word}
 use Rattle.pf_anchor.specs.Paths.{is_slash, components, is_component, component_fault, first_fault, depth_fault, or_else, path_fault, path_unless, path_of, path_text, is_path}
 use Rattle.pf_anchor.specs.PathGrammar.{IsComponent, AreComponents, IsPathText, SpellsPath}
 use Rattle.pf_anchor.specs.Rulesets.{main}

@@ -1,18 +1,16 @@
 -- The map of rulesets: what a commit leaves of it.
-use Rattle.std.proofs.Common.{◌≡◌, ℕ, suc, ◌+◌, ◌<◌, drop, get_or, drop-cons, add-one, T, Bool, true, false, cond, List, [], ◌∷◌, ◌++◌, length, refl, sym, ap, subst, ◌∙◌, Option, Some, None, arith}
+use Rattle.std.proofs.Common.{◌≡◌, ℕ, suc, ◌+◌, ◌<◌, drop, get_or, drop-cons, add-one, Bool, true, false, cond, List, [], ◌∷◌, ◌++◌, length, refl, sym, ap, ◌∙◌, Option, Some, arith}
 use Rattle.std.specs.Prelude.{filter, fold}
 use Rattle.std.specs.declared.cmp.Ordering.TheVariants.{Less, Greater}
 use Rattle.std.specs.Cmp.{IsEquivalence}
-use Rattle.std.specs.FinMap.{find, is_sorted, IsAntisymmetric, slice_cmp-IsAntisymmetric, nat_cmp-IsAntisymmetric}
-use Rattle.std.specs.FinMap.Entries.{below_all}
-use Rattle.std.specs.Ordering.{is_eq}
+use Rattle.std.specs.FinMap.{find, slice_cmp-IsAntisymmetric, nat_cmp-IsAntisymmetric}
 use Rattle.std.proofs.lemmas.Cmp.{eq_by_cmp_equiv, nat_list_cmp_total}
 use Rattle.std.proofs.lemmas.Map.Text.{is_eq-slice_cmp}
 use Rattle.std.proofs.lemmas.Slice.Eq.{bytes_eq-Decides}
 use Rattle.pf_rule.specs.Rules.{PlainRule}
 use Rattle.pf_anchor.specs.Laws.{ReplacesTheNamed, rules_by, ReplacesExactly, SamePathIsEqual, OneMap}
-use Rattle.pf_anchor.specs.Maps.{entry, is_on_side, with_value}
-use Rattle.pf_anchor.specs.Rulesets.{Ruled, ruled, path_order, same_path, unless_empty, rules_in, rules_at, with_rules, AllHaveRules, IsMap}
+use Rattle.pf_anchor.specs.Maps.{entry, is_on_side}
+use Rattle.pf_anchor.specs.Rulesets.{Ruled, path_order, same_path, unless_empty, rules_in, rules_at, with_rules, AllHaveRules, IsMap}
 use Rattle.pf_anchor.proofs.Maps.{replaces_the_key, stays_sorted, one_list}
 
 pub paths_alike : IsEquivalence same_path
@@ -66,7 +64,7 @@ pub map_all : (items es : List Ruled) → IsMap es → IsMap (fold with_rules es
 map_all [] es is = is
 map_all (i ∷ items) es is = map_all items (with_rules es i) (map_with es i is)
 
-replaced_in_turn : (items es : List Ruled) (q : List ℕ) → rules_at q (fold with_rules es items) ≡ rules_by items q (rules_at q es)
+pub replaced_in_turn : (items es : List Ruled) (q : List ℕ) → rules_at q (fold with_rules es items) ≡ rules_by items q (rules_at q es)
 replaced_in_turn [] es q = refl
 replaced_in_turn (i ∷ is) es q = replaced_in_turn is (with_rules es i) q ∙ ap (λ (old : List PlainRule). rules_by is q old) (replaces_the_named es i q)
 

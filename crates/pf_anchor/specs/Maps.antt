@@ -1,5 +1,5 @@
 -- Finite maps, as the list of their entries in the order of their keys. `find` and `is_sorted` are std's.
-use Rattle.std.specs.Prelude.{ℕ, T, Bool, List, [], ◌∷◌, ◌++◌, ◌==◌, Option, Some, None, filter}
+use Rattle.std.specs.Prelude.{T, Bool, List, [], ◌∷◌, ◌++◌, ◌==◌, Option, Some, None, filter}
 use Rattle.std.specs.List.{list_all}
 use Rattle.std.specs.declared.cmp.Ordering.{Ordering}
 use Rattle.std.specs.declared.cmp.Ordering.TheVariants.{Less, Greater}

@@ -2,7 +2,7 @@
 use Rattle.std.specs.Prelude.{◌≡◌, ◌≢◌, ◌⊎◌, ℕ, ◌<◌, ◌≤◌, true, List, [], ◌∷◌, length, codes}
 use Rattle.std.specs.List.{list_all, join_with_byte}
 use Rattle.pf_rule.specs.Names.{is_name_byte}
-use Rattle.pf_rule.specs.Words.{Word}
+use Rattle.pf_form.specs.Words.{Word}
 use Rattle.pf_anchor.specs.declared.limits.TheConstants.{PATH_LIMIT, COMPONENT_LIMIT, DEPTH_LIMIT}
 use Rattle.pf_anchor.specs.Rulesets.{main}
 

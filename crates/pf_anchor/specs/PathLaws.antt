@@ -1,6 +1,6 @@
 -- What follows from the definitions of paths, as law functions promise it.
 use Rattle.std.specs.Prelude.{◌≡◌, ℕ, true, List, None, Ok}
-use Rattle.pf_rule.specs.Words.{Word}
+use Rattle.pf_form.specs.Words.{Word}
 use Rattle.pf_anchor.specs.Paths.{path_fault, path_of, path_text, is_path}
 use Rattle.pf_anchor.specs.PathGrammar.{IsPathText, SpellsPath}
 

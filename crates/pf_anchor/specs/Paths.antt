@@ -3,10 +3,10 @@ use Rattle.std.specs.Prelude.{ℕ, ◌==◌, ◌&&◌, Bool, true, not, cond, if
 use Rattle.std.specs.List.{list_all}
 use Rattle.std.specs.Option.{is_none}
 use Rattle.std.specs.Str.{bytes_eq}
-use Rattle.pf_rule.specs.declared.fault.Kind.{Kind}
-use Rattle.pf_rule.specs.declared.fault.Kind.TheVariants.{BadWord, NameTooLong}
+use Rattle.pf_form.specs.declared.fault.Kind.{Kind}
+use Rattle.pf_form.specs.declared.fault.Kind.TheVariants.{BadWord, NameTooLong}
 use Rattle.pf_rule.specs.Names.{is_name_byte}
-use Rattle.pf_rule.specs.Words.{Word}
+use Rattle.pf_form.specs.Words.{Word}
 use Rattle.pf_anchor.specs.declared.limits.TheConstants.{PATH_LIMIT, COMPONENT_LIMIT, DEPTH_LIMIT}
 use Rattle.pf_anchor.specs.Rulesets.{main}
 

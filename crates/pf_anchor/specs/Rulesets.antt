@@ -1,5 +1,5 @@
 -- Rulesets at paths (pf.conf(5), ANCHORS): a finite map. That an empty ruleset doesn't exist and that paths are ordered by their bytes is own.
-use Rattle.std.specs.Prelude.{◌≡◌, ℕ, ◌<◌, T, length, Bool, List, [], ◌∷◌, Option, Some, None, flat_map}
+use Rattle.std.specs.Prelude.{ℕ, ◌<◌, T, length, Bool, List, [], ◌∷◌, Option, Some, None, flat_map}
 use Rattle.std.specs.declared.cmp.Ordering.{Ordering}
 use Rattle.std.specs.Ordering.{nat_cmp, eq_by_cmp}
 use Rattle.std.specs.Cmp.Lexicographic.{slice_cmp}

@@ -1,10 +1,11 @@
 //! The active rulesets.
-ghost use Rattle.std.specs.Prelude.{◌≡◌, ◌≤◌, ◌<◌, T, [], ◌∷◌, ◌++◌, length, take, drop, IfOk, OnOk, IfSome, IfNone, fold};
+ghost use Rattle.std.specs.Prelude.{◌≡◌, ◌≤◌, ◌<◌, T, [], ◌∷◌, ◌++◌, length, take, drop, IfOk, OnOk, IfSome, IfNone, fold, nat_lt};
 ghost use Rattle.std.specs.FinMap.{is_sorted};
 ghost use Rattle.pf_anchor.specs.Rulesets.{Ruled, path_order, rules_at, with_rules, joined, IsMap};
 ghost use Rattle.pf_anchor.specs.Evaluation.{judged};
 ghost use Rattle.pf_anchor.specs.Pages.{starts_behind, page_before, IsPlace};
 
+use crate::limits::RULESET_LIMIT;
 use crate::page::{PAGE_LIMIT, Page, replaced};
 use crate::path::Path;
 use crate::placed::Placed;
@@ -153,6 +154,21 @@ fn find<'a>(entries: &'a [Placed], path: &Path) -> Option<&'a Placed>
     None
 }
 
+// Whether there are more rulesets than a limit.
+fn are_more_than(pages: &[Page], limit: usize) -> bool
+    ensures { result ≡ nat_lt limit (length (joined pages.now)) }
+{
+    let mut left = limit;
+    for page in pages {
+        let count = page.as_slice().len();
+        if count > left {
+            return true;
+        }
+        left -= count;
+    }
+    false
+}
+
 impl Config {
     /// No rulesets. It takes no memory.
     pub fn empty(alloc: Global) -> Config
@@ -173,10 +189,25 @@ impl Config {
         Ok(Config { pages })
     }
 
+    /// Whether a commit of these would leave more rulesets than there may be. Only near the limit they are made, to be
+    /// counted; else it takes no memory. `AllocError`: nothing is made.
+    pub fn would_be_too_many(&self, alloc: Global, items: &[Placed]) -> Result<bool, AllocError>
+        ensures { IfOk result (λ b. b ≡ nat_lt RULESET_LIMIT (length (fold with_rules self.now items.now))) }
+    {
+        if let Some(room) = RULESET_LIMIT.checked_sub(items.len()) {
+            if !are_more_than(&self.pages, room) {
+                return Ok(false);
+            }
+        }
+        let after = self.with_rulesets(alloc, items)?;
+        Ok(are_more_than(&after.pages, RULESET_LIMIT))
+    }
+
     // The ruleset at a path.
     fn placed_at(&self, path: &Path) -> Option<&Placed>
         ensures some { IfSome result (λ p. p.now.1 ≡ rules_at path.now self.now) }
         ensures none { IfNone result (rules_at path.now self.now ≡ []) }
+        ensures map { IsMap self.now }
     {
         find(
             page_before(&self.pages, place_in(&self.pages, path)),
@@ -186,7 +217,9 @@ impl Config {
 
     /// The rules at a path: none where it has no ruleset. No rule is copied. `AllocError`: nothing is made.
     pub fn rules_at(&self, path: &Path) -> Result<RuleList, AllocError>
-        ensures { IfOk result (λ l. l ≡ rules_at path.now self.now) }
+        ensures value { IfOk result (λ l. l ≡ rules_at path.now self.now) }
+        // what each map keeps
+        ensures map { IsMap self.now }
     {
         match self.placed_at(path) {
             Some(placed) => placed.rules().shared(),

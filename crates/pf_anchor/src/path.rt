@@ -5,7 +5,7 @@ ghost use Rattle.pf_anchor.specs.Rulesets.{path_order, same_path};
 
 use crate::limits::PATH_LIMIT;
 use crate::path_text::fault_in;
-use pf_rule::Kind;
+use pf_form::Kind;
 use std::cmp::Ordering;
 use std::marker::Model;
 

@@ -1,47 +1,51 @@
 -- In each opening that a world comes to each ticket was given once, all limits hold, and all is shown.
-use Rattle.std.proofs.Common.{◌≡◌, ℕ, ◌+◌, ◌<◌, ◌≤◌, Bool, true, false, cond, ◌||◌, List, [], ◌∷◌, ◌++◌, length, refl, sym, ap, ◌∙◌, ◌==◌, zero, suc, subst, inl, inr, arith}
-use Rattle.std.specs.List.{list_any}
-use Rattle.std.proofs.lemmas.Bool.{eqb-true}
+use Rattle.std.proofs.Common.{◌≡◌, ℕ, ◌+◌, ◌<◌, ◌≤◌, Bool, true, false, cond, List, [], ◌∷◌, ◌++◌, length, refl, sym, ap, ◌∙◌, subst, inl, inr, arith}
 use Rattle.std.proofs.lemmas.List.{append-nil, length-append}
 use Rattle.std.proofs.lemmas.List.Sums.{fold_push}
 use Rattle.pf_rule.specs.Rules.{PlainRule}
+use Rattle.pf_anchor.specs.declared.limits.TheConstants.{RULE_LIMIT, RULESET_LIMIT}
+use Rattle.pf_anchor.specs.Laws.{rules_by}
+use Rattle.pf_anchor.specs.Rulesets.{Ruled, same_path, rules_at}
+use Rattle.pf_anchor.proofs.RulesetMaps.{replaced_in_turn}
+use Rattle.pf_ticket.specs.declared.entry.Entry.{Entry}
+use Rattle.pf_ticket.specs.declared.name.RulesetName.{RulesetName}
+use Rattle.pf_ticket.specs.declared.offered.Offered.{Offered}
+use Rattle.pf_ticket.specs.Mentions.{Mention, rules_in, content, facts}
+use Rattle.pf_ticket.specs.Standing.{Stands}
+use Rattle.pf_ticket.proofs.Mentions.{gives-each-once as once_given}
+use Rattle.pf_ticket.proofs.Standing.{starts_sound, keeps_the_limits}
 use Rattle.pf_core.specs.declared.command.Command.{Command}
-use Rattle.pf_core.specs.declared.command.Entry.{Entry}
-use Rattle.pf_core.specs.declared.command.RulesetName.{RulesetName}
-use Rattle.pf_core.specs.declared.command.Ticket.{Ticket}
 use Rattle.pf_core.specs.declared.reply.Outcome.{Outcome}
 use Rattle.pf_core.specs.declared.reply.Reply.{Reply}
 use Rattle.pf_core.specs.declared.reply.Reply.TheVariants.{Answer as Answered, Applied, Refused}
-use Rattle.pf_core.specs.Calls.{Call, same_ticket, ticket, tickets_from, mentions, mentions_of, Mention, content, tickets_given, facts}
-use Rattle.pf_core.specs.Edits.{Kept, Edit, applied, after}
-use Rattle.pf_core.specs.Laws.{rules_by}
-use Rattle.pf_core.specs.Legal.{rule_limit, items}
-use Rattle.pf_core.specs.Rulesets.{Ruled, same_path, rules_at}
-use Rattle.pf_core.specs.WorldFacts.{AreOnce, GivesEachOnce, IsWithin, KeepsTheLimits, ShowsAll}
+use Rattle.pf_core.specs.Calls.{Call, mentions, mentions_of}
+use Rattle.pf_core.specs.Commands.{items}
+use Rattle.pf_core.specs.Edits.{Kept, Edit, rulesets_in, applied, after}
+use Rattle.pf_core.specs.WorldFacts.{GivesEachOnce, IsWithin, KeepsTheLimits, ShowsAll}
 use Rattle.pf_core.specs.WorldLaws.{mentions-push}
 use Rattle.pf_core.specs.Worlds.{Held, State, up, down, Upshot, Event, called, opened, raised, flat, log_of, durable_of, step_in, group_in, acked_by, shown_by, heard, next, LegalReply, LegalCall, IsLegal, state_after, IsLegalFrom, IsWorld}
 use Rattle.pf_core.proofs.LegalCalls.{WantedBy, commit, wanted-by, IsApplied, applied-step, legal-brings}
 use Rattle.pf_core.proofs.LongerWorlds.{flat-push}
-use Rattle.pf_core.proofs.Mentions.{never-both}
-use Rattle.pf_core.proofs.Standing.{Stands, stands-at-start, stands-on}
-use Rattle.pf_core.proofs.Switching.{replaced}
+use Rattle.pf_core.proofs.Switching.{taken, taken-is}
 
 -- ---- a change keeps what is kept within the limits
 
-either-within : (b : Bool) (xs ys : List PlainRule) → length xs ≤ rule_limit → length ys ≤ rule_limit → length (cond b xs ys) ≤ rule_limit
+either-within : (b : Bool) (xs ys : List PlainRule) → length xs ≤ RULE_LIMIT → length ys ≤ RULE_LIMIT → length (cond b xs ys) ≤ RULE_LIMIT
 either-within true xs ys h k = h
 either-within false xs ys h k = k
 
-rules-within : (offered : RulesetName → List PlainRule) (es : List Entry) (p : List ℕ) (old : List PlainRule) → ((name : RulesetName) → length (offered name) ≤ rule_limit) → length old ≤ rule_limit → length (rules_by (items offered es) p old) ≤ rule_limit
-rules-within offered [] p old all h = h
-rules-within offered (e ∷ es) p old all h = rules-within offered es p (cond (same_path e.name.path p) (offered e.name) old) all (either-within (same_path e.name.path p) (offered e.name) old (all e.name) h)
+rules-within : (content : RulesetName → Offered) (es : List Entry) (p : List ℕ) (old : List PlainRule) → ((name : RulesetName) → length (rules_in (content name)) ≤ RULE_LIMIT) → length old ≤ RULE_LIMIT → length (rules_by (taken content es) p old) ≤ RULE_LIMIT
+rules-within content [] p old all h = h
+rules-within content (e ∷ es) p old all h = rules-within content es p (cond (same_path e.name.path p) (rules_in (content e.name)) old) all (either-within (same_path e.name.path p) (rules_in (content e.name)) old (all e.name) h)
 
-change-within : (epoch : ℕ) (ms : List Mention) (d : Kept) (e : Edit) → WantedBy (facts epoch ms) d e → ((name : RulesetName) → length (content ms name) ≤ rule_limit) → IsWithin d → IsWithin (applied d e)
+change-within : (epoch : ℕ) (ms : List Mention) (d : Kept) (e : Edit) → WantedBy (facts epoch ms) d e → ((name : RulesetName) → length (rules_in (content ms name)) ≤ RULE_LIMIT) → IsWithin d → IsWithin (applied d e)
 change-within epoch ms d e (commit entries few is) all w =
-    let new : List Ruled = items (content ms) entries in
+    let new : List Ruled = rulesets_in (items (content ms) entries) in
     subst (λ (x : Edit). IsWithin (applied d x)) is (record {
       rulesets = few;
-      rules = λ p. subst (λ (rs : List PlainRule). length rs ≤ rule_limit) (sym (replaced new d.rulesets p)) (rules-within (content ms) entries p (rules_at p d.rulesets) all (w.rules p));
+      rules = λ p. subst (λ (rs : List PlainRule). length rs ≤ RULE_LIMIT)
+          (sym (replaced_in_turn new d.rulesets p ∙ ap (λ (rs : List Ruled). rules_by rs p (rules_at p d.rulesets)) (taken-is (content ms) entries)))
+          (rules-within (content ms) entries p (rules_at p d.rulesets) all (w.rules p));
     })
 
 -- ---- one event more
@@ -83,7 +87,7 @@ logged-on first h c (Refused e) failed legal all = subst (λ (gs : List (List Ed
 
 holds-on : (first : Kept) (h : Held) (c : Call) (t : Upshot) → LegalCall h c t → Holds first h → Holds first (heard h c t)
 holds-on first h c t legal all = record {
-  said = subst (λ (ms : List Mention). Stands h.base.epoch ms) (sym (mentions-push h.calls c)) (stands-on h.base.epoch (mentions h.calls) (mentions_of c) (legal-brings h c.command c.reply t.failed legal.reply) all.said);
+  said = subst (λ (ms : List Mention). Stands h.base.epoch ms) (sym (mentions-push h.calls c)) (keeps_the_limits h.base.epoch (mentions h.calls) (mentions_of c) (legal-brings h c.command c.reply t.failed legal.reply) all.said);
   none = all.none;
   logged = subst (λ (n : ℕ). IsLogged first h.base h.setting.limit (h.acked ++ acked_by c.reply (group_in h c.command)) n) (sym legal.shown) (logged-on first h c.command c.reply t.failed legal.reply all);
 }
@@ -103,7 +107,7 @@ holds-next first (up h) (called c t) legal all = holds-on first h c t legal all
 holds-next first (up h) (opened setting) legal all = absurd legal
 holds-next first (down d) (called c t) legal all = absurd legal
 holds-next first (down d) (opened setting) legal all =
-    record { said = stands-at-start (d.epoch + 1); none = refl; logged = record { room = omega arith; shown = refl; kept = λ within. raised-within d (all within) } }
+    record { said = starts_sound (d.epoch + 1); none = refl; logged = record { room = omega arith; shown = refl; kept = λ within. raised-within d (all within) } }
 
 holds-from : (first : Kept) (st : State) (world : List Event) → IsLegalFrom st world → HoldsOf first st → HoldsOf first (state_after st world)
 holds-from first st [] legal all = all
@@ -112,21 +116,10 @@ holds-from first st (e ∷ es) legal all = holds-from first (next st e) es legal
 holds-after : (first : Kept) (world : List Event) (h : Held) → IsWorld first world → state_after (down first) world ≡ up h → Holds first h
 holds-after first world h legal comes = subst (λ (st : State). HoldsOf first st) comes (holds-from first (down first) world legal (λ within. within))
 
--- tickets numbered one after another are given once
-later-are-others : (epoch count n : ℕ) (t : Ticket) → t.count < count → list_any (λ u. same_ticket u t) (tickets_from epoch count n) ≡ false
-later-are-others epoch count zero t h = refl
-later-are-others epoch count (suc n) t h =
-    let other : same_ticket (ticket epoch count) t ≡ false = never-both (epoch == t.epoch) (count == t.count) (λ e. let same : count ≡ t.count = eqb-true count t.count e in omega (arith, same, h)) in
-    ap (λ (b : Bool). b || list_any (λ u. same_ticket u t) (tickets_from epoch (count + 1) n)) other ∙ later-are-others epoch (count + 1) n t (omega (arith, h))
-
-once-from : (epoch count n : ℕ) → AreOnce (tickets_from epoch count n)
-once-from epoch count zero = tt
-once-from epoch count (suc n) = (later-are-others epoch (count + 1) n (ticket epoch count) (omega arith), once-from epoch (count + 1) n)
-
 pub gives-each-once : GivesEachOnce
 gives-each-once first world h legal comes =
     let s : Stands h.base.epoch (mentions h.calls) = (holds-after first world h legal comes).said in
-    record { numbered = s.sound.numbered; once = subst AreOnce (sym s.sound.numbered) (once-from h.base.epoch 1 (length (tickets_given (mentions h.calls)))) }
+    record { numbered = s.sound.numbered; once = once_given h.base.epoch (mentions h.calls) s.sound.numbered }
 
 pub keeps-the-limits : KeepsTheLimits
 keeps-the-limits first world h within legal comes =

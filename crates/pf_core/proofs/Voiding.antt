@@ -5,10 +5,12 @@ use Rattle.std.specs.List.{list_any}
 use Rattle.std.proofs.lemmas.List.Sums.{fold-append}
 use Rattle.pf_core.specs.declared.command.Command.TheVariants.{Transact}
 use Rattle.pf_core.specs.declared.command.Transaction.TheVariants.{Commit}
-use Rattle.pf_core.specs.declared.command.RulesetName.{RulesetName}
-use Rattle.pf_core.specs.declared.command.Ticket.{Ticket}
+use Rattle.pf_ticket.specs.declared.name.RulesetName.{RulesetName}
+use Rattle.pf_ticket.specs.declared.ticket.Ticket.{Ticket}
+use Rattle.pf_ticket.specs.Names.{same_name, names_of}
+use Rattle.pf_ticket.specs.Mentions.{switches, Mention, touched, valid_ticket}
 use Rattle.pf_core.specs.declared.reply.Reply.TheVariants.{Applied}
-use Rattle.pf_core.specs.Calls.{call, same_name, switches, names_of, Mention, mentions, touched, valid_ticket}
+use Rattle.pf_core.specs.Calls.{call, mentions}
 use Rattle.pf_core.specs.Laws.{KeepsNoneValid}
 use Rattle.pf_core.specs.WorldLaws.{mentions-push}
 

@@ -1,14 +1,14 @@
 -- What contracts see of a core, and what a step leaves of it. Own.
 use Rattle.std.specs.Prelude.{◌≡◌, List, [], ◌∷◌, ◌++◌, Result, Ok, Err}
 use Rattle.pf_core.specs.declared.command.Command.{Command}
-use Rattle.pf_core.specs.declared.command.RulesetName.{RulesetName}
+use Rattle.pf_ticket.specs.declared.name.RulesetName.{RulesetName}
+use Rattle.pf_ticket.specs.Tickets.{Open}
 use Rattle.pf_core.specs.declared.reply.Refusal.{Refusal}
 use Rattle.pf_core.specs.declared.reply.Reply.TheVariants.{Answer}
 use Rattle.pf_core.specs.declared.step.Step.{Step}
 use Rattle.pf_core.specs.declared.step.Step.TheVariants.{Done, Wants}
-use Rattle.pf_core.specs.Calls.{Call, call}
+use Rattle.pf_core.specs.Calls.{Call, call, AgreesWith}
 use Rattle.pf_core.specs.Edits.{Kept}
-use Rattle.pf_core.specs.Tickets.{Open, AgreesWith}
 
 -- a core: what is kept, and the open transactions
 pub record Whole : Type 0 where
@@ -37,3 +37,9 @@ abbrev pub AgreesAfter : Open → List Call → Command → Result Step Refusal 
 AgreesAfter t calls c (Ok (Done a)) = AgreesWith t (calls ++ call c (Answer a) ∷ [])
 AgreesAfter t calls c (Ok (Wants e o)) = Unit {0}
 AgreesAfter t calls c (Err e) = Unit {0}
+
+-- a commit wants a change, or is refused
+abbrev pub IsNeverDone : Result Step Refusal → Type 0
+IsNeverDone (Ok (Done a)) = ⊥
+IsNeverDone (Ok (Wants e o)) = Unit {0}
+IsNeverDone (Err e) = Unit {0}

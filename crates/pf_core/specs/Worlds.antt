@@ -7,9 +7,8 @@ use Rattle.pf_core.specs.declared.reply.Reply.{Reply}
 use Rattle.pf_core.specs.declared.reply.Reply.TheVariants.{Answer, Applied, Refused}
 use Rattle.pf_core.specs.declared.step.Step.{Step}
 use Rattle.pf_core.specs.declared.step.Step.TheVariants.{Done, Wants}
-use Rattle.pf_core.specs.Calls.{Call}
+use Rattle.pf_core.specs.Calls.{Call, legal_step}
 use Rattle.pf_core.specs.Edits.{Kept, Edit, after}
-use Rattle.pf_core.specs.Legal.{legal_step}
 
 -- ---- states
 

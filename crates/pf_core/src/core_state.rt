@@ -1,35 +1,33 @@
 //! One command after the other.
-ghost use Rattle.std.specs.Prelude.{◌≡◌, ℕ, List, [], ◌∷◌, ◌++◌, IfOk, length, map, fold, nat_lt};
+ghost use Rattle.std.specs.Prelude.{◌≡◌, ℕ, List, [], ◌∷◌, ◌++◌, IfOk, length, map, nat_lt};
 ghost use Rattle.std.specs.Arc.{arc_value};
+ghost use Rattle.pf_anchor.specs.declared.limits.TheConstants.{RULESET_LIMIT};
 ghost use Rattle.pf_rule.specs.Packets.{PlainPacket};
+ghost use Rattle.pf_ticket.specs.declared.entry.Entry.{Entry};
+ghost use Rattle.pf_ticket.specs.Mentions.{switches};
+ghost use Rattle.pf_ticket.specs.Offers.{all_out};
+ghost use Rattle.pf_ticket.specs.Tickets.{offered_at, facts_in};
 ghost use Rattle.pf_core.specs.declared.command.Command.{Command};
 ghost use Rattle.pf_core.specs.declared.command.Question.{Question};
 ghost use Rattle.pf_core.specs.declared.command.Transaction.{Transaction};
-ghost use Rattle.pf_core.specs.declared.command.Entry.{Entry};
 ghost use Rattle.pf_core.specs.declared.reply.Answer.TheVariants as answer;
 ghost use Rattle.pf_core.specs.declared.reply.Outcome.{Outcome};
 ghost use Rattle.pf_core.specs.declared.reply.Reply.TheVariants as reply;
-ghost use Rattle.pf_core.specs.Calls.{Call, call, mentions_of, switches};
+ghost use Rattle.pf_core.specs.Calls.{Call, call, mentions_of, AgreesWith, legal_step, IsLegalStep};
+ghost use Rattle.pf_core.specs.Commands.{item_of, items, rulesets_after, commit_step, rollback_step, transact_step, answer_of};
 ghost use Rattle.pf_core.specs.Edits.{applied, voided_by, name_of, verdict};
-ghost use Rattle.pf_core.specs.Legal.{items, ruleset_limit, commit_step, rollback_step, transact_step, answer_of, legal_step, IsLegalStep};
-ghost use Rattle.pf_core.specs.Offers.{all_out, IsNeverDone};
-ghost use Rattle.pf_core.specs.Tickets.{AgreesWith, rules_under, facts_in};
-ghost use Rattle.pf_core.specs.Rulesets.{with_rules};
-ghost use Rattle.pf_core.specs.Wholes.{ready, StaysUnlessDone, AgreesAfter};
+ghost use Rattle.pf_core.specs.Wholes.{ready, StaysUnlessDone, AgreesAfter, IsNeverDone};
 
-use crate::change::{Change, Kind};
-use crate::command::{Command, Entry, Question, RulesetName, Transaction};
-use crate::durable::Durable;
-use crate::placed::{Placed, replace_all};
+use crate::change::{Change, Item, Kind};
+use crate::command::{Command, Question, Transaction};
+use crate::durable::{Durable, rulesets_in};
 use crate::reply::{Answer, Outcome, Refusal};
 use crate::step::Step;
-use crate::tickets::Tickets;
+use pf_anchor::Placed;
+use pf_ticket::{Entry, Offered, RulesetName, Tickets};
 use std::alloc::{AllocError, Global};
 use std::marker::Model;
 use std::sync::Arc;
-
-/// How many rulesets there may be.
-const RULESET_LIMIT: usize = 1024;
 
 /// What is kept, and the open transactions. Contracts see it as a `Whole`.
 #[derive(Drop)]
@@ -64,15 +62,37 @@ impl Model for Next {
     ghost view = { λ n. ready (arc_value n.durable) n.voided.items };
 }
 
+// The ruleset that an item replaces.
+fn name_of(item: &Item) -> RulesetName
+    ensures { result ≡ name_of item.now }
+{
+    match item {
+        Item::Rules(placed) => RulesetName::filter(placed.path()),
+    }
+}
+
 // The rulesets whose tickets a commit voids.
-fn voided(alloc: Global, items: &[Placed]) -> Result<Vec<RulesetName>, AllocError>
+fn voided(alloc: Global, items: &[Item]) -> Result<Vec<RulesetName>, AllocError>
     ensures { IfOk result (λ v. v.items ≡ map name_of items.now) }
 {
-    let mut names = Vec::new(alloc);
+    let mut names = Vec::with_capacity(alloc, items.len())?;
     for item in items {
-        names.push(RulesetName::filter(&item.path))?;
+        names.push(name_of(item))?;
     }
     Ok(names)
+}
+
+// What replaces a ruleset: what is offered for it. No rule is copied.
+fn item_of(alloc: Global, name: &RulesetName, offered: Offered) -> Result<Item, AllocError>
+    ensures { IfOk result (λ i. i ≡ item_of name.now offered) }
+{
+    match offered {
+        Offered::Rules(rules) => Ok(Item::Rules(Placed::new(
+            alloc,
+            name.path.copied(),
+            rules,
+        )?)),
+    }
 }
 
 // What a commit of these entries replaces.
@@ -80,27 +100,25 @@ fn take_items(
     alloc: Global,
     tickets: &Tickets,
     entries: &[Entry],
-) -> Result<Vec<Placed>, AllocError>
-    ensures { IfOk result (λ v. v.items ≡ items (rules_under tickets.now.offers) entries.now) }
+) -> Result<Vec<Item>, AllocError>
+    ensures { IfOk result (λ v. v.items ≡ items (offered_at tickets.now.offers) entries.now) }
 {
-    let mut taken = Vec::new(alloc);
+    let mut taken = Vec::with_capacity(alloc, entries.len())?;
     for entry in entries {
-        taken.push(Placed {
-            path: entry.name.path.copied(),
-            rules: Arc::new(alloc, tickets.contents(&entry.name)?)?,
-        })?;
+        let offered = tickets.contents(&entry.name)?;
+        taken.push(item_of(alloc, &entry.name, offered)?)?;
     }
     Ok(taken)
 }
 
-// Whether there would be more rulesets than there may be. Only near the limit they are made, to be counted.
-fn are_too_many(alloc: Global, rulesets: &[Placed], items: &[Placed]) -> Result<bool, AllocError>
-    ensures { IfOk result (λ b. b ≡ nat_lt ruleset_limit (length (fold with_rules rulesets.now items.now))) }
+// Whether there would be more rulesets than there may be.
+fn are_too_many(alloc: Global, durable: &Durable, items: &[Item]) -> Result<bool, AllocError>
+    ensures { IfOk result (λ b. b ≡ nat_lt RULESET_LIMIT (rulesets_after durable.now items.now)) }
 {
-    if rulesets.len() + items.len() <= RULESET_LIMIT {
-        return Ok(false);
-    }
-    Ok(replace_all(alloc, rulesets, items)?.len() > RULESET_LIMIT)
+    let rulesets = rulesets_in(alloc, items)?;
+    durable
+        .rulesets()
+        .would_be_too_many(alloc, rulesets.as_slice())
 }
 
 // What a commit wants, or why it is refused.
@@ -115,7 +133,7 @@ fn commit(
 {
     tickets.check_all(entries)?;
     let items = take_items(alloc, tickets, entries)?;
-    if are_too_many(alloc, durable.rulesets(), items.as_slice())? {
+    if are_too_many(alloc, durable, items.as_slice())? {
         return Err(Refusal::TooManyRulesets);
     }
     Ok(Step::Wants(Change::commit(items), Outcome::Committed))
@@ -152,13 +170,13 @@ fn transact(
 }
 
 // What a question is answered. A judge takes no memory.
-fn answer(alloc: Global, durable: &Durable, question: &Question) -> Result<Answer, AllocError>
+fn answer(durable: &Durable, question: &Question) -> Result<Answer, AllocError>
     ensures value { IfOk result (λ a. a ≡ answer_of durable.now question.now) }
     ensures judged { (packet : PlainPacket) → question.now ≡ Question.Judge packet → result ≡ Ok (answer.Judged (verdict durable.now packet)) }
 {
     match question {
         Question::Judge(packet) => Ok(Answer::Judged(durable.verdict(packet))),
-        Question::ShowRules(path) => Ok(Answer::Rules(durable.rules_at(alloc, path)?)),
+        Question::ShowRules(path) => Ok(Answer::Rules(durable.rulesets().rules_at(path)?)),
     }
 }
 
@@ -217,7 +235,7 @@ impl Core {
                 transaction,
             ),
             Command::Ask(question) => {
-                Ok(Step::Done(answer(self.alloc, &self.durable, question)?))
+                Ok(Step::Done(answer(&self.durable, question)?))
             }
         }
     }

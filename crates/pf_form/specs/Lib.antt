@@ -1,4 +1,6 @@
 pub mod Words
+pub mod Numbers
+pub mod NumberLaws
 pub mod Forms
 pub mod Readers
 pub mod Laws
@@ -7,5 +9,4 @@ pub mod PairLaws
 pub mod ListLaws
 pub mod FormLaws
 pub mod TextLaws
-pub mod Saying
 pub mod Lists

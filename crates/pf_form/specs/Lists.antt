@@ -1,6 +1,8 @@
 -- Lists that are read part after part, up to the last word of a text.
-use Rattle.std.proofs.Common.{◌≡◌, ◌<◌, true, false, List, [], ◌∷◌, length, Result, Ok, Err, ap, arith}
+use Rattle.std.proofs.Common.{◌≡◌, ◌<◌, true, false, List, [], ◌∷◌, length, Result, Ok, Err, ap, sym, subst, arith}
+use Rattle.std.specs.Prelude.{IsErrAnd}
 use Rattle.std.proofs.lemmas.List.{length-append}
+use Rattle.pf_form.specs.declared.fault.Kind.{Kind}
 use Rattle.pf_form.specs.declared.fault.Stop.{Stop}
 use Rattle.pf_form.specs.declared.fault.Unread.{Unread}
 use Rattle.pf_form.specs.declared.fault.Unread.TheVariants as unread
@@ -38,3 +40,11 @@ pub listed : {X A B : Type 0} (view : X → List A) (r : Result X Unread) (make 
 listed view (Ok x) make f ws h = made_ok make (one_or_more f) ws (view x) h
 listed view (Err (unread.Stopped s)) make f ws h = made_err make (one_or_more f) ws s h
 listed view (Err unread.Memory) make f ws h = tt
+
+-- an error that is handed on
+pub handed_on : {X Y A : Type 0} (view : X → A) (other : Y → A) (e : Unread) (r : Result Y Unread) (q : Result A (Kind × List Word)) → GivesAll view (Err e) q → IsErrAnd r (λ d. d ≡ e) → GivesAll other r q
+handed_on view other e (Ok y) q h is = absurd is
+handed_on {Y = Y} {A = A} view other e (Err d) q h is = subst (λ (u : Unread). GivesAll {X = Y} {A = A} other (Err u) q) (sym is) (same view other e q h) where
+  same : {X Y A : Type 0} (view : X → A) (other : Y → A) (e : Unread) (q : Result A (Kind × List Word)) → GivesAll view (Err e) q → GivesAll other (Err e) q
+  same view other (unread.Stopped s) q h = h
+  same view other unread.Memory q h = h

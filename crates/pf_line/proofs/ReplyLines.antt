@@ -1,11 +1,13 @@
 -- Each line of a reply is one line.
-use Rattle.std.proofs.Common.{◌≡◌, ℕ, zero, suc, ◌+◌, ◌/◌, ◌%◌, ◌<◌, ◌==◌, ◌&&◌, not, Bool, true, false, cond, List, [], ◌∷◌, ◌++◌, length, decimal, refl, arith}
-use Rattle.std.specs.Prelude.{◌^◌, Option, Some, None, codes, drop, map, nat_lt}
+use Rattle.std.proofs.Common.{◌≡◌, ℕ, zero, suc, ◌+◌, ◌/◌, ◌%◌, ◌<◌, ◌==◌, ◌&&◌, not, Bool, true, false, cond, List, [], ◌∷◌, ◌++◌, length, take, get_or, decimal, refl, sym, subst, ◌≤◌, arith}
+use Rattle.std.specs.Prelude.{◌^◌, Option, Some, None, IfSome, codes, drop, map, nat_lt}
 use Rattle.std.specs.Char.{digit_char}
 use Rattle.std.specs.Int.{to_be_bytes, w32}
 use Rattle.std.specs.List.{list_all, join_with_byte}
 use Rattle.std.specs.Net.Text.{hex, leading_zero_digits}
-use Rattle.std.proofs.lemmas.List.{length-append}
+use Rattle.std.specs.Option.{is_none}
+use Rattle.std.proofs.lemmas.Bool.{and_parts}
+use Rattle.std.proofs.lemmas.List.{length-append, take_all}
 use Rattle.std.specs.Fmt.{digits, digits_onto, digit_glyph}
 use Rattle.std.proofs.lemmas.Bool.Decides.{nat_tests}
 use Rattle.pf_addr.specs.declared.addr.Addr.{Addr}
@@ -14,28 +16,33 @@ use Rattle.pf_addr.specs.declared.addr.Family.{Family}
 use Rattle.pf_addr.specs.declared.addr.Family.TheVariants.{V4, V6}
 use Rattle.pf_addr.specs.Address.{Network, width}
 use Rattle.pf_addr.specs.Spelling.{group_text, addr_text, first_addr, length_text, net_text}
+use Rattle.pf_form.specs.declared.fault.Kind.{Kind}
 use Rattle.pf_rule.specs.declared.rule.Action.{Action}
 use Rattle.pf_rule.specs.declared.rule.Action.TheVariants.{Pass, Block}
 use Rattle.pf_rule.specs.declared.rule.Direction.{Direction}
 use Rattle.pf_rule.specs.declared.rule.Direction.TheVariants.{In, Out}
 use Rattle.pf_rule.specs.declared.rule.Host.{Host}
 use Rattle.pf_rule.specs.declared.rule.Host.TheVariants.{Any, Net}
-use Rattle.pf_rule.specs.Rules.{PlainRule}
+use Rattle.pf_rule.specs.Names.{is_name_byte, IsInterfaceName}
+use Rattle.pf_rule.specs.Rules.{PlainRule, IsRule}
+use Rattle.pf_anchor.specs.Paths.{path_fault, is_path}
+use Rattle.pf_anchor.specs.PathGrammar.{AreComponents, IsPathText}
+use Rattle.pf_anchor.specs.PathLaws.{FaultsAllElse}
 use Rattle.pf_rule.specs.RuleText.{action_word, direction_words, quick_words, interface_words, family_words, protocol_word, protocol_words, host_word, from_to_words, host_words, state_words, canonical, rule_text}
-use Rattle.pf_core.specs.declared.command.Ticket.{Ticket}
+use Rattle.pf_ticket.specs.declared.ticket.Ticket.{Ticket}
 use Rattle.pf_core.specs.declared.reply.Answer.{Answer}
 use Rattle.pf_core.specs.declared.reply.Answer.TheVariants as answers
 use Rattle.pf_core.specs.declared.reply.Refusal.{Refusal}
 use Rattle.pf_core.specs.declared.reply.Refusal.TheVariants as refusals
 use Rattle.pf_core.specs.declared.reply.Reply.{Reply}
 use Rattle.pf_core.specs.declared.reply.Reply.TheVariants as replies
-use Rattle.pf_core.specs.declared.reply.RuleVerdict.{RuleVerdict}
-use Rattle.pf_core.specs.declared.reply.RuleVerdict.TheVariants.{Rule, Default}
+use Rattle.pf_anchor.specs.declared.verdict.RuleVerdict.{RuleVerdict}
+use Rattle.pf_anchor.specs.declared.verdict.RuleVerdict.TheVariants.{Rule, Default}
 use Rattle.pf_core.specs.declared.reply.Verdict.{Verdict}
 use Rattle.pf_core.specs.declared.reply.Verdict.TheVariants.{Rules}
-use Rattle.pf_core.specs.Calls.{tickets_of}
+use Rattle.pf_ticket.specs.Names.{tickets_of}
 use Rattle.pf_line.specs.Tickets.{ticket_text}
-use Rattle.pf_line.specs.Replies.{tickets_text, place_text, action_text, rule_verdict_text, verdict_text, answer_text, refusal_text, last_line, shown_in, rule_line, rule_lines, reply_lines, reply_text, line_count, HasNoNewline, NoneHasNewline, HasLines, rule_path, verdict_path, answer_path, path_in, interface_text, names_in}
+use Rattle.pf_line.specs.Replies.{tickets_text, place_text, action_text, rule_verdict_text, verdict_text, answer_text, refusal_text, last_line, shown_in, rule_line, rule_lines, reply_lines, reply_text, line_count, HasNoNewline, NoneHasNewline, HasLines, rule_path, verdict_path, answer_path, path_in, AreRules}
 
 abbrev clear : ℕ → Bool
 clear b = not (b == 10)
@@ -53,6 +60,24 @@ joined (x ∷ a) b h k = let parts = split (clear x) (list_all clear a) h in bot
   split : (s t : Bool) → (s && t) ≡ true → (s ≡ true) × (t ≡ true)
   split true t e = (refl, e)
   split false t e = absurd cc
+
+-- ---- names
+
+-- a byte that passes a test which a newline fails
+passes : (test : ℕ → Bool) → test 10 ≡ false → (b : ℕ) → test b ≡ true → clear b ≡ true
+passes test fails b h = by (b == 10) refl where
+  by : (t : Bool) → (b == 10) ≡ t → not t ≡ true
+  by false e = refl
+  by true e =
+      let is : b ≡ 10 = grind (arith, nat_tests) in
+      let at_ten : test 10 ≡ true = subst (λ (n : ℕ). test n ≡ true) is h in
+      absurd cc
+
+name_clear : (name : List ℕ) → list_all is_name_byte name ≡ true → HasNoNewline name
+name_clear [] h = refl
+name_clear (b ∷ bs) h =
+    let parts = and_parts (is_name_byte b) (list_all is_name_byte bs) h in
+    both (clear b) (list_all clear bs) (passes is_name_byte refl b parts.0) (name_clear bs parts.1)
 
 -- ---- numbers
 
@@ -206,9 +231,9 @@ quick_clear : (q : Bool) → NoneHasNewline (quick_words q)
 quick_clear true = (refl, tt)
 quick_clear false = tt
 
-interface_clear : (i : Option (List ℕ)) → HasNoNewline (interface_text i) → NoneHasNewline (interface_words i)
+interface_clear : (i : Option (List ℕ)) → IfSome i IsInterfaceName → NoneHasNewline (interface_words i)
 interface_clear None h = tt
-interface_clear (Some name) h = (refl, (h, tt))
+interface_clear (Some name) h = (refl, (name_clear name h.bytes, tt))
 
 family_clear : (f : Option Family) → NoneHasNewline (family_words f)
 family_clear None = tt
@@ -224,27 +249,24 @@ states_clear (Pass true) = (refl, (refl, tt))
 states_clear (Pass false) = (refl, (refl, tt))
 states_clear Block = tt
 
-canonical_clear : (r : PlainRule) → HasNoNewline (interface_text r.interface) → NoneHasNewline (canonical r)
+canonical_clear : (r : PlainRule) → IsRule r → NoneHasNewline (canonical r)
 canonical_clear r h =
     let states = states_clear r.action in
     let hosts = clear-append (host_words r.source r.destination) (state_words r.action) (hosts_clear r.source r.destination) states in
     let protocol = clear-append (protocol_words r.protocol) _ (protocols_clear r.protocol) hosts in
     let family = clear-append (family_words r.family) _ (family_clear r.family) protocol in
-    let interface = clear-append (interface_words r.interface) _ (interface_clear r.interface h) family in
+    let interface = clear-append (interface_words r.interface) _ (interface_clear r.interface h.interface) family in
     let quick = clear-append (quick_words r.quick) _ (quick_clear r.quick) interface in
     (pass_or_block r.action, clear-append (direction_words r.direction) _ (directions_clear r.direction) quick)
 
-rule_text_clear : (r : PlainRule) → HasNoNewline (interface_text r.interface) → HasNoNewline (rule_text r)
+rule_text_clear : (r : PlainRule) → IsRule r → HasNoNewline (rule_text r)
 unfolding rule_text
 rule_text_clear r h = join_clear 32 refl (canonical r) (canonical_clear r h)
 
-rule_line_clear : (n : ℕ) (r : PlainRule) → HasNoNewline (interface_text r.interface) → HasNoNewline (rule_line n r)
+rule_line_clear : (n : ℕ) (r : PlainRule) → IsRule r → HasNoNewline (rule_line n r)
 rule_line_clear n r h = joined (64 ∷ decimal n) (32 ∷ rule_text r) (joined (64 ∷ []) (decimal n) refl (number_clear n)) (joined (32 ∷ []) (rule_text r) refl (rule_text_clear r h))
 
-abbrev interface_of : PlainRule → List ℕ
-interface_of r = interface_text r.interface
-
-lines_clear : (n : ℕ) (rs : List PlainRule) → NoneHasNewline (map interface_of rs) → NoneHasNewline (rule_lines n rs)
+lines_clear : (n : ℕ) (rs : List PlainRule) → AreRules rs → NoneHasNewline (rule_lines n rs)
 lines_clear n [] all = tt
 lines_clear n (r ∷ rs) all = (rule_line_clear n r all.0, lines_clear (n + 1) rs all.1)
 
@@ -252,7 +274,33 @@ length-rule_lines : (n : ℕ) (rs : List PlainRule) → length (rule_lines n rs)
 length-rule_lines n [] = refl
 length-rule_lines n (r ∷ rs) = omega (arith, length-rule_lines (n + 1) rs)
 
-pub reply_lined : (r : Reply) → NoneHasNewline (names_in r) → HasLines (line_count r) (reply_text r)
-reply_lined r all =
+pub reply_lined : (r : Reply) → HasNoNewline (path_in r) → AreRules (shown_in r) → HasLines (line_count r) (reply_text r)
+reply_lined r path kept =
     let rules = rule_lines 0 (shown_in r) in
-    (reply_lines r, refl, clear-append rules (last_line r ∷ []) (lines_clear 0 (shown_in r) all.1) (words_clear r all.0, tt), omega (arith, length-append rules (last_line r ∷ []), length-rule_lines 0 (shown_in r)))
+    (reply_lines r, refl, clear-append rules (last_line r ∷ []) (lines_clear 0 (shown_in r) kept) (words_clear r path, tt), omega (arith, length-append rules (last_line r ∷ []), length-rule_lines 0 (shown_in r)))
+
+-- ---- what the types keep
+
+components_clear : (parts : List (List ℕ)) → AreComponents parts → NoneHasNewline parts
+components_clear [] all = tt
+components_clear (c ∷ cs) all = (name_clear c all.0.bytes, components_clear cs all.1)
+
+-- a path's text has none, as the law of paths says
+pub path_clear : FaultsAllElse → (p : List ℕ) → is_path p ≡ true → HasNoNewline p
+path_clear law [] e = refl
+path_clear law (b ∷ bs) e =
+    let is : IsPathText (b ∷ bs) = law (b ∷ bs) (none (path_fault (b ∷ bs)) e) in
+    subst HasNoNewline (sym is.joined) (join_clear 47 refl is.parts (components_clear is.parts is.each)) where
+      none : (o : Option Kind) → is_none o ≡ true → o ≡ None
+      none None h = refl
+      none (Some k) h = absurd cc
+
+pub one_more : (rs : List PlainRule) (i : ℕ) (other : PlainRule) → i < length rs → AreRules (take i rs) → IsRule (get_or rs i other) → AreRules (take (i + 1) rs)
+one_more [] i other lt all is = absurd (omega arith)
+one_more (r ∷ rs) zero other lt all is = (is, tt)
+one_more (r ∷ rs) (suc i) other lt all is =
+    let next : suc (i + 1) ≡ suc i + 1 = omega arith in
+    subst (λ (n : ℕ). AreRules (take n (r ∷ rs))) next (all.0, one_more rs i other (omega arith) all.1 is)
+
+pub all_taken : (rs : List PlainRule) (i : ℕ) → length rs ≤ i → AreRules (take i rs) → AreRules rs
+all_taken rs i le all = subst AreRules (take_all i rs le) all

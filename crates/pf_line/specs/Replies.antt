@@ -3,20 +3,20 @@ use Rattle.std.specs.Prelude.{◌≡◌, ℕ, ◌+◌, ◌==◌, not, true, List
 use Rattle.std.specs.List.{list_all}
 use Rattle.pf_rule.specs.declared.rule.Action.{Action}
 use Rattle.pf_rule.specs.declared.rule.Action.TheVariants.{Pass, Block}
-use Rattle.pf_rule.specs.Rules.{PlainRule}
+use Rattle.pf_rule.specs.Rules.{PlainRule, IsRule}
 use Rattle.pf_rule.specs.RuleText.{rule_text}
-use Rattle.pf_core.specs.declared.command.Ticket.{Ticket}
+use Rattle.pf_ticket.specs.declared.ticket.Ticket.{Ticket}
 use Rattle.pf_core.specs.declared.reply.Answer.{Answer}
 use Rattle.pf_core.specs.declared.reply.Answer.TheVariants as answers
 use Rattle.pf_core.specs.declared.reply.Refusal.{Refusal}
 use Rattle.pf_core.specs.declared.reply.Refusal.TheVariants as refusals
 use Rattle.pf_core.specs.declared.reply.Reply.{Reply}
 use Rattle.pf_core.specs.declared.reply.Reply.TheVariants as replies
-use Rattle.pf_core.specs.declared.reply.RuleVerdict.{RuleVerdict}
-use Rattle.pf_core.specs.declared.reply.RuleVerdict.TheVariants.{Rule, Default}
+use Rattle.pf_anchor.specs.declared.verdict.RuleVerdict.{RuleVerdict}
+use Rattle.pf_anchor.specs.declared.verdict.RuleVerdict.TheVariants.{Rule, Default}
 use Rattle.pf_core.specs.declared.reply.Verdict.{Verdict}
 use Rattle.pf_core.specs.declared.reply.Verdict.TheVariants.{Rules}
-use Rattle.pf_core.specs.Calls.{tickets_of}
+use Rattle.pf_ticket.specs.Names.{tickets_of}
 use Rattle.pf_line.specs.Tickets.{ticket_text}
 
 -- each ticket behind a space (32)
@@ -137,10 +137,7 @@ path_in (replies.Answer a) = answer_path a
 path_in (replies.Applied seq outcome) = []
 path_in (replies.Refused e) = []
 
-abbrev pub interface_text : Option (List ℕ) → List ℕ
-interface_text None = []
-interface_text (Some name) = name
-
--- the path and the interfaces that a reply names
-abbrev pub names_in : Reply → List (List ℕ)
-names_in r = path_in r ∷ map (λ rule. interface_text rule.interface) (shown_in r)
+-- what the type of a rule keeps, of each
+abbrev pub AreRules : List PlainRule → Type 0
+AreRules [] = Unit {0}
+AreRules (r ∷ rs) = IsRule r × AreRules rs

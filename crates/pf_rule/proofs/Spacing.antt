@@ -3,7 +3,7 @@ use Rattle.std.proofs.Common.{◌≡◌, ℕ, Bool, true, false, List, [], ◌�
 use Rattle.std.specs.Prelude.{filter, nat_lt}
 use Rattle.std.specs.List.{join_with_byte, All}
 use Rattle.std.proofs.lemmas.List.Splits.{slice_split_none, slice_split_at}
-use Rattle.pf_rule.specs.Words.{Word, is_blank, words_of}
+use Rattle.pf_form.specs.Words.{Word, is_blank, words_of}
 use Rattle.pf_rule.specs.Rules.{PlainRule}
 use Rattle.pf_rule.specs.RuleText.{action_word, direction_words, quick_words, interface_words, family_words, protocol_words, host_words, state_words, rule_text, spaced}
 

@@ -1,5 +1,5 @@
 -- One more mention: what it leaves valid, what it adds, and which tickets were given.
-use Rattle.std.proofs.Common.{◌≡◌, ℕ, ◌+◌, ◌<◌, ◌≤◌, Bool, true, false, cond, ◌&&◌, ◌||◌, List, [], ◌∷◌, ◌++◌, length, fold, refl, sym, ap, ◌∙◌, Option, Some, None, arith, eq-eqb, ◌==◌, zero, suc}
+use Rattle.std.proofs.Common.{◌≡◌, ℕ, ◌+◌, ◌<◌, ◌≤◌, Bool, true, false, cond, ◌&&◌, ◌||◌, List, [], ◌∷◌, ◌++◌, length, fold, refl, sym, ap, ◌∙◌, subst, Option, Some, None, arith, eq-eqb, ◌==◌, zero, suc}
 use Rattle.std.proofs.lemmas.Bool.{eqb-true}
 use Rattle.std.proofs.lemmas.Bool.Decides.{nat_tests}
 use Rattle.std.proofs.lemmas.List.{append-nil, length-append}
@@ -13,6 +13,7 @@ use Rattle.pf_ticket.specs.declared.offered.Offered.{Offered}
 use Rattle.pf_ticket.specs.declared.ticket.Ticket.{Ticket}
 use Rattle.pf_ticket.specs.Names.{same_name, same_ticket, ticket, tickets_from, is_ticket}
 use Rattle.pf_ticket.specs.Mentions.{Mention, gave, added, switched, dropped, touched, valid_ticket, nothing_for, with_rule, offering, offered_with, content_under, ticket_given, tickets_given, next_count, AreNumbered, is_given, AddsAreKnown}
+use Rattle.pf_ticket.specs.Laws.{AreOnce, GivesEachOnce}
 use Rattle.pf_ticket.proofs.Once.{neither}
 
 -- ---- tickets that are the same
@@ -148,3 +149,18 @@ added-known ms p u r given known q w not =
     let other : u ≡ w → ⊥ = λ same. let k : true ≡ false = sym given ∙ ap (λ (x : Ticket). is_given ms x) same ∙ before in cc (k) in
     let so_far : Offered = offered_with ms q w in
     offered_push ms (added p u r) q w ∙ only-with-it (same_name p q) u w (with_rule so_far r) so_far other ∙ known q w before
+
+-- ---- numbered tickets are given once
+
+later-are-others : (epoch count n : ℕ) (t : Ticket) → t.count < count → list_any (λ u. same_ticket u t) (tickets_from epoch count n) ≡ false
+later-are-others epoch count zero t h = refl
+later-are-others epoch count (suc n) t h =
+    let other : same_ticket (ticket epoch count) t ≡ false = never-both (epoch == t.epoch) (count == t.count) (λ e. let same : count ≡ t.count = eqb-true count t.count e in omega (arith, same, h)) in
+    ap (λ (b : Bool). b || list_any (λ u. same_ticket u t) (tickets_from epoch (count + 1) n)) other ∙ later-are-others epoch (count + 1) n t (omega (arith, h))
+
+once-from : (epoch count n : ℕ) → AreOnce (tickets_from epoch count n)
+once-from epoch count zero = tt
+once-from epoch count (suc n) = (later-are-others epoch (count + 1) n (ticket epoch count) (omega arith), once-from epoch (count + 1) n)
+
+pub gives-each-once : GivesEachOnce
+gives-each-once epoch ms numbered = subst AreOnce (sym numbered) (once-from epoch 1 (length (tickets_given ms)))

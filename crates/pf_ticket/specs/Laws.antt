@@ -2,8 +2,9 @@
 use Rattle.std.specs.Prelude.{◌≡◌, ℕ, true, false, List, [], ◌∷◌, ◌++◌, length, Option, Some}
 use Rattle.pf_ticket.specs.declared.name.RulesetName.{RulesetName}
 use Rattle.pf_ticket.specs.declared.ticket.Ticket.{Ticket}
-use Rattle.pf_ticket.specs.Names.{same_name, is_named, tickets_from}
-use Rattle.pf_ticket.specs.Mentions.{Mention, gave, gives, touches, valid_ticket, nothing_for, content, next_count, AreNumbered, AddsAreKnown, open_rulesets, opened_with, facts}
+use Rattle.std.specs.List.{list_any}
+use Rattle.pf_ticket.specs.Names.{same_name, same_ticket, is_named, tickets_from}
+use Rattle.pf_ticket.specs.Mentions.{Mention, gave, gives, touches, valid_ticket, nothing_for, content, tickets_given, next_count, AreNumbered, AddsAreKnown, open_rulesets, opened_with, facts}
 use Rattle.pf_ticket.specs.Tickets.{Open, Agrees, facts_in}
 
 -- nothing here touches a ruleset whose valid ticket is this one
@@ -42,3 +43,12 @@ CountsTheOpen = (epoch : ℕ) (ms : List Mention) (names : List RulesetName) →
 -- replies read the same off the open transactions and off the mentions that they agree with
 abbrev pub AgreeingIsTold : Type 0
 AgreeingIsTold = (t : Open) (ms : List Mention) → Agrees t ms → facts_in t ≡ facts t.epoch ms
+
+-- no ticket stands twice
+abbrev pub AreOnce : List Ticket → Type 0
+AreOnce [] = Unit {0}
+AreOnce (t ∷ ts) = (list_any (λ u. same_ticket u t) ts ≡ false) × AreOnce ts
+
+-- tickets that are numbered are given once
+abbrev pub GivesEachOnce : Type 0
+GivesEachOnce = (epoch : ℕ) (ms : List Mention) → AreNumbered epoch ms → AreOnce (tickets_given ms)

@@ -72,12 +72,12 @@ pub record AreSilent (name : RulesetName) : Type 0 where
   pub rollback : (entries : List Entry) → is_named (names_of entries) name ≡ false → IsSilent name (drops entries)
 
 -- and so leaves their valid tickets, and what is offered with them
-pub record IsLeftAlone (ms new : List Mention) (name : RulesetName) : Type 0 where
-  pub ticket : valid_ticket (ms ++ new) name ≡ valid_ticket ms name
-  pub offered : content (ms ++ new) name ≡ content ms name
+pub record IsLeftAlone (before after : List Mention) (name : RulesetName) : Type 0 where
+  pub ticket : valid_ticket after name ≡ valid_ticket before name
+  pub offered : content after name ≡ content before name
 
 abbrev pub NamesAlone : Type 0
 NamesAlone = (name : RulesetName) → AreSilent name
 
 abbrev pub SilenceLeavesAlone : Type 0
-SilenceLeavesAlone = (ms new : List Mention) (name : RulesetName) → IsSilent name new → IsLeftAlone ms new name
+SilenceLeavesAlone = (ms new : List Mention) (name : RulesetName) → IsSilent name new → IsLeftAlone ms (ms ++ new) name

@@ -1,5 +1,5 @@
 //! What follows from the definitions that contracts cite: functions that do nothing, whose contracts are the laws.
-ghost use Rattle.pf_ticket.specs.Laws.{ValidIsGivenLast, GivenLastIsValid, StartsWithNothing, CountsTheOpen, AgreeingIsTold};
+ghost use Rattle.pf_ticket.specs.Laws.{ValidIsGivenLast, GivenLastIsValid, StartsWithNothing, CountsTheOpen, AgreeingIsTold, GivesEachOnce};
 ghost use Rattle.pf_ticket.specs.Standing.{StartsSound, KeepsTheLimits, BeginBrings, AddBrings, OthersOnlyVoid, NamesAlone, SilenceLeavesAlone};
 
 /// A ticket is valid for a ruleset exactly where the latest mention that touched the ruleset is a begin's that gave it
@@ -42,4 +42,9 @@ pub fn leaves_the_others()
 /// Replies read the same off the open transactions and off the mentions that they agree with.
 pub fn reads_the_mentions()
     ensures { AgreeingIsTold }
+{}
+
+/// Tickets that are numbered from 1 on are given once each.
+pub fn gives_each_ticket_once()
+    ensures { GivesEachOnce }
 {}

@@ -1,4 +1,4 @@
-use Rattle.std.proofs.Common.{◌≡◌, T, ◌<◌, List, length, get_or, sym, ap, subst, ◌∙◌, [], arith, false, true}
+use Rattle.std.proofs.Common.{◌≡◌, ◌<◌, List, length, get_or, sym, ap, subst, ◌∙◌, [], arith}
 use Rattle.std.specs.declared.cmp.Ordering.TheVariants.{Less}
 use Rattle.std.proofs.lemmas.List.{get_or_default}
 use Rattle.pf_anchor.specs.Maps.{AllOn}

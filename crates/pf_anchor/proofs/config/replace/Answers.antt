@@ -1,4 +1,4 @@
-use Rattle.std.proofs.Common.{◌≡◌, List, ◌++◌, ◌-◌, ℕ, drop, take, sym, ap, subst, ◌∙◌}
+use Rattle.std.proofs.Common.{◌≡◌, List, ◌++◌, ◌-◌, ℕ, take, ap, subst, ◌∙◌}
 use Rattle.std.proofs.lemmas.List.Concat.{flat_map-append}
 use Rattle.pf_anchor.specs.Pages.{IsPlace, page_before, front_of}
 use Rattle.pf_anchor.specs.Rulesets.{Ruled, with_rules, joined}

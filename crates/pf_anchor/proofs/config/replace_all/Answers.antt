@@ -1,4 +1,4 @@
-use Rattle.std.proofs.Common.{◌≡◌, T, List, ◌<◌, ◌+◌, drop, get_or, sym, ap, subst, ◌∙◌}
+use Rattle.std.proofs.Common.{T, List, ◌+◌, drop, sym, ap, subst, ◌∙◌}
 use Rattle.std.specs.Prelude.{fold}
 use Rattle.std.specs.FinMap.{is_sorted}
 use Rattle.pf_anchor.specs.Rulesets.{Ruled, path_order, unless_empty, with_rules, joined}

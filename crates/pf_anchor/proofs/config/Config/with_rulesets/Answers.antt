@@ -1,4 +1,4 @@
-use Rattle.std.proofs.Common.{◌≡◌, T, List, sym, ap, subst, ◌∙◌}
+use Rattle.std.proofs.Common.{T, List, sym, subst, ◌∙◌}
 use Rattle.std.specs.FinMap.{is_sorted}
 use Rattle.pf_anchor.specs.Rulesets.{Ruled, IsMap, path_order, joined}
 use Rattle.pf_anchor.proofs.RulesetMaps.{map_all}

@@ -1,11 +1,11 @@
 use Rattle.std.proofs.Common.{subst, sym, ap, ◌∙◌, ◌≡◌, List}
 use Rattle.pf_core.specs.declared.command.Command.{Command}
-use Rattle.pf_core.specs.Calls.{Call}
+use Rattle.pf_ticket.specs.Tickets.{Open, facts_in}
+use Rattle.pf_core.specs.Calls.{Call, AgreesWith, legal_step}
 use Rattle.pf_core.specs.Edits.{Kept}
-use Rattle.pf_core.specs.Legal.{transact_step, legal_step}
-use Rattle.pf_core.specs.Tickets.{Open, AgreesWith, facts_in}
+use Rattle.pf_core.specs.Commands.{transact_step}
 use Rattle.pf_core.specs.Wholes.{Whole}
-use Rattle.pf_core.proofs.Told.{told_by_calls}
+use Rattle.pf_core.proofs.Telling.{told_by_calls}
 use Rattle.pf_core.proofs.core_state.Core.step.Goals as goal
 
 pub returns-in-Transact-clause-reply : goal.returns-in-Transact-clause-reply
