@@ -12,11 +12,9 @@ use Rattle.pf_core.specs.declared.reply.Refusal.TheVariants.{HistoryFull, Memory
 use Rattle.pf_core.specs.declared.reply.Reply.TheVariants.{Answer as Answered, Applied, Refused}
 use Rattle.pf_core.specs.declared.step.Step.{Step}
 use Rattle.pf_core.specs.declared.step.Step.TheVariants.{Done, Wants}
-use Rattle.pf_core.specs.Calls.{Call, call}
+use Rattle.pf_core.specs.Calls.{Call, call, AgreesWith, legal_step, IsLegalStep}
 use Rattle.pf_core.specs.Edits.{Kept, Edit, applied, after}
-use Rattle.pf_core.specs.Legal.{legal_step, IsLegalStep}
 use Rattle.pf_core.specs.Pages.{Page, IsFolded, IsAt, Leads}
-use Rattle.pf_core.specs.Tickets.{AgreesWith}
 use Rattle.pf_core.specs.Wholes.{Whole}
 use Rattle.pf_core.specs.WorldLaws.{wants-mentions, agrees-refused}
 use Rattle.pf_core.specs.Worlds.{Held, upshot, flat, log_of, durable_of, step_in, if_ok, or_refused, due_at, grouped, group_at, due, group_in, LegalReply}

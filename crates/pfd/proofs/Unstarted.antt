@@ -2,7 +2,7 @@
 use Rattle.std.proofs.Common.{ℕ, List, [], ◌∷◌, Option, Err, refl, arith}
 use Rattle.std.specs.Io.KnownBytes.{Keeps}
 use Rattle.pf_core.specs.Edits.{kept}
-use Rattle.pf_core.specs.Tickets.{Agrees, open_with}
+use Rattle.pf_ticket.specs.Tickets.{Agrees, open_with}
 use Rattle.pf_core.specs.Pages.{Page, StandsFor}
 use Rattle.pf_core.specs.Wholes.{whole}
 use Rattle.pf_core.specs.Worlds.{setting_with, opened}

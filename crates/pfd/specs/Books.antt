@@ -6,10 +6,10 @@ use Rattle.pf_core.specs.declared.reply.Outcome.{Outcome}
 use Rattle.pf_core.specs.declared.reply.Refusal.{Refusal}
 use Rattle.pf_core.specs.declared.reply.Refusal.TheVariants.{HistoryFull, Memory}
 use Rattle.pf_core.specs.declared.reply.Reply.TheVariants.{Applied}
-use Rattle.pf_core.specs.Calls.{Call, call, mentions_of, switches}
+use Rattle.pf_ticket.specs.Mentions.{switches}
+use Rattle.pf_core.specs.Calls.{Call, call, mentions_of, AgreesWith}
 use Rattle.pf_core.specs.Edits.{Edit, voided_by}
 use Rattle.pf_core.specs.Pages.{Page}
-use Rattle.pf_core.specs.Tickets.{AgreesWith}
 use Rattle.pf_core.specs.Worlds.{flat}
 use Rattle.pfd.specs.declared.book.Book.TheInside.{Inside}
 

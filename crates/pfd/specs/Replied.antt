@@ -1,16 +1,17 @@
 -- What a book's replies say by themselves.
 use Rattle.std.specs.Prelude.{◌≡◌, length, ⊤, Result, Ok, Err}
+use Rattle.pf_ticket.specs.declared.refusal.TicketRefusal.{TicketRefusal}
+use Rattle.pf_ticket.specs.Replies.{list_check}
 use Rattle.pf_core.specs.declared.command.Command.{Command}
 use Rattle.pf_core.specs.declared.command.Command.TheVariants.{Transact, Ask}
 use Rattle.pf_core.specs.declared.command.Question.TheVariants.{Judge}
 use Rattle.pf_core.specs.declared.command.Transaction.TheVariants.{Rollback}
 use Rattle.pf_core.specs.declared.reply.Answer.TheVariants as answer
-use Rattle.pf_core.specs.declared.reply.Refusal.{Refusal}
 use Rattle.pf_core.specs.declared.reply.Reply.{Reply}
 use Rattle.pf_core.specs.declared.reply.Reply.TheVariants.{Answer, Applied, Refused}
 use Rattle.pf_core.specs.Edits.{Kept, verdict}
-use Rattle.pf_core.specs.Legal.{list_check}
 use Rattle.pf_core.specs.Pages.{Page}
+use Rattle.pf_core.specs.Refusals.{refusal_of}
 use Rattle.pf_core.specs.Worlds.{flat}
 
 -- a change's number is how many changes were acknowledged by then
@@ -24,9 +25,9 @@ abbrev pub IsJudged : Kept → Command → Reply → Type 0
 IsJudged d (Ask (Judge packet)) r = r ≡ Answer (answer.Judged (verdict d packet))
 IsJudged d c r = ⊤
 
-abbrev pub done_unless : Result (Unit {0}) Refusal → Reply
+abbrev pub done_unless : Result (Unit {0}) TicketRefusal → Reply
 done_unless (Ok u) = Answer answer.Done
-done_unless (Err e) = Refused e
+done_unless (Err e) = Refused (refusal_of e)
 
 -- a rollback is done, or refused for its list: memory is never refused for it
 abbrev pub IsRolledBack : Command → Reply → Type 0

@@ -2,7 +2,7 @@ use Rattle.std.proofs.Common.{◌≡◌, ◌≤◌, ◌<◌, ◌+◌, ◌++◌, 
 use Rattle.std.proofs.lemmas.Grind.{common_steps}
 use Rattle.std.specs.Prelude.{map}
 use Rattle.std.specs.Arc.{arc_value}
-use Rattle.pf_core.specs.Calls.{switches}
+use Rattle.pf_ticket.specs.Mentions.{switches}
 use Rattle.pf_core.specs.Edits.{Edit}
 use Rattle.pf_core.specs.Pages.{Page}
 use Rattle.pf_core.specs.Wholes.{Ready}
