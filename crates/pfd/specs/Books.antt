@@ -15,8 +15,7 @@ use Rattle.pfd.specs.declared.book.Book.TheInside.{Inside}
 
 -- each change is a group of its own
 abbrev pub singles : List Edit → List (List Edit)
-singles [] = []
-singles (e ∷ es) = (e ∷ []) ∷ singles es
+singles es = map (λ e. e ∷ []) es
 
 -- in memory every change is acknowledged
 abbrev pub page_in : Inside → Page
