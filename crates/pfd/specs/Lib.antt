@@ -1,5 +1,4 @@
 pub mod Books
 pub mod Serving
 pub mod ServingLaws
-pub mod Replied
 pub mod Program
