@@ -18,9 +18,7 @@ use Rattle.pf_rule.specs.declared.fault.Kind.TheVariants as kinds
 use Rattle.pf_rule.specs.declared.fault.Misread.{Misread}
 use Rattle.pf_rule.specs.declared.fault.Misread.TheVariants.{Stopped, MixedFamily}
 use Rattle.pfd.specs.Serving.{Says, Continues, Told}
-
-pub continues-still : (page : Page) → Continues page page []
-continues-still page = record { worlds = λ first world stands. subst (λ (w : List Event). StandsFor first page w) (sym (append-nil world)) stands; limit = refl }
+use Rattle.pfd.specs.ServingLaws.{continues-still}
 
 pub told-silence : (at : Result (Option Command) Refusal) (page : Page) → Parses (Ok None) at → Told at None page page
 told-silence at page (inl e) = subst (λ (a : Result (Option Command) Refusal). Told a None page page) e ([], (refl, refl), continues-still page)

@@ -1,10 +1,4 @@
 pub mod Booking
 pub mod Calling
-pub mod Answering
-pub mod Splitting
-pub mod Same
-pub mod Progress
-pub mod Moving
-pub mod Session
-pub mod Reading
+pub mod Limits
 pub mod Unstarted

@@ -2,14 +2,15 @@
 use Rattle.std.proofs.Common.{ℕ, List, [], ◌∷◌, Option, Err, refl, arith}
 use Rattle.std.specs.Io.KnownBytes.{Keeps}
 use Rattle.pf_core.specs.Edits.{kept}
-use Rattle.pf_core.specs.Tickets.{Agrees, open_with}
+use Rattle.pf_ticket.specs.Tickets.{Agrees, open_with}
 use Rattle.pf_core.specs.Pages.{Page, StandsFor}
 use Rattle.pf_core.specs.Wholes.{whole}
 use Rattle.pf_core.specs.Worlds.{setting_with, opened}
 use Rattle.pf_core.proofs.LongerWorlds.{stands-opened}
-use Rattle.pfd.specs.declared.engine.EngineFault.TheVariants.{Memory}
+use Rattle.pf_engine.specs.declared.fault.EngineFault.TheVariants.{Memory}
+use Rattle.pf_engine.specs.SessionLaws.{session-unstarted}
+use Rattle.pfd.specs.Serving.{Serves}
 use Rattle.pfd.specs.Program.{Ran}
-use Rattle.pfd.proofs.Answering.{consumes-kept}
 
 abbrev empty : Page
 empty = record { base = kept 1 []; whole = whole (kept 1 []) (open_with 1 1 []); acked = []; pending = []; limit = 65536; shown = 0; published = kept 1 [] }
@@ -35,5 +36,5 @@ ran-none unread unread' held held' r w = record {
   new = empty;
   fresh = empty-stands;
   limit = refl;
-  session = ([], consumes-kept unread unread' r, (refl, w, refl));
+  session = session-unstarted Serves empty unread unread' held held' r w;
 }

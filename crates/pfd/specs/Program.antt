@@ -5,8 +5,9 @@ use Rattle.std.specs.declared.io.ErrorKind.TheVariants.{OutOfMemory}
 use Rattle.pf_core.specs.Edits.{kept}
 use Rattle.pf_core.specs.Pages.{Page, StandsFor}
 use Rattle.pf_core.specs.Worlds.{setting_with, opened}
-use Rattle.pfd.specs.declared.engine.EngineFault.{EngineFault}
-use Rattle.pfd.specs.Serving.{IsSession}
+use Rattle.pf_engine.specs.declared.fault.EngineFault.{EngineFault}
+use Rattle.pf_engine.specs.Sessions.{IsSession}
+use Rattle.pfd.specs.Serving.{Serves}
 
 -- the program's name, whatever it is, and `run`
 abbrev pub IsRun : List (List ℕ) → Type 0
@@ -18,7 +19,7 @@ pub record Ran (result : Result (Unit {0}) EngineFault) (unread unread' held hel
   pub new : Page
   pub fresh : StandsFor (kept 0 []) old (opened (setting_with 65536) ∷ [])
   pub limit : old.limit ≡ 65536
-  pub session : IsSession result unread unread' held held' old new
+  pub session : IsSession Serves result unread unread' old new held held'
 
 abbrev pub status_of : Result (Unit {0}) EngineFault → ℕ
 status_of (Ok u) = 0

@@ -6,9 +6,10 @@ ghost use Rattle.std.specs.IoError.{error_kind};
 ghost use Rattle.pfd.specs.Program.{IsRun, Ran, RanWith, status_without_words};
 
 use crate::book::Book;
-use crate::engine::{EngineFault, serve_alone};
+use crate::engine::serve_alone;
 use clap::error::ErrorKind;
 use clap::{Command, Error};
+use pf_engine::EngineFault;
 use std::alloc::Global;
 use std::io::{self, Read, Write};
 

@@ -1,4 +1,4 @@
-use Rattle.pfd.proofs.Progress.{keeps-self}
+use Rattle.pf_engine.specs.SessionLaws.{keeps-self}
 use Rattle.pfd.proofs.Unstarted.{ran-none}
 use Rattle.pfd.proofs.program.run.Goals as goal
 

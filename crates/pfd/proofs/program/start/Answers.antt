@@ -1,6 +1,6 @@
 use Rattle.std.proofs.Common.{Err}
-use Rattle.pfd.specs.declared.engine.EngineFault.TheVariants.{Memory}
-use Rattle.pfd.proofs.Progress.{keeps-self}
+use Rattle.pf_engine.specs.declared.fault.EngineFault.TheVariants.{Memory}
+use Rattle.pf_engine.specs.SessionLaws.{keeps-self}
 use Rattle.pfd.proofs.Unstarted.{ran-none}
 use Rattle.pfd.proofs.program.start.Goals as goal
 
