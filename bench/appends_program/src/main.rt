@@ -1,7 +1,8 @@
 //! How many records of 64 bytes are appended in a second, over memory and over a file, and how often the same bytes are
 //! written and synced to that file with no journal. The rounds take turns, so that a slow moment of the device hits both.
 #![tactic(auto)]
-ghost use Rattle.std.specs.Prelude.{◌≡◌, ◌+◌, ◌^◌, ◌<◌, ◌≤◌, length, OnOk};
+ghost use Rattle.std.specs.Prelude.{◌≡◌, ◌+◌, ◌^◌, ◌<◌, ◌≤◌, length, IfOk, OnOk};
+ghost use Rattle.pf_disk.specs.Disk.{IsSynced};
 ghost use Rattle.pf_journal.specs.Journal.{IsReady};
 
 use pf_disk::{Disk, FileDisk, MemDisk};
@@ -80,6 +81,22 @@ fn open(rt: &HostRuntime) -> io::Result<File> {
     OpenOptions::new().read(true).write(true).open(rt, PATH)
 }
 
+/// A journal over the first half of a device of zeros.
+fn over<D: Disk + Drop>(disk: D) -> io::Result<Journal<D>>
+    requires { IsSynced (D.unsynced disk) }
+    ensures { IfOk result (λ journal. IsReady D.seen D.unsynced journal) }
+{
+    if disk.size() < HALF {
+        return Err(failed());
+    }
+    Ok(Journal {
+        disk,
+        start: 0,
+        gate: 0,
+        end: HALF,
+    })
+}
+
 fn main(rt: HostRuntime) -> io::Result<()> {
     let alloc = rt.alloc();
     fs::write(&rt, PATH, vec![in alloc; 0u8; SIZE]?)?;
@@ -87,18 +104,8 @@ fn main(rt: HostRuntime) -> io::Result<()> {
     let Ok(disk) = FileDisk::of(alloc, open(&rt)?, SIZE) else {
         return Err(failed());
     };
-    let mut file = Journal {
-        disk,
-        start: 0,
-        gate: 0,
-        end: HALF,
-    };
-    let mut memory = Journal {
-        disk: MemDisk::of(alloc, vec![in alloc; 0u8; HALF]?)?,
-        start: 0,
-        gate: 0,
-        end: HALF,
-    };
+    let mut file = over(disk)?;
+    let mut memory = over(MemDisk::of(alloc, vec![in alloc; 0u8; HALF]?)?)?;
     round(&rt, &mut file, &mut memory, &raw)?;
     round(&rt, &mut file, &mut memory, &raw)?;
     round(&rt, &mut file, &mut memory, &raw)?;

@@ -2,11 +2,10 @@
 use pf_disk::{Disk, FileDisk, FileFault, Fill, MemDisk};
 use pf_journal::{Journal, read_all};
 use std::alloc::Global;
-use std::env;
 use std::fs::{self, File, OpenOptions};
 use std::path::PathBuf;
-use std::process;
 use std::test::Fail;
+use std::{env, process};
 
 /// The files' bytes.
 const SIZE: usize = 4096;
@@ -21,10 +20,12 @@ fn zeros(rt: &HostRuntime, name: &str) -> Result<PathBuf, Fail> {
 }
 
 fn open(rt: &HostRuntime, path: &PathBuf) -> Result<File, Fail> {
-    Ok(OpenOptions::new()
-        .read(true)
-        .write(true)
-        .open(rt, path.as_path())?)
+    Ok(
+        OpenOptions::new()
+            .read(true)
+            .write(true)
+            .open(rt, path.as_path())?,
+    )
 }
 
 /// A thousand reads, writes and syncs, the same ones each time: all that the reads gave.
@@ -78,7 +79,10 @@ fn a_file_is_refused_or_fails(rt: HostRuntime) -> Result<(), Fail> {
     let path = zeros(&rt, "refused")?;
     for size in [0, SIZE - 1, SIZE + 1] {
         let refused = FileDisk::of(alloc, open(&rt, &path)?, size);
-        assert!(rt; matches!(refused, Err(FileFault::WrongLength)), "{size} bytes");
+        assert!(rt;
+            matches!(refused, Err(FileFault::WrongLength)),
+            "{size} bytes"
+        );
     }
     let mut buffer = [0u8; 8];
 

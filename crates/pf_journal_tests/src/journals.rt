@@ -72,7 +72,10 @@ fn a_record_has_these_bytes(rt: HostRuntime) -> Result<(), Fail> {
     assert_eq!(rt; journal.gate, 85);
     let bytes = bytes_of(alloc, &journal.disk)?;
     assert_eq!(rt; bytes.len(), SIZE);
-    assert_eq!(rt; &bytes[40..51], [0xA5, 0, 0, 0, 6, 1, 7, 0, 0, 0, 1].as_slice());
+    assert_eq!(rt;
+        &bytes[40..51],
+        [0xA5, 0, 0, 0, 6, 1, 7, 0, 0, 0, 1].as_slice()
+    );
     assert_eq!(rt; &bytes[51..56], [0xA5, 0, 0, 0, 0x1D].as_slice());
     assert_eq!(rt; &bytes[56..85], SECOND.as_slice());
     assert_eq!(rt; bytes[85], 0);
@@ -198,7 +201,10 @@ fn a_record_that_does_not_fit_is_corrupt(rt: HostRuntime) -> Result<(), Fail> {
         match found(alloc, bytes) {
             Ok(read) => assert!(rt; fits && read.gate == 149, "{len} bytes"),
             Err(fault) => {
-                assert!(rt; !fits && fault == ReadFault::Corrupt { at: START }, "{len} bytes");
+                assert!(rt;
+                    !fits && fault == ReadFault::Corrupt { at: START },
+                    "{len} bytes"
+                );
             }
         }
     }

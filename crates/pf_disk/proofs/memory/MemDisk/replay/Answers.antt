@@ -20,7 +20,7 @@ returns-clause-shows c =
     let n = c.counting-count.result in
     let calls : map event_of (take n c.deref-2.result.now) ≡ take n (map event_of m.calls.items) = ap (λ l. map event_of (take n l)) c.deref-2.ensures.value ∙ sym (take-map event_of n m.calls.items) in
     let state : after (at_rest c.deref.result.now) (map event_of (take n c.deref-2.result.now)) ≡ state_at m.first.items (map event_of m.calls.items) c.args.moment =
-        ap (λ (l : List ℕ). after (at_rest l) (map event_of (take n c.deref-2.result.now))) c.deref.ensures.value ∙ ap (after (at_rest m.first.items)) (calls ∙ c.counting-count.ensures.is) in
+    ap (λ (l : List ℕ). after (at_rest l) (map event_of (take n c.deref-2.result.now))) c.deref.ensures.value ∙ ap (after (at_rest m.first.items)) (calls ∙ c.counting-count.ensures.is) in
     subst (λ (s : State). Shows c.in_ok-replay.replay s) state c.in_ok-replay.ensures
 
 pub returns-clause-size : goal.returns-clause-size
