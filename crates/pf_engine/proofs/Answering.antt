@@ -6,13 +6,13 @@ use Rattle.std.specs.Io.KnownBytes.{Appends, Keeps}
 use Rattle.std.proofs.lemmas.List.{append-nil, drop-drop, length-map}
 use Rattle.std.proofs.Math.Seq.{take-length}
 use Rattle.pf_addr.specs.Writing.{WritesFront, Appends-none, Appends-then, Appends-kept}
-use Rattle.pf_engine.specs.Lines.{newline, whole_lines, rest_of, seen}
+use Rattle.pf_engine.specs.Lines.{newline, on, cut_from, whole_lines, rest_of, seen}
 use Rattle.pf_engine.specs.declared.fault.EngineFault.{EngineFault}
 use Rattle.pf_engine.specs.declared.fault.EngineFault.TheVariants as fault
 use Rattle.pf_engine.specs.Sessions.{Answered, CutOff}
-use Rattle.pf_engine.specs.SessionLaws.{keeps-self}
+use Rattle.pf_engine.specs.Bytes.{keeps-self}
 use Rattle.pf_engine.specs.Pieces.{Answers}
-use Rattle.pf_engine.proofs.Splitting.{first-line, no-line}
+use Rattle.pf_engine.proofs.Splitting.{Cut, see, first-line, no-line}
 
 -- what serves lines, and the three laws of it
 abbrev pub Server : Type 0 → Type 1
@@ -156,65 +156,61 @@ cut-seen {S = S} {Serves = Serves} seen_law {xs = xs} {ys = ys} {a = a} {b = b} 
 
 -- ---- the lines of a text, one after the other
 
+-- what a text is cut into with these lines in front
+abbrev pub with_front : List (List ℕ) → Cut → Cut
+with_front lines cut = (lines ++ cut.0, cut.1)
+
 -- the first bytes of a text are lines that were answered
 pub record Progress {S : Type 0} (Serves : Server S) (text : List ℕ) (used : ℕ) (old new : S) (held held' : Option (List ℕ)) : Type 0 where
   pub lines : List (List ℕ)
   pub answered : Answered Serves lines old new held held'
   pub within : used ≤ length text
-  pub whole : map seen (whole_lines text) ≡ lines ++ map seen (whole_lines (drop used text))
-  pub rest : rest_of text ≡ rest_of (drop used text)
+  pub cut : see (cut_from [] text) ≡ with_front lines (see (cut_from [] (drop used text)))
 
 pub progress-start : {S : Type 0} {Serves : Server S} (none : ServesNone Serves) (text : List ℕ) (state : S) (held : Option (List ℕ)) → Progress Serves text 0 state state held held
-progress-start none text state held = record { lines = []; answered = answered-none none state held held (keeps-self held); within = omega arith; whole = refl; rest = refl }
+progress-start none text state held = record { lines = []; answered = answered-none none state held held (keeps-self held); within = omega arith; cut = refl }
 
--- what the code's ranges are
-range-from : (text : List ℕ) (used : ℕ) → take (length text - used) (drop used text) ≡ drop used text
-range-from text used = ap (λ (k : ℕ). take k (drop used text)) (sym (length-drop used text)) ∙ take-length (drop used text)
+-- the first newline behind what is used of the text, by the code's range
+abbrev pub NewlineAt : List ℕ → ℕ → Option ℕ → Type 0
+NewlineAt text used at = position (λ b. b == newline) (take (length text - used) (drop used text)) ≡ at
 
-range-of : (used n : ℕ) (rest : List ℕ) → take (used + n - used) rest ≡ take n rest
-range-of used n rest = let e : used + n - used ≡ n = omega arith in ap (λ (k : ℕ). take k rest) e
+found-in : (text : List ℕ) (used : ℕ) (at : Option ℕ) → NewlineAt text used at → position (λ b. b == newline) (drop used text) ≡ at
+found-in text used at found = ap (λ (l : List ℕ). position (λ b. b == newline) l) (sym (ap (λ (k : ℕ). take k (drop used text)) (sym (length-drop used text)) ∙ take-length (drop used text))) ∙ found
 
-found-in : (text : List ℕ) (used : ℕ) (n : Option ℕ) → position (λ b. b == newline) (take (length text - used) (drop used text)) ≡ n → position (λ b. b == newline) (drop used text) ≡ n
-found-in text used n found = ap (λ (l : List ℕ). position (λ b. b == newline) l) (sym (range-from text used)) ∙ found
+-- the line there, by the code's range
+abbrev pub line_at : List ℕ → ℕ → ℕ → List ℕ
+line_at text used n = seen (take (used + n - used) (drop used text))
 
-behind : (text : List ℕ) (used n : ℕ) → drop (suc n) (drop used text) ≡ drop (used + (n + 1)) text
-behind text used n = drop-drop (suc n) used text ∙ ap (λ (k : ℕ). drop k text) (omega arith)
-
--- the next line of a text, of which so much is used
-pub next-line : (text : List ℕ) (used n : ℕ) → position (λ b. b == newline) (take (length text - used) (drop used text)) ≡ Some n →
-    (used + (n + 1) ≤ length text) × (map seen (whole_lines (drop used text)) ≡ seen (take (used + n - used) (drop used text)) ∷ map seen (whole_lines (drop (used + (n + 1)) text)))
-    × (rest_of (drop used text) ≡ rest_of (drop (used + (n + 1)) text))
+next-line : (text : List ℕ) (used n : ℕ) → NewlineAt text used (Some n) →
+    (used + (n + 1) ≤ length text) × (see (cut_from [] (drop used text)) ≡ on (line_at text used n) (see (cut_from [] (drop (used + (n + 1)) text))))
 next-line text used n found =
-    let (low, w, r) = first-line (drop used text) n (found-in text used (Some n) found) in (
-      omega (arith, low, length-drop used text),
-      ap (map seen) w ∙ ap₂ (λ (l ls : List ℕ). seen l ∷ map seen (whole_lines ls)) (sym (range-of used n (drop used text))) (behind text used n),
-      r ∙ ap rest_of (behind text used n),
-    )
+    let (low, cut) = first-line (drop used text) n (found-in text used (Some n) found) in
+    let len : n ≡ used + n - used = omega arith in
+    let behind : drop (suc n) (drop used text) ≡ drop (used + (n + 1)) text = drop-drop (suc n) used text ∙ ap (λ (k : ℕ). drop k text) (omega arith) in
+    (omega (arith, low, length-drop used text), ap see cut ∙ ap₂ (λ (k : ℕ) (l : List ℕ). on (seen (take k (drop used text))) (see (cut_from [] l))) len behind)
 
 pub progress-more : {S : Type 0} {Serves : Server S} (then : ServesThen Serves) {text : List ℕ} {used : ℕ} (n : ℕ) {a b c : S} {h i j : Option (List ℕ)} → Progress Serves text used a b h i →
-    position (λ b. b == newline) (take (length text - used) (drop used text)) ≡ Some n → Answered Serves (seen (take (used + n - used) (drop used text)) ∷ []) b c i j → Progress Serves text (used + (n + 1)) a c h j
+    NewlineAt text used (Some n) → Answered Serves (line_at text used n ∷ []) b c i j → Progress Serves text (used + (n + 1)) a c h j
 progress-more then {text = text} {used = used} n p found one =
-    let (low, whole, rest) = next-line text used n found in
-    let line : List ℕ = seen (take (used + n - used) (drop used text)) in
+    let (low, cut) = next-line text used n found in
+    let more : Cut = see (cut_from [] (drop (used + (n + 1)) text)) in
     record {
-      lines = p.lines ++ line ∷ [];
+      lines = p.lines ++ line_at text used n ∷ [];
       answered = answered-then then p.answered one;
       within = low;
-      whole = p.whole ∙ ap (λ (ls : List (List ℕ)). p.lines ++ ls) whole ∙ sym (append_assoc p.lines (line ∷ []) (map seen (whole_lines (drop (used + (n + 1)) text))));
-      rest = p.rest ∙ rest;
+      cut = p.cut ∙ ap (with_front p.lines) cut ∙ ap (λ (ls : List (List ℕ)). (ls, more.1)) (sym (append_assoc p.lines (line_at text used n ∷ []) more.0));
     }
 
 pub progress-cut : {S : Type 0} {Serves : Server S} (then : ServesThen Serves) {text : List ℕ} {used : ℕ} (n : ℕ) {a b c : S} {h i j : Option (List ℕ)} → Progress Serves text used a b h i →
-    position (λ b. b == newline) (take (length text - used) (drop used text)) ≡ Some n → CutOff Serves (seen (take (used + n - used) (drop used text)) ∷ []) b c i j → CutOff Serves (map seen (whole_lines text)) a c h j
+    NewlineAt text used (Some n) → CutOff Serves (line_at text used n ∷ []) b c i j → CutOff Serves (map seen (whole_lines text)) a c h j
 progress-cut {S = S} {Serves = Serves} then {text = text} {used = used} n {a = a} {b = b} {c = c} {h = h} {i = i} {j = j} p found one =
-    let (low, whole, rest) = next-line text used n found in
-    subst (λ (ls : List (List ℕ)). CutOff Serves ls a c h j) (sym (p.whole ∙ ap (λ (ls : List (List ℕ)). p.lines ++ ls) whole))
-    (cut-then then p.answered (cut-longer (map seen (whole_lines (drop (used + (n + 1)) text))) one))
+    subst (λ (ls : List (List ℕ)). CutOff Serves ls a c h j) (sym (ap (λ (cut : Cut). cut.0) (p.cut ∙ ap (with_front p.lines) (next-line text used n found).1)))
+    (cut-then then p.answered (cut-longer (see (cut_from [] (drop (used + (n + 1)) text))).0 one))
 
 pub progress-end : {S : Type 0} {Serves : Server S} {text : List ℕ} {used : ℕ} {a b : S} {h i : Option (List ℕ)} → Progress Serves text used a b h i →
-    position (λ b. b == newline) (take (length text - used) (drop used text)) ≡ None → Answered Serves (map seen (whole_lines text)) a b h i × (drop used text ≡ rest_of text)
+    NewlineAt text used None → Answered Serves (map seen (whole_lines text)) a b h i × (seen (drop used text) ≡ seen (rest_of text))
 progress-end {S = S} {Serves = Serves} {text = text} {used = used} {a = a} {b = b} {h = h} {i = i} p none =
-    let (whole, rest) = no-line (drop used text) (found-in text used None none) in (
-      subst (λ (ls : List (List ℕ)). Answered Serves ls a b h i) (sym (p.whole ∙ ap (λ (ls : List (List ℕ)). p.lines ++ map seen ls) whole ∙ append-nil p.lines)) p.answered,
-      sym (p.rest ∙ rest),
+    let cut = p.cut ∙ ap (λ (cut : Cut). with_front p.lines (see cut)) (no-line (drop used text) (found-in text used None none)) in (
+      subst (λ (ls : List (List ℕ)). Answered Serves ls a b h i) (sym (ap (λ (cut : Cut). cut.0) cut ∙ append-nil p.lines)) p.answered,
+      sym (ap (λ (cut : Cut). cut.1) cut),
     )

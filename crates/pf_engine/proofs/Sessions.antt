@@ -6,7 +6,7 @@ use Rattle.pf_engine.specs.declared.fault.EngineFault.{EngineFault}
 use Rattle.pf_engine.specs.declared.fault.EngineFault.TheVariants as fault
 use Rattle.pf_engine.specs.Lines.{whole_lines, rest_of, last_line, lines_of, seen}
 use Rattle.pf_engine.specs.Sessions.{Answered, CutOff, IsSession}
-use Rattle.pf_engine.specs.SessionLaws.{keeps-self, consumes-kept}
+use Rattle.pf_engine.specs.Bytes.{keeps-self, consumes-kept}
 use Rattle.pf_engine.specs.Pieces.{Answers, ReadsBehind, ReadsNothing}
 use Rattle.pf_engine.proofs.Answering.{Server, ServesNone, ServesThen, ServesSeen, answered-none, answered-then, answered-kept, cut-behind, cut-then, answered-seen, cut-seen}
 use Rattle.pf_engine.proofs.Splitting.{lines-more, rest-more, lines-end}

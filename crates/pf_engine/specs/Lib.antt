@@ -2,4 +2,4 @@ pub mod Lines
 pub mod Laws
 pub mod Sessions
 pub mod Pieces
-pub mod SessionLaws
+pub mod Bytes

@@ -6,23 +6,22 @@ use Rattle.pf_engine.specs.declared.answer_line.TheConstants.{LOOKED_AT}
 abbrev pub newline : ℕ
 newline = 10
 
--- the whole lines of a text that goes on from a piece of a line
-abbrev pub whole_from : List ℕ → List ℕ → List (List ℕ)
-whole_from piece [] = []
-whole_from piece (b ∷ bs) = cond (b == newline) (piece ∷ whole_from [] bs) (whole_from (piece ++ b ∷ []) bs)
+-- a whole line in front of what a text is cut into
+abbrev pub on : List ℕ → List (List ℕ) × List ℕ → List (List ℕ) × List ℕ
+on line cut = (line ∷ cut.0, cut.1)
 
--- what is then behind the last newline
-abbrev pub rest_from : List ℕ → List ℕ → List ℕ
-rest_from piece [] = piece
-rest_from piece (b ∷ bs) = cond (b == newline) (rest_from [] bs) (rest_from (piece ++ b ∷ []) bs)
+-- the whole lines of a text that goes on from a piece of a line, and what is behind its last newline
+abbrev pub cut_from : List ℕ → List ℕ → List (List ℕ) × List ℕ
+cut_from piece [] = ([], piece)
+cut_from piece (b ∷ bs) = cond (b == newline) (on piece (cut_from [] bs)) (cut_from (piece ++ b ∷ []) bs)
 
 -- what stands before each newline
 abbrev pub whole_lines : List ℕ → List (List ℕ)
-whole_lines text = whole_from [] text
+whole_lines text = (cut_from [] text).0
 
 -- what is behind the last newline
 abbrev pub rest_of : List ℕ → List ℕ
-rest_of text = rest_from [] text
+rest_of text = (cut_from [] text).1
 
 -- a line that no newline ends, unless it is empty
 abbrev pub last_line : List ℕ → List (List ℕ)

@@ -40,7 +40,7 @@ fn answer_lines<A: AnswerLine, W: Write>(
     answerer: &mut A,
 ) -> Result<usize, EngineFault>
     ensures lines { Answers A.Serves result (map seen (whole_lines text.now)) answerer.old answerer.new (W.contents writer.old) (W.contents writer.new) }
-    ensures used { IfOk result (λ used. (used ≤ length text.now) × (drop used text.now ≡ rest_of text.now)) }
+    ensures used { IfOk result (λ used. (used ≤ length text.now) × (seen (drop used text.now) ≡ seen (rest_of text.now))) }
 {
     let mut used = 0;
     while let Some(len) = line_len(&text[used..]) {

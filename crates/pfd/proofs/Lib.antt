@@ -1,4 +1,3 @@
 pub mod Booking
 pub mod Calling
 pub mod Limits
-pub mod Unstarted

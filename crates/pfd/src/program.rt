@@ -3,7 +3,7 @@ ghost use Rattle.std.specs.Prelude.{◌≡◌, ◌≤◌, IfErr, map, string_byt
 ghost use Rattle.std.specs.Io.KnownBytes.{Keeps};
 ghost use Rattle.clap.specs.Words.{kind_of};
 ghost use Rattle.std.specs.IoError.{error_kind};
-ghost use Rattle.pfd.specs.Program.{IsRun, Ran, RanWith, status_without_words};
+ghost use Rattle.pfd.specs.Program.{IsRun, Runs, RanWith, status_without_words};
 
 use crate::book::Book;
 use crate::engine::serve_alone;
@@ -35,7 +35,7 @@ fn check_words(alloc: Global, words: &[String]) -> Result<(), Error>
 
 // A session over a fresh book.
 fn run<R: Read, W: Write>(alloc: Global, reader: &mut R, writer: &mut W) -> Result<(), EngineFault>
-    ensures { Ran result (R.remaining reader.old) (R.remaining reader.new) (W.contents writer.old) (W.contents writer.new) }
+    ensures { Runs result (R.remaining reader.old) (R.remaining reader.new) (W.contents writer.old) (W.contents writer.new) }
 {
     let Ok(mut book) = Book::fresh(alloc, HISTORY_LIMIT) else {
         return Err(EngineFault::Memory);

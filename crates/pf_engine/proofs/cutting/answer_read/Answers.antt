@@ -6,6 +6,5 @@ pub returns-clause-rest : goal.returns-clause-rest
 returns-clause-rest g c = (
   omega (arith, c.min-rest.ensures),
   ap (λ (l : List ℕ). take c.min-rest.result l) c.copy_within.ensures.after
-      ∙ moved c.args.buffer.now c.args.filled c.in_ok-used.used c.min-rest.result 4097 c.requires c.in_ok-used.ensures.used.0 c.min-rest.ensures
-      ∙ ap (λ (l : List ℕ). take 4097 l) c.in_ok-used.ensures.used.1,
+      ∙ moved c.args.buffer.now c.args.filled c.in_ok-used.used c.min-rest.result 4097 c.requires c.in_ok-used.ensures.used.0 c.min-rest.ensures ∙ c.in_ok-used.ensures.used.1,
 )
