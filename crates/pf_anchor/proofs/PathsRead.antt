@@ -17,7 +17,7 @@ use Rattle.pf_form.specs.Words.{Word}
 use Rattle.pf_anchor.specs.Paths.{is_slash, components, is_component, component_fault, first_fault, depth_fault, or_else, path_fault, path_unless, path_of, path_text, is_path}
 use Rattle.pf_anchor.specs.PathGrammar.{IsComponent, AreComponents, IsPathText, SpellsPath}
 use Rattle.pf_anchor.specs.Rulesets.{main}
-use Rattle.pf_anchor.proofs.PathTexts.{components_are, count_components}
+use Rattle.pf_anchor.proofs.PathTexts.{count_components}
 
 -- ---- one component
 
@@ -84,7 +84,7 @@ split_joined (c ∷ d ∷ cs) is some =
     ∙ ap (λ (parts : List (List ℕ)). c ∷ parts) (split_joined (d ∷ cs) is.1 (omega arith))
 
 joined_again : (w : List ℕ) → w ≡ join_with_byte 47 (components w)
-joined_again w = sym (ap (join_with_byte 47) (components_are w) ∙ join_with_byte-slice_split 47 w)
+joined_again w = sym (join_with_byte-slice_split 47 w)
 
 -- ---- a word
 
@@ -110,7 +110,7 @@ faultless_only w e =
 
 pub faultless_found : (w : Word) → IsPathText w → path_fault w ≡ None
 faultless_found w is =
-    let cut : components w ≡ is.parts = components_are w ∙ ap (slice_split is_slash) is.joined ∙ split_joined is.parts is.each is.some in
+    let cut : components w ≡ is.parts = ap (slice_split is_slash) is.joined ∙ split_joined is.parts is.each is.some in
     let none : first_fault (components w) ≡ None = ap first_fault cut ∙ each_faultless is.parts is.each in
     let deep : depth_fault (length (components w)) ≡ None = rw (cut, le-ltb 16 (length is.parts) is.few) refl in
     rw (le-ltb 255 (length w) is.short, none) deep

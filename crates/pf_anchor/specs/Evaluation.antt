@@ -5,7 +5,7 @@ use Rattle.pf_rule.specs.Rules.{PlainRule, matches}
 use Rattle.pf_rule.specs.declared.rule.Action.{Action}
 use Rattle.pf_anchor.specs.declared.evaluated.Evaluated.{Evaluated}
 use Rattle.pf_anchor.specs.declared.evaluated.Evaluated.TheVariants.{Open, Ended}
-use Rattle.pf_anchor.specs.declared.ruleset.Decision.{Decision}
+use Rattle.pf_anchor.specs.declared.evaluated.Decision.{Decision}
 use Rattle.pf_anchor.specs.declared.verdict.RuleVerdict.{RuleVerdict}
 use Rattle.pf_anchor.specs.declared.verdict.RuleVerdict.TheVariants as by
 use Rattle.pf_anchor.specs.Rulesets.{Ruled, main, rules_at}

@@ -1,6 +1,6 @@
 -- The texts of paths (pf.conf(5), ANCHORS): components, with a slash between each two. The limits, and that the main ruleset is written "-", are own.
-use Rattle.std.specs.Prelude.{ℕ, ◌==◌, ◌&&◌, Bool, true, not, cond, if◌then◌else◌, List, [], ◌∷◌, length, codes, Option, Some, None, Result, Ok, Err, nat_lt}
-use Rattle.std.specs.List.{list_all}
+use Rattle.std.specs.Prelude.{ℕ, ◌==◌, ◌&&◌, Bool, true, not, if◌then◌else◌, List, [], ◌∷◌, length, codes, Option, Some, None, Result, Ok, Err, nat_lt}
+use Rattle.std.specs.List.{list_all, slice_split}
 use Rattle.std.specs.Option.{is_none}
 use Rattle.std.specs.Str.{bytes_eq}
 use Rattle.pf_form.specs.declared.fault.Kind.{Kind}
@@ -14,15 +14,9 @@ use Rattle.pf_anchor.specs.Rulesets.{main}
 abbrev pub is_slash : ℕ → Bool
 is_slash b = b == 47
 
--- a byte in front of the first component
-abbrev pub onto_first : ℕ → List (List ℕ) → List (List ℕ)
-onto_first b [] = (b ∷ []) ∷ []
-onto_first b (c ∷ cs) = (b ∷ c) ∷ cs
-
 -- what stands before, between and behind the slashes
 abbrev pub components : List ℕ → List (List ℕ)
-components [] = [] ∷ []
-components (b ∷ bs) = cond (is_slash b) ([] ∷ components bs) (onto_first b (components bs))
+components w = slice_split is_slash w
 
 -- a component isn't empty, has the bytes of a name alone, and is neither ".." nor "-"
 abbrev pub is_component : List ℕ → Bool

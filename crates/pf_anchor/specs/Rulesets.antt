@@ -1,5 +1,5 @@
 -- Rulesets at paths (pf.conf(5), ANCHORS): a finite map. That an empty ruleset doesn't exist and that paths are ordered by their bytes is own.
-use Rattle.std.specs.Prelude.{ℕ, ◌<◌, T, length, Bool, List, [], ◌∷◌, Option, Some, None, flat_map}
+use Rattle.std.specs.Prelude.{ℕ, ◌<◌, T, length, Bool, List, [], ◌∷◌, Option, Some, None}
 use Rattle.std.specs.declared.cmp.Ordering.{Ordering}
 use Rattle.std.specs.Ordering.{nat_cmp, eq_by_cmp}
 use Rattle.std.specs.Cmp.Lexicographic.{slice_cmp}
@@ -50,7 +50,3 @@ AllHaveRules (e ∷ es) = (0 < length e.1) × AllHaveRules es
 pub record IsMap (es : List Ruled) : Type 0 where
   pub sorted : T (is_sorted path_order es)
   pub ruled : AllHaveRules es
-
--- the entries of pages one after the other
-abbrev pub joined : List (List Ruled) → List Ruled
-joined pages = flat_map (λ page. page) pages

@@ -1,9 +1,9 @@
 //! The active rulesets.
 ghost use Rattle.std.specs.Prelude.{◌≡◌, ◌≤◌, ◌<◌, T, [], ◌∷◌, ◌++◌, length, take, drop, IfOk, OnOk, IfSome, IfNone, fold, nat_lt};
 ghost use Rattle.std.specs.FinMap.{is_sorted};
-ghost use Rattle.pf_anchor.specs.Rulesets.{Ruled, path_order, rules_at, with_rules, joined, IsMap};
+ghost use Rattle.pf_anchor.specs.Rulesets.{Ruled, path_order, rules_at, with_rules, IsMap};
 ghost use Rattle.pf_anchor.specs.Evaluation.{judged};
-ghost use Rattle.pf_anchor.specs.Pages.{starts_behind, page_before, IsPlace};
+ghost use Rattle.pf_anchor.specs.Pages.{joined, starts_behind, page_before, IsPlace};
 
 use crate::limits::RULESET_LIMIT;
 use crate::page::{PAGE_LIMIT, Page, replaced};
@@ -26,7 +26,8 @@ pub struct Config {
 
 impl Model for Config {
     ghost use Rattle.std.specs.Prelude.{List};
-    ghost use Rattle.pf_anchor.specs.Rulesets.{Ruled, joined, IsMap};
+    ghost use Rattle.pf_anchor.specs.Pages.{joined};
+    ghost use Rattle.pf_anchor.specs.Rulesets.{Ruled, IsMap};
 
     ghost Value = { List Ruled };
 
@@ -37,7 +38,7 @@ impl Model for Config {
 
 // Whether a page's rulesets come behind a path: whether its first one does.
 fn starts_behind(page: &Page, path: &Path) -> bool
-    ensures value { result ≡ starts_behind path.now page.now }
+    ensures value { result ≡ starts_behind path_order path.now page.now }
     ensures some { 0 < length page.now }
 {
     match page.as_slice() {
@@ -49,7 +50,7 @@ fn starts_behind(page: &Page, path: &Path) -> bool
 // How many pages there are up to the one where a path's ruleset is, or would be: the last that doesn't start behind the path,
 // or else the first.
 fn place_in(pages: &[Page], path: &Path) -> usize
-    ensures { IsPlace path.now pages.now result }
+    ensures { IsPlace path_order path.now pages.now result }
 {
     for index in 1..pages.len() {
         if starts_behind(&pages[index], path) {
@@ -71,11 +72,7 @@ fn page_before(pages: &[Page], place: usize) -> &[Placed]
 }
 
 // Adds a page behind those that are there, unless it would have no rulesets.
-fn push_page(
-    alloc: Global,
-    pages: &mut Vec<Page>,
-    entries: Vec<Placed>,
-) -> Result<(), AllocError>
+fn push_page(alloc: Global, pages: &mut Vec<Page>, entries: Vec<Placed>) -> Result<(), AllocError>
     ensures { OnOk result (joined pages.new.items ≡ joined pages.old.items ++ entries.items) }
 {
     if !entries.is_empty() {
@@ -116,11 +113,7 @@ fn replace(alloc: Global, pages: &mut Vec<Page>, new: &Placed) -> Result<(), All
 }
 
 // The rulesets replaced in order.
-fn replace_all(
-    alloc: Global,
-    pages: &mut Vec<Page>,
-    items: &[Placed],
-) -> Result<(), AllocError>
+fn replace_all(alloc: Global, pages: &mut Vec<Page>, items: &[Placed]) -> Result<(), AllocError>
     requires { T (is_sorted path_order (joined pages.old.items)) }
     ensures { OnOk result (joined pages.new.items ≡ fold with_rules (joined pages.old.items) items.now) }
 {
@@ -209,10 +202,7 @@ impl Config {
         ensures none { IfNone result (rules_at path.now self.now ≡ []) }
         ensures map { IsMap self.now }
     {
-        find(
-            page_before(&self.pages, place_in(&self.pages, path)),
-            path,
-        )
+        find(page_before(&self.pages, place_in(&self.pages, path)), path)
     }
 
     /// The rules at a path: none where it has no ruleset. No rule is copied. `AllocError`: nothing is made.

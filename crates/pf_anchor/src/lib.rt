@@ -10,14 +10,12 @@ mod path;
 mod path_text;
 mod placed;
 mod rule_list;
-mod ruleset;
 mod verdict;
 
 pub use config::Config;
-pub use evaluated::Evaluated;
+pub use evaluated::{Decision, Evaluated};
 pub use limits::{COMPONENT_LIMIT, DEPTH_LIMIT, PATH_LIMIT, RULE_LIMIT, RULESET_LIMIT};
 pub use path::Path;
 pub use placed::Placed;
 pub use rule_list::RuleList;
-pub use ruleset::{Decision, Ruleset};
 pub use verdict::RuleVerdict;

@@ -1,5 +1,5 @@
 -- What a call mentions whose reply is legal, and what held then.
-use Rattle.std.proofs.Common.{◌≡◌, ℕ, ◌+◌, ◌<◌, ◌≤◌, Bool, true, false, cond, List, [], ◌∷◌, length, refl, sym, ap, ◌∙◌, subst, inl, inr, Result, Ok, Err, arith}
+use Rattle.std.proofs.Common.{◌≡◌, ℕ, ◌+◌, ◌≤◌, Bool, true, false, cond, List, [], ◌∷◌, length, refl, sym, ap, subst, inl, inr, Result, Ok, Err, arith}
 use Rattle.std.specs.Prelude.{nat_lt}
 use Rattle.std.proofs.lemmas.Bool.Decides.{nat_tests}
 use Rattle.pf_anchor.specs.declared.limits.TheConstants.{RULESET_LIMIT}
@@ -8,7 +8,7 @@ use Rattle.pf_ticket.specs.declared.name.RulesetName.{RulesetName}
 use Rattle.pf_ticket.specs.declared.refusal.TicketRefusal.{TicketRefusal}
 use Rattle.pf_ticket.specs.declared.ticket.TicketRange.{TicketRange}
 use Rattle.pf_ticket.specs.Mentions.{Mention, gives, Facts, facts}
-use Rattle.pf_ticket.specs.Names.{filter_at, names_of, tickets_of}
+use Rattle.pf_ticket.specs.Names.{filter_at}
 use Rattle.pf_ticket.specs.Replies.{begin_reply, add_reply}
 use Rattle.pf_ticket.specs.Standing.{Brings, voids, OnlyVoid}
 use Rattle.pf_ticket.proofs.Standing.{begin_brings, add_brings, others_only_void}

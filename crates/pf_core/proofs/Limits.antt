@@ -1,9 +1,9 @@
 -- In each opening that a world comes to each ticket was given once, all limits hold, and all is shown.
-use Rattle.std.proofs.Common.{◌≡◌, ℕ, ◌+◌, ◌<◌, ◌≤◌, Bool, true, false, cond, List, [], ◌∷◌, ◌++◌, length, refl, sym, ap, ◌∙◌, subst, inl, inr, arith}
+use Rattle.std.proofs.Common.{◌≡◌, ℕ, ◌+◌, ◌≤◌, Bool, true, false, cond, List, [], ◌∷◌, ◌++◌, length, refl, sym, ap, ◌∙◌, subst, inl, inr, arith}
 use Rattle.std.proofs.lemmas.List.{append-nil, length-append}
 use Rattle.std.proofs.lemmas.List.Sums.{fold_push}
 use Rattle.pf_rule.specs.Rules.{PlainRule}
-use Rattle.pf_anchor.specs.declared.limits.TheConstants.{RULE_LIMIT, RULESET_LIMIT}
+use Rattle.pf_anchor.specs.declared.limits.TheConstants.{RULE_LIMIT}
 use Rattle.pf_anchor.specs.Laws.{rules_by}
 use Rattle.pf_anchor.specs.Rulesets.{Ruled, same_path, rules_at}
 use Rattle.pf_anchor.proofs.RulesetMaps.{replaced_in_turn}
@@ -17,13 +17,13 @@ use Rattle.pf_ticket.proofs.Standing.{starts_sound, keeps_the_limits}
 use Rattle.pf_core.specs.declared.command.Command.{Command}
 use Rattle.pf_core.specs.declared.reply.Outcome.{Outcome}
 use Rattle.pf_core.specs.declared.reply.Reply.{Reply}
-use Rattle.pf_core.specs.declared.reply.Reply.TheVariants.{Answer as Answered, Applied, Refused}
+use Rattle.pf_core.specs.declared.reply.Reply.TheVariants.{Applied}
 use Rattle.pf_core.specs.Calls.{Call, mentions, mentions_of}
 use Rattle.pf_core.specs.Commands.{items}
 use Rattle.pf_core.specs.Edits.{Kept, Edit, rulesets_in, applied, after}
 use Rattle.pf_core.specs.WorldFacts.{GivesEachOnce, IsWithin, KeepsTheLimits, ShowsAll}
 use Rattle.pf_core.specs.WorldLaws.{mentions-push}
-use Rattle.pf_core.specs.Worlds.{Held, State, up, down, Upshot, Event, called, opened, raised, flat, log_of, durable_of, step_in, group_in, acked_by, shown_by, heard, next, LegalReply, LegalCall, IsLegal, state_after, IsLegalFrom, IsWorld}
+use Rattle.pf_core.specs.Worlds.{Held, State, up, down, Upshot, Event, called, opened, flat, log_of, durable_of, step_in, group_in, acked_by, shown_by, heard, next, LegalReply, LegalCall, IsLegal, state_after, IsLegalFrom, IsWorld}
 use Rattle.pf_core.proofs.LegalCalls.{WantedBy, commit, wanted-by, IsApplied, applied-step, legal-brings}
 use Rattle.pf_core.proofs.LongerWorlds.{flat-push}
 use Rattle.pf_core.proofs.Switching.{taken, taken-is}
@@ -80,10 +80,9 @@ applied-logged first h c n o was all =
     })
 
 logged-on : (first : Kept) (h : Held) (c : Command) (r : Reply) (failed : Bool) → LegalReply h c r failed → Holds first h → IsLogged first h.base h.setting.limit (h.acked ++ acked_by r (group_in h c)) (shown_by r h.shown)
-logged-on first h c (Answered a) failed legal all = subst (λ (gs : List (List Edit)). IsLogged first h.base h.setting.limit gs h.shown) (sym (append-nil h.acked)) all.logged
 logged-on first h c (Applied n o) failed (inl is) all = applied-logged first h c n o (applied-step h (step_in h c) n o is) all
 logged-on first h c (Applied n o) failed (inr none) all = absurd none
-logged-on first h c (Refused e) failed legal all = subst (λ (gs : List (List Edit)). IsLogged first h.base h.setting.limit gs h.shown) (sym (append-nil h.acked)) all.logged
+logged-on first h c r failed legal all = subst (λ (gs : List (List Edit)). IsLogged first h.base h.setting.limit gs h.shown) (sym (append-nil h.acked)) all.logged
 
 holds-on : (first : Kept) (h : Held) (c : Call) (t : Upshot) → LegalCall h c t → Holds first h → Holds first (heard h c t)
 holds-on first h c t legal all = record {
@@ -99,15 +98,12 @@ abbrev HoldsOf : Kept → State → Type 0
 HoldsOf first (up h) = Holds first h
 HoldsOf first (down d) = IsWithin first → IsWithin d
 
-raised-within : (d : Kept) → IsWithin d → IsWithin (raised d)
-raised-within d w = record { rulesets = w.rulesets; rules = w.rules }
-
 holds-next : (first : Kept) (st : State) (e : Event) → IsLegal st e → HoldsOf first st → HoldsOf first (next st e)
 holds-next first (up h) (called c t) legal all = holds-on first h c t legal all
 holds-next first (up h) (opened setting) legal all = absurd legal
 holds-next first (down d) (called c t) legal all = absurd legal
 holds-next first (down d) (opened setting) legal all =
-    record { said = starts_sound (d.epoch + 1); none = refl; logged = record { room = omega arith; shown = refl; kept = λ within. raised-within d (all within) } }
+    record { said = starts_sound (d.epoch + 1); none = refl; logged = record { room = omega arith; shown = refl; kept = λ within. record { rulesets = (all within).rulesets; rules = (all within).rules } } }
 
 holds-from : (first : Kept) (st : State) (world : List Event) → IsLegalFrom st world → HoldsOf first st → HoldsOf first (state_after st world)
 holds-from first st [] legal all = all

@@ -126,6 +126,7 @@ transacts_in_memory (Rollback entries) = false
 
 abbrev pub asks_for_memory : Question → Bool
 asks_for_memory (Judge packet) = false
+-- the rules are shared: that they can have no owner more is told as memory that was refused
 asks_for_memory (ShowRules p) = true
 
 -- whether a command may be refused because memory was

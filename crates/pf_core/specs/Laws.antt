@@ -1,19 +1,19 @@
 -- What follows from the definitions, as law functions promise it.
 use Rattle.std.specs.Prelude.{◌≡◌, ℕ, true, false, List, [], ◌∷◌, ◌++◌, None, Ok}
-use Rattle.std.specs.List.{list_any}
 use Rattle.pf_rule.specs.Rules.{PlainRule}
 use Rattle.pf_anchor.specs.Laws.{rules_by}
 use Rattle.pf_anchor.specs.Rulesets.{rules_at, IsMap}
 use Rattle.pf_ticket.specs.declared.entry.Entry.{Entry}
 use Rattle.pf_ticket.specs.declared.name.RulesetName.{RulesetName}
 use Rattle.pf_ticket.specs.Mentions.{switches, valid_ticket, rules_in, content}
-use Rattle.pf_ticket.specs.Names.{same_name, is_named, names_of, filter_at}
+use Rattle.pf_ticket.specs.Names.{is_named, names_of, filter_at}
 use Rattle.pf_core.specs.declared.change.Item.{Item}
 use Rattle.pf_core.specs.declared.command.Command.{Command}
 use Rattle.pf_core.specs.declared.command.Command.TheVariants.{Transact}
 use Rattle.pf_core.specs.declared.command.Transaction.TheVariants.{Commit}
 use Rattle.pf_core.specs.declared.reply.Outcome.{Outcome}
-use Rattle.pf_core.specs.declared.reply.Reply.TheVariants.{Applied}
+use Rattle.pf_core.specs.declared.reply.Refusal.{Refusal}
+use Rattle.pf_core.specs.declared.reply.Reply.TheVariants.{Applied, Refused}
 use Rattle.pf_core.specs.declared.step.Step.TheVariants.{Wants}
 use Rattle.pf_core.specs.Calls.{Call, call, mentions, mentions_of, legal_step}
 use Rattle.pf_core.specs.Edits.{Kept, Edit, commits, rulesets_in, applied, voided_by}
@@ -46,4 +46,8 @@ VoidsTheNamed = (epoch : ℕ) (calls : List Call) (d : Kept) (c : Command) (e : 
 
 -- after a commit no ruleset that it names has a valid ticket
 abbrev pub KeepsNoneValid : Type 0
-KeepsNoneValid = (calls : List Call) (entries : List Entry) (n : ℕ) (o : Outcome) (name : RulesetName) → list_any (λ m. same_name m name) (names_of entries) ≡ true → valid_ticket (mentions (calls ++ call (Transact (Commit entries)) (Applied n o) ∷ [])) name ≡ None
+KeepsNoneValid = (calls : List Call) (entries : List Entry) (n : ℕ) (o : Outcome) (name : RulesetName) → is_named (names_of entries) name ≡ true → valid_ticket (mentions (calls ++ call (Transact (Commit entries)) (Applied n o) ∷ [])) name ≡ None
+
+-- a refused command mentions nothing
+abbrev pub RefusedMentionNothing : Type 0
+RefusedMentionNothing = (c : Command) (e : Refusal) → mentions_of (call c (Refused e)) ≡ []

@@ -1,11 +1,10 @@
 //! One command after the other.
-ghost use Rattle.std.specs.Prelude.{◌≡◌, ℕ, List, [], ◌∷◌, ◌++◌, IfOk, length, map, nat_lt};
+ghost use Rattle.std.specs.Prelude.{◌≡◌, ℕ, List, [], ◌∷◌, ◌++◌, IfOk, OnErr, length, map, nat_lt, true};
 ghost use Rattle.std.specs.Arc.{arc_value};
 ghost use Rattle.pf_anchor.specs.declared.limits.TheConstants.{RULESET_LIMIT};
 ghost use Rattle.pf_rule.specs.Packets.{PlainPacket};
 ghost use Rattle.pf_ticket.specs.declared.entry.Entry.{Entry};
 ghost use Rattle.pf_ticket.specs.Mentions.{switches};
-ghost use Rattle.pf_ticket.specs.Offers.{all_out};
 ghost use Rattle.pf_ticket.specs.Tickets.{offered_at, facts_in};
 ghost use Rattle.pf_core.specs.declared.command.Command.{Command};
 ghost use Rattle.pf_core.specs.declared.command.Question.{Question};
@@ -14,7 +13,7 @@ ghost use Rattle.pf_core.specs.declared.reply.Answer.TheVariants as answer;
 ghost use Rattle.pf_core.specs.declared.reply.Outcome.{Outcome};
 ghost use Rattle.pf_core.specs.declared.reply.Reply.TheVariants as reply;
 ghost use Rattle.pf_core.specs.Calls.{Call, call, mentions_of, AgreesWith, legal_step, IsLegalStep};
-ghost use Rattle.pf_core.specs.Commands.{item_of, items, rulesets_after, commit_step, rollback_step, transact_step, answer_of};
+ghost use Rattle.pf_core.specs.Commands.{item_of, items, rulesets_after, commit_step, rollback_step, transact_step, answer_of, transacts_in_memory, asks_for_memory, takes_memory};
 ghost use Rattle.pf_core.specs.Edits.{applied, voided_by, name_of, verdict};
 ghost use Rattle.pf_core.specs.Wholes.{ready, StaysUnlessDone, AgreesAfter, IsNeverDone};
 
@@ -151,6 +150,7 @@ fn transact(
     ensures stays { StaysUnlessDone result tickets.old tickets.new }
     ensures epoch { tickets.new.epoch ≡ tickets.old.epoch }
     ensures rolled_back { (entries : List Entry) → transaction.now ≡ Transaction.Rollback entries → result ≡ rollback_step entries }
+    ensures memory { result ≡ Err Refusal.Memory → transacts_in_memory transaction.now ≡ true }
 {
     match transaction {
         Transaction::Begin(names) => {
@@ -172,6 +172,7 @@ fn transact(
 // What a question is answered. A judge takes no memory.
 fn answer(durable: &Durable, question: &Question) -> Result<Answer, AllocError>
     ensures value { IfOk result (λ a. a ≡ answer_of durable.now question.now) }
+    ensures memory { OnErr result (asks_for_memory question.now ≡ true) }
     ensures judged { (packet : PlainPacket) → question.now ≡ Question.Judge packet → result ≡ Ok (answer.Judged (verdict durable.now packet)) }
 {
     match question {
@@ -225,6 +226,7 @@ impl Core {
         ensures stays { StaysUnlessDone result self.old self.new }
         ensures epoch { self.new.tickets.epoch ≡ self.old.tickets.epoch }
         ensures judged { (packet : PlainPacket) → command.now ≡ Command.Ask (Question.Judge packet) → result ≡ Ok (Step.Done (answer.Judged (verdict self.old.durable packet))) }
+        ensures memory { result ≡ Err Refusal.Memory → takes_memory command.now ≡ true }
         ensures rolled_back { (entries : List Entry) → command.now ≡ Command.Transact (Transaction.Rollback entries) → result ≡ rollback_step entries }
     {
         match command {
@@ -255,7 +257,6 @@ impl Core {
     pub fn accept(&mut self, next: Next)
         ensures durable { self.new.durable ≡ next.durable }
         ensures agrees { (calls : List Call) (c : Command) (n : ℕ) (o : Outcome) → mentions_of (call c (reply.Applied n o)) ≡ switches next.voided → AgreesWith self.old.tickets calls → AgreesWith self.new.tickets (calls ++ call c (reply.Applied n o) ∷ []) }
-        ensures tickets { self.new.tickets ≡ all_out self.old.tickets next.voided }
         ensures epoch { self.new.tickets.epoch ≡ self.old.tickets.epoch }
     {
         let Next { durable, voided } = next;

@@ -1,5 +1,5 @@
 //! What follows from the definitions that contracts cite: functions that do nothing, whose contracts are the laws.
-ghost use Rattle.pf_core.specs.Laws.{ReplacesExactly, SwitchesAll, VoidsTheNamed, KeepsNoneValid};
+ghost use Rattle.pf_core.specs.Laws.{ReplacesExactly, SwitchesAll, VoidsTheNamed, KeepsNoneValid, RefusedMentionNothing};
 ghost use Rattle.pf_core.specs.WorldFacts.{LeavesTheOthers, GivesEachOnce, KeepsTheLimits, ShowsAll};
 
 /// After a commit's change the epoch stays, each path has the rules that the change gives it or else its own, and what has no rules isn't there.
@@ -15,6 +15,11 @@ pub fn switches_all()
 /// A command that wants a change voids, once it is applied, exactly the tickets that its change voids.
 pub fn voids_the_named()
     ensures { VoidsTheNamed }
+{}
+
+/// What is refused mentions no ruleset, and so changes neither the valid tickets nor what is offered.
+pub fn refused_mention_nothing()
+    ensures { RefusedMentionNothing }
 {}
 
 /// After a commit none of its tickets is valid.

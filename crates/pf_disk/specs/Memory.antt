@@ -1,7 +1,7 @@
 -- What a `MemDisk` shows.
-use Rattle.std.specs.Prelude.{ℕ, List, map}
+use Rattle.std.specs.Prelude.{ℕ, Bool, List, map}
 use Rattle.pf_disk.specs.declared.memory.MemDisk.{MemDisk}
-use Rattle.pf_disk.specs.Calls.{Event}
+use Rattle.pf_disk.specs.Calls.{Event, at_rest, after}
 use Rattle.pf_disk.specs.Kept.{event_of}
 
 -- the bytes at first, all of them synced
@@ -11,3 +11,10 @@ first_of m = m.first.items
 -- its calls so far, the first of them first
 abbrev pub events_of : MemDisk → List Event
 events_of m = map event_of m.calls.items
+
+-- what a read gives
+abbrev pub seen_of : MemDisk → List ℕ
+seen_of m = m.bytes.items
+
+abbrev pub unsynced_of : MemDisk → ℕ → Bool
+unsynced_of m = (after (at_rest (first_of m)) (events_of m)).unsynced

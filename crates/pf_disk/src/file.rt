@@ -5,8 +5,8 @@ ghost use Rattle.pf_disk.specs.Disk.{IsSynced};
 ghost use Rattle.pf_disk.specs.declared.file.FileFault.TheVariants.{Memory};
 ghost use Rattle.pf_disk.specs.Past.{now_counts, now_only};
 
-use crate::memory::overwrite;
 use crate::history::History;
+use crate::memory::overwrite;
 use crate::{Disk, DiskFault};
 use std::alloc::{AllocError, Global};
 use std::fs::File;

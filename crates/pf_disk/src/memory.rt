@@ -1,8 +1,8 @@
 // A device in memory, which keeps its calls.
-ghost use Rattle.std.specs.Prelude.{◌≡◌, ◌+◌, ◌^◌, ◌<◌, ◌≤◌, ◌++◌, [], ◌∷◌, true, ℕ, length, map, take, IfOk, OnOk, OnErr, Ok};
-ghost use Rattle.pf_disk.specs.Calls.{at_rest, after, all_fit, LeftSince, writing};
+ghost use Rattle.std.specs.Prelude.{◌≡◌, ◌+◌, ◌^◌, ◌<◌, ◌≤◌, ◌++◌, [], ◌∷◌, true, ℕ, length, map, take, drop, IfOk, OnOk, OnErr, Ok};
+ghost use Rattle.pf_disk.specs.Calls.{at_rest, after, all_fit, LeftSince, reading, writing, syncing};
 ghost use Rattle.pf_disk.specs.Kept.{event_of};
-ghost use Rattle.pf_disk.specs.Disk.{CountsFault, IsSynced, overwritten};
+ghost use Rattle.pf_disk.specs.Disk.{CountsFault, IsImage, IsSynced, AreIn, Elapses, is_within, with_range, overwritten};
 ghost use Rattle.pf_disk.specs.Past.{now_counts, now_only};
 
 use crate::image::{Fill, Replay, filled, replayed};
@@ -56,7 +56,7 @@ impl MemDisk {
     /// What a crash during call number `moment` leaves, the unsynced places filled: before the first call for 0, after the
     /// last for a greater number. A fill by bytes has one for each place. `Err`: memory was refused.
     pub fn image(&self, alloc: Global, moment: u64, fill: Fill) -> Result<Vec<u8>, AllocError>
-        requires { FillsAll fill (length (first_of self.now)) }
+        requires { FillsAll fill (length (⟦<MemDisk as Disk>⟧.seen self.now)) }
         ensures filled { IfOk result (λ image. IsFilled fill.entry (state_at (first_of self.now) (events_of self.now) moment) image.items) }
         ensures image { IfOk result (λ image. IsImageAt (first_of self.now) (events_of self.now) moment image.items) }
         ensures each_image { IfOk result (λ image. GivesItsBytes fill.entry (IsImageAt (first_of self.now) (events_of self.now) moment) image.items) }
@@ -70,7 +70,7 @@ impl MemDisk {
     // The state during call number `moment`.
     fn replay(&self, alloc: Global, moment: u64) -> Result<Replay, AllocError>
         ensures shows { IfOk result (λ replay. Shows replay (state_at (first_of self.now) (events_of self.now) moment)) }
-        ensures size { IfOk result (λ replay. length replay.seen.items ≡ length (first_of self.now)) }
+        ensures size { IfOk result (λ replay. length replay.seen.items ≡ length self.now.bytes.items) }
     {
         let count = self.counting(moment);
         let replay = replayed(alloc, &self.first, &self.calls[..count])?;
@@ -127,6 +127,8 @@ fn write_call(alloc: Global, at: usize, bytes: &[u8]) -> Result<Call, AllocError
 }
 
 impl Disk for MemDisk {
+    ghost use Rattle.pf_disk.specs.Memory.{first_of, events_of, seen_of, unsynced_of};
+
     ghost seen = { λ m. m.bytes.items };
 
     ghost unsynced = { λ m. (after (at_rest m.first.items) (map event_of m.calls.items)).unsynced };
@@ -149,7 +151,18 @@ impl Disk for MemDisk {
         self.fault_count
     }
 
-    fn read_at(&mut self, at: usize, buf: &mut [u8]) -> Result<(), DiskFault> {
+    fn read_at(&mut self, at: usize, buf: &mut [u8]) -> Result<(), DiskFault>
+        requires within { at + length buf.old ≤ length (seen_of self.old) }
+        requires few { self.old.fault_count < 2 ^ 63 }
+        ensures kept { OnOk result (events_of self.new ≡ events_of self.old ++ reading ∷ []) }
+        ensures not_kept { OnErr result (events_of self.new ≡ events_of self.old) }
+        ensures read { OnOk result (buf.new ≡ take (length buf.old) (drop at (seen_of self.old))) }
+        ensures seen { seen_of self.new ≡ seen_of self.old }
+        ensures unsynced { AreIn (unsynced_of self.new) (unsynced_of self.old) }
+        ensures still { AreIn (unsynced_of self.old) (unsynced_of self.new) }
+        ensures time { Elapses (length (events_of self.old)) (length (events_of self.new)) (LeftSince (first_of self.old) (events_of self.old)) (LeftSince (first_of self.new) (events_of self.new)) (seen_of self.new) (unsynced_of self.new) }
+        ensures faults { CountsFault result self.old.fault_count self.new.fault_count }
+    {
         match keep(&mut self.calls, &mut self.fault_count, Call::Read) {
             Err(fault) => Err(fault),
             Ok(()) => {
@@ -159,7 +172,19 @@ impl Disk for MemDisk {
         }
     }
 
-    fn write_at(&mut self, at: usize, bytes: &[u8]) -> Result<(), DiskFault> {
+    fn write_at(&mut self, at: usize, bytes: &[u8]) -> Result<(), DiskFault>
+        requires within { at + length bytes.now ≤ length (seen_of self.old) }
+        requires few { self.old.fault_count < 2 ^ 63 }
+        ensures kept { OnOk result (events_of self.new ≡ events_of self.old ++ writing at bytes.now ∷ []) }
+        ensures not_kept { OnErr result (events_of self.new ≡ events_of self.old) }
+        ensures written { OnOk result (seen_of self.new ≡ overwritten (seen_of self.old) at bytes.now) }
+        ensures elsewhere { IsImage (seen_of self.old) (is_within at (length bytes.now)) (seen_of self.new) }
+        ensures unsynced { AreIn (unsynced_of self.new) (with_range at (length bytes.now) (unsynced_of self.old)) }
+        ensures still { AreIn (unsynced_of self.old) (unsynced_of self.new) }
+        ensures marked { OnOk result (AreIn (is_within at (length bytes.now)) (unsynced_of self.new)) }
+        ensures time { Elapses (length (events_of self.old)) (length (events_of self.new)) (LeftSince (first_of self.old) (events_of self.old)) (LeftSince (first_of self.new) (events_of self.new)) (seen_of self.new) (unsynced_of self.new) }
+        ensures faults { CountsFault result self.old.fault_count self.new.fault_count }
+    {
         let Ok(call) = write_call(self.alloc, at, bytes) else {
             self.fault_count += 1;
             return Err(DiskFault);
@@ -173,7 +198,17 @@ impl Disk for MemDisk {
         }
     }
 
-    fn sync(&mut self) -> Result<(), DiskFault> {
+    fn sync(&mut self) -> Result<(), DiskFault>
+        requires few { self.old.fault_count < 2 ^ 63 }
+        ensures kept { OnOk result (events_of self.new ≡ events_of self.old ++ syncing ∷ []) }
+        ensures not_kept { OnErr result (events_of self.new ≡ events_of self.old) }
+        ensures synced { OnOk result (IsSynced (unsynced_of self.new)) }
+        ensures seen { seen_of self.new ≡ seen_of self.old }
+        ensures unsynced { AreIn (unsynced_of self.new) (unsynced_of self.old) }
+        ensures still { OnErr result (AreIn (unsynced_of self.old) (unsynced_of self.new)) }
+        ensures time { Elapses (length (events_of self.old)) (length (events_of self.new)) (LeftSince (first_of self.old) (events_of self.old)) (LeftSince (first_of self.new) (events_of self.new)) (seen_of self.new) (unsynced_of self.new) }
+        ensures faults { CountsFault result self.old.fault_count self.new.fault_count }
+    {
         match keep(&mut self.calls, &mut self.fault_count, Call::Sync) {
             Err(fault) => Err(fault),
             Ok(()) => Ok(()),

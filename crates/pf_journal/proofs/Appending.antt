@@ -1,5 +1,5 @@
 -- The two writes of an `append`, over any device.
-use Rattle.std.proofs.Common.{◌≡◌, ℕ, ◌+◌, ◌^◌, ◌<◌, ◌≤◌, List, [], ◌∷◌, ◌++◌, length, arith}
+use Rattle.std.proofs.Common.{◌≡◌, ℕ, ◌+◌, ◌^◌, ◌<◌, ◌≤◌, List, [], ◌∷◌, ◌++◌, length}
 use Rattle.pf_disk.specs.Disk.{IsImage, EachMoment, is_within, overwritten}
 use Rattle.pf_disk.proofs.Moments.{weakened, and_then}
 use Rattle.pf_journal.specs.Records.{counted, StandsFor, HasBeforeOrAfter}

@@ -1,21 +1,17 @@
 -- Each line of a reply is one line.
 use Rattle.std.proofs.Common.{◌≡◌, ℕ, zero, suc, ◌+◌, ◌/◌, ◌%◌, ◌<◌, ◌==◌, ◌&&◌, not, Bool, true, false, cond, List, [], ◌∷◌, ◌++◌, length, take, get_or, decimal, refl, sym, subst, ◌≤◌, arith}
-use Rattle.std.specs.Prelude.{◌^◌, Option, Some, None, IfSome, codes, drop, map, nat_lt}
-use Rattle.std.specs.Char.{digit_char}
-use Rattle.std.specs.Int.{to_be_bytes, w32}
+use Rattle.std.specs.Prelude.{Option, Some, None, IfSome, codes, All}
 use Rattle.std.specs.List.{list_all, join_with_byte}
-use Rattle.std.specs.Net.Text.{hex, leading_zero_digits}
 use Rattle.std.specs.Option.{is_none}
-use Rattle.std.proofs.lemmas.Bool.{and_parts}
+use Rattle.std.proofs.lemmas.Bool.{and_from, and_parts, ne_eqb}
 use Rattle.std.proofs.lemmas.List.{length-append, take_all}
 use Rattle.std.specs.Fmt.{digits, digits_onto, digit_glyph}
 use Rattle.std.proofs.lemmas.Bool.Decides.{nat_tests}
-use Rattle.pf_addr.specs.declared.addr.Addr.{Addr}
-use Rattle.pf_addr.specs.declared.addr.Addr.TheVariants as addr
 use Rattle.pf_addr.specs.declared.addr.Family.{Family}
 use Rattle.pf_addr.specs.declared.addr.Family.TheVariants.{V4, V6}
 use Rattle.pf_addr.specs.Address.{Network, width}
-use Rattle.pf_addr.specs.Spelling.{group_text, addr_text, first_addr, length_text, net_text}
+use Rattle.pf_addr.specs.Spelling.{net_text}
+use Rattle.pf_addr.specs.SpellingLaws.{IsV4Network, IsNetByte, IsNetWord-net_text}
 use Rattle.pf_form.specs.declared.fault.Kind.{Kind}
 use Rattle.pf_rule.specs.declared.rule.Action.{Action}
 use Rattle.pf_rule.specs.declared.rule.Action.TheVariants.{Pass, Block}
@@ -24,7 +20,7 @@ use Rattle.pf_rule.specs.declared.rule.Direction.TheVariants.{In, Out}
 use Rattle.pf_rule.specs.declared.rule.Host.{Host}
 use Rattle.pf_rule.specs.declared.rule.Host.TheVariants.{Any, Net}
 use Rattle.pf_rule.specs.Names.{is_name_byte, IsInterfaceName}
-use Rattle.pf_rule.specs.Rules.{PlainRule, IsRule}
+use Rattle.pf_rule.specs.Rules.{PlainRule, IsRule, HostFits}
 use Rattle.pf_anchor.specs.Paths.{path_fault, is_path}
 use Rattle.pf_anchor.specs.PathGrammar.{AreComponents, IsPathText}
 use Rattle.pf_anchor.specs.PathLaws.{FaultsAllElse}
@@ -47,19 +43,9 @@ use Rattle.pf_line.specs.Replies.{tickets_text, place_text, action_text, rule_ve
 abbrev clear : ℕ → Bool
 clear b = not (b == 10)
 
-both : (s t : Bool) → s ≡ true → t ≡ true → (s && t) ≡ true
-both s t e f = rw (e, f) refl
-
-split_and : (s t : Bool) → (s && t) ≡ true → t ≡ true
-split_and true t e = e
-split_and false t e = absurd cc
-
 joined : (a b : List ℕ) → HasNoNewline a → HasNoNewline b → HasNoNewline (a ++ b)
 joined [] b h k = k
-joined (x ∷ a) b h k = let parts = split (clear x) (list_all clear a) h in both (clear x) (list_all clear (a ++ b)) parts.0 (joined a b parts.1 k) where
-  split : (s t : Bool) → (s && t) ≡ true → (s ≡ true) × (t ≡ true)
-  split true t e = (refl, e)
-  split false t e = absurd cc
+joined (x ∷ a) b h k = let parts = and_parts (clear x) (list_all clear a) h in and_from (clear x) (list_all clear (a ++ b)) parts.0 (joined a b parts.1 k)
 
 -- ---- names
 
@@ -77,7 +63,7 @@ name_clear : (name : List ℕ) → list_all is_name_byte name ≡ true → HasNo
 name_clear [] h = refl
 name_clear (b ∷ bs) h =
     let parts = and_parts (is_name_byte b) (list_all is_name_byte bs) h in
-    both (clear b) (list_all clear bs) (passes is_name_byte refl b parts.0) (name_clear bs parts.1)
+    and_from (clear b) (list_all clear bs) (passes is_name_byte refl b parts.0) (name_clear bs parts.1)
 
 -- ---- numbers
 
@@ -85,7 +71,7 @@ glyph_clear : (d : ℕ) → d < 10 → clear (digit_glyph false d) ≡ true
 glyph_clear d lt = grind (arith, nat_tests)
 
 one_clear : (n : ℕ) (acc : List ℕ) → HasNoNewline acc → HasNoNewline (digit_glyph false (n % 10) ∷ acc)
-one_clear n acc h = both (clear (digit_glyph false (n % 10))) (list_all clear acc) (glyph_clear (n % 10) (omega arith)) h
+one_clear n acc h = and_from (clear (digit_glyph false (n % 10))) (list_all clear acc) (glyph_clear (n % 10) (omega arith)) h
 
 last_clear : (t : Bool) (a b : List ℕ) → HasNoNewline a → HasNoNewline b → HasNoNewline (cond t a b)
 last_clear true a b h k = h
@@ -161,53 +147,28 @@ clear-append (w ∷ a) b h k = (h.0, clear-append a b h.1 k)
 join_clear : (c : ℕ) → clear c ≡ true → (words : List (List ℕ)) → NoneHasNewline words → HasNoNewline (join_with_byte c words)
 join_clear c h [] all = refl
 join_clear c h (w ∷ []) all = all.0
-join_clear c h (w ∷ v ∷ words) all = joined w (c ∷ join_with_byte c (v ∷ words)) all.0 (both (clear c) (list_all clear (join_with_byte c (v ∷ words))) h (join_clear c h (v ∷ words) all.1))
+join_clear c h (w ∷ v ∷ words) all = joined w (c ∷ join_with_byte c (v ∷ words)) all.0 (and_from (clear c) (list_all clear (join_with_byte c (v ∷ words))) h (join_clear c h (v ∷ words) all.1))
 
-numbers_clear : (ns : List ℕ) → NoneHasNewline (map decimal ns)
-numbers_clear [] = tt
-numbers_clear (n ∷ ns) = (number_clear n, numbers_clear ns)
+net_clear : (n : Network) → IsV4Network n → HasNoNewline (net_text n)
+net_clear n is = by (net_text n) (IsNetWord-net_text n is).bytes where
+  by : (text : List ℕ) → All IsNetByte text → HasNoNewline text
+  by [] h = refl
+  by (b ∷ bs) h =
+      let here : IsNetByte b = h 0 b (omega arith) in
+      let far : (b == 10) ≡ false = ne_eqb b 10 (λ e. omega (arith, here.0, e)) in
+      rw far (by bs (λ k d lt. h (suc k) d (omega (arith, lt))))
 
-char_clear : (d : ℕ) → clear (digit_char d) ≡ true
-char_clear d = by_test (nat_lt d 10) where
-  by_test : (t : Bool) → clear (cond t (48 + d) (87 + d)) ≡ true
-  by_test true = grind (arith, nat_tests)
-  by_test false = grind (arith, nat_tests)
+host_clear : (f : Option Family) (h : Host) → HostFits f h → HasNoNewline (host_word h)
+host_clear f Any is = refl
+host_clear f (Net n) is = net_clear n (record { family = is.1; within = let le = is.2 in subst (λ (g : Family). length n.front ≤ width g) is.1 le })
 
-drop_clear : (k : ℕ) (text : List ℕ) → HasNoNewline text → HasNoNewline (drop k text)
-drop_clear zero text h = h
-drop_clear (suc k) [] h = refl
-drop_clear (suc k) (b ∷ text) h = drop_clear k text (split_and (clear b) (list_all clear text) h)
+from_to_clear : (f : Option Family) (s d : Host) → HostFits f s → HostFits f d → NoneHasNewline (from_to_words s d)
+from_to_clear f s d p q = (refl, (host_clear f s p, (refl, (host_clear f d q, tt))))
 
-hex_clear : (n : ℕ) → HasNoNewline (hex n)
-unfolding hex
-hex_clear n = drop_clear (leading_zero_digits n) (digit_char (n / 0x1000) ∷ digit_char (n / 0x100 % 16) ∷ digit_char (n / 0x10 % 16) ∷ digit_char (n % 16) ∷ []) (rw (char_clear (n / 0x1000), char_clear (n / 0x100 % 16), char_clear (n / 0x10 % 16), char_clear (n % 16)) refl)
-
-groups_clear : (n : ℕ) (ks : List ℕ) → NoneHasNewline (map (group_text n) ks)
-groups_clear n [] = tt
-groups_clear n (k ∷ ks) = (hex_clear (n / 2 ^ k % 2 ^ 16), groups_clear n ks)
-
-addr_clear : (a : Addr) → HasNoNewline (addr_text a)
-addr_clear (addr.V4 n) = join_clear 46 refl (map decimal (to_be_bytes w32 n)) (numbers_clear (to_be_bytes w32 n))
-addr_clear (addr.V6 n) = join_clear 58 refl (map (group_text n) (112 ∷ 96 ∷ 80 ∷ 64 ∷ 48 ∷ 32 ∷ 16 ∷ 0 ∷ [])) (groups_clear n (112 ∷ 96 ∷ 80 ∷ 64 ∷ 48 ∷ 32 ∷ 16 ∷ 0 ∷ []))
-
-length_clear : (t : Bool) (n : ℕ) → HasNoNewline (cond t [] (47 ∷ decimal n))
-length_clear true n = refl
-length_clear false n = joined (47 ∷ []) (decimal n) refl (number_clear n)
-
-net_clear : (n : Network) → HasNoNewline (net_text n)
-net_clear n = joined (addr_text (first_addr n)) (length_text n) (addr_clear (first_addr n)) (length_clear (length n.front == width n.family) (length n.front))
-
-host_clear : (h : Host) → HasNoNewline (host_word h)
-host_clear Any = refl
-host_clear (Net n) = net_clear n
-
-from_to_clear : (s d : Host) → NoneHasNewline (from_to_words s d)
-from_to_clear s d = (refl, (host_clear s, (refl, (host_clear d, tt))))
-
-hosts_clear : (s d : Host) → NoneHasNewline (host_words s d)
-hosts_clear Any Any = (refl, tt)
-hosts_clear Any (Net n) = from_to_clear Any (Net n)
-hosts_clear (Net n) d = from_to_clear (Net n) d
+hosts_clear : (f : Option Family) (s d : Host) → HostFits f s → HostFits f d → NoneHasNewline (host_words s d)
+hosts_clear f Any Any p q = (refl, tt)
+hosts_clear f Any (Net n) p q = from_to_clear f Any (Net n) p q
+hosts_clear f (Net n) d p q = from_to_clear f (Net n) d p q
 
 protocol_clear : (n : ℕ) → HasNoNewline (protocol_word n)
 protocol_clear n = by_tests (n == 1) (n == 6) (n == 17) (n == 58) where
@@ -252,7 +213,7 @@ states_clear Block = tt
 canonical_clear : (r : PlainRule) → IsRule r → NoneHasNewline (canonical r)
 canonical_clear r h =
     let states = states_clear r.action in
-    let hosts = clear-append (host_words r.source r.destination) (state_words r.action) (hosts_clear r.source r.destination) states in
+    let hosts = clear-append (host_words r.source r.destination) (state_words r.action) (hosts_clear r.family r.source r.destination h.source h.destination) states in
     let protocol = clear-append (protocol_words r.protocol) _ (protocols_clear r.protocol) hosts in
     let family = clear-append (family_words r.family) _ (family_clear r.family) protocol in
     let interface = clear-append (interface_words r.interface) _ (interface_clear r.interface h.interface) family in

@@ -69,15 +69,12 @@ last_line (replies.Refused e) = refusal_text e
 -- ---- rules that are shown
 
 abbrev pub answer_rules : Answer → List PlainRule
-answer_rules (answers.Given g) = []
-answer_rules answers.Done = []
-answer_rules (answers.Judged v) = []
 answer_rules (answers.Rules rules) = rules
+answer_rules _ = []
 
 abbrev pub shown_in : Reply → List PlainRule
 shown_in (replies.Answer a) = answer_rules a
-shown_in (replies.Applied seq outcome) = []
-shown_in (replies.Refused e) = []
+shown_in _ = []
 
 -- an at sign (64) with the rule's number, and the rule's canonical text behind a space (32)
 abbrev pub rule_line : ℕ → PlainRule → List ℕ
@@ -126,16 +123,13 @@ abbrev pub verdict_path : Verdict → List ℕ
 verdict_path (Rules v) = rule_path v
 
 abbrev pub answer_path : Answer → List ℕ
-answer_path (answers.Given g) = []
-answer_path answers.Done = []
 answer_path (answers.Judged v) = verdict_path v
-answer_path (answers.Rules rules) = []
+answer_path _ = []
 
 -- the path that a reply names
 abbrev pub path_in : Reply → List ℕ
 path_in (replies.Answer a) = answer_path a
-path_in (replies.Applied seq outcome) = []
-path_in (replies.Refused e) = []
+path_in _ = []
 
 -- what the type of a rule keeps, of each
 abbrev pub AreRules : List PlainRule → Type 0

@@ -4,16 +4,13 @@ use Rattle.std.proofs.lemmas.List.{append-nil}
 use Rattle.pf_rule.specs.Rules.{PlainRule}
 use Rattle.pf_ticket.specs.declared.name.RulesetName.{RulesetName}
 use Rattle.pf_ticket.specs.declared.offered.Offered.{Offered}
-use Rattle.pf_ticket.specs.declared.name.RulesetKind.{RulesetKind}
-use Rattle.pf_ticket.specs.declared.name.RulesetKind.TheVariants.{Filter}
 use Rattle.pf_ticket.specs.declared.ticket.Ticket.{Ticket}
-use Rattle.pf_ticket.specs.Names.{same_kind, same_name, same_ticket, ticket, tickets_from, is_ticket}
+use Rattle.pf_ticket.specs.Names.{same_name, same_ticket, ticket, tickets_from, is_ticket}
 use Rattle.pf_ticket.specs.Mentions.{Mention, gave, added, switched, dropped, drops, touched, valid_ticket, nothing_for, with_rule, offering, offered_with, content_under, ticket_given, next_count, AreNumbered, is_given, gives, switches}
 use Rattle.pf_ticket.specs.Tickets.{Offer, offer, Open, found, ticket_at, offered_at, IsDistinct, Agrees}
 use Rattle.pf_ticket.specs.Offers.{without, grown, with_added, give, take_out, add_to, drop_out, all_begun, all_out, all_dropped, IsPlace, IsNowhere}
-use Rattle.pf_anchor.specs.Rulesets.{same_path}
-use Rattle.pf_ticket.specs.NameLaws.{names_alike}
-use Rattle.pf_ticket.proofs.Mentions.{same_itself, both-true, valid_push, offered_push, IsQuiet, under_quiet, same-next, next-gave, gave-numbered, next-is-not-given, quiet-known, quiet-numbered, added-known, valid-is-given}
+use Rattle.pf_ticket.specs.NameLaws.{names_alike, name_is}
+use Rattle.pf_ticket.proofs.Mentions.{same_itself, valid_push, offered_push, IsQuiet, under_quiet, same-next, next-gave, gave-numbered, next-is-not-given, quiet-known, quiet-numbered, added-known, valid-is-given}
 use Rattle.pf_ticket.proofs.Once.{distinct-without, distinct-given, names-added}
 use Rattle.pf_ticket.specs.declared.entry.Entry.{Entry}
 
@@ -84,11 +81,11 @@ own-added q p r u [] h k = absurd (cc (k))
 own-added q p r u (o ∷ os) h k = own-added-step q p r u o os (with_added p r os) (same_name o.name p) (same_name o.name q) refl refl (names_alike.symm o.name p ∙ names_alike.congr p q o.name h ∙ names_alike.symm q o.name) (λ k. own-added q p r u os h k) k
 
 -- a begin's mention
-pub nothing_alike : (a b : RulesetKind) → same_kind a b ≡ true → nothing_for a ≡ nothing_for b
-nothing_alike Filter Filter h = refl
+pub nothing_alike : (p q : RulesetName) → same_name p q ≡ true → nothing_for p.kind ≡ nothing_for q.kind
+nothing_alike p q h = ap (λ (n : RulesetName). nothing_for n.kind) (name_is p q h)
 
 pub gave_content : (ms : List Mention) (p q : RulesetName) (u : Ticket) (b : Bool) (v : Option Ticket) → same_name p q ≡ b → offered_with ms q u ≡ nothing_for q.kind → cond b (nothing_for p.kind) (content_under ms q v) ≡ content_under (ms ++ gave p u ∷ []) q (cond b (Some u) v)
-gave_content ms p q u true v s h = nothing_alike p.kind q.kind (both-true (same_kind p.kind q.kind) (same_path p.path q.path) s).0 ∙ sym (offered_push ms (gave p u) q u ∙ h)
+gave_content ms p q u true v s h = nothing_alike p q s ∙ sym (offered_push ms (gave p u) q u ∙ h)
 gave_content ms p q u false v s h = sym (under_quiet ms (gave p u) q v (λ w o. refl))
 
 pub agrees-gave : (t : Open) (ms : List Mention) (p : RulesetName) → Agrees t ms → Agrees (give t p) (ms ++ gave p (ticket t.epoch t.next) ∷ [])
@@ -129,11 +126,8 @@ pub agrees-switched : (t : Open) (ms : List Mention) (p : RulesetName) → Agree
 agrees-switched t ms p a = agrees-out t ms p (switched p) (λ q. refl) (λ q u o. refl) refl a
 
 -- an add's. One ruleset has one offer
-found-alike : {A : Type 0} (f : Offer → A) (d : A) (p q : RulesetName) (os : List Offer) → same_name p q ≡ true → found f d p os ≡ found f d q os
-found-alike f d p q [] h = refl
-found-alike f d p q (o ∷ os) h =
-    let k : same_name o.name p ≡ same_name o.name q = names_alike.symm o.name p ∙ names_alike.congr p q o.name h ∙ names_alike.symm q o.name in
-    ap (λ b. cond b (f o) (found f d p os)) k ∙ ap (λ z. cond (same_name o.name q) (f o) z) (found-alike f d p q os h)
+ticket-alike : (p q : RulesetName) (os : List Offer) → same_name p q ≡ true → ticket_at os p ≡ ticket_at os q
+ticket-alike p q os h = ap (λ (n : RulesetName). ticket_at os n) (name_is p q h)
 
 added_content : (ms : List Mention) (p q : RulesetName) (u : Ticket) (r : PlainRule) (b : Bool) (xs ys : Offered) (v : Option Ticket) → same_name p q ≡ b → (b ≡ true → v ≡ Some u) → ys ≡ content_under ms q v → (b ≡ true → xs ≡ with_rule ys r) → (b ≡ false → xs ≡ ys) → xs ≡ content_under (ms ++ added p u r ∷ []) q v
 added_content ms p q u r true xs ys None s h e own other = let k : None ≡ Some u = h refl in absurd (cc (k))
@@ -147,7 +141,7 @@ added_content ms p q u r false xs ys v s h e own other = other refl ∙ e ∙ sy
 pub agrees-added : (t : Open) (ms : List Mention) (p : RulesetName) (u : Ticket) (r : PlainRule) → ticket_at t.offers p ≡ Some u → Agrees t ms → Agrees (add_to t p r) (ms ++ added p u r ∷ [])
 agrees-added t ms p u r h a =
     let push : (q : RulesetName) → valid_ticket (ms ++ added p u r ∷ []) q ≡ valid_ticket ms q = λ q. valid_push ms (added p u r) q in
-    let held : (q : RulesetName) → same_name p q ≡ true → ticket_at t.offers q ≡ Some u = λ q s. sym (found-alike (λ o. Some o.ticket) None p q t.offers s) ∙ h in
+    let held : (q : RulesetName) → same_name p q ≡ true → ticket_at t.offers q ≡ Some u = λ q s. sym (ticket-alike p q t.offers s) ∙ h in
     record {
       valid = λ q. ticket-added q p r t.offers ∙ a.valid q ∙ sym (push q);
       offered = λ q. added_content ms p q u r (same_name p q) (offered_at (with_added p r t.offers) q) (offered_at t.offers q) (valid_ticket ms q) refl (λ s. sym (a.valid q) ∙ held q s) (a.offered q) (λ s. own-added q p r u t.offers s (held q s)) (λ s. other-added q p r t.offers s)
@@ -183,11 +177,11 @@ drop-other false x v h = refl
 dropped-step : (t : Open) (ms : List Mention) (p : RulesetName) (u : Ticket) (b : Bool) → is_ticket (ticket_at t.offers p) u ≡ b → Agrees t ms → Agrees (cond b (take_out t p) t) (ms ++ dropped p u ∷ [])
 dropped-step t ms p u true e a =
     let own : (q : RulesetName) → same_name p q ≡ true → is_ticket (valid_ticket ms q) u ≡ true =
-    λ q s. ap (λ (v : Option Ticket). is_ticket v u) (sym (a.valid q) ∙ sym (found-alike (λ o. Some o.ticket) None p q t.offers s)) ∙ e in
+    λ q s. ap (λ (v : Option Ticket). is_ticket v u) (sym (a.valid q) ∙ sym (ticket-alike p q t.offers s)) ∙ e in
     agrees-out t ms p (dropped p u) (λ q. drop-own (same_name p q) (is_ticket (valid_ticket ms q) u) (valid_ticket ms q) (own q)) (λ q w o. refl) refl a
 dropped-step t ms p u false e a =
     let other : (q : RulesetName) → same_name p q ≡ true → is_ticket (valid_ticket ms q) u ≡ false =
-    λ q s. ap (λ (v : Option Ticket). is_ticket v u) (sym (a.valid q) ∙ sym (found-alike (λ o. Some o.ticket) None p q t.offers s)) ∙ e in
+    λ q s. ap (λ (v : Option Ticket). is_ticket v u) (sym (a.valid q) ∙ sym (ticket-alike p q t.offers s)) ∙ e in
     agrees-quiet t ms (dropped p u) (λ q. drop-other (same_name p q) (is_ticket (valid_ticket ms q) u) (valid_ticket ms q) (other q)) (λ q w o. refl) refl a
 
 pub agrees-dropped : (t : Open) (ms : List Mention) (p : RulesetName) (u : Ticket) → Agrees t ms → Agrees (drop_out t p u) (ms ++ dropped p u ∷ [])

@@ -2,16 +2,15 @@
 use Rattle.std.proofs.Common.{◌≡◌, ℕ, ◌+◌, Bool, true, false, cond, ◌||◌, List, [], ◌∷◌, ◌++◌, length, fold, refl, sym, ap, ◌∙◌, subst, Option, Some, None, append_assoc}
 use Rattle.std.proofs.lemmas.List.{append-nil}
 use Rattle.std.proofs.lemmas.List.Sums.{fold-append}
-use Rattle.pf_anchor.specs.Rulesets.{same_path}
 use Rattle.pf_ticket.specs.declared.name.RulesetName.{RulesetName}
 use Rattle.pf_ticket.specs.declared.offered.Offered.{Offered}
 use Rattle.pf_ticket.specs.declared.ticket.Ticket.{Ticket}
-use Rattle.pf_ticket.specs.Names.{same_kind, same_name, is_named, with_name, ticket, tickets_from}
+use Rattle.pf_ticket.specs.Names.{same_name, is_named, with_name, ticket, tickets_from}
 use Rattle.pf_ticket.specs.Mentions.{Mention, gave, gives, touched, valid_ticket, nothing_for, content, content_under, next_count, AreNumbered, AddsAreKnown, has_ticket, open_rulesets, opened_with}
 use Rattle.pf_ticket.specs.Laws.{begun, StartsWithNothing, CountsTheOpen}
 use Rattle.pf_ticket.proofs.Agreement.{nothing_alike, gave_content}
 use Rattle.pf_ticket.proofs.Counting.{or-false, or-true, alike-count, distinct-with, distinct-open, named-with, named-open}
-use Rattle.pf_ticket.proofs.Mentions.{both-true, valid_push, next-gave, gave-numbered, next-is-not-given, quiet-known}
+use Rattle.pf_ticket.proofs.Mentions.{valid_push, next-gave, gave-numbered, next-is-not-given, quiet-known}
 
 -- one ruleset's ticket, and then the others'
 pub begun-first : (epoch : ℕ) (ms : List Mention) (p : RulesetName) (ps : List RulesetName) → begun epoch (ms ++ gave p (ticket epoch (next_count ms)) ∷ []) ps ≡ begun epoch ms (p ∷ ps)
@@ -23,7 +22,7 @@ begun-first epoch ms p ps =
 -- ---- what is offered
 
 nothing-either : (p q : RulesetName) (b : Bool) (old : Offered) → same_name p q ≡ b → (b ≡ false → old ≡ nothing_for q.kind) → cond b (nothing_for p.kind) old ≡ nothing_for q.kind
-nothing-either p q true old s h = nothing_alike p.kind q.kind (both-true (same_kind p.kind q.kind) (same_path p.path q.path) s).0
+nothing-either p q true old s h = nothing_alike p q s
 nothing-either p q false old s h = h refl
 
 -- with one ticket more

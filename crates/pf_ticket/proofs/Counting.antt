@@ -3,13 +3,17 @@ use Rattle.std.proofs.Common.{◌≡◌, ℕ, ◌+◌, ◌<◌, ◌≤◌, Bool,
 use Rattle.std.specs.Prelude.{fold, filter, flat_map}
 use Rattle.std.proofs.lemmas.List.Sums.{fold_more}
 use Rattle.std.proofs.lemmas.List.Folds.{list_any-append}
+use Rattle.std.proofs.lemmas.Map.Made.{length-le_from_is_member, length-from_same_keys}
+use Rattle.std.specs.Cmp.{IsEquivalence}
+use Rattle.std.specs.List as list
+use Rattle.std.specs.List.{AllByRecursion}
 use Rattle.pf_ticket.specs.declared.name.RulesetName.{RulesetName}
 use Rattle.pf_ticket.specs.declared.ticket.Ticket.{Ticket}
 use Rattle.pf_ticket.specs.Names.{same_name, is_named, with_name, is_ticket}
 use Rattle.pf_ticket.specs.Mentions.{Mention, gave, added, switched, dropped, touched, valid_ticket, ruleset_given, ever_begun, has_ticket, open_rulesets, opened_with}
 use Rattle.pf_ticket.specs.Tickets.{Offer, Open, ticket_at, names_under, facts_in, IsDistinct}
 use Rattle.pf_ticket.specs.Offers.{IsPlace, IsNowhere}
-use Rattle.pf_ticket.specs.NameLaws.{names_alike}
+use Rattle.pf_ticket.specs.NameLaws.{names_alike, name_is}
 use Rattle.pf_ticket.proofs.Once.{neither, distinct-behind}
 
 pub or-false : (b : Bool) → (b || false) ≡ b
@@ -26,13 +30,6 @@ or_assoc false b c = refl
 
 -- ---- names
 
-alike-to : (n p q : RulesetName) → same_name p q ≡ true → same_name n p ≡ same_name n q
-alike-to n p q h = names_alike.symm n p ∙ names_alike.congr p q n h ∙ names_alike.symm q n
-
-pub named-alike : (ns : List RulesetName) (p q : RulesetName) → same_name p q ≡ true → is_named ns p ≡ is_named ns q
-named-alike [] p q h = refl
-named-alike (n ∷ ns) p q h = ap (λ (b : Bool). b || is_named ns p) (alike-to n p q h) ∙ ap (λ (b : Bool). same_name n q || b) (named-alike ns p q h)
-
 named-behind-is : (xs : List RulesetName) (n q : RulesetName) → is_named (xs ++ n ∷ []) q ≡ (is_named xs q || same_name n q)
 named-behind-is xs n q = list_any-append (λ m. same_name m q) xs (n ∷ []) ∙ ap (λ (b : Bool). is_named xs q || b) (or-false (same_name n q))
 
@@ -42,7 +39,7 @@ already false true h = h refl
 already false false h = refl
 
 with-one-step : (xs : List RulesetName) (n q : RulesetName) (b : Bool) → is_named xs n ≡ b → is_named (cond b xs (xs ++ n ∷ [])) q ≡ (is_named xs q || same_name n q)
-with-one-step xs n q true e = already (is_named xs q) (same_name n q) (λ h. sym (named-alike xs n q h) ∙ e)
+with-one-step xs n q true e = already (is_named xs q) (same_name n q) (λ h. sym (ap (λ (m : RulesetName). is_named xs m) (name_is n q h)) ∙ e)
 with-one-step xs n q false e = named-behind-is xs n q
 
 named-with-one : (xs : List RulesetName) (n q : RulesetName) → is_named (with_name xs n) q ≡ (is_named xs q || same_name n q)
@@ -63,51 +60,26 @@ distinct-with xs (n ∷ ns) d = distinct-with (with_name xs n) ns (distinct-with
 
 -- ---- lists that name the same rulesets, each once, are as long
 
-abbrev names-but : RulesetName → List RulesetName → List RulesetName
-names-but x ys = filter (λ y. not (same_name y x)) ys
+abbrev names_it : RulesetName → RulesetName → Bool
+names_it a b = same_name b a
 
-but-le-step : (y : RulesetName) (ys ws : List RulesetName) (b : Bool) → length ws ≤ length ys → length (cond b (y ∷ ws) ws) ≤ length (y ∷ ys)
-but-le-step y ys ws true h = omega (arith, h)
-but-le-step y ys ws false h = omega (arith, h)
+names_it_alike : IsEquivalence names_it
+names_it_alike = record { refl = names_alike.refl; symm = λ a b. names_alike.symm b a; congr = λ a b c h. names_alike.symm c a ∙ names_alike.congr a b c (names_alike.symm a b ∙ h) ∙ names_alike.symm b c }
 
-but-le : (x : RulesetName) (ys : List RulesetName) → length (names-but x ys) ≤ length ys
-but-le x [] = omega arith
-but-le x (y ∷ ys) = but-le-step y ys (names-but x ys) (not (same_name y x)) (but-le x ys)
+all-others : (n : RulesetName) (ns : List RulesetName) → is_named ns n ≡ false → AllByRecursion (λ m. names_it n m ≡ false) ns
+all-others n [] h = tt
+all-others n (m ∷ ns) h = let both : (same_name m n ≡ false) × (is_named ns n ≡ false) = neither (same_name m n) (is_named ns n) h in (both.0, all-others n ns both.1)
 
-but-lt-step : (y : RulesetName) (ys ws : List RulesetName) (b c : Bool) → length ws ≤ length ys → (c ≡ true → length ws < length ys) → (b || c) ≡ true → length (cond (not b) (y ∷ ws) ws) < length (y ∷ ys)
-but-lt-step y ys ws true c l h e = omega (arith, l)
-but-lt-step y ys ws false c l h e = let k : length ws < length ys = h e in omega (arith, k)
-
-but-lt : (x : RulesetName) (ys : List RulesetName) → is_named ys x ≡ true → length (names-but x ys) < length ys
-but-lt x [] e = absurd (cc (e))
-but-lt x (y ∷ ys) e = but-lt-step y ys (names-but x ys) (same_name y x) (is_named ys x) (but-le x ys) (λ k. but-lt x ys k) e
-
-named-but-step : (x q y : RulesetName) (ys ws : List RulesetName) (b : Bool) → same_name y x ≡ b → same_name x q ≡ false → is_named ws q ≡ is_named ys q → is_named (cond (not b) (y ∷ ws) ws) q ≡ is_named (y ∷ ys) q
-named-but-step x q y ys ws true e h ih = ih ∙ sym (ap (λ (c : Bool). c || is_named ys q) (names_alike.congr y x q e ∙ h))
-named-but-step x q y ys ws false e h ih = ap (λ (c : Bool). same_name y q || c) ih
-
-named-but : (x q : RulesetName) (ys : List RulesetName) → same_name x q ≡ false → is_named (names-but x ys) q ≡ is_named ys q
-named-but x q [] h = refl
-named-but x q (y ∷ ys) h = named-but-step x q y ys (names-but x ys) (same_name y x) refl h (named-but x q ys h)
-
--- a name of the rest isn't the first one
-apart : (x q : RulesetName) (xs : List RulesetName) (b : Bool) → same_name x q ≡ b → is_named xs x ≡ false → is_named xs q ≡ true → b ≡ false
-apart x q xs true e n k = sym k ∙ sym (named-alike xs x q e) ∙ n
-apart x q xs false e n k = refl
+by-std : (ns : List RulesetName) → IsDistinct ns → list.IsDistinct names_it ns
+unfolding list.IsDistinct
+by-std [] d = tt
+by-std (n ∷ ns) d = (all-others n ns d.0, by-std ns d.1)
 
 pub count-le : (xs ys : List RulesetName) → IsDistinct xs → ((q : RulesetName) → is_named xs q ≡ true → is_named ys q ≡ true) → length xs ≤ length ys
-count-le [] ys d h = omega arith
-count-le (x ∷ xs) ys d h =
-    let less : length (names-but x ys) < length ys = but-lt x ys (h x (ap (λ (b : Bool). b || is_named xs x) (names_alike.refl x))) in
-    let rest : length xs ≤ length (names-but x ys) = count-le xs (names-but x ys) d.1
-    (λ q k. named-but x q ys (apart x q xs (same_name x q) refl d.0 k) ∙ h q (or-true (same_name x q) (is_named xs q) k)) in
-    omega (arith, less, rest)
+count-le xs ys d h = length-le_from_is_member names_it_alike xs ys (by-std xs d) h
 
 pub alike-count : (xs ys : List RulesetName) → IsDistinct xs → IsDistinct ys → ((q : RulesetName) → is_named xs q ≡ is_named ys q) → length xs ≡ length ys
-alike-count xs ys d e h =
-    let one : length xs ≤ length ys = count-le xs ys d (λ q k. sym (h q) ∙ k) in
-    let other : length ys ≤ length xs = count-le ys xs e (λ q k. h q ∙ k) in
-    omega (arith, one, other)
+alike-count xs ys d e h = length-from_same_keys names_it_alike xs ys (by-std xs d) (by-std ys e) h
 
 -- ---- the rulesets with an offer
 
@@ -121,19 +93,6 @@ named-under (o ∷ os) q = named-under-step o os q (same_name o.name q) (named-u
 
 -- ---- the rulesets with a valid ticket
 
-touched-alike : (p q : RulesetName) (v : Option Ticket) (m : Mention) → same_name p q ≡ true → touched p v m ≡ touched q v m
-touched-alike p q v (gave n t) h = ap (λ (b : Bool). cond b (Some t) v) (alike-to n p q h)
-touched-alike p q v (added n t r) h = refl
-touched-alike p q v (switched n) h = ap (λ (b : Bool). cond b None v) (alike-to n p q h)
-touched-alike p q v (dropped n t) h = ap (λ (b : Bool). cond (b && is_ticket v t) None v) (alike-to n p q h)
-
-fold-alike : (p q : RulesetName) (v : Option Ticket) (ms : List Mention) → same_name p q ≡ true → fold (touched p) v ms ≡ fold (touched q) v ms
-fold-alike p q v [] h = refl
-fold-alike p q v (m ∷ ms) h = fold-alike p q (touched p v m) ms h ∙ ap (λ (w : Option Ticket). fold (touched q) w ms) (touched-alike p q v m h)
-
-pub valid-alike : (ms : List Mention) (p q : RulesetName) → same_name p q ≡ true → valid_ticket ms p ≡ valid_ticket ms q
-valid-alike ms p q h = fold-alike p q None ms h
-
 both-false : (a : Bool) → (a && false) ≡ false
 both-false true = refl
 both-false false = refl
@@ -144,9 +103,9 @@ filtered-step x q xs ws true false d e h ih = ap (λ (a : Bool). a || is_named w
 filtered-step x q xs ws false true d e h ih = ih ∙ ap (λ (a : Bool). is_named xs q && a) (sym (h refl)) ∙ both-false (is_named xs q) ∙ h refl
 filtered-step x q xs ws false false d e h ih = ih
 
-named-filtered : (test : RulesetName → Bool) → ((p q : RulesetName) → same_name p q ≡ true → test p ≡ test q) → (xs : List RulesetName) (q : RulesetName) → is_named (filter test xs) q ≡ (is_named xs q && test q)
-named-filtered test alike [] q = refl
-named-filtered test alike (x ∷ xs) q = filtered-step x q xs (filter test xs) (test x) (same_name x q) (test q) refl (λ h. alike x q h) (named-filtered test alike xs q)
+named-filtered : (test : RulesetName → Bool) (xs : List RulesetName) (q : RulesetName) → is_named (filter test xs) q ≡ (is_named xs q && test q)
+named-filtered test [] q = refl
+named-filtered test (x ∷ xs) q = filtered-step x q xs (filter test xs) (test x) (same_name x q) (test q) refl (λ h. ap test (name_is x q h)) (named-filtered test xs q)
 
 -- a ruleset with a valid ticket was given one
 drops-none : (b c : Bool) (v : Option Ticket) → (has_ticket (cond b None v) || c) ≡ true → (has_ticket v || c) ≡ true
@@ -174,18 +133,11 @@ implied false false h = refl
 
 pub named-open : (ms : List Mention) (q : RulesetName) → is_named (open_rulesets ms) q ≡ has_ticket (valid_ticket ms q)
 named-open ms q =
-    named-filtered (λ n. has_ticket (valid_ticket ms n)) (λ p r h. ap has_ticket (valid-alike ms p r h)) (ever_begun ms) q
+    named-filtered (λ n. has_ticket (valid_ticket ms n)) (ever_begun ms) q
     ∙ implied (is_named (ever_begun ms) q) (has_ticket (valid_ticket ms q)) (λ h. named-with [] (flat_map ruleset_given ms) q ∙ given-before q None ms h)
 
-unnamed-step : (x q : RulesetName) (ws : List RulesetName) (b : Bool) → same_name x q ≡ false → is_named ws q ≡ false → is_named (cond b (x ∷ ws) ws) q ≡ false
-unnamed-step x q ws true h k = ap (λ (c : Bool). c || is_named ws q) h ∙ k
-unnamed-step x q ws false h k = k
-
 unnamed-filtered : (test : RulesetName → Bool) (xs : List RulesetName) (q : RulesetName) → is_named xs q ≡ false → is_named (filter test xs) q ≡ false
-unnamed-filtered test [] q h = refl
-unnamed-filtered test (x ∷ xs) q h =
-    let other : (same_name x q ≡ false) × (is_named xs q ≡ false) = neither (same_name x q) (is_named xs q) h in
-    unnamed-step x q (filter test xs) (test x) other.0 (unnamed-filtered test xs q other.1)
+unnamed-filtered test xs q h = named-filtered test xs q ∙ ap (λ (b : Bool). b && test q) h
 
 distinct-step : (x : RulesetName) (ws : List RulesetName) (b : Bool) → is_named ws x ≡ false → IsDistinct ws → IsDistinct (cond b (x ∷ ws) ws)
 distinct-step x ws true h d = (h, d)

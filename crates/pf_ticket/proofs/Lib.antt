@@ -8,3 +8,4 @@ pub mod Beginning
 pub mod Standing
 pub mod Silence
 pub mod Told
+pub mod Adding

@@ -1,10 +1,11 @@
 -- What follows from the definitions, as law functions promise it.
-use Rattle.std.specs.Prelude.{◌≡◌, ℕ, true, false, List, [], ◌∷◌, ◌++◌, length, Option, Some}
+use Rattle.std.specs.Prelude.{◌≡◌, ℕ, ◌&&◌, true, false, cond, List, [], ◌∷◌, ◌++◌, length, flat_map, Option, Some}
+use Rattle.pf_rule.specs.Rules.{PlainRule}
 use Rattle.pf_ticket.specs.declared.name.RulesetName.{RulesetName}
 use Rattle.pf_ticket.specs.declared.ticket.Ticket.{Ticket}
 use Rattle.std.specs.List.{list_any}
-use Rattle.pf_ticket.specs.Names.{same_name, same_ticket, is_named, tickets_from}
-use Rattle.pf_ticket.specs.Mentions.{Mention, gave, gives, touches, valid_ticket, nothing_for, content, tickets_given, next_count, AreNumbered, AddsAreKnown, open_rulesets, opened_with, facts}
+use Rattle.pf_ticket.specs.Names.{filter_at, same_name, same_ticket, is_named, tickets_from}
+use Rattle.pf_ticket.specs.Mentions.{Mention, gave, added, switched, dropped, gives, rules_in, offered_with, touches, valid_ticket, nothing_for, content, tickets_given, next_count, AreNumbered, AddsAreKnown, open_rulesets, opened_with, facts}
 use Rattle.pf_ticket.specs.Tickets.{Open, Agrees, facts_in}
 
 -- nothing here touches a ruleset whose valid ticket is this one
@@ -52,3 +53,14 @@ AreOnce (t ∷ ts) = (list_any (λ u. same_ticket u t) ts ≡ false) × AreOnce 
 -- tickets that are numbered are given once
 abbrev pub GivesEachOnce : Type 0
 GivesEachOnce = (epoch : ℕ) (ms : List Mention) → AreNumbered epoch ms → AreOnce (tickets_given ms)
+
+-- the rule that a mention adds for a ruleset with a ticket
+abbrev pub rules_added : RulesetName → Ticket → Mention → List PlainRule
+rules_added name t (gave n u) = []
+rules_added name t (added n u r) = cond (same_name n name && same_ticket u t) (r ∷ []) []
+rules_added name t (switched n) = []
+rules_added name t (dropped n u) = []
+
+-- for a filter ruleset the rules of the accepted adds with a ticket are offered, in order
+abbrev pub OffersTheAdded : Type 0
+OffersTheAdded = (ms : List Mention) (p : List ℕ) (t : Ticket) → rules_in (offered_with ms (filter_at p) t) ≡ flat_map (rules_added (filter_at p) t) ms

@@ -1,5 +1,5 @@
 //! What follows from the definitions that contracts cite: functions that do nothing, whose contracts are the laws.
-ghost use Rattle.pf_ticket.specs.Laws.{ValidIsGivenLast, GivenLastIsValid, StartsWithNothing, CountsTheOpen, AgreeingIsTold, GivesEachOnce};
+ghost use Rattle.pf_ticket.specs.Laws.{ValidIsGivenLast, GivenLastIsValid, StartsWithNothing, CountsTheOpen, AgreeingIsTold, GivesEachOnce, OffersTheAdded};
 ghost use Rattle.pf_ticket.specs.Standing.{StartsSound, KeepsTheLimits, BeginBrings, AddBrings, OthersOnlyVoid, NamesAlone, SilenceLeavesAlone};
 
 /// A ticket is valid for a ruleset exactly where the latest mention that touched the ruleset is a begin's that gave it
@@ -12,6 +12,11 @@ pub fn valid_is_given_last()
 /// With a new ticket nothing is offered yet.
 pub fn starts_with_nothing()
     ensures { StartsWithNothing }
+{}
+
+/// For a filter ruleset the rules of the accepted adds with a ticket are offered, in order.
+pub fn offers_the_added()
+    ensures { OffersTheAdded }
 {}
 
 /// How many rulesets a begin is counted to leave with a valid ticket is how many have one after it.

@@ -4,7 +4,7 @@ ghost use Rattle.std.specs.List.{list_any};
 ghost use Rattle.pf_anchor.specs.declared.limits.TheConstants.{RULE_LIMIT};
 ghost use Rattle.pf_ticket.specs.Mentions.{Mention, gives, switches, drops, added, rules_in};
 ghost use Rattle.pf_ticket.specs.Names.{filter_at, is_named, same_name, tickets_of};
-ghost use Rattle.pf_ticket.specs.Offers.{without, take_out, add_to, all_out, IsPlace, IsNowhere};
+ghost use Rattle.pf_ticket.specs.Offers.{without, take_out, add_to, IsPlace, IsNowhere};
 ghost use Rattle.pf_ticket.specs.Replies.{bad_count, twice_in, is_valid, busy_in, list_check, commit_check, begin_reply, add_reply, IsReply};
 ghost use Rattle.pf_ticket.specs.Tickets.{Offer, Agrees, ticket_at, offered_at, facts_in};
 
@@ -285,7 +285,6 @@ impl Tickets {
 
     /// Voids the tickets of these rulesets, as a commit does. It takes no memory.
     pub fn take_all(&mut self, names: &[RulesetName])
-        ensures out { self.new ≡ all_out self.old names.now }
         ensures agrees { (ms : List Mention) → Agrees self.old ms → Agrees self.new (ms ++ switches names.now) }
         ensures epoch { self.new.epoch ≡ self.old.epoch }
     {

@@ -4,38 +4,26 @@ use Rattle.std.specs.Prelude.{nat_lt}
 use Rattle.std.proofs.lemmas.Bool.Decides.{nat_tests}
 use Rattle.std.proofs.lemmas.List.{length-append, take_all}
 use Rattle.std.proofs.lemmas.List.Sums.{fold_push}
-use Rattle.pf_rule.specs.Combining.{◌>>=◌}
 use Rattle.pf_core.specs.declared.command.Command.{Command}
-use Rattle.pf_core.specs.declared.command.Command.TheVariants.{Rollback}
-use Rattle.pf_core.specs.declared.command.Entry.{Entry}
 use Rattle.pf_core.specs.declared.reply.Answer.{Answer}
-use Rattle.pf_core.specs.declared.reply.Answer.TheVariants as answer
 use Rattle.pf_core.specs.declared.reply.Outcome.{Outcome}
 use Rattle.pf_core.specs.declared.reply.Refusal.{Refusal}
 use Rattle.pf_core.specs.declared.reply.Refusal.TheVariants.{HistoryFull, Memory}
-use Rattle.pf_core.specs.declared.reply.Reply.{Reply}
 use Rattle.pf_core.specs.declared.reply.Reply.TheVariants.{Answer as Answered, Applied, Refused}
 use Rattle.pf_core.specs.declared.step.Step.{Step}
 use Rattle.pf_core.specs.declared.step.Step.TheVariants.{Done, Wants}
-use Rattle.pf_core.specs.Calls.{Call, call}
+use Rattle.pf_core.specs.Calls.{Call, call, AgreesWith, legal_step, IsLegalStep}
 use Rattle.pf_core.specs.Edits.{Kept, Edit, applied, after}
-use Rattle.pf_core.specs.Legal.{legal_step, list_check, rollback_step, IsLegalStep}
 use Rattle.pf_core.specs.Pages.{Page, IsFolded, IsAt, Leads}
-use Rattle.pf_core.specs.Tickets.{AgreesWith}
 use Rattle.pf_core.specs.Wholes.{Whole}
-use Rattle.pf_core.specs.WorldLaws.{wants-mentions, agrees-refused}
-use Rattle.pf_core.specs.Worlds.{Held, upshot, flat, log_of, durable_of, step_in, if_ok, or_refused, due_at, grouped, group_at, due, group_in, LegalReply, StandsIn}
-use Rattle.pf_core.proofs.LongerWorlds.{flat-push}
+use Rattle.pf_core.specs.WorldLaws.{wants-mentions}
+use Rattle.pf_core.specs.Worlds.{Held, upshot, flat, log_of, durable_of, step_in, if_ok, or_refused, due_at, grouped, group_at, due, group_in, LegalReply}
+use Rattle.pf_core.proofs.LongerWorlds.{flat-push, refused-leads}
 use Rattle.pfd.specs.Books.{singles, IsMore, IsUnkept}
-use Rattle.pfd.specs.Replied.{IsRolledBack, done_unless}
 
 pub flat-singles : (es : List Edit) → flat (singles es) ≡ es
 flat-singles [] = refl
 flat-singles (e ∷ es) = ap (λ (l : List Edit). e ∷ l) (flat-singles es)
-
-pub singles-push : (es : List Edit) (e : Edit) → singles (es ++ e ∷ []) ≡ singles es ++ (e ∷ []) ∷ []
-singles-push [] e = refl
-singles-push (x ∷ xs) e = ap (λ (l : List (List Edit)). (x ∷ []) ∷ l) (singles-push xs e)
 
 -- a book with another core
 abbrev pub with_core : Page → Whole → Page
@@ -53,37 +41,8 @@ step-is h b c r at folded steps other =
 
 -- ---- nothing is kept
 
--- a command was answered
-pub done-leads : (h : Held) (b new : Page) (c : Command) (a : Answer) → IsFolded b → Steps b c (Ok (Done a)) → AgreesWith new.whole.tickets (h.calls ++ call c (Answered a) ∷ []) → new.whole.tickets.epoch ≡ b.whole.tickets.epoch →
-    new.base ≡ b.base → new.acked ≡ b.acked → new.pending ≡ b.pending → new.shown ≡ b.shown → new.limit ≡ b.limit → IsAt h b → Leads h new (call c (Answered a)) (upshot new.shown false)
-done-leads h b new c a folded steps agrees epoch base acked pending shown limit at = record {
-  legal = record { reply = inl (ap (due_at h) (step-is h b c (Ok (Done a)) at folded steps (λ m. cc (m)))); shown = shown ∙ at.shown };
-  at = record {
-    base = base ∙ at.base;
-    calls = agrees;
-    epoch = epoch ∙ at.epoch;
-    acked = acked ∙ at.acked ∙ sym (append-nil h.acked);
-    pending = pending ∙ at.pending;
-    shown = refl;
-    limit = limit ∙ at.limit;
-  };
-}
-
--- a refused call changes nothing but the list of calls
-pub refused-leads : (h : Held) (b new : Page) (c : Command) (e : Refusal) → LegalReply h c (Refused e) false → new ≡ b → IsAt h b → Leads h new (call c (Refused e)) (upshot new.shown false)
-refused-leads h b new c e legal same at =
-    subst (λ (p : Page). Leads h p (call c (Refused e)) (upshot p.shown false)) (sym same) (record {
-      legal = record { reply = legal; shown = at.shown };
-      at = record {
-        base = at.base;
-        calls = agrees-refused b.whole.tickets h.calls c e at.calls;
-        epoch = at.epoch;
-        acked = at.acked ∙ sym (append-nil h.acked);
-        pending = at.pending;
-        shown = refl;
-        limit = at.limit;
-      };
-    })
+pub answer-is-legal : (h : Held) (b : Page) (c : Command) (a : Answer) → IsAt h b → IsFolded b → Steps b c (Ok (Done a)) → LegalReply h c (Answered a) false
+answer-is-legal h b c a at folded steps = inl (ap (due_at h) (step-is h b c (Ok (Done a)) at folded steps (λ m. cc (m))))
 
 -- the core's own refusal
 pub refusal-is-legal : (h : Held) (b : Page) (c : Command) (e : Refusal) → IsAt h b → IsFolded b → Steps b c (Err e) → LegalReply h c (Refused e) false

@@ -4,8 +4,7 @@ ghost use Rattle.pf_core.specs.Calls.{call};
 ghost use Rattle.pf_core.specs.Edits.{Kept, kept, after, verdict};
 ghost use Rattle.pf_core.specs.Worlds.{Held, setting_with, upshot, Event, called, opened, flat, LegalReply, shown_by};
 ghost use Rattle.pf_core.specs.Pages.{IsAt, IsFolded, StandsFor, Leads};
-ghost use Rattle.pfd.specs.Books.{IsMore, IsUnkept};
-ghost use Rattle.pfd.specs.Replied.{IsNumbered, IsJudged, IsRolledBack, StaysIfRefused};
+ghost use Rattle.pfd.specs.Books.{IsNumbered, IsJudged, IsRolledBack, StaysIfRefused, IsMore, IsUnkept};
 
 use pf_core::{Change, Command, Core, Durable, Refusal, Reply, Step, Verdict};
 use pf_rule::Packet;

@@ -6,5 +6,6 @@ mod engine;
 mod program;
 
 pub use book::Book;
-pub use engine::{EngineFault, serve_alone};
+pub use engine::serve_alone;
+pub use pf_engine::EngineFault;
 pub use program::{start, without_words};

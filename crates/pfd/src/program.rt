@@ -3,12 +3,13 @@ ghost use Rattle.std.specs.Prelude.{◌≡◌, ◌≤◌, IfErr, map, string_byt
 ghost use Rattle.std.specs.Io.KnownBytes.{Keeps};
 ghost use Rattle.clap.specs.Words.{kind_of};
 ghost use Rattle.std.specs.IoError.{error_kind};
-ghost use Rattle.pfd.specs.Program.{IsRun, Ran, RanWith, status_without_words};
+ghost use Rattle.pfd.specs.Program.{IsRun, Runs, RanWith, status_without_words};
 
 use crate::book::Book;
-use crate::engine::{EngineFault, serve_alone};
+use crate::engine::serve_alone;
 use clap::error::ErrorKind;
 use clap::{Command, Error};
+use pf_engine::EngineFault;
 use std::alloc::Global;
 use std::io::{self, Read, Write};
 
@@ -34,7 +35,7 @@ fn check_words(alloc: Global, words: &[String]) -> Result<(), Error>
 
 // A session over a fresh book.
 fn run<R: Read, W: Write>(alloc: Global, reader: &mut R, writer: &mut W) -> Result<(), EngineFault>
-    ensures { Ran result (R.remaining reader.old) (R.remaining reader.new) (W.contents writer.old) (W.contents writer.new) }
+    ensures { Runs result (R.remaining reader.old) (R.remaining reader.new) (W.contents writer.old) (W.contents writer.new) }
 {
     let Ok(mut book) = Book::fresh(alloc, HISTORY_LIMIT) else {
         return Err(EngineFault::Memory);

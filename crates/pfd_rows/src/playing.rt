@@ -1,6 +1,7 @@
 //! Rows, played over Books.
 ghost use Rattle.std.specs.Prelude.{◌≡◌, ℕ, List, [], Option, Some, None, Ok};
-ghost use Rattle.pfd.specs.Serving.{IsSession};
+ghost use Rattle.pf_engine.specs.Sessions.{IsSession};
+ghost use Rattle.pfd.specs.Serving.{Serves};
 
 use crate::spelling::{choose, fill, push_line, reply_bytes};
 use crate::table::Table;
@@ -23,7 +24,7 @@ pub(crate) struct Tally {
 // What is written for an input, where that isn't what is wanted. There is nothing to tell only where a session over the
 // input came to its end and wrote just the wanted bytes.
 fn written_instead(alloc: Global, book: &mut Book, input: &[u8], wanted: &[u8]) -> Option<Vec<u8>>
-    ensures { result ≡ None → (unread : Option (List ℕ)) × IsSession (Ok tt) (Some input.now) unread (Some []) (Some wanted.now) book.old book.new }
+    ensures { result ≡ None → (unread : Option (List ℕ)) × IsSession Serves (Ok tt) (Some input.now) unread book.old book.new (Some []) (Some wanted.now) }
 {
     let mut reader = input;
     let mut written = Vec::new(alloc);

@@ -27,11 +27,7 @@ pub(crate) fn choose(
 }
 
 /// A shape with the fields in the places of `$1`, `$2` and so on.
-pub(crate) fn fill(
-    alloc: Global,
-    shape: &str,
-    fields: &[String],
-) -> Result<String, AllocError> {
+pub(crate) fn fill(alloc: Global, shape: &str, fields: &[String]) -> Result<String, AllocError> {
     let mut filled = String::new(alloc);
     for (place, piece) in shape.split('$').enumerate() {
         match piece.as_bytes() {

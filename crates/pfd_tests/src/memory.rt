@@ -1,6 +1,6 @@
 //! Want of memory. `bench/refuse-allocations` runs both tests with each growth of memory refused in turn.
 use pfd::{Book, EngineFault, serve_alone};
-use std::alloc::{AllocError, Global};
+use std::alloc::Global;
 use std::process::Abort;
 use std::test::*;
 
@@ -27,32 +27,38 @@ const LINES: [(&str, &str); 18] = [
 ];
 
 // What a session over one line writes, or that it was refused the memory for its buffer.
-fn answer(alloc: Global, book: &mut Book, line: &str, room: &mut Vec<u8>) -> Result<(), EngineFault> {
+fn answer(
+    alloc: Global,
+    book: &mut Book,
+    line: &str,
+    room: &mut Vec<u8>,
+) -> Result<(), EngineFault> {
     room.clear();
     let mut reader = line.as_bytes();
     serve_alone(alloc, &mut reader, room, book)
 }
 
-fn book(alloc: Global, again: bool) -> Result<Book, AllocError> {
-    match Book::fresh(alloc, 65_536) {
-        Err(_) if again => Book::fresh(alloc, 65_536),
-        made => made,
-    }
-}
-
 // Each line in turn has its reply. One for which memory was refused is given once more, if it may be.
 fn ask_each(rt: &impl Abort, alloc: Global, again: bool) -> Result<(), Fail> {
-    let mut book = book(alloc, again)?;
+    let mut book = match Book::fresh(alloc, 65_536) {
+        Err(_) if again => Book::fresh(alloc, 65_536)?,
+        made => made?,
+    };
     let mut written = Vec::new(alloc);
     written.reserve(100)?;
     for (line, reply) in LINES.iter() {
         let mut end = answer(alloc, &mut book, line, &mut written);
-        let refused = end == Err(EngineFault::Memory) || written.as_slice() == b"err memory\n".as_slice();
+        let refused = end == Err(EngineFault::Memory)
+            || written.as_slice() == b"err memory\n".as_slice();
         if refused && again {
             end = answer(alloc, &mut book, line, &mut written);
         }
         assert_eq!(rt; end, Ok(()), "at {line}");
-        assert_eq!(rt; std::str::from_utf8(written.as_slice()), Ok(*reply), "at {line}");
+        assert_eq!(rt;
+            std::str::from_utf8(written.as_slice()),
+            Ok(*reply),
+            "at {line}"
+        );
     }
     Ok(())
 }

@@ -1,12 +1,11 @@
 //! Readers and writers that do what they are told.
 ghost use Rattle.std.specs.Io.{ReadsAtMost};
 
-use std::alloc::Global;
 use std::cell::Cell;
 use std::io::{self, ErrorKind, Read, Write};
 
 /// What one read does.
-#[derive(Drop)]
+#[derive(Debug, Drop)]
 pub(crate) enum Turn<'a> {
     Gives(&'a [u8]),
     Fails(ErrorKind),
@@ -45,62 +44,22 @@ impl Read for Script<'_> {
     }
 }
 
-/// A reader that gives one byte at a time.
-#[derive(Drop)]
-pub(crate) struct OneByte<'a> {
-    pub(crate) text: &'a [u8],
-}
-
-impl Read for OneByte<'_> {
-    fn read(&mut self, buf: &mut [u8]) -> io::Result<usize> {
-        let text = self.text;
-        match text {
-            [] => Ok(0),
-            [_, rest @ ..] => {
-                self.text = rest;
-                give(&text[..1], buf)
-            }
-        }
-    }
-}
-
-/// A writer with room for so many bytes, which is interrupted so often before each write, and flushed so often at most.
+/// A writer with room for so many bytes, which is interrupted so often at first, and flushed so often at most.
 #[derive(Drop)]
 pub(crate) struct Tight<'a> {
     pub(crate) text: Vec<u8>,
     pub(crate) room: usize,
     pub(crate) interruptions: u32,
-    interrupted: u32,
     pub(crate) flushes: u32,
-    waiting: &'a Cell<bool>,
-}
-
-impl<'a> Tight<'a> {
-    pub(crate) fn new(
-        alloc: Global,
-        room: usize,
-        interruptions: u32,
-        flushes: u32,
-        waiting: &'a Cell<bool>,
-    ) -> Tight<'a> {
-        Tight {
-            text: Vec::new(alloc),
-            room,
-            interruptions,
-            interrupted: 0,
-            flushes,
-            waiting,
-        }
-    }
+    pub(crate) waiting: &'a Cell<bool>,
 }
 
 impl Write for Tight<'_> {
     fn write(&mut self, buf: &[u8]) -> io::Result<usize> {
-        if self.interrupted < self.interruptions {
-            self.interrupted += 1;
+        if self.interruptions > 0 {
+            self.interruptions -= 1;
             return Err(io::Error::from(ErrorKind::Interrupted));
         }
-        self.interrupted = 0;
         if self.room == 0 {
             return Err(io::Error::from(ErrorKind::Other));
         }

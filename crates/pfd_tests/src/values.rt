@@ -7,7 +7,10 @@ use std::test::*;
 /// IPv6 addresses, and their texts.
 const ADDRESSES: [(u128, &str); 3] = [
     (0, "0:0:0:0:0:0:0:0"),
-    (0x2001_0db8_0000_000f_0010_0100_1000_abcd, "2001:db8:0:f:10:100:1000:abcd"),
+    (
+        0x2001_0db8_0000_000f_0010_0100_1000_abcd,
+        "2001:db8:0:f:10:100:1000:abcd",
+    ),
     (u128::MAX, "ffff:ffff:ffff:ffff:ffff:ffff:ffff:ffff"),
 ];
 
@@ -20,7 +23,10 @@ fn writes_addresses(rt: HostRuntime) -> Result<(), Fail> {
     }
     let mut out = Vec::new(rt.alloc());
     write_net(&mut out, Net::new(Addr::V6(0x2001_0db8 << 96 | 5), 32))?;
-    assert_eq!(rt; std::str::from_utf8(out.as_slice()), Ok("2001:db8:0:0:0:0:0:0/32"));
+    assert_eq!(rt;
+        std::str::from_utf8(out.as_slice()),
+        Ok("2001:db8:0:0:0:0:0:0/32")
+    );
     Ok(())
 }
 

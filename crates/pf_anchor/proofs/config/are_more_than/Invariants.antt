@@ -1,5 +1,5 @@
 use Rattle.std.proofs.Common.{◌≡◌, ◌+◌, length, take}
-use Rattle.pf_anchor.specs.Rulesets.{joined}
+use Rattle.pf_anchor.specs.Pages.{joined}
 use Rattle.pf_anchor.proofs.config.are_more_than.Given as goal
 
 abbrev pub invariant-loop-page : goal.invariant-loop-page

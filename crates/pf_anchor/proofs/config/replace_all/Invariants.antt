@@ -1,7 +1,8 @@
 use Rattle.std.proofs.Common.{◌≡◌, T, drop}
 use Rattle.std.specs.Prelude.{fold}
 use Rattle.std.specs.FinMap.{is_sorted}
-use Rattle.pf_anchor.specs.Rulesets.{path_order, with_rules, joined}
+use Rattle.pf_anchor.specs.Rulesets.{path_order, with_rules}
+use Rattle.pf_anchor.specs.Pages.{joined}
 use Rattle.pf_anchor.proofs.config.replace_all.Given as goal
 
 abbrev pub invariant-loop-item : goal.invariant-loop-item

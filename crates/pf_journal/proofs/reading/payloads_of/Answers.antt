@@ -1,4 +1,4 @@
-use Rattle.std.proofs.Common.{◌≡◌, arith, length-append, sym, ◌∙◌, ap, subst, List, ℕ, ◌++◌, ◌∷◌, [], ◌<◌, length}
+use Rattle.std.proofs.Common.{◌≡◌, arith, length-append, sym, ◌∙◌, ap, subst, List, ℕ, ◌++◌, ◌∷◌, [], length}
 use Rattle.pf_journal.specs.Records.{IsRecord, AreShort, records, contents}
 use Rattle.pf_journal.proofs.Parsing.{one_more, one_more_short}
 use Rattle.pf_journal.proofs.reading.payloads_of.Goals as goal

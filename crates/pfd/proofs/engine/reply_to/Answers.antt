@@ -10,4 +10,4 @@ returns-in-Ok-Some c =
     (record { worlds = c.run.ensures.worlds; limit = c.run.ensures.limit })
 
 pub returns-in-Err : goal.returns-in-Err
-returns-in-Err c = told-refusal c.args.line.now c.in-Err.refusal c.args.book.now c.in-Err.ensures.exact c.in-Err.ensures.silent c.in-Err.ensures.bad
+returns-in-Err c = told-refusal c.args.line.now c.in-Err.refusal c.args.book.now c.in-Err.ensures.exact c.in-Err.ensures.refused

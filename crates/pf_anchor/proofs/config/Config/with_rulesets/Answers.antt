@@ -1,6 +1,7 @@
 use Rattle.std.proofs.Common.{T, List, sym, subst, ◌∙◌}
 use Rattle.std.specs.FinMap.{is_sorted}
-use Rattle.pf_anchor.specs.Rulesets.{Ruled, IsMap, path_order, joined}
+use Rattle.pf_anchor.specs.Rulesets.{Ruled, IsMap, path_order}
+use Rattle.pf_anchor.specs.Pages.{joined}
 use Rattle.pf_anchor.proofs.RulesetMaps.{map_all}
 use Rattle.pf_anchor.proofs.config.Config.with_rulesets.Goals as goal
 

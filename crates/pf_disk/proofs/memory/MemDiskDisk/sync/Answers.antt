@@ -1,26 +1,22 @@
 use Rattle.std.proofs.Common.{refl, map, length}
 use Rattle.pf_disk.specs.Calls.{syncing}
 use Rattle.pf_disk.specs.Kept.{event_of}
-use Rattle.pf_disk.proofs.Calls.{goes, still_keeps}
+use Rattle.pf_disk.specs.Memory.{first_of, events_of, seen_of}
+use Rattle.pf_disk.proofs.Calls.{still_keeps}
+use Rattle.pf_disk.proofs.Keeping.{keeps, quiet}
 use Rattle.pf_disk.proofs.memory.MemDiskDisk.sync.Goals as goal
 
 pub invariant_of-self : goal.invariant_of-self
 invariant_of-self c =
     let m = c.args.self.now in
-    let it = still_keeps c.keep.result m.first.items m.bytes.items (length m.first.items) (map event_of m.calls.items) (map event_of c.keep.new.calls.items) syncing (record { seen = m.seen_is; same_size = m.size_is; fit = m.calls_fit }) refl refl c.keep.ensures.kept c.keep.ensures.same in
+    let it = still_keeps c.keep.result (first_of m) (seen_of m) (length (first_of m)) (events_of m) (map event_of c.keep.new.calls.items) syncing (keeps m) refl refl c.keep.ensures.kept c.keep.ensures.same in
     record { seen_is = it.seen; size_is = it.same_size; calls_fit = it.fit }
 
 pub returns-in-Ok-clause-synced : goal.returns-in-Ok-clause-synced
-returns-in-Ok-clause-synced c i =
-    let m = c.args.self.now in
-    (goes m.first.items m.bytes.items m.bytes.items (length m.first.items) (map event_of m.calls.items) _ syncing (record { seen = m.seen_is; same_size = m.size_is; fit = m.calls_fit }) refl c.in-Ok.ensures.kept refl).unsynced i
+returns-in-Ok-clause-synced c i = (quiet c.args.self.now _ syncing refl refl c.in-Ok.ensures.kept).unsynced i
 
 pub returns-in-Ok-clause-unsynced : goal.returns-in-Ok-clause-unsynced
-returns-in-Ok-clause-unsynced c i out =
-    let m = c.args.self.now in
-    (goes m.first.items m.bytes.items m.bytes.items (length m.first.items) (map event_of m.calls.items) _ syncing (record { seen = m.seen_is; same_size = m.size_is; fit = m.calls_fit }) refl c.in-Ok.ensures.kept refl).unsynced i
+returns-in-Ok-clause-unsynced c i out = (quiet c.args.self.now _ syncing refl refl c.in-Ok.ensures.kept).unsynced i
 
 pub returns-in-Ok-clause-time : goal.returns-in-Ok-clause-time
-returns-in-Ok-clause-time c =
-    let m = c.args.self.now in
-    (goes m.first.items m.bytes.items m.bytes.items (length m.first.items) (map event_of m.calls.items) _ syncing (record { seen = m.seen_is; same_size = m.size_is; fit = m.calls_fit }) refl c.in-Ok.ensures.kept refl).time
+returns-in-Ok-clause-time c = (quiet c.args.self.now _ syncing refl refl c.in-Ok.ensures.kept).time

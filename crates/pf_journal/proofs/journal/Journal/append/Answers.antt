@@ -1,4 +1,4 @@
-use Rattle.std.proofs.Common.{◌≡◌, ◌+◌, ◌^◌, ◌<◌, ◌≤◌, [], ◌∷◌, ◌++◌, List, ℕ, length, sym, ◌∙◌, subst, arith}
+use Rattle.std.proofs.Common.{[], ◌∷◌, ◌++◌, List, ℕ, sym, ◌∙◌, subst, arith}
 use Rattle.pf_disk.proofs.Images.{only_read}
 use Rattle.pf_journal.specs.Records.{StandsFor}
 use Rattle.pf_journal.proofs.Gates.{length-records-push}

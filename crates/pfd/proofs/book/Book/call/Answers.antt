@@ -1,14 +1,17 @@
 use Rattle.std.proofs.Common.{◌≡◌, sym, ap, ◌∙◌, subst, refl}
+use Rattle.pf_core.specs.declared.reply.Reply.TheVariants.{Answer}
 use Rattle.pf_core.specs.Pages.{Page, IsAt}
+use Rattle.pf_core.proofs.LongerWorlds.{nothing-leads, refused-leads}
 use Rattle.pfd.specs.Books.{page_in, IsMore, IsUnkept}
-use Rattle.pfd.proofs.Booking.{with_core, done-leads, refused-leads, refusal-is-legal, kept-leads, number-is, unkept-leads}
+use Rattle.pfd.proofs.Booking.{with_core, answer-is-legal, refusal-is-legal, kept-leads, number-is, unkept-leads}
 use Rattle.pfd.proofs.book.Book.call.Goals as goal
 
 pub returns-in-Ok-Done-clause-leads : goal.returns-in-Ok-Done-clause-leads
 returns-in-Ok-Done-clause-leads c = λ h now.
     let e = rw c.in-Ok-Done.field-0-is at c.in-Ok-Done.ensures in
     let at : IsAt h (page_in c.self.inside) = subst (IsAt h) (sym c.self.view_is) now in
-    done-leads h (page_in c.self.inside) _ c.args.command.now c.in-Ok-Done.answer c.self.invariant e.reply (e.agrees h.calls at.calls) e.epoch refl refl refl refl refl at
+    nothing-leads h (page_in c.self.inside) c.step.new.self c.args.command.now (Answer c.in-Ok-Done.answer) (answer-is-legal h (page_in c.self.inside) c.args.command.now c.in-Ok-Done.answer at c.self.invariant e.reply)
+    refl refl (e.agrees h.calls at.calls) e.epoch at
 
 pub returns-in-Ok-clause-leads : goal.returns-in-Ok-clause-leads
 returns-in-Ok-clause-leads c = λ h now.

@@ -1,4 +1,4 @@
-use Rattle.std.proofs.Common.{refl, ap, ◌∙◌, arith, List, []}
+use Rattle.std.proofs.Common.{refl, ap, ◌∙◌, arith, []}
 use Rattle.std.specs.Prelude.{map}
 use Rattle.std.specs.Arc.{arc_value}
 use Rattle.pf_core.specs.Edits.{Kept, kept}

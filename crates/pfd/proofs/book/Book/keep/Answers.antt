@@ -1,14 +1,15 @@
 use Rattle.std.proofs.Common.{◌≡◌, ◌≤◌, ◌<◌, ◌+◌, ◌++◌, ◌∷◌, [], List, length, refl, sym, ap, ◌∙◌, subst, arith}
 use Rattle.std.proofs.lemmas.Grind.{common_steps}
+use Rattle.std.proofs.lemmas.List.{map-append}
 use Rattle.std.specs.Prelude.{map}
 use Rattle.std.specs.Arc.{arc_value}
-use Rattle.pf_core.specs.Calls.{switches}
+use Rattle.pf_ticket.specs.Mentions.{switches}
 use Rattle.pf_core.specs.Edits.{Edit}
 use Rattle.pf_core.specs.Pages.{Page}
 use Rattle.pf_core.specs.Wholes.{Ready}
 use Rattle.pf_core.specs.Worlds.{flat}
 use Rattle.pfd.specs.Books.{page_in, singles}
-use Rattle.pfd.proofs.Booking.{flat-singles, singles-push, more-from, folded-more}
+use Rattle.pfd.proofs.Booking.{flat-singles, more-from, folded-more}
 use Rattle.pfd.proofs.book.Book.keep.Goals as goal
 
 pub returns-then-len-self-clause-err : goal.returns-then-len-self-clause-err
@@ -22,7 +23,7 @@ invariant_of-self-2 c =
     let log' : List Edit = map arc_value c.push_reserved.new.self.items in
     let logged : log' ≡ log ++ c.args.change ∷ [] = grind (arith, common_steps, c.push_reserved.ensures.items, c.reserve.ensures.items, c.in-Ok.ensures.ok) in
     let counted : c.len-self-inside.result ≡ length log' = grind (arith, common_steps, c.len-self-inside.ensures) in
-    folded-more (page_in c.self.inside) _ c.args.change c.self.invariant refl (ap singles logged ∙ singles-push log c.args.change)
+    folded-more (page_in c.self.inside) _ c.args.change c.self.invariant refl (ap singles logged ∙ map-append (λ (e : Edit). e ∷ []) log (c.args.change ∷ []))
     (c.accept.ensures.durable ∙ ap (λ (r : Ready). r.durable) c.in_ok-next.ensures) (c.in_ok-shown.ensures ∙ sym c.accept.ensures.durable) (counted ∙ ap length (sym (flat-singles log')))
 
 pub returns-clause-ok : goal.returns-clause-ok
@@ -35,7 +36,7 @@ returns-clause-ok c =
     more-from (page_in c.self.inside) c.args.self.now _ c.args.change c.len-self-inside.result c.self.view_is (record {
       room = rw (flat-singles log) low;
       number = rw (flat-singles log) counted;
-      acked = ap singles logged ∙ singles-push log c.args.change;
+      acked = ap singles logged ∙ map-append (λ (e : Edit). e ∷ []) log (c.args.change ∷ []);
       shown = refl;
       agrees = λ calls command n o names. c.accept.ensures.agrees calls command n o (names ∙ ap (λ (r : Ready). switches r.voided) (sym c.in_ok-next.ensures));
       epoch = c.accept.ensures.epoch;

@@ -1,0 +1,7 @@
+//! Tests of pf_disk and pf_journal: of what no clause says, and of files.
+#![tactic(auto)]
+
+#[cfg(test)]
+mod files;
+#[cfg(test)]
+mod journals;
