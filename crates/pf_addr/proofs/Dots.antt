@@ -90,26 +90,26 @@ none_is c text p k d lt = fails (get_or text k d == c) (prefix_len_passes (λ b.
 
 pub dotted_without : (c : ℕ) (ns text : List ℕ) → c < 48 → (46 == c) ≡ false → Dotted ns text → without c text
 dotted_without c [] text lt ne is = absurd is
-dotted_without c (n ∷ []) text lt ne is = digits_without c text lt is.digits.1
+dotted_without c (n ∷ []) text lt ne is = digits_without c text lt is.number.digits.1
 dotted_without c (n ∷ m ∷ ns) text lt ne is =
-    subst (without c) (sym is.4) (joined_without c 46 is.0 is.1 ne (digits_without c is.0 lt is.2.digits.1) (dotted_without c (m ∷ ns) is.1 lt ne is.3))
+    subst (without c) (sym is.4) (joined_without c 46 is.0 is.1 ne (digits_without c is.0 lt is.2.number.digits.1) (dotted_without c (m ∷ ns) is.1 lt ne is.3))
 
 pub dotted_read : (at : ℕ) (ns text : List ℕ) → Dotted ns text → parts_at at (slice_split is_dot text) ≡ Ok ns
 dotted_read at [] text is = absurd is
 dotted_read at (n ∷ []) text is =
-    ap (parts_at at) (slice_split_none is_dot text (none_is 46 text (digits_without 46 text (omega arith) is.digits.1)))
+    ap (parts_at at) (slice_split_none is_dot text (none_is 46 text (digits_without 46 text (omega arith) is.number.digits.1)))
     ∙ good_part at text [] n (part_read at text n is) ∙ ap (λ (r : Result (List ℕ) AddrFault). r >>= λ ks. Ok (n ∷ ks)) (no_part (at + length text + 1))
 dotted_read at (n ∷ m ∷ ns) text is =
     let part : List ℕ = is.0 in
     let rest : List ℕ = is.1 in
     let cut : slice_split is_dot text ≡ part ∷ slice_split is_dot rest =
-    ap (slice_split is_dot) is.4 ∙ slice_split_at is_dot part 46 rest (none_is 46 part (digits_without 46 part (omega arith) is.2.digits.1)) refl in
+    ap (slice_split is_dot) is.4 ∙ slice_split_at is_dot part 46 rest (none_is 46 part (digits_without 46 part (omega arith) is.2.number.digits.1)) refl in
     ap (parts_at at) cut ∙ good_part at part (slice_split is_dot rest) n (part_read at part n is.2)
     ∙ ap (λ (r : Result (List ℕ) AddrFault). r >>= λ ks. Ok (n ∷ ks)) (dotted_read (at + length part + 1) (m ∷ ns) rest is.3)
 
 pub dotted_nonempty : (ns text : List ℕ) → Dotted ns text → 0 < length text
 dotted_nonempty [] text is = absurd is
-dotted_nonempty (n ∷ []) text is = is.digits.0
+dotted_nonempty (n ∷ []) text is = is.number.digits.0
 dotted_nonempty (n ∷ m ∷ ns) text is = omega (arith, ap (λ (l : List ℕ). length l) is.4, length-append is.0 (46 ∷ is.1))
 
 pub numbers_read : (ns text : List ℕ) → Dotted ns text → numbers_at text ≡ Ok ns

@@ -6,7 +6,7 @@ use Rattle.std.proofs.Math.Seq.{take-add}
 use Rattle.std.proofs.lemmas.Bool.Decides.{nat_tests}
 use Rattle.pf_addr.specs.Address.{Network, width}
 use Rattle.pf_addr.specs.Spelling.{length_text}
-use Rattle.pf_addr.specs.Writing.{Writes, WritesFront, Appends-then, Writes-then, WritesFront-then, WritesFront-longer}
+use Rattle.pf_addr.specs.Writing.{Appends-then}
 
 pub appends_more : (old mid new : Option (List ℕ)) (text : List ℕ) (w n : ℕ) → w ≤ length text → Appends old mid (take w text) → Appends mid new (take n (take (length text - w) (drop w text))) → Appends old new (take (w + n) text)
 appends_more old mid new text w n le p q =
@@ -14,20 +14,7 @@ appends_more old mid new text w n le p q =
     let next = subst (λ (l : List ℕ). Appends mid new (take n l)) rest q in
     subst (Appends old new) (sym (take-add w n text)) (Appends-then old mid new (take w text) (take n (drop w text)) p next)
 
--- a text, a byte and a text
-pub first_fails : (old new : Option (List ℕ)) (a b : List ℕ) (c : ℕ) → WritesFront old new a → WritesFront old new (a ++ c ∷ b)
-first_fails old new a b c w = WritesFront-longer old new a (c ∷ b) w
-
-pub between_fails : (old mid new : Option (List ℕ)) (a b : List ℕ) (c : ℕ) → Appends old mid a → WritesFront mid new (c ∷ []) → WritesFront old new (a ++ c ∷ b)
-between_fails old mid new a b c p w = WritesFront-then old mid new a (c ∷ b) p (WritesFront-longer mid new (c ∷ []) b w)
-
-pub both : {A E : Type 0} (r : Result A E) (old mid next new : Option (List ℕ)) (a b : List ℕ) (c : ℕ) → Appends old mid a → Appends mid next (c ∷ []) → Writes r next new b → Writes r old new (a ++ c ∷ b)
-both r old mid next new a b c p q w = Writes-then r old mid new a (c ∷ b) p (Writes-then r mid next new (c ∷ []) b q w)
-
 -- texts with a byte between each two
-pub four_in_a_row : (a b c d : List ℕ) (x : ℕ) → (a ++ x ∷ b) ++ x ∷ (c ++ x ∷ d) ≡ a ++ x ∷ (b ++ x ∷ (c ++ x ∷ d))
-four_in_a_row a b c d x = append_assoc a (x ∷ b) (x ∷ (c ++ x ∷ d))
-
 pub eight_in_a_row : (a b c d e : List ℕ) (x : ℕ) → (a ++ x ∷ (b ++ x ∷ (c ++ x ∷ d))) ++ x ∷ e ≡ a ++ x ∷ (b ++ x ∷ (c ++ x ∷ (d ++ x ∷ e)))
 eight_in_a_row a b c d e x = simp append_assoc
 

@@ -2,14 +2,15 @@
 use Rattle.std.specs.Prelude.{ℕ, ◌^◌, ◌<◌, Bool, true, false, cond, List}
 use Rattle.pf_addr.specs.declared.addr.Addr.{Addr}
 use Rattle.pf_addr.specs.declared.addr.Addr.TheVariants as addr
+use Rattle.pf_addr.specs.declared.addr.TheConstants.{V4_BITS, V6_BITS}
 use Rattle.pf_addr.specs.declared.addr.Family.{Family}
 use Rattle.pf_addr.specs.declared.addr.Family.TheVariants.{V4, V6}
 use Rattle.pf_addr.specs.Bits.{bits, begins_with}
 
 -- how many bits an address of the family has
 abbrev pub width : Family → ℕ
-width V4 = 32
-width V6 = 128
+width V4 = V4_BITS
+width V6 = V6_BITS
 
 -- An address is a family and so many bits.
 abbrev pub family_of : Addr → Family
@@ -17,8 +18,8 @@ family_of (addr.V4 n) = V4
 family_of (addr.V6 n) = V6
 
 abbrev pub bits_of : Addr → List Bool
-bits_of (addr.V4 n) = bits 32 n
-bits_of (addr.V6 n) = bits 128 n
+bits_of (addr.V4 n) = bits V4_BITS n
+bits_of (addr.V6 n) = bits V6_BITS n
 
 -- A network is a family and the front of an address of it.
 pub record Network : Type 0 where
@@ -37,5 +38,5 @@ contains n a = cond (same_family n.family (family_of a)) (begins_with n.front (b
 
 -- the number of an address fits its family's bits
 abbrev pub IsAddr : Addr → Type 0
-IsAddr (addr.V4 n) = n < 2 ^ 32
-IsAddr (addr.V6 n) = n < 2 ^ 128
+IsAddr (addr.V4 n) = n < 2 ^ V4_BITS
+IsAddr (addr.V6 n) = n < 2 ^ V6_BITS

@@ -1,18 +1,18 @@
 -- Which texts spell an address or a network: V4 in decimal numbers between dots, a network in CIDR notation.
 use Rattle.std.specs.Prelude.{◌≡◌, ℕ, ◌-◌, ◌≤◌, ◌⊎◌, List, [], ◌∷◌, ◌++◌, length, take, replicate}
-use Rattle.std.specs.Str.Parse.{IsNumeral, digits_value}
 use Rattle.std.specs.Int.{from_be_bytes, w32}
+use Rattle.pf_form.specs.Numbers as digits
 use Rattle.pf_addr.specs.declared.addr.Addr.{Addr}
 use Rattle.pf_addr.specs.declared.addr.Addr.TheVariants as addr
+use Rattle.pf_addr.specs.declared.addr.TheConstants.{V4_BITS}
 use Rattle.pf_addr.specs.declared.addr.Family.TheVariants.{V4}
+use Rattle.pf_addr.specs.declared.reading.TheConstants.{NUMBER_DIGITS}
 use Rattle.pf_addr.specs.Bits.{bits}
 use Rattle.pf_addr.specs.Address.{Network, family_of, bits_of}
 
 -- a number of at most `most` in one to three decimal digits, of which the first may be zeros
 pub record IsNumber (most : ℕ) (text : List ℕ) (n : ℕ) : Type 0 where
-  pub digits : IsNumeral 10 text
-  pub few : length text ≤ 3
-  pub value : digits_value 10 text ≡ n
+  pub number : digits.IsNumber NUMBER_DIGITS text n
   pub small : n ≤ most
 
 -- one or more numbers of a byte, with dots between them
@@ -36,11 +36,11 @@ network_of a = record { family = family_of a; front = bits_of a }
 
 -- the V4 network of which these are the first bytes, with a front of so many bits
 abbrev pub v4_network : List ℕ → ℕ → Network
-v4_network parts len = record { family = V4; front = take len (bits 32 (from_be_bytes w32 (four_bytes parts))) }
+v4_network parts len = record { family = V4; front = take len (bits V4_BITS (from_be_bytes w32 (four_bytes parts))) }
 
 -- up to four parts, a slash (47) and how many bits are the front
 abbrev pub SpellsFront : List ℕ → Network → Type 0
-SpellsFront text net = (parts front digits : List ℕ) × (len : ℕ) × Dotted parts front × (length parts ≤ 4) × IsNumber 32 digits len × (text ≡ front ++ 47 ∷ digits) × (net ≡ v4_network parts len)
+SpellsFront text net = (parts front digits : List ℕ) × (len : ℕ) × Dotted parts front × (length parts ≤ 4) × IsNumber V4_BITS digits len × (text ≡ front ++ 47 ∷ digits) × (net ≡ v4_network parts len)
 
 -- A network is an address alone, or the first parts of an address and a length.
 abbrev pub SpellsNet : List ℕ → Network → Type 0

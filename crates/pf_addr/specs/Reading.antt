@@ -1,14 +1,17 @@
 -- Which fault of a text is answered. Several faults may stand in one text, and the format fixes their order (parts
 -- from left to right; in a part the first byte that is no digit before its length and value; then the number of
 -- parts; then a network's length). So the fault and its place are a function of the text.
-use Rattle.std.specs.Prelude.{ℕ, ◌+◌, ◌*◌, ◌-◌, ◌==◌, ◌&&◌, not, nat_lt, nat_le, Bool, List, [], ◌∷◌, ◌++◌, length, take, drop, fold, replicate, Option, Some, None, Result, Ok, Err, if◌then◌else◌}
+use Rattle.std.specs.Prelude.{ℕ, ◌+◌, ◌==◌, not, nat_lt, nat_le, Bool, List, [], ◌∷◌, ◌++◌, length, take, drop, replicate, Option, Some, None, Result, Ok, Err, if◌then◌else◌}
 use Rattle.std.specs.List.{slice_split, position}
 use Rattle.std.specs.Int.{from_be_bytes, w32}
+use Rattle.pf_form.specs.Numbers.{is_digit, number_of}
 use Rattle.pf_addr.specs.declared.addr.Addr.{Addr}
 use Rattle.pf_addr.specs.declared.addr.Addr.TheVariants as addr
 use Rattle.pf_addr.specs.declared.fault.AddrFault.{AddrFault}
 use Rattle.pf_addr.specs.declared.fault.AddrFault.TheVariants.{Empty, BadDigit, TooBig, BadLength, BadGroups}
+use Rattle.pf_addr.specs.declared.addr.TheConstants.{V4_BITS}
 use Rattle.pf_addr.specs.declared.reading.Parts.{Parts}
+use Rattle.pf_addr.specs.declared.reading.TheConstants.{NUMBER_DIGITS}
 use Rattle.pf_addr.specs.Address.{Network}
 use Rattle.pf_addr.specs.Grammar.{network_of, v4_network}
 
@@ -16,9 +19,6 @@ infixl 10 ◌>>=◌
 abbrev pub ◌>>=◌ : {A B E : Type 0} → Result A E → (A → Result B E) → Result B E
 (Ok x) >>= f = f x
 (Err e) >>= f = Err e
-
-abbrev pub is_digit : ℕ → Bool
-is_digit b = nat_le 48 b && nat_le b 57
 
 abbrev pub is_dot : ℕ → Bool
 is_dot b = b == 46
@@ -28,16 +28,14 @@ is_slash b = b == 47
 
 -- ---- one part, which begins at `at`
 
-abbrev pub decimal_value : List ℕ → ℕ
-decimal_value = fold (λ v b. v * 10 + (b - 48)) 0
-
-abbrev pub valued_at : ℕ → List ℕ → Result ℕ AddrFault
-valued_at at text = if nat_lt 3 (length text) then Err (TooBig at) else (if nat_lt 255 (decimal_value text) then Err (TooBig at) else Ok (decimal_value text))
+abbrev pub valued_at : ℕ → Option ℕ → Result ℕ AddrFault
+valued_at at (Some n) = if nat_lt 255 n then Err (TooBig at) else Ok n
+valued_at at None = Err (TooBig at)
 
 -- with the place of its first byte that is no digit
 abbrev pub judged_at : ℕ → List ℕ → Option ℕ → Result ℕ AddrFault
 judged_at at text (Some i) = Err (BadDigit (at + i))
-judged_at at text None = valued_at at text
+judged_at at text None = valued_at at (number_of NUMBER_DIGITS text)
 
 unfoldable pub part_at : ℕ → List ℕ → Result ℕ AddrFault
 part_at at text = if length text == 0 then Err (BadDigit at) else judged_at at text (position (λ b. not (is_digit b)) text)
@@ -73,12 +71,12 @@ abbrev pub at_most_four : List ℕ → Result (List ℕ) AddrFault
 at_most_four parts = if nat_le (length parts) 4 then Ok parts else Err (BadGroups 0)
 
 -- A length has one fault, whatever is wrong with it.
-abbrev pub length_of : ℕ → Result ℕ AddrFault → Result ℕ AddrFault
-length_of at (Ok n) = if nat_le n 32 then Ok n else Err (BadLength at)
-length_of at (Err e) = Err (BadLength at)
+abbrev pub length_of : ℕ → Option ℕ → Result ℕ AddrFault
+length_of at (Some n) = if nat_le n V4_BITS then Ok n else Err (BadLength at)
+length_of at None = Err (BadLength at)
 
 abbrev pub length_at : ℕ → List ℕ → Result ℕ AddrFault
-length_at at text = length_of at (part_at at text)
+length_at at text = length_of at (number_of NUMBER_DIGITS text)
 
 -- with the place of its first slash
 abbrev pub cut_at : List ℕ → Option ℕ → Result Network AddrFault

@@ -72,7 +72,7 @@ bits-number_of bs = (whole-append [] bs whole-nil).again
 pub IsNumber-decimal : (most n : ℕ) → n ≤ most → most < 1000 → IsNumber most (decimal n) n
 IsNumber-decimal most n le lt =
     let is = decimal_is_IsNumeral n (omega arith) in
-    record { digits = is.0; few = length-decimal-le 3 n (omega arith) (omega arith) (omega arith); value = is.1; small = le }
+    record { number = record { digits = is.0; few = length-decimal-le 3 n (omega arith) (omega arith) (omega arith); value = is.1 }; small = le }
 
 dotted : (a b c d : ℕ) → a < 256 → b < 256 → c < 256 → d < 256 → Dotted (a ∷ b ∷ c ∷ d ∷ []) (decimal a ++ 46 ∷ (decimal b ++ 46 ∷ (decimal c ++ 46 ∷ decimal d)))
 dotted a b c d la lb lc ld =
@@ -176,7 +176,7 @@ digits_bytes (b ∷ bs) ds = let is = digit_from_value b ds.0 in All-cons IsNetB
 number_word : (n : ℕ) → n < 256 → IsNetWord 3 (decimal n)
 number_word n lt =
     let is = IsNumber-decimal 255 n (omega arith) (omega arith) in
-    record { some = is.digits.0; few = is.few; bytes = digits_bytes (decimal n) is.digits.1 }
+    record { some = is.number.digits.0; few = is.number.few; bytes = digits_bytes (decimal n) is.number.digits.1 }
 
 joined_word : (j k : ℕ) (a b : List ℕ) (c : ℕ) → IsNetByte c → IsNetWord j a → IsNetWord k b → IsNetWord (j + suc k) (a ++ c ∷ b)
 joined_word j k a b c is p q = record {

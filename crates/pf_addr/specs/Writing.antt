@@ -1,6 +1,10 @@
 -- What a call that writes a text leaves in the writer, where the writer's bytes are known.
 use Rattle.std.proofs.Common.{◌≡◌, ℕ, zero, suc, List, [], ◌∷◌, ◌++◌, take, Option, Some, None, Result, Ok, Err, refl, sym, ap, ◌∙◌, subst, append_assoc, append-nil}
+use Rattle.std.specs.Prelude.{◌≢◌, IfErr}
+use Rattle.std.specs.declared.io.Error.{Error}
+use Rattle.std.specs.declared.io.ErrorKind.TheVariants.{Interrupted}
 use Rattle.std.specs.Io.KnownBytes.{Appends, Keeps}
+use Rattle.std.specs.IoError.{error_kind}
 
 -- some front of the text
 abbrev pub WritesFront : Option (List ℕ) → Option (List ℕ) → List ℕ → Type 0
@@ -10,6 +14,14 @@ WritesFront old new text = (k : ℕ) × Appends old new (take k text)
 abbrev pub Writes : {A E : Type 0} → Result A E → Option (List ℕ) → Option (List ℕ) → List ℕ → Type 0
 Writes (Ok u) old new text = Appends old new text
 Writes (Err e) old new text = WritesFront old new text
+
+-- The text is written, and a write that a signal interrupts is tried again.
+abbrev pub Wrote : {A : Type 0} → Result A Error → Option (List ℕ) → Option (List ℕ) → List ℕ → Type 0
+Wrote r old new text = Writes r old new text × IfErr r (λ e. error_kind e ≢ Interrupted)
+
+-- Behind what was written so far the text is written; where an earlier write failed, that error stays, and nothing more is written.
+pub record Continues {A B : Type 0} (so_far : Result A Error) (mid : Option (List ℕ)) (r : Result B Error) (new : Option (List ℕ)) (text : List ℕ) : Type 0 where
+  pub behind : (old : Option (List ℕ)) (front : List ℕ) → Wrote so_far old mid front → Wrote r old new (front ++ text)
 
 -- ---- laws
 
@@ -55,3 +67,24 @@ WritesFront-then old mid new a b p w =
 pub Writes-then : {A E : Type 0} (r : Result A E) (old mid new : Option (List ℕ)) (a b : List ℕ) → Appends old mid a → Writes r mid new b → Writes r old new (a ++ b)
 Writes-then (Ok u) old mid new a b p w = Appends-then old mid new a b p w
 Writes-then (Err e) old mid new a b p w = WritesFront-then old mid new a b p w
+
+-- ---- one behind the other
+
+pub Continues-then : {A B C : Type 0} {q : Result A Error} {r : Result B Error} {s : Result C Error} {old mid new : Option (List ℕ)} {a b : List ℕ} → Continues q old r mid a → Continues r mid s new b → Continues q old s new (a ++ b)
+Continues-then {s = s} {new = new} {a = a} {b = b} first second = record {
+  behind = λ at front w. subst (λ (text : List ℕ). Wrote s at new text) (append_assoc front a b) (second.behind at (front ++ a) (first.behind at front w));
+}
+
+pub Continues-ok : {A B : Type 0} (q : Result A Error) (u : A) (r : Result B Error) (mid new : Option (List ℕ)) (text : List ℕ) → q ≡ Ok u → Writes r mid new text → IfErr r (λ e. error_kind e ≢ Interrupted) → Continues q mid r new text
+Continues-ok {A = A} q u r mid new text is p retried = record {
+  behind = λ old front w. (Writes-then r old mid new front text (let h : Wrote {A = A} (Ok u) old mid front = subst (λ (x : Result A Error). Wrote x old mid front) is w in h.0) p, retried);
+}
+
+pub Continues-err : {A B : Type 0} (q : Result A Error) (e : Error) (mid : Option (List ℕ)) (text : List ℕ) → q ≡ Err e → Continues {B = B} q mid (Err e) mid text
+Continues-err {A = A} q e mid text is = record {
+  behind = λ old front w. let h : Wrote {A = A} (Err e) old mid front = subst (λ (x : Result A Error). Wrote x old mid front) is w in (WritesFront-longer old mid front text h.0, h.1);
+}
+
+-- behind nothing
+pub Continues-whole : {A B : Type 0} (u : A) {r : Result B Error} {mid new : Option (List ℕ)} {text : List ℕ} → Continues {A = A} (Ok u) mid r new text → Wrote r mid new text
+Continues-whole u {mid = mid} all = all.behind mid [] (Appends-none mid, tt)

@@ -7,6 +7,11 @@ ghost use Rattle.pf_addr.specs.Reading.{addr_at};
 use crate::fault::AddrFault;
 use crate::reading::read_parts;
 
+/// How many bits an IPv4 address has.
+pub const V4_BITS: u8 = 32;
+/// How many bits an IPv6 address has.
+pub const V6_BITS: u8 = 128;
+
 /// The family of an address or of a network (`inet` and `inet6` in pf.conf(5)).
 #[derive(Clone, Copy, Debug, PartialEq, Eq)]
 pub enum Family {
@@ -22,8 +27,8 @@ impl Family {
         ensures { result ≡ width self }
     {
         match self {
-            Family::V4 => 32,
-            Family::V6 => 128,
+            Family::V4 => V4_BITS,
+            Family::V6 => V6_BITS,
         }
     }
 }

@@ -8,7 +8,7 @@ mod net;
 mod reading;
 mod write;
 
-pub use addr::{Addr, Family};
+pub use addr::{Addr, Family, V4_BITS, V6_BITS};
 pub use fault::AddrFault;
 pub use laws::{
     addrs_have_texts_of_their_own, net_text_is_one_word, nets_have_texts_of_their_own,
@@ -16,7 +16,6 @@ pub use laws::{
     written_net_is_read_again,
 };
 pub use net::Net;
-pub use write::{write_addr, write_net, write_number, write_text};
-
-#[cfg(test)]
-mod tests;
+pub use write::{
+    write_addr, write_more, write_more_net, write_more_number, write_net, write_number, write_text,
+};

@@ -5,9 +5,9 @@ ghost use Rattle.pf_addr.specs.Grammar.{SpellsNet, network_of};
 ghost use Rattle.pf_addr.specs.Reading.{net_at, cut_at};
 ghost use Rattle.pf_addr.specs.Spelling.{first_addr};
 
-use crate::addr::{Addr, Family};
+use crate::addr::{Addr, Family, V4_BITS, V6_BITS};
 use crate::fault::AddrFault;
-use crate::reading::{first_slash, front_len, read_parts};
+use crate::reading::{first_slash, read_parts, read_prefix_len};
 use std::marker::Model;
 
 /// A network: the addresses of one family that begin with the same bits. The bits past the front are zero.
@@ -45,12 +45,12 @@ impl Net {
         match addr {
             Addr::V4(number) => Net {
                 family: Family::V4,
-                number: first_of(u128::from(number), 32 - len),
+                number: first_of(u128::from(number), V4_BITS - len),
                 len,
             },
             Addr::V6(number) => Net {
                 family: Family::V6,
-                number: first_of(number, 128 - len),
+                number: first_of(number, V6_BITS - len),
                 len,
             },
         }
@@ -74,7 +74,7 @@ impl Net {
     }
 
     /// How many bits the network's addresses share: at most 32 in a V4 network, and 128 in a V6 network.
-    pub fn len(self) -> u8
+    pub fn prefix_len(self) -> u8
         ensures value { result ≡ length self.front }
         ensures within { result ≤ width self.family }
     {
@@ -99,9 +99,9 @@ impl Net {
     {
         match (self.family, addr) {
             (Family::V4, Addr::V4(number)) => {
-                first_of(u128::from(number), 32 - self.len) == self.number
+                first_of(u128::from(number), V4_BITS - self.len) == self.number
             }
-            (Family::V6, Addr::V6(number)) => first_of(number, 128 - self.len) == self.number,
+            (Family::V6, Addr::V6(number)) => first_of(number, V6_BITS - self.len) == self.number,
             _ => false,
         }
     }
@@ -147,7 +147,7 @@ impl Net {
         if parts.count > 4 {
             return Err(AddrFault::BadGroups { at: 0 });
         }
-        let len = front_len(slash + 1, &text[slash + 1..])?;
+        let len = read_prefix_len(slash + 1, &text[slash + 1..])?;
         Ok(Net::new(Addr::V4(u32::from_be_bytes(parts.bytes)), len))
     }
 }

@@ -1,9 +1,15 @@
 //! The numbers between the dots of a text.
 ghost use Rattle.std.specs.Prelude.{◌≡◌, ◌+◌, ◌-◌, ◌*◌, ◌^◌, ◌<◌, ℕ, List, [], ◌∷◌, ◌++◌, length, not, IfSome, OnOk, Ok};
 ghost use Rattle.std.specs.List.{position};
-ghost use Rattle.pf_addr.specs.Reading.{is_digit, is_dot, is_slash, part_at, valued_at, length_at, numbers_at, parts_of, kept_parts};
+ghost use Rattle.pf_form.specs.Numbers.{is_digit};
+ghost use Rattle.pf_addr.specs.Reading.{is_dot, is_slash, part_at, valued_at, length_at, numbers_at, parts_of, kept_parts};
 
+use crate::addr::V4_BITS;
 use crate::fault::AddrFault;
+use pf_form::read_number;
+
+/// How many digits a part or a prefix length may have, leading zeros among them.
+pub(crate) const NUMBER_DIGITS: usize = 3;
 
 /// The numbers between the dots of a text.
 #[derive(Clone, Copy)]
@@ -74,7 +80,7 @@ fn read_part(at: usize, text: &[u8]) -> Result<u8, AddrFault>
     }
     match first_other(text) {
         Some(i) => Err(AddrFault::BadDigit { at: at + i }),
-        None => value_of(at, text),
+        None => byte_of(at, read_number(text, NUMBER_DIGITS)),
     }
 }
 
@@ -86,43 +92,28 @@ fn first_other(text: &[u8]) -> Option<usize>
     text.iter().position(|b| !digit(*b))
 }
 
+/// The byte that a number writes, which begins at this place.
+fn byte_of(at: usize, number: Option<u64>) -> Result<u8, AddrFault>
+    ensures { result ≡ valued_at at number }
+{
+    match number {
+        Some(number) if number <= 255 => Ok(number as u8),
+        _ => Err(AddrFault::TooBig { at }),
+    }
+}
+
 fn digit(b: u8) -> bool
     ensures { result ≡ is_digit b }
 {
-    b'0' <= b && b <= b'9'
+    b.is_ascii_digit()
 }
 
-fn figure(b: u8) -> u32
-    ensures value { result ≡ b - 48 }
-    ensures small { result < 256 }
-{
-    u32::from(b.saturating_sub(b'0'))
-}
-
-/// The value of a text of digits, which begins at this byte.
-fn value_of(at: usize, text: &[u8]) -> Result<u8, AddrFault>
-    ensures { result ≡ valued_at at text.now }
-{
-    let value = match text {
-        [] => 0,
-        [a] => figure(*a),
-        [a, b] => figure(*a) * 10 + figure(*b),
-        [a, b, c] => (figure(*a) * 10 + figure(*b)) * 10 + figure(*c),
-        _ => return Err(AddrFault::TooBig { at }),
-    };
-    if value > 255 {
-        return Err(AddrFault::TooBig { at });
-    }
-    Ok(value as u8)
-}
-
-/// The length of a network's front, which begins at this byte.
-pub(crate) fn front_len(at: usize, text: &[u8]) -> Result<u8, AddrFault>
-    requires { at + length text.now < 2 ^ 64 }
+/// The prefix length behind a network's slash, which begins at this byte.
+pub(crate) fn read_prefix_len(at: usize, text: &[u8]) -> Result<u8, AddrFault>
     ensures { result ≡ length_at at text.now }
 {
-    match read_part(at, text) {
-        Ok(len) if len <= 32 => Ok(len),
+    match read_number(text, NUMBER_DIGITS) {
+        Some(len) if len <= u64::from(V4_BITS) => Ok(len as u8),
         _ => Err(AddrFault::BadLength { at }),
     }
 }

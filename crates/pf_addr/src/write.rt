@@ -10,7 +10,7 @@ ghost use Rattle.std.specs.List.{join_with_byte};
 ghost use Rattle.std.specs.Net.Text.{hex, leading_zero_digits};
 ghost use Rattle.pf_addr.specs.declared.addr.Addr.TheVariants as Addr;
 ghost use Rattle.pf_addr.specs.Spelling.{addr_text, net_text, length_text, group_text};
-ghost use Rattle.pf_addr.specs.Writing.{Writes};
+ghost use Rattle.pf_addr.specs.Writing.{Writes, Continues};
 
 use crate::addr::Addr;
 use crate::net::Net;
@@ -75,10 +75,7 @@ pub fn write_addr<W: Write>(out: &mut W, addr: Addr) -> io::Result<()>
     ensures text { Writes result (W.contents out.old) (W.contents out.new) (addr_text addr) }
     ensures retried { IfErr result (λ e. error_kind e ≢ ErrorKind.Interrupted) }
 {
-    match addr {
-        Addr::V4(number) => write_v4(out, number),
-        Addr::V6(number) => write_v6(out, number),
-    }
+    write_more_addr(out, Ok(()), addr)
 }
 
 /// Writes a network: its first address, and unless it has no other address a slash and how many bits its addresses
@@ -87,75 +84,105 @@ pub fn write_net<W: Write>(out: &mut W, net: Net) -> io::Result<()>
     ensures text { Writes result (W.contents out.old) (W.contents out.new) (net_text net) }
     ensures retried { IfErr result (λ e. error_kind e ≢ ErrorKind.Interrupted) }
 {
-    write_addr(out, net.addr())?;
-    write_len(out, net)
+    write_more_net(out, Ok(()), net)
 }
 
-fn write_len<W: Write>(out: &mut W, net: Net) -> io::Result<()>
-    ensures text { Writes result (W.contents out.old) (W.contents out.new) (length_text net) }
-    ensures retried { IfErr result (λ e. error_kind e ≢ ErrorKind.Interrupted) }
+// Texts in a row. Each call is given what became of the earlier ones, so that only the last one's answer counts.
+
+/// Writes the text behind what was written so far, unless that failed: then the error stays.
+pub fn write_more<W: Write>(out: &mut W, so_far: io::Result<()>, text: &[u8]) -> io::Result<()>
+    ensures { Continues so_far (W.contents out.old) result (W.contents out.new) text.now }
 {
-    if net.len() == net.family().width() {
-        return Ok(());
+    match so_far {
+        Ok(()) => write_text(out, text),
+        Err(e) => Err(e),
     }
-    write_text(out, b"/")?;
-    write_number(out, u64::from(net.len()))
 }
 
-fn write_v4<W: Write>(out: &mut W, number: u32) -> io::Result<()>
-    ensures text { Writes result (W.contents out.old) (W.contents out.new) (addr_text (Addr.V4 number)) }
-    ensures retried { IfErr result (λ e. error_kind e ≢ ErrorKind.Interrupted) }
+/// The same of a number in decimal digits.
+pub fn write_more_number<W: Write>(
+    out: &mut W,
+    so_far: io::Result<()>,
+    number: u64,
+) -> io::Result<()>
+    ensures { Continues so_far (W.contents out.old) result (W.contents out.new) (decimal number) }
+{
+    let mut buffer = Buffer::new();
+    write_more(out, so_far, buffer.format(number).as_bytes())
+}
+
+/// The same of a network, as [`write_net`].
+pub fn write_more_net<W: Write>(out: &mut W, so_far: io::Result<()>, net: Net) -> io::Result<()>
+    ensures { Continues so_far (W.contents out.old) result (W.contents out.new) (net_text net) }
+{
+    let so_far = write_more_addr(out, so_far, net.addr());
+    write_more_len(out, so_far, net)
+}
+
+fn write_more_len<W: Write>(out: &mut W, so_far: io::Result<()>, net: Net) -> io::Result<()>
+    ensures { Continues so_far (W.contents out.old) result (W.contents out.new) (length_text net) }
+{
+    if net.prefix_len() == net.family().width() {
+        return write_more(out, so_far, b"");
+    }
+    let so_far = write_more(out, so_far, b"/");
+    write_more_number(out, so_far, u64::from(net.prefix_len()))
+}
+
+fn write_more_addr<W: Write>(out: &mut W, so_far: io::Result<()>, addr: Addr) -> io::Result<()>
+    ensures { Continues so_far (W.contents out.old) result (W.contents out.new) (addr_text addr) }
+{
+    match addr {
+        Addr::V4(number) => write_v4(out, so_far, number),
+        Addr::V6(number) => write_v6(out, so_far, number),
+    }
+}
+
+fn write_v4<W: Write>(out: &mut W, so_far: io::Result<()>, number: u32) -> io::Result<()>
+    ensures { Continues so_far (W.contents out.old) result (W.contents out.new) (addr_text (Addr.V4 number)) }
 {
     let [a, b, c, d] = number.to_be_bytes();
-    write_two_bytes(out, a, b)?;
-    write_text(out, b".")?;
-    write_two_bytes(out, c, d)
+    let first = write_more_number(out, so_far, u64::from(a));
+    let dot = write_more(out, first, b".");
+    let second = write_more_number(out, dot, u64::from(b));
+    let dot = write_more(out, second, b".");
+    let third = write_more_number(out, dot, u64::from(c));
+    let dot = write_more(out, third, b".");
+    write_more_number(out, dot, u64::from(d))
 }
 
-fn write_two_bytes<W: Write>(out: &mut W, a: u8, b: u8) -> io::Result<()>
-    ensures text { Writes result (W.contents out.old) (W.contents out.new) (decimal a ++ 46 ∷ decimal b) }
-    ensures retried { IfErr result (λ e. error_kind e ≢ ErrorKind.Interrupted) }
+fn write_v6<W: Write>(out: &mut W, so_far: io::Result<()>, number: u128) -> io::Result<()>
+    ensures { Continues so_far (W.contents out.old) result (W.contents out.new) (addr_text (Addr.V6 number)) }
 {
-    write_number(out, u64::from(a))?;
-    write_text(out, b".")?;
-    write_number(out, u64::from(b))
-}
-
-fn write_v6<W: Write>(out: &mut W, number: u128) -> io::Result<()>
-    ensures text { Writes result (W.contents out.old) (W.contents out.new) (addr_text (Addr.V6 number)) }
-    ensures retried { IfErr result (λ e. error_kind e ≢ ErrorKind.Interrupted) }
-{
-    write_four_groups(out, number, 64)?;
-    write_text(out, b":")?;
-    write_four_groups(out, number, 0)
+    let front = write_four_groups(out, so_far, number, 64);
+    let colon = write_more(out, front, b":");
+    write_four_groups(out, colon, number, 0)
 }
 
 /// Writes the four groups whose last one begins `last` bits from the end.
-fn write_four_groups<W: Write>(out: &mut W, number: u128, last: u8) -> io::Result<()>
+fn write_four_groups<W: Write>(
+    out: &mut W,
+    so_far: io::Result<()>,
+    number: u128,
+    last: u8,
+) -> io::Result<()>
     requires { last ≤ 64 }
-    ensures text { Writes result (W.contents out.old) (W.contents out.new)
+    ensures { Continues so_far (W.contents out.old) result (W.contents out.new)
         (join_with_byte 58 (map (group_text number) ((last + 48) ∷ (last + 32) ∷ (last + 16) ∷ last ∷ []))) }
-    ensures retried { IfErr result (λ e. error_kind e ≢ ErrorKind.Interrupted) }
 {
-    write_two_groups(out, group(number, last + 48), group(number, last + 32))?;
-    write_text(out, b":")?;
-    write_two_groups(out, group(number, last + 16), group(number, last))
-}
-
-fn write_two_groups<W: Write>(out: &mut W, a: u16, b: u16) -> io::Result<()>
-    ensures text { Writes result (W.contents out.old) (W.contents out.new) (hex a ++ 58 ∷ hex b) }
-    ensures retried { IfErr result (λ e. error_kind e ≢ ErrorKind.Interrupted) }
-{
-    write_group(out, a)?;
-    write_text(out, b":")?;
-    write_group(out, b)
+    let first = write_group(out, so_far, group(number, last + 48));
+    let colon = write_more(out, first, b":");
+    let second = write_group(out, colon, group(number, last + 32));
+    let colon = write_more(out, second, b":");
+    let third = write_group(out, colon, group(number, last + 16));
+    let colon = write_more(out, third, b":");
+    write_group(out, colon, group(number, last))
 }
 
 /// Writes 16 bits in hexadecimal.
 #[tactic(auto, unfolding(std::specs::Net::Text::hex))]
-fn write_group<W: Write>(out: &mut W, group: u16) -> io::Result<()>
-    ensures text { Writes result (W.contents out.old) (W.contents out.new) (hex group) }
-    ensures retried { IfErr result (λ e. error_kind e ≢ ErrorKind.Interrupted) }
+fn write_group<W: Write>(out: &mut W, so_far: io::Result<()>, group: u16) -> io::Result<()>
+    ensures { Continues so_far (W.contents out.old) result (W.contents out.new) (hex group) }
 {
     let digits = [
         hex_digit(group / 0x1000),
@@ -163,7 +190,7 @@ fn write_group<W: Write>(out: &mut W, group: u16) -> io::Result<()>
         hex_digit(group / 0x10 % 16),
         hex_digit(group % 16),
     ];
-    write_text(out, &digits[leading_zeros(group)..])
+    write_more(out, so_far, &digits[leading_zeros(group)..])
 }
 
 /// How many of the first three of a group's four digits are leading zeros.

@@ -3,11 +3,14 @@ use Rattle.std.proofs.Common.{◌≡◌, Bool, true, false, cond, ◌||◌, List
 use Rattle.std.specs.Prelude.{fold}
 use Rattle.std.specs.List.{list_any}
 use Rattle.std.proofs.lemmas.List.Sums.{fold-append}
-use Rattle.pf_core.specs.declared.command.Command.TheVariants.{Commit}
-use Rattle.pf_core.specs.declared.command.RulesetName.{RulesetName}
-use Rattle.pf_core.specs.declared.command.Ticket.{Ticket}
+use Rattle.pf_core.specs.declared.command.Command.TheVariants.{Transact}
+use Rattle.pf_core.specs.declared.command.Transaction.TheVariants.{Commit}
+use Rattle.pf_ticket.specs.declared.name.RulesetName.{RulesetName}
+use Rattle.pf_ticket.specs.declared.ticket.Ticket.{Ticket}
+use Rattle.pf_ticket.specs.Names.{same_name, names_of}
+use Rattle.pf_ticket.specs.Mentions.{switches, Mention, touched, valid_ticket}
 use Rattle.pf_core.specs.declared.reply.Reply.TheVariants.{Applied}
-use Rattle.pf_core.specs.Calls.{call, same_name, switches, names_of, Mention, mentions, touched, valid_ticket}
+use Rattle.pf_core.specs.Calls.{call, mentions}
 use Rattle.pf_core.specs.Laws.{KeepsNoneValid}
 use Rattle.pf_core.specs.WorldLaws.{mentions-push}
 
@@ -30,6 +33,6 @@ voided name (n ∷ ns) v h = voided-step name ns v (same_name n name) (λ k. voi
 
 pub keeps-none-valid : KeepsNoneValid
 keeps-none-valid calls entries n o name h =
-    ap (λ (ms : List Mention). valid_ticket ms name) (mentions-push calls (call (Commit entries) (Applied n o)))
+    ap (λ (ms : List Mention). valid_ticket ms name) (mentions-push calls (call (Transact (Commit entries)) (Applied n o)))
     ∙ fold-append (touched name) None (mentions calls) (switches (names_of entries))
     ∙ voided name (names_of entries) (valid_ticket (mentions calls) name) h

@@ -1,63 +1,55 @@
--- What one call leaves alone, and what holds after every world whose replies are legal.
+-- What one call leaves alone, and what holds after every world.
 use Rattle.std.specs.Prelude.{◌≡◌, ℕ, ◌≤◌, false, List, [], ◌∷◌, ◌++◌, length}
-use Rattle.std.specs.List.{list_any}
-use Rattle.pf_core.specs.declared.command.Command.{Command}
-use Rattle.pf_core.specs.declared.command.Command.TheVariants.{Begin, Add, Commit, Rollback, Judge, ShowRules}
-use Rattle.pf_core.specs.declared.command.RulesetName.{RulesetName}
-use Rattle.pf_core.specs.declared.command.Ticket.{Ticket}
-use Rattle.pf_core.specs.Calls.{Call, Mention, mentions, is_named, names_of, filter_at, same_ticket, valid_ticket, content, open_rulesets, tickets_given, AreNumbered}
-use Rattle.pf_core.specs.Edits.{Kept, after}
-use Rattle.pf_core.specs.Legal.{rule_limit, ruleset_limit, last_count}
-use Rattle.pf_core.specs.Rulesets.{rules_at}
-use Rattle.pf_core.specs.Worlds.{at_start, held_after, IsLegalFrom}
+use Rattle.pf_anchor.specs.declared.limits.TheConstants.{RULE_LIMIT, RULESET_LIMIT}
+use Rattle.pf_anchor.specs.Rulesets.{rules_at}
+use Rattle.pf_ticket.specs.declared.limits.TheConstants.{LAST_COUNT}
+use Rattle.pf_ticket.specs.declared.name.RulesetName.{RulesetName}
+use Rattle.pf_ticket.specs.Laws.{AreOnce}
+use Rattle.pf_ticket.specs.Mentions.{Mention, rules_in, content, open_rulesets, tickets_given, AreNumbered}
+use Rattle.pf_ticket.specs.Names.{is_named}
+use Rattle.pf_ticket.specs.Standing.{IsLeftAlone}
+use Rattle.pf_core.specs.Calls.{Call, mentions}
+use Rattle.pf_core.specs.Commands.{names_in}
+use Rattle.pf_core.specs.Edits.{Kept}
+use Rattle.pf_core.specs.Worlds.{Held, up, down, Event, flat, log_of, durable_of, state_after, IsWorld}
 
 -- ---- what one call leaves alone
 
--- the rulesets whose tickets a command speaks of
-abbrev pub names_in : Command → List RulesetName
-names_in (Begin names) = names
-names_in (Add p t r) = filter_at p ∷ []
-names_in (Commit entries) = names_of entries
-names_in (Rollback entries) = names_of entries
-names_in (Judge packet) = []
-names_in (ShowRules p) = []
-
--- a ruleset's ticket is valid as before, and what is offered with it is as before
-pub record IsLeftAlone (calls : List Call) (c : Call) (name : RulesetName) : Type 0 where
-  pub ticket : valid_ticket (mentions (calls ++ c ∷ [])) name ≡ valid_ticket (mentions calls) name
-  pub offered : content (mentions (calls ++ c ∷ [])) name ≡ content (mentions calls) name
-
--- a call leaves alone each ruleset that it doesn't name
+-- each ruleset that it doesn't name
 abbrev pub LeavesTheOthers : Type 0
-LeavesTheOthers = (calls : List Call) (c : Call) (name : RulesetName) → is_named (names_in c.command) name ≡ false → IsLeftAlone calls c name
+LeavesTheOthers = (calls : List Call) (c : Call) (name : RulesetName) → is_named (names_in c.command) name ≡ false → IsLeftAlone (mentions calls) (mentions (calls ++ c ∷ [])) name
 
--- ---- what holds after every legal world
-
--- no ticket stands twice
-abbrev pub AreOnce : List Ticket → Type 0
-AreOnce [] = Unit {0}
-AreOnce (t ∷ ts) = (list_any (λ u. same_ticket u t) ts ≡ false) × AreOnce ts
+-- ---- what holds after every world
 
 -- the tickets given are numbered from 1 on, and so none is given twice
 pub record AreGivenOnce (epoch : ℕ) (ms : List Mention) : Type 0 where
   pub numbered : AreNumbered epoch ms
   pub once : AreOnce (tickets_given ms)
 
+-- of each opening that a world comes to
 abbrev pub GivesEachOnce : Type 0
-GivesEachOnce = (base : Kept) (limit : ℕ) (world : List Call) → IsLegalFrom base limit at_start world → AreGivenOnce base.epoch (mentions world)
+GivesEachOnce = (first : Kept) (world : List Event) (h : Held) → IsWorld first world → state_after (down first) world ≡ up h → AreGivenOnce h.base.epoch (mentions h.calls)
 
 -- what is kept is within the limits
 pub record IsWithin (d : Kept) : Type 0 where
-  pub rulesets : length d.rulesets ≤ ruleset_limit
-  pub rules : (p : List ℕ) → length (rules_at p d.rulesets) ≤ rule_limit
+  pub rulesets : length d.rulesets ≤ RULESET_LIMIT
+  pub rules : (p : List ℕ) → length (rules_at p d.rulesets) ≤ RULE_LIMIT
 
--- what the calls say is within the limits, and so is what they kept
-pub record AreWithin (base : Kept) (limit : ℕ) (world : List Call) : Type 0 where
-  pub given : length (tickets_given (mentions world)) ≤ last_count
-  pub opened : length (open_rulesets (mentions world)) ≤ ruleset_limit
-  pub offered : (name : RulesetName) → length (content (mentions world) name) ≤ rule_limit
-  pub log : length (held_after base world).log ≤ limit
-  pub kept : IsWithin (after base (held_after base world).log)
+-- what the calls of an opening say is within the limits, and so is what they kept
+pub record AreWithin (h : Held) : Type 0 where
+  pub given : length (tickets_given (mentions h.calls)) ≤ LAST_COUNT
+  pub opened : length (open_rulesets (mentions h.calls)) ≤ RULESET_LIMIT
+  pub offered : (name : RulesetName) → length (rules_in (content (mentions h.calls) name)) ≤ RULE_LIMIT
+  pub log : length (log_of h) ≤ h.setting.limit
+  pub kept : IsWithin (durable_of h)
 
 abbrev pub KeepsTheLimits : Type 0
-KeepsTheLimits = (base : Kept) (limit : ℕ) (world : List Call) → IsWithin base → IsLegalFrom base limit at_start world → AreWithin base limit world
+KeepsTheLimits = (first : Kept) (world : List Event) (h : Held) → IsWithin first → IsWorld first world → state_after (down first) world ≡ up h → AreWithin h
+
+-- every change is acknowledged, and every acknowledged change is shown
+pub record AllIsShown (h : Held) : Type 0 where
+  pub acknowledged : log_of h ≡ flat h.acked
+  pub shown : h.shown ≡ length (flat h.acked)
+
+abbrev pub ShowsAll : Type 0
+ShowsAll = (first : Kept) (world : List Event) (h : Held) → IsWorld first world → state_after (down first) world ≡ up h → AllIsShown h

@@ -1,128 +1,181 @@
--- Worlds: lists of calls with their replies, which of them are legal, and what they leave. Own.
-use Rattle.std.specs.Prelude.{◌≡◌, ℕ, ◌≤◌, ◌+◌, if◌then◌else◌, List, [], ◌∷◌, ◌++◌, length, take, fold, nat_lt, Result, Ok, Err}
+-- Worlds: lists of events, which of them are legal, and what they leave. Own.
+use Rattle.std.specs.Prelude.{◌≡◌, ℕ, ◌+◌, ◌<◌, ◌⊎◌, Bool, if◌then◌else◌, List, [], ◌∷◌, ◌++◌, length, fold, nat_lt, ⊤, Result, Ok, Err}
 use Rattle.pf_core.specs.declared.command.Command.{Command}
-use Rattle.pf_core.specs.declared.command.RulesetName.{RulesetName}
 use Rattle.pf_core.specs.declared.reply.Refusal.{Refusal}
 use Rattle.pf_core.specs.declared.reply.Refusal.TheVariants.{HistoryFull, Memory}
 use Rattle.pf_core.specs.declared.reply.Reply.{Reply}
 use Rattle.pf_core.specs.declared.reply.Reply.TheVariants.{Answer, Applied, Refused}
 use Rattle.pf_core.specs.declared.step.Step.{Step}
 use Rattle.pf_core.specs.declared.step.Step.TheVariants.{Done, Wants}
-use Rattle.pf_core.specs.Calls.{Call, call}
+use Rattle.pf_core.specs.Calls.{Call, legal_step}
 use Rattle.pf_core.specs.Edits.{Kept, Edit, after}
-use Rattle.pf_core.specs.Legal.{legal_step}
-use Rattle.pf_core.specs.Tickets.{Open, AgreesWith}
 
--- a core: what is kept, and the open transactions
-pub record Whole : Type 0 where
-  pub durable : Kept
-  pub tickets : Open
+-- ---- states
 
-abbrev pub whole : Kept → Open → Whole
-whole d t = record { durable = d; tickets = t }
+-- what an opening is given to keep within: how many changes it may keep
+pub record Setting : Type 0 where
+  pub limit : ℕ
 
--- what a change leaves of a core, and the rulesets whose tickets it voids
-pub record Ready : Type 0 where
-  pub durable : Kept
-  pub voided : List RulesetName
+abbrev pub setting_with : ℕ → Setting
+setting_with limit = record { limit = limit }
 
-abbrev pub ready : Kept → List RulesetName → Ready
-ready d names = record { durable = d; voided = names }
-
--- a step that wants a change kept, or is refused, leaves the core as it was
-abbrev pub StaysUnlessDone : Result Step Refusal → Whole → Whole → Type 0
-StaysUnlessDone (Ok (Done a)) old new = Unit {0}
-StaysUnlessDone (Ok (Wants e o)) old new = new ≡ old
-StaysUnlessDone (Err e) old new = new ≡ old
-
--- once a command was answered, the tickets agree with the calls and this one
-abbrev pub AgreesAfter : Open → List Call → Command → Result Step Refusal → Type 0
-AgreesAfter t calls c (Ok (Done a)) = AgreesWith t (calls ++ call c (Answer a) ∷ [])
-AgreesAfter t calls c (Ok (Wants e o)) = Unit {0}
-AgreesAfter t calls c (Err e) = Unit {0}
-
--- what legality reads: the calls so far, and the changes that they kept
+-- an opening, while it lasts
 pub record Held : Type 0 where
+  pub setting : Setting
+  -- what the opening gave
+  pub base : Kept
+  -- the calls since, with their replies
   pub calls : List Call
-  pub log : List Edit
+  -- the groups of changes that were acknowledged
+  pub acked : List (List Edit)
+  -- the group that was not acknowledged, if there is one; no event leaves one yet
+  pub pending : List (List Edit)
+  -- how many changes are shown
+  pub shown : ℕ
 
-abbrev pub held : List Call → List Edit → Held
-held calls log = record { calls = calls; log = log }
+-- an opening that lasts, or what is held between two of them
+pub data State : Type 0 where
+  up : Held → State
+  down : Kept → State
 
--- nothing yet
-abbrev pub at_start : Held
-at_start = held [] []
+-- an opening has begun: no calls, no changes
+abbrev pub begun : Setting → Kept → Held
+begun setting base = record { setting = setting; base = base; calls = []; acked = []; pending = []; shown = 0 }
+
+-- the same, one epoch later
+abbrev pub raised : Kept → Kept
+raised d = record d { epoch = d.epoch + 1 }
+
+-- the changes of these groups, in order
+abbrev pub flat : List (List Edit) → List Edit
+flat [] = []
+flat (g ∷ gs) = g ++ flat gs
+
+-- the changes since the opening
+abbrev pub log_of : Held → List Edit
+log_of h = flat (h.acked ++ h.pending)
+
+-- what replies are judged by: the base after all that was acknowledged
+abbrev pub durable_of : Held → Kept
+durable_of h = after h.base (flat h.acked)
+
+-- ---- what a command is due
 
 -- the one step that a command may get
-abbrev pub step_in : Kept → Held → Command → Result Step Refusal
-step_in base h c = legal_step base.epoch h.calls (after base h.log) c
+abbrev pub step_in : Held → Command → Result Step Refusal
+step_in h c = legal_step h.base.epoch h.calls (durable_of h) c
 
--- the reply to a step, where the history may take so many changes
-abbrev pub reply_to : ℕ → List Edit → Result Step Refusal → Reply
-reply_to limit log (Ok (Done a)) = Answer a
-reply_to limit log (Ok (Wants e o)) = if nat_lt (length log) limit then Applied (length log + 1) o else Refused HistoryFull
-reply_to limit log (Err e) = Refused e
+-- the reply to a step, where there is room
+abbrev pub reply_to : Held → Result Step Refusal → Reply
+reply_to h (Ok (Done a)) = Answer a
+reply_to h (Ok (Wants e o)) = Applied (length (log_of h) + 1) o
+reply_to h (Err e) = Refused e
 
--- a reply is the one that the command may get, or memory was refused
-abbrev pub LegalReply : Kept → ℕ → Held → Command → Reply → Type 0
-LegalReply base limit h c r = (r ≡ Refused Memory → ⊥) → r ≡ reply_to limit h.log (step_in base h c)
+-- the change that it wants
+abbrev pub changes_of : Result Step Refusal → List Edit
+changes_of (Ok (Done a)) = []
+changes_of (Ok (Wants e o)) = e ∷ []
+changes_of (Err e) = []
 
-abbrev pub wanted : Result Step Refusal → List Edit
-wanted (Ok (Done a)) = []
-wanted (Ok (Wants e o)) = e ∷ []
-wanted (Err e) = []
+-- whether changes that are kept together find room, and else why not
+abbrev pub room_for : Held → List Edit → Result (Unit {0}) Refusal
+room_for h [] = Ok tt
+room_for h (e ∷ es) = if nat_lt h.setting.limit (length (log_of h) + length (e ∷ es)) then Err HistoryFull else Ok tt
 
-abbrev pub kept_with : Kept → Held → Command → Reply → List Edit
-kept_with base h c (Answer a) = []
-kept_with base h c (Applied n o) = wanted (step_in base h c)
-kept_with base h c (Refused e) = []
+abbrev pub if_ok : {A : Type 0} → Result (Unit {0}) Refusal → A → A → A
+if_ok (Ok u) x y = x
+if_ok (Err e) x y = y
 
--- the change that a call kept
-abbrev pub kept_by : Kept → Held → Call → List Edit
-kept_by base h c = kept_with base h c.command c.reply
+abbrev pub or_refused : Result (Unit {0}) Refusal → Reply → Reply
+or_refused (Ok u) r = r
+or_refused (Err e) r = Refused e
 
--- one more call
-abbrev pub next : Kept → Held → Call → Held
-next base h c = held (h.calls ++ c ∷ []) (h.log ++ kept_by base h c)
+abbrev pub due_at : Held → Result Step Refusal → Reply
+due_at h step = or_refused (room_for h (changes_of step)) (reply_to h step)
 
--- what a world leaves
-abbrev pub held_after : Kept → List Call → Held
-held_after base world = fold (next base) at_start world
+-- changes that are kept together are one group, and no changes are none
+abbrev pub grouped : List Edit → List (List Edit)
+grouped [] = []
+grouped (e ∷ es) = (e ∷ es) ∷ []
 
--- each call of a world got a legal reply
-abbrev pub IsLegalFrom : Kept → ℕ → Held → List Call → Type 0
-IsLegalFrom base limit h [] = Unit {0}
-IsLegalFrom base limit h (c ∷ cs) = LegalReply base limit h c.command c.reply × IsLegalFrom base limit (next base h c) cs
+abbrev pub group_at : Held → Result Step Refusal → List (List Edit)
+group_at h step = if_ok (room_for h (changes_of step)) (grouped (changes_of step)) []
 
--- what contracts see of a Book: the core, the log of its changes, how many it may have, and the copy that is shown
-pub record Page : Type 0 where
-  pub whole : Whole
-  pub log : List Edit
-  pub limit : ℕ
-  pub shown : Kept
+-- the reply that is due, and the group that is kept with it
+abbrev pub due : Held → Command → Reply
+due h c = due_at h (step_in h c)
 
-abbrev pub page : Whole → List Edit → ℕ → Kept → Page
-page w log limit shown = record { whole = w; log = log; limit = limit; shown = shown }
+abbrev pub group_in : Held → Command → List (List Edit)
+group_in h c = group_at h (step_in h c)
 
--- what some front of the log leaves: the first k changes, from none to all
-abbrev pub IsFoldOfFront : Kept → List Edit → Kept → Type 0
-IsFoldOfFront base log d = (k : ℕ) × (k ≤ length log) × (d ≡ after base (take k log))
+-- ---- events
 
--- the page is what these calls and changes leave
-pub record IsAt (base : Kept) (h : Held) (b : Page) : Type 0 where
-  pub log : h.log ≡ b.log
-  pub calls : AgreesWith b.whole.tickets h.calls
-  pub durable : b.whole.durable ≡ after base b.log
-  pub epoch : b.whole.tickets.epoch ≡ base.epoch
-  pub shown : IsFoldOfFront base b.log b.shown
+-- what came of a call besides its reply: how many changes are then shown, and whether a device failed in it
+pub record Upshot : Type 0 where
+  pub shown : ℕ
+  pub failed : Bool
 
--- one call: its reply is legal, and the page is what it leaves
-pub record Follows (base : Kept) (h : Held) (old new : Page) (c : Call) : Type 0 where
-  pub legal : LegalReply base old.limit h c.command c.reply
-  pub leaves : IsAt base (next base h c) new
-  pub limit : new.limit ≡ old.limit
+abbrev pub upshot : ℕ → Bool → Upshot
+upshot shown failed = record { shown = shown; failed = failed }
 
--- a Book stands for a world that began with this base: its calls got legal replies, and it is what they leave
-pub record StandsFor (base : Kept) (b : Page) (world : List Call) : Type 0 where
-  pub legal : IsLegalFrom base b.limit at_start world
-  pub leaves : IsAt base (held_after base world) b
+pub data Event : Type 0 where
+  called : Call → Upshot → Event
+  opened : Setting → Event
+
+-- ---- what an event leaves
+
+-- what a reply acknowledges of the group that is kept with it
+abbrev pub acked_by : Reply → List (List Edit) → List (List Edit)
+acked_by (Answer a) g = []
+acked_by (Applied n o) g = g
+acked_by (Refused e) g = []
+
+abbrev pub heard : Held → Call → Upshot → Held
+heard h c t = record h { calls = h.calls ++ c ∷ []; acked = h.acked ++ acked_by c.reply (group_in h c.command); shown = t.shown }
+
+abbrev pub next : State → Event → State
+next (up h) (called c t) = up (heard h c t)
+next (down d) (opened setting) = up (begun setting (raised d))
+next st e = st
+
+-- ---- which events are legal
+
+-- what may stand in place of the reply that is due: memory was refused
+abbrev pub StandsIn : Bool → Reply → Reply → Type 0
+StandsIn failed due (Refused Memory) = ⊤
+StandsIn failed due r = ⊥
+
+abbrev pub LegalReply : Held → Command → Reply → Bool → Type 0
+LegalReply h c r failed = (r ≡ due h c) ⊎ StandsIn failed (due h c) r
+
+-- a change that is answered `Applied` is shown with all before it; nothing else is shown
+abbrev pub shown_by : Reply → ℕ → ℕ
+shown_by (Answer a) shown = shown
+shown_by (Applied n o) shown = n
+shown_by (Refused e) shown = shown
+
+pub record LegalCall (h : Held) (c : Call) (t : Upshot) : Type 0 where
+  pub reply : LegalReply h c.command c.reply t.failed
+  pub shown : t.shown ≡ shown_by c.reply h.shown
+
+-- the greatest epoch
+abbrev pub last_epoch : ℕ
+last_epoch = 4294967295
+
+abbrev pub IsLegal : State → Event → Type 0
+IsLegal (up h) (called c t) = LegalCall h c t
+IsLegal (down d) (opened setting) = d.epoch < last_epoch
+IsLegal st e = ⊥
+
+-- ---- worlds
+
+abbrev pub state_after : State → List Event → State
+state_after st world = fold next st world
+
+abbrev pub IsLegalFrom : State → List Event → Type 0
+IsLegalFrom st [] = ⊤
+IsLegalFrom st (e ∷ es) = IsLegal st e × IsLegalFrom (next st e) es
+
+-- events that are legal in turn, where this was held first
+abbrev pub IsWorld : Kept → List Event → Type 0
+IsWorld first world = IsLegalFrom (down first) world

@@ -2,13 +2,20 @@
 ghost use Rattle.std.specs.Prelude.{◌≡◌};
 ghost use Rattle.pf_core.specs.Edits.{commits};
 
-use crate::placed::Placed;
+use pf_anchor::Placed;
 use std::marker::Model;
+
+/// What a commit replaces.
+#[derive(Drop)]
+pub enum Item {
+    /// The rules at a path, by these.
+    Rules(Placed),
+}
 
 #[derive(Drop)]
 pub(crate) enum Kind {
-    /// Rulesets that are replaced, whole.
-    Commit(Vec<Placed>),
+    /// What is replaced, whole, in the order of the commit's entries.
+    Commit(Vec<Item>),
 }
 
 /// What is to be kept. Contracts see it as an `Edit`.
@@ -29,7 +36,7 @@ impl Model for Change {
 
 impl Change {
     /// A commit's change.
-    pub(crate) fn commit(items: Vec<Placed>) -> Change
+    pub(crate) fn commit(items: Vec<Item>) -> Change
         ensures { result ≡ commits items.items }
     {
         Change {

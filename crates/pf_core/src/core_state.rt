@@ -1,33 +1,32 @@
 //! One command after the other.
-ghost use Rattle.std.specs.Prelude.{◌≡◌, ℕ, List, [], ◌∷◌, ◌++◌, IfOk, length, map, fold, nat_lt};
+ghost use Rattle.std.specs.Prelude.{◌≡◌, ℕ, List, [], ◌∷◌, ◌++◌, IfOk, OnErr, length, map, nat_lt, true};
 ghost use Rattle.std.specs.Arc.{arc_value};
+ghost use Rattle.pf_anchor.specs.declared.limits.TheConstants.{RULESET_LIMIT};
 ghost use Rattle.pf_rule.specs.Packets.{PlainPacket};
+ghost use Rattle.pf_ticket.specs.declared.entry.Entry.{Entry};
+ghost use Rattle.pf_ticket.specs.Mentions.{switches};
+ghost use Rattle.pf_ticket.specs.Tickets.{offered_at, facts_in};
 ghost use Rattle.pf_core.specs.declared.command.Command.{Command};
-ghost use Rattle.pf_core.specs.declared.command.Entry.{Entry};
+ghost use Rattle.pf_core.specs.declared.command.Question.{Question};
+ghost use Rattle.pf_core.specs.declared.command.Transaction.{Transaction};
 ghost use Rattle.pf_core.specs.declared.reply.Answer.TheVariants as answer;
 ghost use Rattle.pf_core.specs.declared.reply.Outcome.{Outcome};
 ghost use Rattle.pf_core.specs.declared.reply.Reply.TheVariants as reply;
-ghost use Rattle.pf_core.specs.Calls.{Call, call, mentions_of, switches};
+ghost use Rattle.pf_core.specs.Calls.{Call, call, mentions_of, AgreesWith, legal_step, IsLegalStep};
+ghost use Rattle.pf_core.specs.Commands.{item_of, items, rulesets_after, commit_step, rollback_step, transact_step, answer_of, transacts_in_memory, asks_for_memory, takes_memory};
 ghost use Rattle.pf_core.specs.Edits.{applied, voided_by, name_of, verdict};
-ghost use Rattle.pf_core.specs.Legal.{items, ruleset_limit, commit_step, rollback_step, legal_step, IsLegalStep};
-ghost use Rattle.pf_core.specs.Offers.{all_out, IsNeverDone};
-ghost use Rattle.pf_core.specs.Tickets.{AgreesWith, rules_under, facts_in};
-ghost use Rattle.pf_core.specs.Rulesets.{with_rules};
-ghost use Rattle.pf_core.specs.Worlds.{ready, StaysUnlessDone, AgreesAfter};
+ghost use Rattle.pf_core.specs.Wholes.{ready, StaysUnlessDone, AgreesAfter, IsNeverDone};
 
-use crate::change::{Change, Kind};
-use crate::command::{Command, Entry, RulesetName};
-use crate::durable::Durable;
-use crate::placed::{Placed, replace_all};
+use crate::change::{Change, Item, Kind};
+use crate::command::{Command, Question, Transaction};
+use crate::durable::{Durable, rulesets_in};
 use crate::reply::{Answer, Outcome, Refusal};
 use crate::step::Step;
-use crate::tickets::Tickets;
+use pf_anchor::Placed;
+use pf_ticket::{Entry, Offered, RulesetName, Tickets};
 use std::alloc::{AllocError, Global};
 use std::marker::Model;
 use std::sync::Arc;
-
-/// How many rulesets there may be.
-const RULESET_LIMIT: usize = 1024;
 
 /// What is kept, and the open transactions. Contracts see it as a `Whole`.
 #[derive(Drop)]
@@ -39,7 +38,7 @@ pub struct Core {
 
 impl Model for Core {
     ghost use Rattle.std.specs.Arc.{arc_value};
-    ghost use Rattle.pf_core.specs.Worlds.{Whole, whole};
+    ghost use Rattle.pf_core.specs.Wholes.{Whole, whole};
 
     ghost Value = { Whole };
 
@@ -55,22 +54,44 @@ pub struct Next {
 
 impl Model for Next {
     ghost use Rattle.std.specs.Arc.{arc_value};
-    ghost use Rattle.pf_core.specs.Worlds.{Ready, ready};
+    ghost use Rattle.pf_core.specs.Wholes.{Ready, ready};
 
     ghost Value = { Ready };
 
     ghost view = { λ n. ready (arc_value n.durable) n.voided.items };
 }
 
+// The ruleset that an item replaces.
+fn name_of(item: &Item) -> RulesetName
+    ensures { result ≡ name_of item.now }
+{
+    match item {
+        Item::Rules(placed) => RulesetName::filter(placed.path()),
+    }
+}
+
 // The rulesets whose tickets a commit voids.
-fn voided(alloc: Global, items: &[Placed]) -> Result<Vec<RulesetName>, AllocError>
+fn voided(alloc: Global, items: &[Item]) -> Result<Vec<RulesetName>, AllocError>
     ensures { IfOk result (λ v. v.items ≡ map name_of items.now) }
 {
-    let mut names = Vec::new(alloc);
+    let mut names = Vec::with_capacity(alloc, items.len())?;
     for item in items {
-        names.push(RulesetName::filter(&item.path))?;
+        names.push(name_of(item))?;
     }
     Ok(names)
+}
+
+// What replaces a ruleset: what is offered for it. No rule is copied.
+fn item_of(alloc: Global, name: &RulesetName, offered: Offered) -> Result<Item, AllocError>
+    ensures { IfOk result (λ i. i ≡ item_of name.now offered) }
+{
+    match offered {
+        Offered::Rules(rules) => Ok(Item::Rules(Placed::new(
+            alloc,
+            name.path.copied(),
+            rules,
+        )?)),
+    }
 }
 
 // What a commit of these entries replaces.
@@ -78,27 +99,25 @@ fn take_items(
     alloc: Global,
     tickets: &Tickets,
     entries: &[Entry],
-) -> Result<Vec<Placed>, AllocError>
-    ensures { IfOk result (λ v. v.items ≡ items (rules_under tickets.now.offers) entries.now) }
+) -> Result<Vec<Item>, AllocError>
+    ensures { IfOk result (λ v. v.items ≡ items (offered_at tickets.now.offers) entries.now) }
 {
-    let mut taken = Vec::new(alloc);
+    let mut taken = Vec::with_capacity(alloc, entries.len())?;
     for entry in entries {
-        taken.push(Placed {
-            path: entry.name.path.copied(),
-            rules: Arc::new(alloc, tickets.contents(&entry.name)?)?,
-        })?;
+        let offered = tickets.contents(&entry.name)?;
+        taken.push(item_of(alloc, &entry.name, offered)?)?;
     }
     Ok(taken)
 }
 
-// Whether there would be more rulesets than there may be. Only near the limit they are made, to be counted.
-fn are_too_many(alloc: Global, rulesets: &[Placed], items: &[Placed]) -> Result<bool, AllocError>
-    ensures { IfOk result (λ b. b ≡ nat_lt ruleset_limit (length (fold with_rules rulesets.now items.now))) }
+// Whether there would be more rulesets than there may be.
+fn are_too_many(alloc: Global, durable: &Durable, items: &[Item]) -> Result<bool, AllocError>
+    ensures { IfOk result (λ b. b ≡ nat_lt RULESET_LIMIT (rulesets_after durable.now items.now)) }
 {
-    if rulesets.len() + items.len() <= RULESET_LIMIT {
-        return Ok(false);
-    }
-    Ok(replace_all(alloc, rulesets, items)?.len() > RULESET_LIMIT)
+    let rulesets = rulesets_in(alloc, items)?;
+    durable
+        .rulesets()
+        .would_be_too_many(alloc, rulesets.as_slice())
 }
 
 // What a commit wants, or why it is refused.
@@ -113,10 +132,53 @@ fn commit(
 {
     tickets.check_all(entries)?;
     let items = take_items(alloc, tickets, entries)?;
-    if are_too_many(alloc, durable.rulesets(), items.as_slice())? {
+    if are_too_many(alloc, durable, items.as_slice())? {
         return Err(Refusal::TooManyRulesets);
     }
     Ok(Step::Wants(Change::commit(items), Outcome::Committed))
+}
+
+// A step of a transaction. Where it wants a change, or is refused, the tickets are as before.
+fn transact(
+    alloc: Global,
+    durable: &Durable,
+    tickets: &mut Tickets,
+    transaction: &Transaction,
+) -> Result<Step, Refusal>
+    ensures reply { IsLegalStep result (transact_step (facts_in tickets.old) durable.now transaction.now) }
+    ensures agrees { (calls : List Call) → AgreesWith tickets.old calls → AgreesAfter tickets.new calls (Command.Transact transaction.now) result }
+    ensures stays { StaysUnlessDone result tickets.old tickets.new }
+    ensures epoch { tickets.new.epoch ≡ tickets.old.epoch }
+    ensures rolled_back { (entries : List Entry) → transaction.now ≡ Transaction.Rollback entries → result ≡ rollback_step entries }
+    ensures memory { result ≡ Err Refusal.Memory → transacts_in_memory transaction.now ≡ true }
+{
+    match transaction {
+        Transaction::Begin(names) => {
+            let given = tickets.begin(names.as_slice())?;
+            Ok(Step::Done(Answer::Given(given)))
+        }
+        Transaction::Add { path, ticket, rule } => {
+            tickets.add_rule(path, *ticket, *rule)?;
+            Ok(Step::Done(Answer::Done))
+        }
+        Transaction::Commit(entries) => commit(alloc, durable, tickets, entries.as_slice()),
+        Transaction::Rollback(entries) => {
+            tickets.rollback(entries.as_slice())?;
+            Ok(Step::Done(Answer::Done))
+        }
+    }
+}
+
+// What a question is answered. A judge takes no memory.
+fn answer(durable: &Durable, question: &Question) -> Result<Answer, AllocError>
+    ensures value { IfOk result (λ a. a ≡ answer_of durable.now question.now) }
+    ensures memory { OnErr result (asks_for_memory question.now ≡ true) }
+    ensures judged { (packet : PlainPacket) → question.now ≡ Question.Judge packet → result ≡ Ok (answer.Judged (verdict durable.now packet)) }
+{
+    match question {
+        Question::Judge(packet) => Ok(Answer::Judged(durable.verdict(packet))),
+        Question::ShowRules(path) => Ok(Answer::Rules(durable.rulesets().rules_at(path)?)),
+    }
 }
 
 impl Next {
@@ -163,34 +225,19 @@ impl Core {
         ensures durable { self.new.durable ≡ self.old.durable }
         ensures stays { StaysUnlessDone result self.old self.new }
         ensures epoch { self.new.tickets.epoch ≡ self.old.tickets.epoch }
-        ensures judged { (packet : PlainPacket) → command.now ≡ Command.Judge packet → result ≡ Ok (Step.Done (answer.Judged (verdict self.old.durable packet))) }
-        ensures rolled_back { (entries : List Entry) → command.now ≡ Command.Rollback entries → result ≡ rollback_step entries }
+        ensures judged { (packet : PlainPacket) → command.now ≡ Command.Ask (Question.Judge packet) → result ≡ Ok (Step.Done (answer.Judged (verdict self.old.durable packet))) }
+        ensures memory { result ≡ Err Refusal.Memory → takes_memory command.now ≡ true }
+        ensures rolled_back { (entries : List Entry) → command.now ≡ Command.Transact (Transaction.Rollback entries) → result ≡ rollback_step entries }
     {
         match command {
-            Command::Begin(names) => {
-                let given = self.tickets.begin(names.as_slice())?;
-                Ok(Step::Done(Answer::Given(given)))
-            }
-            Command::Add { path, ticket, rule } => {
-                self.tickets.add_rule(path, *ticket, *rule)?;
-                Ok(Step::Done(Answer::Done))
-            }
-            Command::Commit(entries) => commit(
+            Command::Transact(transaction) => transact(
                 self.alloc,
                 &self.durable,
-                &self.tickets,
-                entries.as_slice(),
+                &mut self.tickets,
+                transaction,
             ),
-            Command::Rollback(entries) => {
-                self.tickets.rollback(entries.as_slice())?;
-                Ok(Step::Done(Answer::Done))
-            }
-            Command::Judge(packet) => {
-                Ok(Step::Done(Answer::Judged(self.durable.verdict(packet))))
-            }
-            Command::ShowRules(path) => {
-                let rules = self.durable.rules_at(self.alloc, path)?;
-                Ok(Step::Done(Answer::Rules(rules)))
+            Command::Ask(question) => {
+                Ok(Step::Done(answer(&self.durable, question)?))
             }
         }
     }
@@ -210,7 +257,6 @@ impl Core {
     pub fn accept(&mut self, next: Next)
         ensures durable { self.new.durable ≡ next.durable }
         ensures agrees { (calls : List Call) (c : Command) (n : ℕ) (o : Outcome) → mentions_of (call c (reply.Applied n o)) ≡ switches next.voided → AgreesWith self.old.tickets calls → AgreesWith self.new.tickets (calls ++ call c (reply.Applied n o) ∷ []) }
-        ensures tickets { self.new.tickets ≡ all_out self.old.tickets next.voided }
         ensures epoch { self.new.tickets.epoch ≡ self.old.tickets.epoch }
     {
         let Next { durable, voided } = next;

@@ -1,15 +1,10 @@
 //! What is kept.
-ghost use Rattle.std.specs.Prelude.{◌≡◌, [], IfOk, IfSome, IfNone};
-ghost use Rattle.pf_rule.specs.Evaluation.{evaluate};
-ghost use Rattle.pf_core.specs.Rulesets.{IsMap, rules_at};
-ghost use Rattle.pf_core.specs.Edits.{kept, applied, verdict, verdict_by};
+ghost use Rattle.std.specs.Prelude.{◌≡◌, [], IfOk};
+ghost use Rattle.pf_core.specs.Edits.{kept, applied, rulesets_in, verdict};
 
-use crate::change::{Change, Kind};
-use crate::path::Path;
-use crate::placed::{Placed, replace_all};
-use crate::reply::{RuleVerdict, Verdict};
-use crate::rule_list::RuleList;
-use crate::ruleset::Ruleset;
+use crate::change::{Change, Item, Kind};
+use crate::reply::Verdict;
+use pf_anchor::{Config, Placed};
 use pf_rule::Packet;
 use std::alloc::{AllocError, Global};
 use std::marker::Model;
@@ -18,7 +13,7 @@ use std::marker::Model;
 #[derive(Drop)]
 pub struct Durable {
     epoch: u32,
-    rulesets: Vec<Placed>,
+    rulesets: Config,
 }
 
 impl Model for Durable {
@@ -26,25 +21,19 @@ impl Model for Durable {
 
     ghost Value = { Kept };
 
-    ghost view = { λ d. kept d.epoch d.rulesets.items };
-
-    ghost use Rattle.pf_core.specs.Rulesets.{IsMap};
-
-    ghost invariant = { λ d. IsMap d.rulesets.items };
+    ghost view = { λ d. kept d.epoch d.rulesets };
 }
 
-// What the rules at a path say of a packet.
-fn rules_verdict(path: &Path, rules: &Ruleset, packet: &Packet) -> RuleVerdict
-    ensures { result ≡ verdict_by path.now (evaluate 0 rules.now packet.now).last }
+// The rulesets that are replaced, shared.
+pub(crate) fn rulesets_in(alloc: Global, items: &[Item]) -> Result<Vec<Placed>, AllocError>
+    ensures { IfOk result (λ v. v.items ≡ rulesets_in items.now) }
 {
-    match rules.deciding(packet) {
-        Some(decision) => RuleVerdict::Rule {
-            path: path.copied(),
-            number: decision.number,
-            action: decision.action,
-        },
-        None => RuleVerdict::Default,
+    let mut rulesets = Vec::with_capacity(alloc, items.len())?;
+    for item in items {
+        let Item::Rules(placed) = item;
+        rulesets.push(placed.shared()?)?;
     }
+    Ok(rulesets)
 }
 
 impl Durable {
@@ -54,7 +43,7 @@ impl Durable {
     {
         Durable {
             epoch,
-            rulesets: Vec::new(alloc),
+            rulesets: Config::empty(alloc),
         }
     }
 
@@ -65,52 +54,18 @@ impl Durable {
         self.epoch
     }
 
-    /// The rulesets that aren't empty, in the order of their paths.
-    pub fn rulesets(&self) -> &[Placed]
-        ensures value { result.now ≡ self.now.rulesets }
-        ensures ordered { IsMap self.now.rulesets }
+    /// The active rulesets.
+    pub fn rulesets(&self) -> &Config
+        ensures { result.now ≡ self.now.rulesets }
     {
-        self.rulesets.as_slice()
-    }
-
-    // The ruleset at a path.
-    fn placed_at(&self, path: &Path) -> Option<&Placed>
-        ensures some { IfSome result (λ p. p.now.rules ≡ rules_at path.now self.now.rulesets) }
-        ensures none { IfNone result (rules_at path.now self.now.rulesets ≡ []) }
-    {
-        for placed in &self.rulesets {
-            if placed.path.same(path) {
-                return Some(placed);
-            }
-        }
-        None
-    }
-
-    /// The rules at a path: none where it has no ruleset. No rule is copied. `AllocError`: nothing is made.
-    pub fn rules_at(&self, alloc: Global, path: &Path) -> Result<RuleList, AllocError>
-        ensures { IfOk result (λ l. l ≡ rules_at path.now self.now.rulesets) }
-    {
-        match self.placed_at(path) {
-            Some(placed) => RuleList::of(&placed.rules),
-            None => RuleList::none(alloc),
-        }
-    }
-
-    // What the rules at a path say of a packet.
-    fn rule_verdict(&self, path: &Path, packet: &Packet) -> RuleVerdict
-        ensures { result ≡ verdict_by path.now (evaluate 0 (rules_at path.now self.now.rulesets) packet.now).last }
-    {
-        match self.placed_at(path) {
-            Some(placed) => rules_verdict(path, &placed.rules, packet),
-            None => RuleVerdict::Default,
-        }
+        &self.rulesets
     }
 
     /// What happens to a packet: the main ruleset decides, or the packet passes. It takes no memory.
     pub fn verdict(&self, packet: &Packet) -> Verdict
         ensures { result ≡ verdict self.now packet.now }
     {
-        Verdict::Rules(self.rule_verdict(&Path::main(), packet))
+        Verdict::Rules(self.rulesets.judge(packet))
     }
 
     /// What is kept after a change. Rulesets that stay are shared, and no rule is copied. Where memory is refused nothing is made.
@@ -118,10 +73,13 @@ impl Durable {
         ensures { IfOk result (λ d. d ≡ applied self.now change.now) }
     {
         match &change.kind {
-            Kind::Commit(items) => Ok(Durable {
-                epoch: self.epoch,
-                rulesets: replace_all(alloc, self.rulesets.as_slice(), items.as_slice())?,
-            }),
+            Kind::Commit(items) => {
+                let rulesets = rulesets_in(alloc, items.as_slice())?;
+                Ok(Durable {
+                    epoch: self.epoch,
+                    rulesets: self.rulesets.with_rulesets(alloc, rulesets.as_slice())?,
+                })
+            }
         }
     }
 }

@@ -1,4 +1,4 @@
-//! Commands, tickets, changes and what is kept: the decisions of the control plane, apart from texts and disks.
+//! Commands, changes and what is kept: the decisions of the control plane, apart from texts and disks.
 #![tactic(auto)]
 
 mod change;
@@ -6,24 +6,12 @@ mod command;
 mod core_state;
 mod durable;
 pub mod laws;
-mod path;
-mod path_text;
-mod placed;
 mod reply;
-mod rule_list;
-mod ruleset;
 mod step;
-#[cfg(test)]
-mod tests;
-mod tickets;
 
-pub use change::Change;
-pub use command::{Command, Entries, Entry, RulesetKind, RulesetName, RulesetNames, Ticket};
+pub use change::{Change, Item};
+pub use command::{Command, Question, Transaction};
 pub use core_state::{Core, Next};
 pub use durable::Durable;
-pub use path::Path;
-pub use placed::Placed;
-pub use reply::{Answer, Given, Outcome, Refusal, Reply, RuleVerdict, Verdict};
-pub use rule_list::RuleList;
-pub use ruleset::{Decision, Ruleset};
+pub use reply::{Answer, Outcome, Refusal, Reply, Verdict};
 pub use step::Step;

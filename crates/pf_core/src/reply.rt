@@ -1,34 +1,11 @@
 //! What a client is told.
 ghost use Rattle.std.specs.Prelude.{◌≡◌};
 ghost use Rattle.pf_core.specs.declared.reply.Refusal.TheVariants.{Memory};
+ghost use Rattle.pf_core.specs.Refusals.{refusal_of};
 
-use crate::command::Ticket;
-use crate::path::Path;
-use crate::rule_list::RuleList;
-use pf_rule::Action;
+use pf_anchor::{RuleList, RuleVerdict};
+use pf_ticket::{TicketRange, TicketRefusal};
 use std::alloc::AllocError;
-
-/// The tickets of one begin: so many, from the first on, each one greater than the one before.
-#[derive(Clone, Copy, Debug, PartialEq, Eq)]
-pub struct Given {
-    /// The ticket of the ruleset that the begin names first.
-    pub first: Ticket,
-    /// How many tickets there are: one for each entry, from 1 to 64. Their counts follow one another.
-    pub number: u32,
-}
-
-/// What the rules say of a packet.
-#[derive(Drop)]
-pub enum RuleVerdict {
-    /// This rule decides: its ruleset's path, its number there from 0, and what it does.
-    Rule {
-        path: Path,
-        number: u32,
-        action: Action,
-    },
-    /// No rule matched: the packet passes.
-    Default,
-}
 
 /// What happens to a packet.
 #[derive(Drop)]
@@ -41,7 +18,7 @@ pub enum Verdict {
 #[derive(Drop)]
 pub enum Answer {
     /// The tickets of a begin.
-    Given(Given),
+    Given(TicketRange),
     /// It is done.
     Done,
     /// What happens to a packet.
@@ -100,6 +77,22 @@ impl From<AllocError> for Refusal {
 
     fn from(_e: AllocError) -> Refusal {
         Refusal::Memory
+    }
+}
+
+impl From<TicketRefusal> for Refusal {
+    ghost from_gives = { λ r e. e ≡ refusal_of r };
+
+    fn from(refusal: TicketRefusal) -> Refusal {
+        match refusal {
+            TicketRefusal::BadCount => Refusal::BadCount,
+            TicketRefusal::Twice { at } => Refusal::Twice { at },
+            TicketRefusal::Busy { at } => Refusal::Busy { at },
+            TicketRefusal::RulesetFull => Refusal::RulesetFull,
+            TicketRefusal::TooManyRulesets => Refusal::TooManyRulesets,
+            TicketRefusal::TicketsExhausted => Refusal::TicketsExhausted,
+            TicketRefusal::Memory => Refusal::Memory,
+        }
     }
 }
 

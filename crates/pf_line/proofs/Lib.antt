@@ -1,10 +1,3 @@
-pub mod Keywords
-pub mod Making
-pub mod Repeating
-pub mod Listing
-pub mod Collecting
-pub mod Parts
-pub mod FirstWords
 pub mod Silence
 pub mod Writers
 pub mod ShownRules

@@ -1,58 +1,69 @@
 -- Each line of a reply is one line.
-use Rattle.std.proofs.Common.{◌≡◌, ℕ, zero, suc, ◌+◌, ◌/◌, ◌%◌, ◌<◌, ◌==◌, ◌&&◌, not, Bool, true, false, cond, List, [], ◌∷◌, ◌++◌, length, decimal, refl, arith}
-use Rattle.std.specs.Prelude.{◌^◌, Option, Some, None, codes, drop, map, nat_lt}
-use Rattle.std.specs.Char.{digit_char}
-use Rattle.std.specs.Int.{to_be_bytes, w32}
+use Rattle.std.proofs.Common.{◌≡◌, ℕ, zero, suc, ◌+◌, ◌/◌, ◌%◌, ◌<◌, ◌==◌, ◌&&◌, not, Bool, true, false, cond, List, [], ◌∷◌, ◌++◌, length, take, get_or, decimal, refl, sym, subst, ◌≤◌, arith}
+use Rattle.std.specs.Prelude.{Option, Some, None, IfSome, codes, All}
 use Rattle.std.specs.List.{list_all, join_with_byte}
-use Rattle.std.specs.Net.Text.{hex, leading_zero_digits}
-use Rattle.std.proofs.lemmas.List.{length-append}
+use Rattle.std.specs.Option.{is_none}
+use Rattle.std.proofs.lemmas.Bool.{and_from, and_parts, ne_eqb}
+use Rattle.std.proofs.lemmas.List.{length-append, take_all}
 use Rattle.std.specs.Fmt.{digits, digits_onto, digit_glyph}
 use Rattle.std.proofs.lemmas.Bool.Decides.{nat_tests}
-use Rattle.pf_addr.specs.declared.addr.Addr.{Addr}
-use Rattle.pf_addr.specs.declared.addr.Addr.TheVariants as addr
 use Rattle.pf_addr.specs.declared.addr.Family.{Family}
 use Rattle.pf_addr.specs.declared.addr.Family.TheVariants.{V4, V6}
 use Rattle.pf_addr.specs.Address.{Network, width}
-use Rattle.pf_addr.specs.Spelling.{group_text, addr_text, first_addr, length_text, net_text}
+use Rattle.pf_addr.specs.Spelling.{net_text}
+use Rattle.pf_addr.specs.SpellingLaws.{IsV4Network, IsNetByte, IsNetWord-net_text}
+use Rattle.pf_form.specs.declared.fault.Kind.{Kind}
 use Rattle.pf_rule.specs.declared.rule.Action.{Action}
 use Rattle.pf_rule.specs.declared.rule.Action.TheVariants.{Pass, Block}
 use Rattle.pf_rule.specs.declared.rule.Direction.{Direction}
 use Rattle.pf_rule.specs.declared.rule.Direction.TheVariants.{In, Out}
 use Rattle.pf_rule.specs.declared.rule.Host.{Host}
 use Rattle.pf_rule.specs.declared.rule.Host.TheVariants.{Any, Net}
-use Rattle.pf_rule.specs.Rules.{PlainRule}
+use Rattle.pf_rule.specs.Names.{is_name_byte, IsInterfaceName}
+use Rattle.pf_rule.specs.Rules.{PlainRule, IsRule, HostFits}
+use Rattle.pf_anchor.specs.Paths.{path_fault, is_path}
+use Rattle.pf_anchor.specs.PathGrammar.{AreComponents, IsPathText}
+use Rattle.pf_anchor.specs.PathLaws.{FaultsAllElse}
 use Rattle.pf_rule.specs.RuleText.{action_word, direction_words, quick_words, interface_words, family_words, protocol_word, protocol_words, host_word, from_to_words, host_words, state_words, canonical, rule_text}
-use Rattle.pf_core.specs.declared.command.Ticket.{Ticket}
+use Rattle.pf_ticket.specs.declared.ticket.Ticket.{Ticket}
 use Rattle.pf_core.specs.declared.reply.Answer.{Answer}
 use Rattle.pf_core.specs.declared.reply.Answer.TheVariants as answers
 use Rattle.pf_core.specs.declared.reply.Refusal.{Refusal}
 use Rattle.pf_core.specs.declared.reply.Refusal.TheVariants as refusals
 use Rattle.pf_core.specs.declared.reply.Reply.{Reply}
 use Rattle.pf_core.specs.declared.reply.Reply.TheVariants as replies
-use Rattle.pf_core.specs.declared.reply.RuleVerdict.{RuleVerdict}
-use Rattle.pf_core.specs.declared.reply.RuleVerdict.TheVariants.{Rule, Default}
+use Rattle.pf_anchor.specs.declared.verdict.RuleVerdict.{RuleVerdict}
+use Rattle.pf_anchor.specs.declared.verdict.RuleVerdict.TheVariants.{Rule, Default}
 use Rattle.pf_core.specs.declared.reply.Verdict.{Verdict}
 use Rattle.pf_core.specs.declared.reply.Verdict.TheVariants.{Rules}
-use Rattle.pf_core.specs.Calls.{tickets_of}
+use Rattle.pf_ticket.specs.Names.{tickets_of}
 use Rattle.pf_line.specs.Tickets.{ticket_text}
-use Rattle.pf_line.specs.Replies.{tickets_text, place_text, action_text, rule_verdict_text, verdict_text, answer_text, refusal_text, last_line, shown_in, rule_line, rule_lines, reply_lines, reply_text, line_count, HasNoNewline, NoneHasNewline, HasLines, rule_path, verdict_path, answer_path, path_in, interface_text, names_in}
+use Rattle.pf_line.specs.Replies.{tickets_text, place_text, action_text, rule_verdict_text, verdict_text, answer_text, refusal_text, last_line, shown_in, rule_line, rule_lines, reply_lines, reply_text, line_count, HasNoNewline, NoneHasNewline, HasLines, rule_path, verdict_path, answer_path, path_in, AreRules}
 
 abbrev clear : ℕ → Bool
 clear b = not (b == 10)
 
-both : (s t : Bool) → s ≡ true → t ≡ true → (s && t) ≡ true
-both s t e f = rw (e, f) refl
-
-split_and : (s t : Bool) → (s && t) ≡ true → t ≡ true
-split_and true t e = e
-split_and false t e = absurd cc
-
 joined : (a b : List ℕ) → HasNoNewline a → HasNoNewline b → HasNoNewline (a ++ b)
 joined [] b h k = k
-joined (x ∷ a) b h k = let parts = split (clear x) (list_all clear a) h in both (clear x) (list_all clear (a ++ b)) parts.0 (joined a b parts.1 k) where
-  split : (s t : Bool) → (s && t) ≡ true → (s ≡ true) × (t ≡ true)
-  split true t e = (refl, e)
-  split false t e = absurd cc
+joined (x ∷ a) b h k = let parts = and_parts (clear x) (list_all clear a) h in and_from (clear x) (list_all clear (a ++ b)) parts.0 (joined a b parts.1 k)
+
+-- ---- names
+
+-- a byte that passes a test which a newline fails
+passes : (test : ℕ → Bool) → test 10 ≡ false → (b : ℕ) → test b ≡ true → clear b ≡ true
+passes test fails b h = by (b == 10) refl where
+  by : (t : Bool) → (b == 10) ≡ t → not t ≡ true
+  by false e = refl
+  by true e =
+      let is : b ≡ 10 = grind (arith, nat_tests) in
+      let at_ten : test 10 ≡ true = subst (λ (n : ℕ). test n ≡ true) is h in
+      absurd cc
+
+name_clear : (name : List ℕ) → list_all is_name_byte name ≡ true → HasNoNewline name
+name_clear [] h = refl
+name_clear (b ∷ bs) h =
+    let parts = and_parts (is_name_byte b) (list_all is_name_byte bs) h in
+    and_from (clear b) (list_all clear bs) (passes is_name_byte refl b parts.0) (name_clear bs parts.1)
 
 -- ---- numbers
 
@@ -60,7 +71,7 @@ glyph_clear : (d : ℕ) → d < 10 → clear (digit_glyph false d) ≡ true
 glyph_clear d lt = grind (arith, nat_tests)
 
 one_clear : (n : ℕ) (acc : List ℕ) → HasNoNewline acc → HasNoNewline (digit_glyph false (n % 10) ∷ acc)
-one_clear n acc h = both (clear (digit_glyph false (n % 10))) (list_all clear acc) (glyph_clear (n % 10) (omega arith)) h
+one_clear n acc h = and_from (clear (digit_glyph false (n % 10))) (list_all clear acc) (glyph_clear (n % 10) (omega arith)) h
 
 last_clear : (t : Bool) (a b : List ℕ) → HasNoNewline a → HasNoNewline b → HasNoNewline (cond t a b)
 last_clear true a b h k = h
@@ -136,53 +147,28 @@ clear-append (w ∷ a) b h k = (h.0, clear-append a b h.1 k)
 join_clear : (c : ℕ) → clear c ≡ true → (words : List (List ℕ)) → NoneHasNewline words → HasNoNewline (join_with_byte c words)
 join_clear c h [] all = refl
 join_clear c h (w ∷ []) all = all.0
-join_clear c h (w ∷ v ∷ words) all = joined w (c ∷ join_with_byte c (v ∷ words)) all.0 (both (clear c) (list_all clear (join_with_byte c (v ∷ words))) h (join_clear c h (v ∷ words) all.1))
+join_clear c h (w ∷ v ∷ words) all = joined w (c ∷ join_with_byte c (v ∷ words)) all.0 (and_from (clear c) (list_all clear (join_with_byte c (v ∷ words))) h (join_clear c h (v ∷ words) all.1))
 
-numbers_clear : (ns : List ℕ) → NoneHasNewline (map decimal ns)
-numbers_clear [] = tt
-numbers_clear (n ∷ ns) = (number_clear n, numbers_clear ns)
+net_clear : (n : Network) → IsV4Network n → HasNoNewline (net_text n)
+net_clear n is = by (net_text n) (IsNetWord-net_text n is).bytes where
+  by : (text : List ℕ) → All IsNetByte text → HasNoNewline text
+  by [] h = refl
+  by (b ∷ bs) h =
+      let here : IsNetByte b = h 0 b (omega arith) in
+      let far : (b == 10) ≡ false = ne_eqb b 10 (λ e. omega (arith, here.0, e)) in
+      rw far (by bs (λ k d lt. h (suc k) d (omega (arith, lt))))
 
-char_clear : (d : ℕ) → clear (digit_char d) ≡ true
-char_clear d = by_test (nat_lt d 10) where
-  by_test : (t : Bool) → clear (cond t (48 + d) (87 + d)) ≡ true
-  by_test true = grind (arith, nat_tests)
-  by_test false = grind (arith, nat_tests)
+host_clear : (f : Option Family) (h : Host) → HostFits f h → HasNoNewline (host_word h)
+host_clear f Any is = refl
+host_clear f (Net n) is = net_clear n (record { family = is.1; within = let le = is.2 in subst (λ (g : Family). length n.front ≤ width g) is.1 le })
 
-drop_clear : (k : ℕ) (text : List ℕ) → HasNoNewline text → HasNoNewline (drop k text)
-drop_clear zero text h = h
-drop_clear (suc k) [] h = refl
-drop_clear (suc k) (b ∷ text) h = drop_clear k text (split_and (clear b) (list_all clear text) h)
+from_to_clear : (f : Option Family) (s d : Host) → HostFits f s → HostFits f d → NoneHasNewline (from_to_words s d)
+from_to_clear f s d p q = (refl, (host_clear f s p, (refl, (host_clear f d q, tt))))
 
-hex_clear : (n : ℕ) → HasNoNewline (hex n)
-unfolding hex
-hex_clear n = drop_clear (leading_zero_digits n) (digit_char (n / 0x1000) ∷ digit_char (n / 0x100 % 16) ∷ digit_char (n / 0x10 % 16) ∷ digit_char (n % 16) ∷ []) (rw (char_clear (n / 0x1000), char_clear (n / 0x100 % 16), char_clear (n / 0x10 % 16), char_clear (n % 16)) refl)
-
-groups_clear : (n : ℕ) (ks : List ℕ) → NoneHasNewline (map (group_text n) ks)
-groups_clear n [] = tt
-groups_clear n (k ∷ ks) = (hex_clear (n / 2 ^ k % 2 ^ 16), groups_clear n ks)
-
-addr_clear : (a : Addr) → HasNoNewline (addr_text a)
-addr_clear (addr.V4 n) = join_clear 46 refl (map decimal (to_be_bytes w32 n)) (numbers_clear (to_be_bytes w32 n))
-addr_clear (addr.V6 n) = join_clear 58 refl (map (group_text n) (112 ∷ 96 ∷ 80 ∷ 64 ∷ 48 ∷ 32 ∷ 16 ∷ 0 ∷ [])) (groups_clear n (112 ∷ 96 ∷ 80 ∷ 64 ∷ 48 ∷ 32 ∷ 16 ∷ 0 ∷ []))
-
-length_clear : (t : Bool) (n : ℕ) → HasNoNewline (cond t [] (47 ∷ decimal n))
-length_clear true n = refl
-length_clear false n = joined (47 ∷ []) (decimal n) refl (number_clear n)
-
-net_clear : (n : Network) → HasNoNewline (net_text n)
-net_clear n = joined (addr_text (first_addr n)) (length_text n) (addr_clear (first_addr n)) (length_clear (length n.front == width n.family) (length n.front))
-
-host_clear : (h : Host) → HasNoNewline (host_word h)
-host_clear Any = refl
-host_clear (Net n) = net_clear n
-
-from_to_clear : (s d : Host) → NoneHasNewline (from_to_words s d)
-from_to_clear s d = (refl, (host_clear s, (refl, (host_clear d, tt))))
-
-hosts_clear : (s d : Host) → NoneHasNewline (host_words s d)
-hosts_clear Any Any = (refl, tt)
-hosts_clear Any (Net n) = from_to_clear Any (Net n)
-hosts_clear (Net n) d = from_to_clear (Net n) d
+hosts_clear : (f : Option Family) (s d : Host) → HostFits f s → HostFits f d → NoneHasNewline (host_words s d)
+hosts_clear f Any Any p q = (refl, tt)
+hosts_clear f Any (Net n) p q = from_to_clear f Any (Net n) p q
+hosts_clear f (Net n) d p q = from_to_clear f (Net n) d p q
 
 protocol_clear : (n : ℕ) → HasNoNewline (protocol_word n)
 protocol_clear n = by_tests (n == 1) (n == 6) (n == 17) (n == 58) where
@@ -206,9 +192,9 @@ quick_clear : (q : Bool) → NoneHasNewline (quick_words q)
 quick_clear true = (refl, tt)
 quick_clear false = tt
 
-interface_clear : (i : Option (List ℕ)) → HasNoNewline (interface_text i) → NoneHasNewline (interface_words i)
+interface_clear : (i : Option (List ℕ)) → IfSome i IsInterfaceName → NoneHasNewline (interface_words i)
 interface_clear None h = tt
-interface_clear (Some name) h = (refl, (h, tt))
+interface_clear (Some name) h = (refl, (name_clear name h.bytes, tt))
 
 family_clear : (f : Option Family) → NoneHasNewline (family_words f)
 family_clear None = tt
@@ -224,27 +210,24 @@ states_clear (Pass true) = (refl, (refl, tt))
 states_clear (Pass false) = (refl, (refl, tt))
 states_clear Block = tt
 
-canonical_clear : (r : PlainRule) → HasNoNewline (interface_text r.interface) → NoneHasNewline (canonical r)
+canonical_clear : (r : PlainRule) → IsRule r → NoneHasNewline (canonical r)
 canonical_clear r h =
     let states = states_clear r.action in
-    let hosts = clear-append (host_words r.source r.destination) (state_words r.action) (hosts_clear r.source r.destination) states in
+    let hosts = clear-append (host_words r.source r.destination) (state_words r.action) (hosts_clear r.family r.source r.destination h.source h.destination) states in
     let protocol = clear-append (protocol_words r.protocol) _ (protocols_clear r.protocol) hosts in
     let family = clear-append (family_words r.family) _ (family_clear r.family) protocol in
-    let interface = clear-append (interface_words r.interface) _ (interface_clear r.interface h) family in
+    let interface = clear-append (interface_words r.interface) _ (interface_clear r.interface h.interface) family in
     let quick = clear-append (quick_words r.quick) _ (quick_clear r.quick) interface in
     (pass_or_block r.action, clear-append (direction_words r.direction) _ (directions_clear r.direction) quick)
 
-rule_text_clear : (r : PlainRule) → HasNoNewline (interface_text r.interface) → HasNoNewline (rule_text r)
+rule_text_clear : (r : PlainRule) → IsRule r → HasNoNewline (rule_text r)
 unfolding rule_text
 rule_text_clear r h = join_clear 32 refl (canonical r) (canonical_clear r h)
 
-rule_line_clear : (n : ℕ) (r : PlainRule) → HasNoNewline (interface_text r.interface) → HasNoNewline (rule_line n r)
+rule_line_clear : (n : ℕ) (r : PlainRule) → IsRule r → HasNoNewline (rule_line n r)
 rule_line_clear n r h = joined (64 ∷ decimal n) (32 ∷ rule_text r) (joined (64 ∷ []) (decimal n) refl (number_clear n)) (joined (32 ∷ []) (rule_text r) refl (rule_text_clear r h))
 
-abbrev interface_of : PlainRule → List ℕ
-interface_of r = interface_text r.interface
-
-lines_clear : (n : ℕ) (rs : List PlainRule) → NoneHasNewline (map interface_of rs) → NoneHasNewline (rule_lines n rs)
+lines_clear : (n : ℕ) (rs : List PlainRule) → AreRules rs → NoneHasNewline (rule_lines n rs)
 lines_clear n [] all = tt
 lines_clear n (r ∷ rs) all = (rule_line_clear n r all.0, lines_clear (n + 1) rs all.1)
 
@@ -252,7 +235,33 @@ length-rule_lines : (n : ℕ) (rs : List PlainRule) → length (rule_lines n rs)
 length-rule_lines n [] = refl
 length-rule_lines n (r ∷ rs) = omega (arith, length-rule_lines (n + 1) rs)
 
-pub reply_lined : (r : Reply) → NoneHasNewline (names_in r) → HasLines (line_count r) (reply_text r)
-reply_lined r all =
+pub reply_lined : (r : Reply) → HasNoNewline (path_in r) → AreRules (shown_in r) → HasLines (line_count r) (reply_text r)
+reply_lined r path kept =
     let rules = rule_lines 0 (shown_in r) in
-    (reply_lines r, refl, clear-append rules (last_line r ∷ []) (lines_clear 0 (shown_in r) all.1) (words_clear r all.0, tt), omega (arith, length-append rules (last_line r ∷ []), length-rule_lines 0 (shown_in r)))
+    (reply_lines r, refl, clear-append rules (last_line r ∷ []) (lines_clear 0 (shown_in r) kept) (words_clear r path, tt), omega (arith, length-append rules (last_line r ∷ []), length-rule_lines 0 (shown_in r)))
+
+-- ---- what the types keep
+
+components_clear : (parts : List (List ℕ)) → AreComponents parts → NoneHasNewline parts
+components_clear [] all = tt
+components_clear (c ∷ cs) all = (name_clear c all.0.bytes, components_clear cs all.1)
+
+-- a path's text has none, as the law of paths says
+pub path_clear : FaultsAllElse → (p : List ℕ) → is_path p ≡ true → HasNoNewline p
+path_clear law [] e = refl
+path_clear law (b ∷ bs) e =
+    let is : IsPathText (b ∷ bs) = law (b ∷ bs) (none (path_fault (b ∷ bs)) e) in
+    subst HasNoNewline (sym is.joined) (join_clear 47 refl is.parts (components_clear is.parts is.each)) where
+      none : (o : Option Kind) → is_none o ≡ true → o ≡ None
+      none None h = refl
+      none (Some k) h = absurd cc
+
+pub one_more : (rs : List PlainRule) (i : ℕ) (other : PlainRule) → i < length rs → AreRules (take i rs) → IsRule (get_or rs i other) → AreRules (take (i + 1) rs)
+one_more [] i other lt all is = absurd (omega arith)
+one_more (r ∷ rs) zero other lt all is = (is, tt)
+one_more (r ∷ rs) (suc i) other lt all is =
+    let next : suc (i + 1) ≡ suc i + 1 = omega arith in
+    subst (λ (n : ℕ). AreRules (take n (r ∷ rs))) next (all.0, one_more rs i other (omega arith) all.1 is)
+
+pub all_taken : (rs : List PlainRule) (i : ℕ) → length rs ≤ i → AreRules (take i rs) → AreRules rs
+all_taken rs i le all = subst AreRules (take_all i rs le) all

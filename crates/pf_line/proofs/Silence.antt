@@ -3,7 +3,7 @@ use Rattle.std.proofs.Common.{◌≡◌, ℕ, ◌+◌, ◌<◌, ◌≤◌, Bool,
 use Rattle.std.specs.Prelude.{◌==◌, filter, nat_lt}
 use Rattle.std.specs.List.{slice_split, onto_first}
 use Rattle.std.proofs.lemmas.List.{at_drop_more, at_drop_all}
-use Rattle.pf_rule.specs.Words.{Word, is_blank}
+use Rattle.pf_form.specs.Words.{Word, is_blank}
 use Rattle.pf_line.specs.Lines.{no_command, is_silent}
 
 -- whether there is no first ink, or it begins a comment

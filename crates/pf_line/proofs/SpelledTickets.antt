@@ -1,37 +1,22 @@
 -- A word is read as a ticket exactly where it spells it.
-use Rattle.std.proofs.Common.{◌≡◌, ℕ, ◌+◌, ◌*◌, ◌-◌, ◌^◌, ◌<◌, ◌&&◌, Bool, true, false, List, [], ◌∷◌, ◌++◌, length, take, drop, Some, None, Option, refl, sym, ap, subst, ◌∙◌, arith, rules, append_assoc}
-use Rattle.std.specs.Prelude.{fold, if◌then◌else◌, nat_lt, nat_le}
-use Rattle.std.specs.List.{list_all, position}
-use Rattle.std.proofs.lemmas.Bool.{and_parts, ltb-true, leb-true, lt-ltb, le-leb}
+use Rattle.std.proofs.Common.{◌≡◌, ℕ, ◌+◌, ◌^◌, ◌<◌, Bool, true, false, List, ◌∷◌, ◌++◌, length, take, drop, Some, None, Option, refl, sym, ap, subst, ◌∙◌, arith, append_assoc, [] }
+use Rattle.std.specs.Prelude.{if◌then◌else◌, nat_lt}
+use Rattle.std.specs.List.{position}
+use Rattle.std.proofs.lemmas.Bool.{ltb-true, lt-ltb}
 use Rattle.std.proofs.lemmas.List.{take_at, drop_at, length-append}
-use Rattle.std.proofs.lemmas.Str.Parse.{IsNumeralModel, numerals_by_fold}
-use Rattle.pf_addr.specs.Reading.{is_digit, decimal_value}
+use Rattle.pf_form.specs.Words.{Word}
+use Rattle.pf_form.specs.Numbers.{number_of}
+use Rattle.pf_form.specs.NumberLaws.{number_found, number_only}
 use Rattle.pf_addr.proofs.Dots.{digits_without, place_after, cut_there}
-use Rattle.pf_rule.specs.Words.{Word}
-use Rattle.pf_rule.specs.Values.{number_of}
-use Rattle.pf_core.specs.declared.command.Ticket.{Ticket}
-use Rattle.pf_core.specs.Calls.{ticket}
+use Rattle.pf_ticket.specs.declared.ticket.Ticket.{Ticket}
+use Rattle.pf_ticket.specs.Names.{ticket}
 use Rattle.pf_line.specs.Tickets.{is_dot, of_32_bits, part_of, ticket_with, cut_at, ticket_of}
 use Rattle.pf_line.specs.TicketGrammar.{IsPart, SpellsTicket}
 
 -- ---- an epoch or a count
 
-abbrev IsDigits : List ℕ → Type 0
-IsDigits ds = list_all is_digit ds ≡ true
-
-abbrev read_on : ℕ → List ℕ → ℕ
-read_on n ds = fold (λ v b. v * 10 + (b - 48)) n ds
-
-own : IsNumeralModel IsDigits (read_on 0)
-own = numerals_by_fold IsDigits (search rules) read_on (search rules)
-
 part_read : (text : List ℕ) (n : ℕ) → IsPart text n → part_of text ≡ Some n
-part_read text n is =
-    let some : nat_lt 0 (length text) ≡ true = lt-ltb 0 (length text) is.digits.0 in
-    let few : nat_le (length text) 10 ≡ true = le-leb (length text) 10 is.few in
-    let all : list_all is_digit text ≡ true = own.from text is.digits.1 in
-    let value : decimal_value text ≡ n = own.same text is.digits.1 ∙ is.value in
-    rw (some, few, all, value, lt-ltb n (2 ^ 32) is.small) refl
+part_read text n is = rw (number_only 10 text n is.number, lt-ltb n (2 ^ 32) is.small) refl
 
 where_true : (t : Bool) (m n : ℕ) → (if t then Some m else None) ≡ Some n → (t ≡ true) × (m ≡ n)
 where_true true m n e = let same : m ≡ n = cc in (refl, same)
@@ -46,11 +31,7 @@ low_number (Some m) n e =
 part_found : (text : List ℕ) (n : ℕ) → part_of text ≡ Some n → IsPart text n
 part_found text n e =
     let low = low_number (number_of 10 text) n e in
-    let is = where_true (nat_lt 0 (length text) && nat_le (length text) 10 && list_all is_digit text) (decimal_value text) n low.0 in
-    let tests = and_parts (nat_lt 0 (length text) && nat_le (length text) 10) (list_all is_digit text) is.0 in
-    let long = and_parts (nat_lt 0 (length text)) (nat_le (length text) 10) tests.0 in
-    let ds = own.to text tests.1 in
-    record { digits = (ltb-true 0 (length text) long.0, ds); few = leb-true (length text) 10 long.1; value = sym (own.same text ds) ∙ is.1; small = low.1 }
+    record { number = number_found 10 text n low.0; small = low.1 }
 
 -- ---- a ticket
 
@@ -62,7 +43,7 @@ behind xs ys =
 pub spelled_is_read : (t : Ticket) (w : Word) → SpellsTicket t w → ticket_of w ≡ Some t
 unfolding ticket_of
 spelled_is_read t w is =
-    let at : position is_dot w ≡ Some (length is.front) = ap (position is_dot) is.dotted ∙ place_after 46 is.front is.rest (digits_without 46 is.front (omega arith) is.epoch.digits.1) in
+    let at : position is_dot w ≡ Some (length is.front) = ap (position is_dot) is.dotted ∙ place_after 46 is.front is.rest (digits_without 46 is.front (omega arith) is.epoch.number.digits.1) in
     let front : take (length is.front) w ≡ is.front = ap (take (length is.front)) is.dotted ∙ take_at is.front (46 ∷ is.rest) (length is.front) refl in
     let rest : drop (length is.front + 1) w ≡ is.rest = ap (drop (length is.front + 1)) is.dotted ∙ behind is.front is.rest in
     rw (at, front, rest, part_read is.front t.epoch is.epoch, part_read is.rest t.count is.count) refl

@@ -2,7 +2,7 @@
 use Rattle.std.proofs.Common.{◌≡◌, ℕ, zero, suc, ◌+◌, ◌-◌, ◌<◌, List, ◌∷◌, ◌++◌, Option, refl, sym, ap, ◌∙◌, subst, arith, append_assoc, append-nil, zero-add, add-zero}
 use Rattle.std.specs.Io.KnownBytes.{Appends}
 use Rattle.pf_addr.specs.Writing.{WritesFront, Appends-then, WritesFront-longer, WritesFront-then}
-use Rattle.pf_core.specs.Calls.{ticket, tickets_from}
+use Rattle.pf_ticket.specs.Names.{ticket, tickets_from}
 use Rattle.pf_line.specs.Tickets.{ticket_text}
 use Rattle.pf_line.specs.Replies.{tickets_text}
 

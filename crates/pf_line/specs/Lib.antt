@@ -1,10 +1,5 @@
-pub mod Keywords
-pub mod Making
-pub mod Listing
 pub mod Tickets
 pub mod TicketGrammar
 pub mod Grammar
-pub mod Reading
-pub mod Commands
 pub mod Lines
 pub mod Replies

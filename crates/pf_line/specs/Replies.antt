@@ -3,20 +3,20 @@ use Rattle.std.specs.Prelude.{◌≡◌, ℕ, ◌+◌, ◌==◌, not, true, List
 use Rattle.std.specs.List.{list_all}
 use Rattle.pf_rule.specs.declared.rule.Action.{Action}
 use Rattle.pf_rule.specs.declared.rule.Action.TheVariants.{Pass, Block}
-use Rattle.pf_rule.specs.Rules.{PlainRule}
+use Rattle.pf_rule.specs.Rules.{PlainRule, IsRule}
 use Rattle.pf_rule.specs.RuleText.{rule_text}
-use Rattle.pf_core.specs.declared.command.Ticket.{Ticket}
+use Rattle.pf_ticket.specs.declared.ticket.Ticket.{Ticket}
 use Rattle.pf_core.specs.declared.reply.Answer.{Answer}
 use Rattle.pf_core.specs.declared.reply.Answer.TheVariants as answers
 use Rattle.pf_core.specs.declared.reply.Refusal.{Refusal}
 use Rattle.pf_core.specs.declared.reply.Refusal.TheVariants as refusals
 use Rattle.pf_core.specs.declared.reply.Reply.{Reply}
 use Rattle.pf_core.specs.declared.reply.Reply.TheVariants as replies
-use Rattle.pf_core.specs.declared.reply.RuleVerdict.{RuleVerdict}
-use Rattle.pf_core.specs.declared.reply.RuleVerdict.TheVariants.{Rule, Default}
+use Rattle.pf_anchor.specs.declared.verdict.RuleVerdict.{RuleVerdict}
+use Rattle.pf_anchor.specs.declared.verdict.RuleVerdict.TheVariants.{Rule, Default}
 use Rattle.pf_core.specs.declared.reply.Verdict.{Verdict}
 use Rattle.pf_core.specs.declared.reply.Verdict.TheVariants.{Rules}
-use Rattle.pf_core.specs.Calls.{tickets_of}
+use Rattle.pf_ticket.specs.Names.{tickets_of}
 use Rattle.pf_line.specs.Tickets.{ticket_text}
 
 -- each ticket behind a space (32)
@@ -69,15 +69,12 @@ last_line (replies.Refused e) = refusal_text e
 -- ---- rules that are shown
 
 abbrev pub answer_rules : Answer → List PlainRule
-answer_rules (answers.Given g) = []
-answer_rules answers.Done = []
-answer_rules (answers.Judged v) = []
 answer_rules (answers.Rules rules) = rules
+answer_rules _ = []
 
 abbrev pub shown_in : Reply → List PlainRule
 shown_in (replies.Answer a) = answer_rules a
-shown_in (replies.Applied seq outcome) = []
-shown_in (replies.Refused e) = []
+shown_in _ = []
 
 -- an at sign (64) with the rule's number, and the rule's canonical text behind a space (32)
 abbrev pub rule_line : ℕ → PlainRule → List ℕ
@@ -126,21 +123,15 @@ abbrev pub verdict_path : Verdict → List ℕ
 verdict_path (Rules v) = rule_path v
 
 abbrev pub answer_path : Answer → List ℕ
-answer_path (answers.Given g) = []
-answer_path answers.Done = []
 answer_path (answers.Judged v) = verdict_path v
-answer_path (answers.Rules rules) = []
+answer_path _ = []
 
 -- the path that a reply names
 abbrev pub path_in : Reply → List ℕ
 path_in (replies.Answer a) = answer_path a
-path_in (replies.Applied seq outcome) = []
-path_in (replies.Refused e) = []
+path_in _ = []
 
-abbrev pub interface_text : Option (List ℕ) → List ℕ
-interface_text None = []
-interface_text (Some name) = name
-
--- the path and the interfaces that a reply names
-abbrev pub names_in : Reply → List (List ℕ)
-names_in r = path_in r ∷ map (λ rule. interface_text rule.interface) (shown_in r)
+-- what the type of a rule keeps, of each
+abbrev pub AreRules : List PlainRule → Type 0
+AreRules [] = Unit {0}
+AreRules (r ∷ rs) = IsRule r × AreRules rs

@@ -1,15 +1,13 @@
 -- Which words spell a ticket, by cases.
-use Rattle.std.specs.Prelude.{◌≡◌, ℕ, ◌<◌, ◌≤◌, ◌^◌, List, ◌∷◌, ◌++◌, length}
-use Rattle.std.specs.Str.Parse.{IsNumeral, digits_value}
-use Rattle.pf_rule.specs.Words.{Word}
-use Rattle.pf_core.specs.declared.command.Ticket.{Ticket}
-use Rattle.pf_line.specs.Tickets.{digit_limit}
+use Rattle.std.specs.Prelude.{◌≡◌, ℕ, ◌<◌, ◌^◌, List, ◌∷◌, ◌++◌}
+use Rattle.pf_form.specs.Words.{Word}
+use Rattle.pf_form.specs.Numbers.{IsNumber}
+use Rattle.pf_ticket.specs.declared.ticket.Ticket.{Ticket}
+use Rattle.pf_line.specs.declared.ticket.TheConstants.{DIGIT_LIMIT}
 
 -- a number of 32 bits in 1 to 10 decimal digits, of which the first may be zeros
 pub record IsPart (text : List ℕ) (n : ℕ) : Type 0 where
-  pub digits : IsNumeral 10 text
-  pub few : length text ≤ digit_limit
-  pub value : digits_value 10 text ≡ n
+  pub number : IsNumber DIGIT_LIMIT text n
   pub small : n < 2 ^ 32
 
 -- the epoch's digits, a dot (46) and the count's digits

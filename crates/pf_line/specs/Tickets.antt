@@ -1,14 +1,11 @@
 -- The text of a ticket: its epoch and its count in decimal digits, with a dot between them.
 use Rattle.std.specs.Prelude.{ℕ, ◌+◌, ◌^◌, ◌==◌, nat_lt, Bool, List, ◌∷◌, ◌++◌, take, drop, Option, Some, None, if◌then◌else◌, decimal}
 use Rattle.std.specs.List.{position}
-use Rattle.pf_rule.specs.Words.{Word}
-use Rattle.pf_rule.specs.Values.{number_of}
-use Rattle.pf_core.specs.declared.command.Ticket.{Ticket}
-use Rattle.pf_core.specs.Calls.{ticket}
-
--- how many digits a part may have, leading zeros among them
-abbrev pub digit_limit : ℕ
-digit_limit = 10
+use Rattle.pf_form.specs.Words.{Word}
+use Rattle.pf_form.specs.Numbers.{number_of}
+use Rattle.pf_ticket.specs.declared.ticket.Ticket.{Ticket}
+use Rattle.pf_ticket.specs.Names.{ticket}
+use Rattle.pf_line.specs.declared.ticket.TheConstants.{DIGIT_LIMIT}
 
 -- a number of 32 bits
 abbrev pub of_32_bits : Option ℕ → Option ℕ
@@ -17,7 +14,7 @@ of_32_bits (Some n) = if nat_lt n (2 ^ 32) then Some n else None
 
 -- an epoch or a count: 1 to 10 digits of a number of 32 bits
 abbrev pub part_of : Word → Option ℕ
-part_of w = of_32_bits (number_of digit_limit w)
+part_of w = of_32_bits (number_of DIGIT_LIMIT w)
 
 abbrev pub ticket_with : Option ℕ → Option ℕ → Option Ticket
 ticket_with (Some e) (Some c) = Some (ticket e c)

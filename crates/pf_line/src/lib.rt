@@ -2,14 +2,11 @@
 #![tactic(auto)]
 
 mod commands;
-mod keyword;
 pub mod laws;
 mod line;
 mod reply;
 mod ticket;
 
-pub use line::parse_line;
+pub use line::{LINE_LIMIT, parse_line};
 pub use reply::write_reply;
-
-#[cfg(test)]
-mod tests;
+pub use ticket::DIGIT_LIMIT;

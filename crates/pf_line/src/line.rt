@@ -1,16 +1,19 @@
 //! Lines.
-ghost use Rattle.std.specs.Prelude.{◌≡◌, ℕ, true, false, Some, None, Ok, Err, IfOk, IfErr, IfSome, length};
+ghost use Rattle.std.specs.Prelude.{◌≡◌, ◌-◌, ℕ, true, false, Some, None, Ok, Err, IfOk, IfErr, IfSome, length};
 ghost use Rattle.std.specs.List.{list_all};
-ghost use Rattle.pf_rule.specs.Words.{is_blank, words_of};
+ghost use Rattle.pf_form.specs.Words.{is_blank, words_of};
 ghost use Rattle.pf_core.specs.declared.command.Command.{Command};
 ghost use Rattle.pf_core.specs.declared.reply.Refusal.TheVariants.{BadLine};
 ghost use Rattle.pf_line.specs.Grammar.{SpellsLine};
-ghost use Rattle.pf_line.specs.Lines.{is_line_byte, is_bad_line, is_silent, line_at, said_by, refusal_in, Parses, Tells, Refused};
+ghost use Rattle.pf_line.specs.Lines.{is_line_byte, is_bad_line, is_silent, line_at, said_by, refusal_at, Parses, Tells, Refused};
 
-use crate::commands::{Unread, command};
+use crate::commands::command;
 use pf_core::{Command, Refusal};
-use pf_rule::{Kind, Misread, words};
+use pf_form::{Kind, Stop, Unread, words};
 use std::alloc::Global;
+
+/// How many bytes a line may have, without its newline.
+pub const LINE_LIMIT: usize = 4096;
 
 fn line_byte(b: u8) -> bool
     ensures { result ≡ is_line_byte b }
@@ -28,7 +31,7 @@ fn all_line_bytes(line: &[u8]) -> bool
 fn bad_line(line: &[u8]) -> bool
     ensures { result ≡ is_bad_line line.now }
 {
-    4096 < line.len() || !all_line_bytes(line)
+    LINE_LIMIT < line.len() || !all_line_bytes(line)
 }
 
 fn blank(b: u8) -> bool
@@ -49,20 +52,15 @@ fn silent(line: &[u8]) -> bool
     true
 }
 
-/// The refusal of a line of so many words.
-fn refusal(count: usize, misread: Misread) -> Refusal
-    ensures { result ≡ refusal_in count misread }
+/// The refusal of a line of so many words that stop there.
+fn refusal(stop: Stop, count: usize) -> Refusal
+    ensures { result ≡ refusal_at stop.kind (count - stop.left) }
 {
-    match misread {
-        Misread::Stopped(stop) => {
-            let at = count.saturating_sub(stop.left);
-            match stop.kind {
-                Kind::BadWord => Refusal::BadWord { at },
-                Kind::NameTooLong => Refusal::NameTooLong { at },
-                Kind::BadProto => Refusal::BadProto { at },
-            }
-        }
-        Misread::MixedFamily => Refusal::MixedFamily,
+    let at = count.saturating_sub(stop.left);
+    match stop.kind {
+        Kind::BadWord => Refusal::BadWord { at },
+        Kind::NameTooLong => Refusal::NameTooLong { at },
+        Kind::BadProto => Refusal::BadProto { at },
     }
 }
 
@@ -104,8 +102,9 @@ fn read(alloc: Global, line: &[u8]) -> Result<Option<Command>, Refusal>
         return Err(Refusal::Memory);
     };
     match command(alloc, &words) {
-        Ok(command) => Ok(Some(command)),
-        Err(Unread::Misread(misread)) => Err(refusal(words.len(), misread)),
+        Ok(Some(command)) => Ok(Some(command)),
+        Ok(None) => Err(Refusal::MixedFamily),
+        Err(Unread::Stopped(stop)) => Err(refusal(stop, words.len())),
         Err(Unread::Memory) => Err(Refusal::Memory),
     }
 }

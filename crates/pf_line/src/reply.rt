@@ -4,13 +4,15 @@
 ghost use Rattle.std.specs.Prelude.{◌≡◌, ◌+◌, [], ◌∷◌, ◌++◌, codes, decimal};
 ghost use Rattle.pf_addr.specs.Writing.{Writes};
 ghost use Rattle.pf_rule.specs.RuleText.{rule_text};
-ghost use Rattle.pf_core.specs.Calls.{ticket as the_ticket, tickets_from, tickets_of};
+ghost use Rattle.pf_ticket.specs.Names.{ticket as the_ticket, tickets_from, tickets_of};
 ghost use Rattle.pf_line.specs.Tickets.{ticket_text};
 ghost use Rattle.pf_line.specs.Replies.{tickets_text, place_text, action_text, rule_verdict_text, verdict_text, answer_text, refusal_text, last_line, shown_in, rule_line, rule_lines, lines_text, reply_text};
 
 use pf_addr::{write_number, write_text};
-use pf_core::{Answer, Given, Outcome, Path, Refusal, Reply, RuleVerdict, Ticket, Verdict};
+use pf_anchor::{Path, RuleVerdict};
+use pf_core::{Answer, Refusal, Reply, Verdict};
 use pf_rule::{Action, Rule};
+use pf_ticket::TicketRange;
 use std::io::{self, Write};
 
 /// Writes the reply's text: of a shown ruleset a line for each rule, and of each reply one line behind them.
@@ -22,7 +24,7 @@ pub fn write_reply<W: Write>(out: &mut W, reply: &Reply) -> io::Result<()>
 }
 
 /// The rules that a reply shows.
-fn shown(reply: &Reply) -> &[Rule]
+pub(crate) fn shown(reply: &Reply) -> &[Rule]
     ensures { result.now ≡ shown_in reply.now }
 {
     match reply {
@@ -154,7 +156,7 @@ fn write_at<W: Write>(out: &mut W, path: &[u8]) -> io::Result<()>
     write_text(out, path)
 }
 
-fn write_given<W: Write>(out: &mut W, given: Given) -> io::Result<()>
+fn write_given<W: Write>(out: &mut W, given: TicketRange) -> io::Result<()>
     ensures { Writes result (W.contents out.old) (W.contents out.new) (codes "ok" ++ tickets_text (tickets_of given)) }
 {
     write_text(out, b"ok")?;
@@ -162,7 +164,7 @@ fn write_given<W: Write>(out: &mut W, given: Given) -> io::Result<()>
 }
 
 /// Writes each ticket behind a space.
-fn write_tickets<W: Write>(out: &mut W, given: Given) -> io::Result<()>
+fn write_tickets<W: Write>(out: &mut W, given: TicketRange) -> io::Result<()>
     ensures { Writes result (W.contents out.old) (W.contents out.new) (tickets_text (tickets_of given)) }
 {
     for i in 0..given.number {

@@ -1,14 +1,28 @@
 //! Texts of tickets.
-ghost use Rattle.std.specs.Prelude.{◌≡◌, ◌<◌, ◌≤◌, ◌-◌, length, IfSome};
-ghost use Rattle.std.specs.List.{list_all, position};
-ghost use Rattle.pf_addr.specs.Reading.{is_digit, decimal_value};
+ghost use Rattle.std.specs.Prelude.{◌≡◌, ◌<◌, length, IfSome};
+ghost use Rattle.std.specs.List.{position};
+ghost use Rattle.pf_line.specs.Grammar.{ticket_word};
 ghost use Rattle.pf_line.specs.Tickets.{is_dot, part_of, ticket_of};
 
-use pf_core::Ticket;
+use pf_form::{Kind, read_number};
+use pf_ticket::Ticket;
+
+
+/// How many digits an epoch or a count may have, leading zeros among them.
+pub const DIGIT_LIMIT: usize = 10;
 
 /// The ticket that a word spells: two numbers of 1 to 10 decimal digits, each below 2^32, with a dot between them.
+pub(crate) fn read_ticket(word: &[u8]) -> Result<Ticket, Kind>
+    ensures { result ≡ ticket_word word.now }
+{
+    match ticket(word) {
+        Some(ticket) => Ok(ticket),
+        None => Err(Kind::BadWord),
+    }
+}
+
 #[tactic(auto, unfolding(crate::specs::Tickets::ticket_of))]
-pub(crate) fn read_ticket(word: &[u8]) -> Option<Ticket>
+fn ticket(word: &[u8]) -> Option<Ticket>
     ensures { result ≡ ticket_of word.now }
 {
     let dot = first_dot(word)?;
@@ -24,48 +38,12 @@ fn first_dot(word: &[u8]) -> Option<usize>
     word.iter().position(|b| *b == b'.')
 }
 
-/// A part of a ticket: 1 to 10 digits of a number below 2^32.
+/// An epoch or a count.
 fn part(text: &[u8]) -> Option<u32>
     ensures { result ≡ part_of text.now }
 {
-    if text.is_empty() || 10 < text.len() || !all_digits(text) {
-        return None;
+    match read_number(text, DIGIT_LIMIT) {
+        Some(number) if number < 0x1_0000_0000 => Some(number as u32),
+        _ => None,
     }
-    let value = value_of(text);
-    if value < 0x1_0000_0000 {
-        Some(value as u32)
-    } else {
-        None
-    }
-}
-
-fn all_digits(text: &[u8]) -> bool
-    ensures { result ≡ list_all is_digit text.now }
-{
-    text.iter().all(|b| digit(*b))
-}
-
-fn digit(b: u8) -> bool
-    ensures { result ≡ is_digit b }
-{
-    b'0' <= b && b <= b'9'
-}
-
-fn figure(b: u8) -> u64
-    ensures value { result ≡ b - 48 }
-    ensures small { result < 208 }
-{
-    u64::from(b.saturating_sub(b'0'))
-}
-
-/// The number that at most 10 digits write.
-fn value_of(digits: &[u8]) -> u64
-    requires { length digits.now ≤ 10 }
-    ensures { result ≡ decimal_value digits.now }
-{
-    let mut value = 0;
-    for digit in digits {
-        value = value * 10 + figure(*digit);
-    }
-    value
 }

@@ -1,8 +1,6 @@
 pub mod Nets
 pub mod Kept
 pub mod Answering
-pub mod RuleAnswers
-pub mod PacketAnswers
 pub mod Spacing
+pub mod Written
 pub mod Canonical
-pub mod WordsAgain

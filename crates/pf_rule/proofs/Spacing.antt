@@ -3,7 +3,7 @@ use Rattle.std.proofs.Common.{◌≡◌, ℕ, Bool, true, false, List, [], ◌�
 use Rattle.std.specs.Prelude.{filter, nat_lt}
 use Rattle.std.specs.List.{join_with_byte, All}
 use Rattle.std.proofs.lemmas.List.Splits.{slice_split_none, slice_split_at}
-use Rattle.pf_rule.specs.Words.{Word, is_blank, words_of}
+use Rattle.pf_form.specs.Words.{Word, is_blank, words_of}
 use Rattle.pf_rule.specs.Rules.{PlainRule}
 use Rattle.pf_rule.specs.RuleText.{action_word, direction_words, quick_words, interface_words, family_words, protocol_words, host_words, state_words, rule_text, spaced}
 
@@ -26,17 +26,13 @@ six a b c d e f g =
     ∙ ap (λ (t : List ℕ). spaced d ++ t) (spaced-append e (f ++ g)
     ∙ ap (λ (t : List ℕ). spaced e ++ t) (spaced-append f g)))))
 
--- the text in three parts
-regroup : (o a b c d e f g : List ℕ) → o ++ (a ++ (b ++ (c ++ (d ++ (e ++ (f ++ g)))))) ≡ (o ++ (a ++ (b ++ c))) ++ ((d ++ (e ++ f)) ++ g)
-regroup o a b c d e f g = simp append_assoc
-
-pub in_three : (r : PlainRule) → rule_text r ≡ (action_word r.action ++ (spaced (direction_words r.direction) ++ (spaced (quick_words r.quick) ++ spaced (interface_words r.interface))))
-    ++ ((spaced (family_words r.family) ++ (spaced (protocol_words r.protocol) ++ spaced (host_words r.source r.destination))) ++ spaced (state_words r.action))
+-- a rule's text, part by part
+pub in_order : (r : PlainRule) → rule_text r ≡ action_word r.action ++ (spaced (direction_words r.direction) ++ (spaced (quick_words r.quick) ++ (spaced (interface_words r.interface) ++ (spaced (family_words r.family)
+    ++ (spaced (protocol_words r.protocol) ++ (spaced (host_words r.source r.destination) ++ spaced (state_words r.action)))))))
 unfolding rule_text
-in_three r =
+in_order r =
     first_spaced (action_word r.action) (direction_words r.direction ++ (quick_words r.quick ++ (interface_words r.interface ++ (family_words r.family ++ (protocol_words r.protocol ++ (host_words r.source r.destination ++ state_words r.action))))))
     ∙ ap (λ (t : List ℕ). action_word r.action ++ t) (six (direction_words r.direction) (quick_words r.quick) (interface_words r.interface) (family_words r.family) (protocol_words r.protocol) (host_words r.source r.destination) (state_words r.action))
-    ∙ regroup (action_word r.action) (spaced (direction_words r.direction)) (spaced (quick_words r.quick)) (spaced (interface_words r.interface)) (spaced (family_words r.family)) (spaced (protocol_words r.protocol)) (spaced (host_words r.source r.destination)) (spaced (state_words r.action))
 
 -- ---- and back
 

@@ -1,46 +1,34 @@
--- The grammar of a packet, and what its words say.
-use Rattle.std.specs.Prelude.{◌≡◌, ℕ, List, Result, Ok, Err, if◌then◌else◌}
+-- The grammar of a packet. Own.
+use Rattle.std.specs.Prelude.{◌≡◌, ℕ, true, List, codes, Option, Some, None, if◌then◌else◌}
+use Rattle.std.proofs.Common.{refl}
+use Rattle.pf_form.specs.Forms.{Form, nothing, key, or, pair, pair_by, making, is_decided}
 use Rattle.pf_addr.specs.declared.addr.Addr.{Addr}
 use Rattle.pf_addr.specs.Address.{family_of, same_family}
-use Rattle.pf_rule.specs.declared.keyword.Keyword.{Keyword}
-use Rattle.pf_rule.specs.declared.keyword.Keyword.TheVariants as keyword
-use Rattle.pf_rule.specs.declared.fault.Misread.{Misread}
-use Rattle.pf_rule.specs.declared.fault.Misread.TheVariants.{MixedFamily}
 use Rattle.pf_rule.specs.declared.rule.Direction.{Direction}
 use Rattle.pf_rule.specs.declared.rule.Direction.TheVariants.{In, Out}
-use Rattle.pf_rule.specs.Words.{Word}
-use Rattle.pf_rule.specs.Keywords.{known}
-use Rattle.pf_rule.specs.Combining.{Grammar, Nothing, Never, OneWord, OneOf, Then}
-use Rattle.pf_rule.specs.Values.{interface_of, protocol_of, address_of, port_of}
-use Rattle.pf_rule.specs.Packets.{PlainPacket}
+use Rattle.pf_rule.specs.Values.{an_interface, a_protocol, an_address, a_port}
+use Rattle.pf_rule.specs.Packets.{PlainPacket, has_ports}
 
 -- "in" | "out"
-abbrev pub way : Keyword → Grammar Direction
-way keyword.In = Nothing In
-way keyword.Out = Nothing Out
-way _ = Never
+unfoldable pub way : Form Direction
+way = or (codes "in") (nothing In) (key (codes "out") (nothing Out))
 
--- direction, interface, protocol, source, its port, destination, its port
-abbrev pub PacketParts : Type 0
-PacketParts = Direction × (List ℕ × (ℕ × (Addr × (ℕ × (Addr × ℕ)))))
-
-abbrev pub PacketText : Grammar PacketParts
-PacketText =
-    Then (OneOf known way) (λ d.
-    Then (OneWord interface_of) (λ i.
-    Then (OneWord protocol_of) (λ protocol.
-    Then (OneWord address_of) (λ source.
-    Then (OneWord (port_of protocol)) (λ source_port.
-    Then (OneWord address_of) (λ destination.
-    OneWord (port_of protocol)))))))
-
-abbrev pub packet_with : PacketParts → PlainPacket
+abbrev pub packet_with : Direction × (List ℕ × (ℕ × (Addr × (ℕ × (Addr × ℕ))))) → PlainPacket
 packet_with (d, (i, (p, (s, (sp, (t, tp)))))) = record { direction = d; interface = i; protocol = p; source = s; source_port = sp; destination = t; destination_port = tp }
 
--- after the last word: the addresses have one family
-abbrev pub packet_of : PacketParts → Result PlainPacket Misread
-packet_of x = if same_family (family_of x.1.1.1.0) (family_of x.1.1.1.1.1.0) then Ok (packet_with x) else Err MixedFamily
+-- direction, interface, protocol, source, its port, destination, its port
+abbrev pub packet_words : Form PlainPacket
+packet_words = making packet_with (pair way (pair an_interface (pair_by a_protocol has_ports (λ ports. pair an_address (pair (a_port ports) (pair an_address (a_port ports)))))))
 
--- The words spell the packet.
-abbrev pub SpellsPacket : PlainPacket → List Word → Type 0
-SpellsPacket p ws = (x : PacketParts) × PacketText x ws × (packet_of x ≡ Ok p)
+-- after the last word: a packet has addresses of one family
+abbrev pub of_one_family : PlainPacket → Option PlainPacket
+of_one_family p = if same_family (family_of p.source) (family_of p.destination) then Some p else None
+
+-- The words of a packet, or none where its addresses differ in family.
+unfoldable pub packet : Form (Option PlainPacket)
+packet = making of_one_family packet_words
+
+-- One word of look-ahead decides it.
+pub packet_decided : is_decided packet ≡ true
+unfolding packet way
+packet_decided = refl

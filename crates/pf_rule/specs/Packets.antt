@@ -2,6 +2,7 @@
 use Rattle.std.specs.Prelude.{◌≡◌, ℕ, ◌<◌, ◌==◌, ◌||◌, Bool, false, List}
 use Rattle.pf_addr.specs.declared.addr.Addr.{Addr}
 use Rattle.pf_addr.specs.Address.{family_of, IsAddr}
+use Rattle.pf_rule.specs.declared.protocol.TheConstants.Protocol as protocols
 use Rattle.pf_rule.specs.declared.rule.Direction.{Direction}
 use Rattle.pf_rule.specs.Names.{IsInterfaceName}
 
@@ -16,7 +17,7 @@ pub record PlainPacket : Type 0 where
 
 -- TCP and UDP have ports
 abbrev pub has_ports : ℕ → Bool
-has_ports protocol = (protocol == 6) || (protocol == 17)
+has_ports protocol = (protocol == protocols.TCP) || (protocol == protocols.UDP)
 
 -- what a packet keeps: addresses of one family, and no ports but for a protocol that has them
 pub record IsPacket (p : PlainPacket) : Type 0 where

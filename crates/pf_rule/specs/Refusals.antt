@@ -1,36 +1,37 @@
 -- What reading a text answers: a value, or the one refusal.
-use Rattle.std.specs.Prelude.{◌≡◌, ℕ, ◌-◌, List, Result, Ok, Err}
-use Rattle.pf_rule.specs.declared.fault.Kind.{Kind}
-use Rattle.pf_rule.specs.declared.fault.Kind.TheVariants as kinds
-use Rattle.pf_rule.specs.declared.fault.Misread.{Misread}
-use Rattle.pf_rule.specs.declared.fault.Misread.TheVariants as misreads
+use Rattle.std.specs.Prelude.{◌≡◌, ℕ, ◌-◌, List, length, Option, Some, None, Result, Ok, Err}
+use Rattle.pf_form.specs.declared.fault.Kind.{Kind}
+use Rattle.pf_form.specs.declared.fault.Kind.TheVariants as kinds
+use Rattle.pf_form.specs.Words.{Word}
+use Rattle.pf_form.specs.Forms.{Form, Spells, RefusedAt, read_all}
 use Rattle.pf_rule.specs.declared.fault.TextFault.{TextFault}
 use Rattle.pf_rule.specs.declared.fault.TextFault.TheVariants.{BadWord, NameTooLong, BadProto, MixedFamily, Memory}
-use Rattle.pf_rule.specs.Words.{Word}
-use Rattle.pf_rule.specs.Combining.{Grammar, StopsAt}
 
 abbrev pub fault_at : Kind → ℕ → TextFault
 fault_at kinds.BadWord at = BadWord at
 fault_at kinds.NameTooLong at = NameTooLong at
 fault_at kinds.BadProto at = BadProto at
 
--- the fault of a text of so many words
-abbrev pub fault_in : ℕ → Misread → TextFault
-fault_in count (misreads.Stopped s) = fault_at s.kind (count - s.left)
-fault_in count misreads.MixedFamily = MixedFamily
+-- what was read of so many words, where a value may be none because families differ
+abbrev pub told : {A : Type 0} → ℕ → Result (Option A) (Kind × List Word) → Result A TextFault
+told count (Ok (Some x)) = Ok x
+told count (Ok None) = Err MixedFamily
+told count (Err e) = Err (fault_at e.0 (count - length e.1))
 
--- What was answered is this, unless memory ran out.
-abbrev pub Answers : {A : Type 0} → Result A TextFault → ℕ → Result A Misread → Type 0
-Answers (Ok x) count read = read ≡ Ok x
-Answers (Err Memory) count read = Unit {0}
-Answers (Err e) count (Ok x) = ⊥
-Answers (Err e) count (Err m) = e ≡ fault_in count m
+-- what the words of a text give
+abbrev pub reading : {A : Type 0} → Form (Option A) → List Word → Result A TextFault
+reading text ws = told (length ws) (read_all text ws)
 
--- A refusal of these words, whose parts say a value where they agree. The place is by the grammar alone: the words
--- before it begin a text, with the word at it none does.
-abbrev pub Refused : {A B : Type 0} → Grammar A → (A → Result B Misread) → List Word → TextFault → Type 0
-Refused {A = A} text say ws (BadWord at) = StopsAt A text ws at
-Refused {A = A} text say ws (NameTooLong at) = StopsAt A text ws at
-Refused {A = A} text say ws (BadProto at) = StopsAt A text ws at
-Refused {A = A} text say ws MixedFamily = (x : A) × text x ws × (say x ≡ Err misreads.MixedFamily)
-Refused text say ws Memory = Unit {0}
+-- What was answered is this, unless memory was refused.
+abbrev pub Answers : {A : Type 0} → Result A TextFault → Result A TextFault → Type 0
+Answers (Ok x) expected = expected ≡ Ok x
+Answers (Err Memory) expected = Unit {0}
+Answers (Err e) expected = expected ≡ Err e
+
+-- A refusal of these words. Its place and its kind are by the grammar alone.
+abbrev pub Refused : {A : Type 0} → Form (Option A) → List Word → TextFault → Type 0
+Refused {A = A} text ws (BadWord at) = RefusedAt (Option A) text ws at kinds.BadWord
+Refused {A = A} text ws (NameTooLong at) = RefusedAt (Option A) text ws at kinds.NameTooLong
+Refused {A = A} text ws (BadProto at) = RefusedAt (Option A) text ws at kinds.BadProto
+Refused text ws MixedFamily = Spells text None ws
+Refused text ws Memory = Unit {0}

@@ -4,13 +4,14 @@ use Rattle.std.specs.List.{join_with_byte}
 use Rattle.pf_addr.specs.declared.addr.Family.{Family}
 use Rattle.pf_addr.specs.declared.addr.Family.TheVariants.{V4, V6}
 use Rattle.pf_addr.specs.Spelling.{net_text}
+use Rattle.pf_rule.specs.declared.protocol.TheConstants.Protocol as protocols
 use Rattle.pf_rule.specs.declared.rule.Action.{Action}
 use Rattle.pf_rule.specs.declared.rule.Action.TheVariants.{Pass, Block}
 use Rattle.pf_rule.specs.declared.rule.Direction.{Direction}
 use Rattle.pf_rule.specs.declared.rule.Direction.TheVariants.{In, Out}
 use Rattle.pf_rule.specs.declared.rule.Host.{Host}
 use Rattle.pf_rule.specs.declared.rule.Host.TheVariants.{Any, Net}
-use Rattle.pf_rule.specs.Words.{Word}
+use Rattle.pf_form.specs.Words.{Word}
 use Rattle.pf_rule.specs.Rules.{PlainRule}
 
 abbrev pub action_word : Action → Word
@@ -37,7 +38,7 @@ family_words (Some V6) = codes "inet6" ∷ []
 
 -- the four protocols that have a name, and the numbers of the others
 abbrev pub protocol_word : ℕ → Word
-protocol_word n = if n == 1 then codes "icmp" else (if n == 6 then codes "tcp" else (if n == 17 then codes "udp" else (if n == 58 then codes "icmp6" else decimal n)))
+protocol_word n = if n == protocols.ICMP then codes "icmp" else (if n == protocols.TCP then codes "tcp" else (if n == protocols.UDP then codes "udp" else (if n == protocols.ICMP6 then codes "icmp6" else decimal n)))
 
 abbrev pub protocol_words : Option ℕ → List Word
 protocol_words None = []

@@ -1,59 +1,72 @@
--- The words that stand for values: names, numbers, protocols, hosts, addresses and ports.
-use Rattle.std.specs.Prelude.{ℕ, ◌&&◌, nat_lt, nat_le, Bool, List, length, Option, Some, None, Result, Ok, Err, if◌then◌else◌}
+-- The words that stand for values: names, protocols, hosts, addresses and ports. Each is a test of a word, and a form.
+use Rattle.std.specs.Prelude.{ℕ, ◌&&◌, nat_lt, Bool, true, false, List, [], ◌∷◌, length, codes, Option, Some, None, Result, Ok, Err, if◌then◌else◌}
 use Rattle.std.specs.List.{list_all}
+use Rattle.std.specs.Str.{bytes_eq}
+use Rattle.std.proofs.Common.{◌≡◌, refl}
+use Rattle.pf_form.specs.declared.fault.Kind.{Kind}
+use Rattle.pf_form.specs.declared.fault.Kind.TheVariants.{BadWord, NameTooLong, BadProto}
+use Rattle.pf_form.specs.Words.{Word}
+use Rattle.pf_form.specs.Forms.{Form, word}
 use Rattle.pf_addr.specs.declared.addr.Addr.{Addr}
+use Rattle.pf_addr.specs.declared.addr.Addr.TheVariants as addr
 use Rattle.pf_addr.specs.declared.fault.AddrFault.{AddrFault}
 use Rattle.pf_addr.specs.Address.{Network}
-use Rattle.pf_addr.specs.Reading.{is_digit, decimal_value, net_at, addr_at}
-use Rattle.pf_rule.specs.declared.keyword.Keyword.{Keyword}
-use Rattle.pf_rule.specs.declared.keyword.Keyword.TheVariants as keyword
-use Rattle.pf_rule.specs.declared.fault.Kind.{Kind}
-use Rattle.pf_rule.specs.declared.fault.Kind.TheVariants.{BadWord, NameTooLong, BadProto}
+use Rattle.pf_form.specs.Numbers.{number_of}
+use Rattle.pf_addr.specs.Reading.{numbers_at, parts_at, part_at, net_at, addr_at}
+use Rattle.pf_rule.specs.declared.interface.TheConstants.{INTERFACE_LIMIT}
+use Rattle.pf_rule.specs.declared.protocol.TheConstants.Protocol as protocols
+use Rattle.pf_rule.specs.declared.values.TheConstants.{PROTOCOL_DIGITS, PORT_DIGITS}
 use Rattle.pf_rule.specs.declared.rule.Host.{Host}
 use Rattle.pf_rule.specs.declared.rule.Host.TheVariants.{Any, Net}
-use Rattle.pf_rule.specs.Words.{Word}
-use Rattle.pf_rule.specs.Keywords.{key}
-use Rattle.pf_rule.specs.Names.{is_name_byte, interface_limit}
-use Rattle.pf_rule.specs.Packets.{has_ports}
+use Rattle.pf_rule.specs.Names.{is_name_byte}
 
--- an interface's name; its length is tested first
+-- ---- an interface's name; its length is tested first
+
 abbrev pub is_name : Word → Bool
 is_name w = nat_lt 0 (length w) && list_all is_name_byte w
 
 abbrev pub interface_of : Word → Result (List ℕ) Kind
-interface_of w = if nat_lt interface_limit (length w) then Err NameTooLong else (if is_name w then Ok w else Err BadWord)
+interface_of w = if nat_lt INTERFACE_LIMIT (length w) then Err NameTooLong else (if is_name w then Ok w else Err BadWord)
 
--- the value of 1 to so many digits, of which the first may be zeros
-abbrev pub number_of : ℕ → Word → Option ℕ
-number_of most w = if nat_lt 0 (length w) && nat_le (length w) most && list_all is_digit w then Some (decimal_value w) else None
+abbrev pub an_interface : Form (List ℕ)
+an_interface = word (record { of = interface_of; sample = codes "a"; value = codes "a"; takes = refl })
 
--- a protocol's number
+-- ---- a protocol: its name, or its number (IANA's protocol numbers)
+
+abbrev pub protocol_names : List (Word × ℕ)
+protocol_names = (codes "tcp", protocols.TCP) ∷ (codes "udp", protocols.UDP) ∷ (codes "icmp", protocols.ICMP) ∷ (codes "icmp6", protocols.ICMP6) ∷ (codes "ipv6-icmp", protocols.ICMP6) ∷ []
+
+abbrev pub number_named : List (Word × ℕ) → Word → Option ℕ
+number_named [] w = None
+number_named (n ∷ ns) w = if bytes_eq w n.0 then Some n.1 else number_named ns w
+
 abbrev pub protocol_numbered : Option ℕ → Result ℕ Kind
 protocol_numbered (Some n) = if nat_lt 0 n && nat_lt n 256 then Ok n else Err BadProto
 protocol_numbered None = Err BadProto
 
-abbrev pub protocol_by : Keyword → Word → Result ℕ Kind
-protocol_by keyword.Tcp w = Ok 6
-protocol_by keyword.Udp w = Ok 17
-protocol_by keyword.Icmp w = Ok 1
-protocol_by keyword.Icmp6 w = Ok 58
-protocol_by keyword.Ipv6Icmp w = Ok 58
-protocol_by _ w = protocol_numbered (number_of 3 w)
+abbrev pub named_or : Option ℕ → Result ℕ Kind → Result ℕ Kind
+named_or (Some n) other = Ok n
+named_or None other = other
 
 abbrev pub protocol_of : Word → Result ℕ Kind
-protocol_of w = protocol_by (key w) w
+protocol_of w = named_or (number_named protocol_names w) (protocol_numbered (number_of PROTOCOL_DIGITS w))
 
--- "any" or a network
+abbrev pub a_protocol : Form ℕ
+a_protocol = word (record { of = protocol_of; sample = codes "tcp"; value = protocols.TCP; takes = refl })
+
+-- ---- a host: "any" or a network
+
 abbrev pub host_in : Result Network AddrFault → Result Host Kind
 host_in (Ok n) = Ok (Net n)
 host_in (Err e) = Err BadWord
 
-abbrev pub host_by : Keyword → Word → Result Host Kind
-host_by keyword.Any w = Ok Any
-host_by _ w = host_in (net_at w)
-
 abbrev pub host_of : Word → Result Host Kind
-host_of w = host_by (key w) w
+host_of w = if bytes_eq w (codes "any") then Ok Any else host_in (net_at w)
+
+abbrev pub a_host : Form Host
+a_host = word (record { of = host_of; sample = codes "any"; value = Any; takes = refl })
+
+-- ---- an address
 
 abbrev pub address_in : Result Addr AddrFault → Result Addr Kind
 address_in (Ok a) = Ok a
@@ -62,10 +75,29 @@ address_in (Err e) = Err BadWord
 abbrev pub address_of : Word → Result Addr Kind
 address_of w = address_in (addr_at w)
 
--- a port, which is 0 unless the protocol has ports
-abbrev pub port_numbered : ℕ → Option ℕ → Result ℕ Kind
-port_numbered protocol (Some n) = if nat_lt n (if has_ports protocol then 65536 else 1) then Ok n else Err BadWord
-port_numbered protocol None = Err BadWord
+pub address_taken : address_of (codes "0.0.0.0") ≡ Ok (addr.V4 0)
+unfolding numbers_at parts_at part_at
+address_taken = refl
 
-abbrev pub port_of : ℕ → Word → Result ℕ Kind
-port_of protocol w = port_numbered protocol (number_of 5 w)
+abbrev pub an_address : Form Addr
+an_address = word (record { of = address_of; sample = codes "0.0.0.0"; value = addr.V4 0; takes = address_taken })
+
+-- ---- a port, which is 0 unless the protocol has ports
+
+abbrev pub port_limit : Bool → ℕ
+port_limit true = 65536
+port_limit false = 1
+
+abbrev pub port_numbered : Bool → Option ℕ → Result ℕ Kind
+port_numbered ports (Some n) = if nat_lt n (port_limit ports) then Ok n else Err BadWord
+port_numbered ports None = Err BadWord
+
+abbrev pub port_of : Bool → Word → Result ℕ Kind
+port_of ports w = port_numbered ports (number_of PORT_DIGITS w)
+
+pub port_taken : (ports : Bool) → port_of ports (codes "0") ≡ Ok 0
+port_taken true = refl
+port_taken false = refl
+
+abbrev pub a_port : Bool → Form ℕ
+a_port ports = word (record { of = port_of ports; sample = codes "0"; value = 0; takes = port_taken ports })

@@ -1,47 +1,14 @@
 //! Why a text could not be read.
-ghost use Rattle.std.specs.Prelude.{◌≡◌, ◌≤◌, ◌-◌};
-ghost use Rattle.pf_rule.specs.Refusals.{fault_at};
-ghost use Rattle.pf_rule.specs.declared.fault.Misread.TheVariants.{Stopped};
+ghost use Rattle.std.specs.Prelude.{◌≡◌, ◌-◌, Option, List, Result};
+ghost use Rattle.pf_form.specs.declared.fault.Kind.{Kind};
+ghost use Rattle.pf_form.specs.Readers.{GivesWhole};
+ghost use Rattle.pf_form.specs.Words.{Word};
+ghost use Rattle.pf_rule.specs.Refusals.{fault_at, told};
 ghost use Rattle.pf_rule.specs.declared.fault.TextFault.TheVariants.{Memory};
 
+use pf_form::{Kind, Stop};
 use std::alloc::AllocError;
 use thiserror::Error;
-
-/// What is wrong with a word.
-#[derive(Clone, Copy, Debug, PartialEq, Eq)]
-pub enum Kind {
-    /// The word can't stand where it stands, or is missing.
-    BadWord,
-    /// A name is longer than its limit.
-    NameTooLong,
-    /// The word is no protocol.
-    BadProto,
-}
-
-/// The first word that can't stand where it stands.
-#[derive(Clone, Copy, Debug, PartialEq, Eq)]
-pub struct Stop {
-    pub kind: Kind,
-    /// How many words were left, with the one at fault; 0 where a word is missing.
-    pub left: usize,
-}
-
-/// Why words are no rule or no packet.
-#[derive(Clone, Copy, Debug, PartialEq, Eq)]
-pub enum Misread {
-    /// A word can't stand where it stands, or is missing.
-    Stopped(Stop),
-    /// All words can stand, and their addresses, networks and family aren't of one family.
-    MixedFamily,
-}
-
-impl From<Stop> for Misread {
-    ghost from_gives = { λ s e. e ≡ Stopped s };
-
-    fn from(stop: Stop) -> Misread {
-        Misread::Stopped(stop)
-    }
-}
 
 /// Why a text is no rule or no packet. `at` is the number of a word, from 0, or the number of words where one is missing.
 #[derive(Clone, Copy, Debug, PartialEq, Eq, Error)]
@@ -63,18 +30,26 @@ pub enum TextFault {
     Memory,
 }
 
-impl Stop {
-    /// The fault of a text of so many words.
-    pub(crate) fn in_text(self, count: usize) -> TextFault
-        requires { self.left ≤ count }
-        ensures { result ≡ fault_at self.kind (count - self.left) }
-    {
-        let at = count - self.left;
-        match self.kind {
-            Kind::BadWord => TextFault::BadWord { at },
-            Kind::NameTooLong => TextFault::NameTooLong { at },
-            Kind::BadProto => TextFault::BadProto { at },
-        }
+/// The fault of a text of so many words that stops there.
+fn fault_of(stop: Stop, count: usize) -> TextFault
+    ensures { result ≡ fault_at stop.kind (count - stop.left) }
+{
+    let at = count.saturating_sub(stop.left);
+    match stop.kind {
+        Kind::BadWord => TextFault::BadWord { at },
+        Kind::NameTooLong => TextFault::NameTooLong { at },
+        Kind::BadProto => TextFault::BadProto { at },
+    }
+}
+
+/// What reading a text of so many words answers.
+pub(crate) fn tell<T>(read: Result<Option<T>, Stop>, count: usize) -> Result<T, TextFault>
+    ensures { (q : Result (Option T) (Kind × List Word)) → GivesWhole (λ x. x) read q → result ≡ told count q }
+{
+    match read {
+        Ok(Some(value)) => Ok(value),
+        Ok(None) => Err(TextFault::MixedFamily),
+        Err(stop) => Err(fault_of(stop, count)),
     }
 }
 

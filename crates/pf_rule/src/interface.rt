@@ -5,11 +5,14 @@ ghost use Rattle.pf_rule.specs.Names.{IsInterfaceName};
 
 use std::marker::Model;
 
-/// The name of a network interface, as `em0`: 1 to 15 bytes, each a letter, a digit, `_`, `.` or `-`.
+/// How many bytes an interface's name may have (pf(4)'s `ifname` with its closing zero).
+pub const INTERFACE_LIMIT: usize = 15;
+
+/// The name of a network interface, as `em0`: 1 to [`INTERFACE_LIMIT`] bytes, each a letter, a digit, `_`, `.` or `-`.
 /// It is kept in place, and contracts see it as the list of its bytes.
 #[derive(Clone, Copy)]
 pub struct Interface {
-    bytes: [u8; 15],
+    bytes: [u8; INTERFACE_LIMIT],
     len: u8,
 }
 
@@ -35,7 +38,7 @@ impl Interface {
         requires { IsInterfaceName name.now }
         ensures { result ≡ name.now }
     {
-        let mut bytes = [0; 15];
+        let mut bytes = [0; INTERFACE_LIMIT];
         bytes[..name.len()].copy_from_slice(name);
         Interface {
             bytes,

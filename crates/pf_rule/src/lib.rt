@@ -3,28 +3,22 @@
 
 mod fault;
 mod interface;
-mod keyword;
 mod laws;
 mod packet;
-mod packet_words;
 mod protocol;
 mod rule;
 mod rule_text;
 mod rule_words;
-mod splitting;
+mod value_words;
 mod values;
 
-pub use fault::{Kind, Misread, Stop, TextFault};
-pub use interface::Interface;
+pub use fault::TextFault;
+pub use interface::{INTERFACE_LIMIT, Interface};
 pub use laws::{
-    a_refusal_has_one_place, different_rules_have_different_texts, what_is_spelled_is_kept,
+    a_refusal_is_one, different_rules_have_different_texts, what_is_spelled_is_kept,
     what_is_written_is_read_again,
 };
 pub use packet::Packet;
 pub use protocol::Protocol;
 pub use rule::{Action, Direction, Host, Rule};
-pub use splitting::words;
 pub use values::has_name_bytes;
-
-#[cfg(test)]
-mod tests;

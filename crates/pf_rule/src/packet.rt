@@ -1,19 +1,19 @@
 //! Packets.
-ghost use Rattle.std.specs.Prelude.{◌≡◌, length, IfOk, IfErr, Ok};
-ghost use Rattle.pf_rule.specs.Words.{words_of, texts};
-ghost use Rattle.pf_rule.specs.PacketGrammar.{PacketText, SpellsPacket, packet_of};
-ghost use Rattle.pf_rule.specs.PacketReading.{packet_read};
-ghost use Rattle.pf_rule.specs.RuleParts.{packet_parts};
-ghost use Rattle.pf_rule.specs.Refusals.{Answers, Refused};
+ghost use Rattle.std.specs.Prelude.{◌≡◌, IfOk, IfErr, Ok, Some};
+ghost use Rattle.pf_form.specs.Forms.{Spells};
+ghost use Rattle.pf_form.specs.Readers.{Moves, ReadsWhole};
+ghost use Rattle.pf_form.specs.Words.{words_of};
+ghost use Rattle.pf_rule.specs.PacketGrammar.{packet, way};
+ghost use Rattle.pf_rule.specs.Refusals.{Answers, Refused, reading};
 ghost use Rattle.pf_rule.specs.Packets.{PlainPacket, IsPacket};
 
-use crate::fault::{Misread, TextFault};
+use crate::fault::{TextFault, tell};
 use crate::interface::Interface;
-use crate::packet_words::{PacketParts, read_packet};
 use crate::protocol::Protocol;
 use crate::rule::{Direction, same_family};
-use crate::splitting::words;
+use crate::value_words::{address_word, interface_word, port_word, protocol_word};
 use pf_addr::Addr;
+use pf_form::{Stop, Words, end, expect, takes, words};
 use std::alloc::Global;
 use std::marker::Model;
 
@@ -44,43 +44,42 @@ impl Model for Packet {
 }
 
 impl Packet {
-    /// Reads the words of a packet. It takes no memory.
+    /// Reads a packet from the front of the words that are left. It takes no memory.
     ///
-    /// A refusal stands at the first word at which no text can go on; [`Misread::MixedFamily`] comes after the last word.
-    pub fn from_words(words: &[&[u8]]) -> Result<Packet, Misread>
-        ensures found { IfOk result (λ p. SpellsPacket p (texts words.now)) }
-        ensures only { (p : PlainPacket) → SpellsPacket p (texts words.now) → result ≡ Ok p }
-        ensures exact { result ≡ packet_read (texts words.now) }
+    /// A refusal stands at the first word at which no packet can go on. None where the addresses differ in family.
+    #[tactic(auto, unfolding(crate::specs::PacketGrammar::packet))]
+    pub fn read<'a>(words: &mut Words<'a>) -> Result<Option<Packet>, Stop>
+        ensures { Moves packet result words.old.now words.new.now }
     {
-        Packet::read_all(words)
+        let direction = read_way(words)?;
+        let interface = interface_word(words)?;
+        let protocol = protocol_word(words)?;
+        let ports = protocol.has_ports();
+        let source = address_word(words)?;
+        let source_port = port_word(ports, words)?;
+        let destination = address_word(words)?;
+        let destination_port = port_word(ports, words)?;
+        if !same_family(source.family(), destination.family()) {
+            return Ok(None);
+        }
+        Ok(Some(Packet {
+            direction,
+            interface,
+            protocol,
+            source,
+            source_port,
+            destination,
+            destination_port,
+        }))
     }
 
-    // Kept apart, so that the answer is proved once for each way out.
-    fn read_all(words: &[&[u8]]) -> Result<Packet, Misread>
-        ensures { result ≡ packet_read (texts words.now) }
+    fn read_all<'a>(words: Words<'a>) -> Result<Option<Packet>, Stop>
+        ensures { ReadsWhole (λ x. x) packet result words.now }
     {
-        match read_packet(words) {
-            Ok(parts) => Packet::from_parts(parts),
-            Err(stop) => Err(Misread::Stopped(stop)),
-        }
-    }
-
-    fn from_parts(parts: PacketParts) -> Result<Packet, Misread>
-        requires { (p : PlainPacket) → packet_of (packet_parts parts) ≡ Ok p → IsPacket p }
-        ensures { result ≡ packet_of (packet_parts parts) }
-    {
-        if !same_family(parts.source.family(), parts.destination.family()) {
-            return Err(Misread::MixedFamily);
-        }
-        Ok(Packet {
-            direction: parts.direction,
-            interface: parts.interface,
-            protocol: parts.protocol,
-            source: parts.source,
-            source_port: parts.source_port,
-            destination: parts.destination,
-            destination_port: parts.destination_port,
-        })
+        let mut rest = words;
+        let packet = Packet::read(&mut rest)?;
+        end(rest)?;
+        Ok(packet)
     }
 
     /// Reads the text of a packet: its words between blanks.
@@ -90,23 +89,20 @@ impl Packet {
     /// protocol, [`TextFault::BadWord`] for any other. [`TextFault::MixedFamily`] comes after the last word, and
     /// [`TextFault::Memory`] where memory for the list of words is refused.
     pub fn parse(alloc: Global, text: &str) -> Result<Packet, TextFault>
-        ensures found { IfOk result (λ p. SpellsPacket p (words_of text.now)) }
-        ensures only { (p : PlainPacket) → SpellsPacket p (words_of text.now) → Answers result (length (words_of text.now)) (Ok p) }
-        ensures refused { IfErr result (λ e. Refused PacketText packet_of (words_of text.now) e) }
-        ensures exact { Answers result (length (words_of text.now)) (packet_read (words_of text.now)) }
+        ensures found { IfOk result (λ p. Spells packet (Some p) (words_of text.now)) }
+        ensures only { (p : PlainPacket) → Spells packet (Some p) (words_of text.now) → Answers result (Ok p) }
+        ensures refused { IfErr result (λ e. Refused packet (words_of text.now) e) }
+        ensures exact { Answers result (reading packet (words_of text.now)) }
     {
         Packet::parse_bytes(alloc, text.as_bytes())
     }
 
+    // Kept apart, so that the answer is proved once for each way out.
     fn parse_bytes(alloc: Global, text: &[u8]) -> Result<Packet, TextFault>
-        ensures { Answers result (length (words_of text.now)) (packet_read (words_of text.now)) }
+        ensures { Answers result (reading packet (words_of text.now)) }
     {
         let words = words(alloc, text)?;
-        match Packet::from_words(&words) {
-            Ok(packet) => Ok(packet),
-            Err(Misread::Stopped(stop)) => Err(stop.in_text(words.len())),
-            Err(Misread::MixedFamily) => Err(TextFault::MixedFamily),
-        }
+        tell(Packet::read_all(&words), words.len())
     }
 
     /// Which way the packet goes through its interface.
@@ -159,4 +155,16 @@ impl Packet {
     {
         self.destination_port
     }
+}
+
+/// The direction, which each packet has.
+#[tactic(auto, unfolding(crate::specs::PacketGrammar::way))]
+fn read_way<'a>(words: &mut Words<'a>) -> Result<Direction, Stop>
+    ensures { Moves way result words.old.now words.new.now }
+{
+    if takes(words, b"in") {
+        return Ok(Direction::In);
+    }
+    expect(words, b"out")?;
+    Ok(Direction::Out)
 }

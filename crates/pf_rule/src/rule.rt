@@ -1,21 +1,24 @@
 //! Filter rules.
-ghost use Rattle.std.specs.Prelude.{◌≡◌, ◌==◌, length, IfOk, IfErr, Ok};
-ghost use Rattle.pf_addr.specs.Address.{family_of, same_family};
-ghost use Rattle.pf_rule.specs.Words.{words_of, texts};
-ghost use Rattle.pf_rule.specs.RuleGrammar.{RuleText, SpellsRule, host_family, agreed, family_in, action_of, rule_of};
-ghost use Rattle.pf_rule.specs.RuleReading.{rule_read};
-ghost use Rattle.pf_rule.specs.RuleParts.{rule_parts};
-ghost use Rattle.pf_rule.specs.Refusals.{Answers, Refused};
-ghost use Rattle.pf_rule.specs.Rules.{PlainRule, IsRule, same_direction, holds, host_holds, matches};
+ghost use Rattle.std.specs.Prelude.{◌≡◌, ◌==◌, IfOk, IfErr, Ok, Some};
 ghost use Rattle.std.specs.Str.{bytes_eq};
+ghost use Rattle.pf_form.specs.Forms.{Spells};
+ghost use Rattle.pf_form.specs.Readers.{Moves, ReadsWhole};
+ghost use Rattle.pf_form.specs.Words.{words_of};
+ghost use Rattle.pf_addr.specs.Address.{family_of, same_family};
+ghost use Rattle.pf_rule.specs.RuleGrammar.{rule, host_family, agreed, one_family, action_of};
+ghost use Rattle.pf_rule.specs.Refusals.{Answers, Refused, reading};
+ghost use Rattle.pf_rule.specs.Rules.{PlainRule, IsRule, same_direction, holds, host_holds, matches};
 
-use crate::fault::{Misread, TextFault};
+use crate::fault::{TextFault, tell};
 use crate::interface::Interface;
 use crate::packet::Packet;
 use crate::protocol::Protocol;
-use crate::rule_words::{RuleParts, read_rule};
-use crate::splitting::words;
+use crate::rule_words::{
+    read_direction, read_family, read_hosts, read_interface, read_opening, read_protocol,
+    read_state,
+};
 use pf_addr::{Addr, Family, Net};
+use pf_form::{Stop, Words, end, takes, words};
 use std::alloc::Global;
 use std::marker::Model;
 
@@ -58,11 +61,6 @@ pub struct Rule {
 }
 
 impl Model for Rule {
-    ghost use Rattle.pf_rule.specs.Words.{words_of, texts};
-    ghost use Rattle.pf_rule.specs.RuleGrammar.{RuleText, SpellsRule, host_family, agreed, family_in, action_of, rule_of};
-    ghost use Rattle.pf_rule.specs.RuleReading.{rule_read};
-    ghost use Rattle.pf_rule.specs.RuleParts.{rule_parts};
-    ghost use Rattle.pf_rule.specs.Refusals.{Answers, Refused};
     ghost use Rattle.pf_rule.specs.Rules.{PlainRule};
 
     ghost Value = { PlainRule };
@@ -112,42 +110,43 @@ impl Host {
 }
 
 impl Rule {
-    /// Reads the words of a rule. It takes no memory.
+    /// Reads a rule from the front of the words that are left. It takes no memory.
     ///
-    /// A refusal stands at the first word at which no text can go on; [`Misread::MixedFamily`] comes after the last word.
-    pub fn from_words(words: &[&[u8]]) -> Result<Rule, Misread>
-        ensures found { IfOk result (λ r. SpellsRule r (texts words.now)) }
-        ensures only { (r : PlainRule) → SpellsRule r (texts words.now) → result ≡ Ok r }
-        ensures exact { result ≡ rule_read (texts words.now) }
+    /// A refusal stands at the first word at which no rule can go on. None where the written families differ.
+    #[tactic(auto, unfolding(crate::specs::RuleGrammar::rule, crate::specs::RuleGrammar::quick))]
+    pub fn read<'a>(words: &mut Words<'a>) -> Result<Option<Rule>, Stop>
+        ensures { Moves rule result words.old.now words.new.now }
     {
-        Rule::read_all(words)
-    }
-
-    // Kept apart, so that the answer is proved once for each way out.
-    fn read_all(words: &[&[u8]]) -> Result<Rule, Misread>
-        ensures { result ≡ rule_read (texts words.now) }
-    {
-        match read_rule(words) {
-            Ok(parts) => Rule::from_parts(parts),
-            Err(stop) => Err(Misread::Stopped(stop)),
-        }
-    }
-
-    fn from_parts(parts: RuleParts) -> Result<Rule, Misread>
-        requires { (r : PlainRule) → rule_of (rule_parts parts) ≡ Ok r → IsRule r }
-        ensures { result ≡ rule_of (rule_parts parts) }
-    {
-        let family = agreed_family(&parts)?;
-        Ok(Rule {
-            action: action_of(parts.passes, parts.keeps_state),
-            direction: parts.direction,
-            quick: parts.quick,
-            interface: parts.interface,
+        let passes = read_opening(words)?;
+        let direction = read_direction(words);
+        let quick = takes(words, b"quick");
+        let interface = read_interface(words)?;
+        let written = read_family(words);
+        let protocol = read_protocol(words)?;
+        let hosts = read_hosts(words)?;
+        let keeps_state = read_state(passes, words)?;
+        let Some(family) = one_family(written, hosts.0, hosts.1) else {
+            return Ok(None);
+        };
+        Ok(Some(Rule {
+            action: action_of(passes, keeps_state),
+            direction,
+            quick,
+            interface,
             family,
-            protocol: parts.protocol,
-            source: parts.source,
-            destination: parts.destination,
-        })
+            protocol,
+            source: hosts.0,
+            destination: hosts.1,
+        }))
+    }
+
+    fn read_all<'a>(words: Words<'a>) -> Result<Option<Rule>, Stop>
+        ensures { ReadsWhole (λ x. x) rule result words.now }
+    {
+        let mut rest = words;
+        let rule = Rule::read(&mut rest)?;
+        end(rest)?;
+        Ok(rule)
     }
 
     /// Reads the text of a rule: its words between blanks.
@@ -157,23 +156,20 @@ impl Rule {
     /// protocol, [`TextFault::BadWord`] for any other. [`TextFault::MixedFamily`] comes after the last word, and
     /// [`TextFault::Memory`] where memory for the list of words is refused.
     pub fn parse(alloc: Global, text: &str) -> Result<Rule, TextFault>
-        ensures found { IfOk result (λ r. SpellsRule r (words_of text.now)) }
-        ensures only { (r : PlainRule) → SpellsRule r (words_of text.now) → Answers result (length (words_of text.now)) (Ok r) }
-        ensures refused { IfErr result (λ e. Refused RuleText rule_of (words_of text.now) e) }
-        ensures exact { Answers result (length (words_of text.now)) (rule_read (words_of text.now)) }
+        ensures found { IfOk result (λ r. Spells rule (Some r) (words_of text.now)) }
+        ensures only { (r : PlainRule) → Spells rule (Some r) (words_of text.now) → Answers result (Ok r) }
+        ensures refused { IfErr result (λ e. Refused rule (words_of text.now) e) }
+        ensures exact { Answers result (reading rule (words_of text.now)) }
     {
         Rule::parse_bytes(alloc, text.as_bytes())
     }
 
+    // Kept apart, so that the answer is proved once for each way out.
     fn parse_bytes(alloc: Global, text: &[u8]) -> Result<Rule, TextFault>
-        ensures { Answers result (length (words_of text.now)) (rule_read (words_of text.now)) }
+        ensures { Answers result (reading rule (words_of text.now)) }
     {
         let words = words(alloc, text)?;
-        match Rule::from_words(&words) {
-            Ok(rule) => Ok(rule),
-            Err(Misread::Stopped(stop)) => Err(stop.in_text(words.len())),
-            Err(Misread::MixedFamily) => Err(TextFault::MixedFamily),
-        }
+        tell(Rule::read_all(&words), words.len())
     }
 
     /// Whether all of the rule's tests hold for the packet. It takes no memory.
@@ -257,22 +253,22 @@ pub(crate) fn same_family(first: Family, second: Family) -> bool
 }
 
 /// The family of both, where they don't differ. Either may be absent.
-fn agreed(first: Option<Family>, second: Option<Family>) -> Result<Option<Family>, Misread>
+fn agreed(first: Option<Family>, second: Option<Family>) -> Option<Option<Family>>
     ensures { result ≡ agreed first second }
 {
     match (first, second) {
-        (None, family) | (family, None) => Ok(family),
-        (Some(f), Some(g)) if same_family(f, g) => Ok(first),
-        _ => Err(Misread::MixedFamily),
+        (None, family) | (family, None) => Some(family),
+        (Some(f), Some(g)) if same_family(f, g) => Some(first),
+        _ => None,
     }
 }
 
-/// The one family of a rule, which its words name or that of a host's network.
-fn agreed_family(parts: &RuleParts) -> Result<Option<Family>, Misread>
-    ensures { result ≡ family_in (rule_parts parts.now) }
+/// The one family of a rule: the one written or that of a host's network.
+fn one_family(written: Option<Family>, source: Host, destination: Host) -> Option<Option<Family>>
+    ensures { result ≡ one_family written source destination }
 {
-    let family = agreed(parts.family, parts.source.family())?;
-    agreed(family, parts.destination.family())
+    let family = agreed(written, source.family())?;
+    agreed(family, destination.family())
 }
 
 fn action_of(passes: bool, keeps_state: bool) -> Action

@@ -1,89 +1,124 @@
 -- One call of a book, from each way out of it.
-use Rattle.std.proofs.Common.{◌≡◌, ℕ, ◌+◌, ◌<◌, ◌≤◌, List, [], ◌∷◌, ◌++◌, length, Result, Ok, Err, refl, sym, ap, ◌∙◌, subst}
-use Rattle.pf_rule.specs.Combining.{◌>>=◌}
+use Rattle.std.proofs.Common.{◌≡◌, ℕ, ◌+◌, ◌<◌, ◌≤◌, Bool, true, false, cond, inl, inr, List, [], ◌∷◌, ◌++◌, length, Result, Ok, Err, refl, sym, ap, ◌∙◌, subst, append-nil, arith}
+use Rattle.std.specs.Prelude.{nat_lt}
+use Rattle.std.proofs.lemmas.Bool.Decides.{nat_tests}
+use Rattle.std.proofs.lemmas.List.{length-append, take_all}
+use Rattle.std.proofs.lemmas.List.Sums.{fold_push}
 use Rattle.pf_core.specs.declared.command.Command.{Command}
-use Rattle.pf_core.specs.declared.command.Command.TheVariants.{Rollback}
-use Rattle.pf_core.specs.declared.command.Entry.{Entry}
 use Rattle.pf_core.specs.declared.reply.Answer.{Answer}
-use Rattle.pf_core.specs.declared.reply.Answer.TheVariants as answer
 use Rattle.pf_core.specs.declared.reply.Outcome.{Outcome}
 use Rattle.pf_core.specs.declared.reply.Refusal.{Refusal}
 use Rattle.pf_core.specs.declared.reply.Refusal.TheVariants.{HistoryFull, Memory}
-use Rattle.pf_core.specs.declared.reply.Reply.{Reply}
 use Rattle.pf_core.specs.declared.reply.Reply.TheVariants.{Answer as Answered, Applied, Refused}
 use Rattle.pf_core.specs.declared.step.Step.{Step}
 use Rattle.pf_core.specs.declared.step.Step.TheVariants.{Done, Wants}
-use Rattle.pf_core.specs.Calls.{Call, call, mentions_of, switches}
-use Rattle.pf_core.specs.Edits.{Kept, Edit, applied, voided_by}
-use Rattle.pf_core.specs.Legal.{legal_step, list_check, rollback_step, IsLegalStep}
-use Rattle.pf_core.specs.Tickets.{AgreesWith}
-use Rattle.pf_core.specs.Worlds.{Whole, Ready, ready, Held, Page, page, IsAt, Follows, AgreesAfter, reply_to}
-use Rattle.pf_core.specs.WorldLaws.{applied-follows, answered-follows, refused-follows, memory-is-legal, refusal-is-legal, full-is-legal}
-use Rattle.pfd.specs.Replied.{IsRolledBack}
+use Rattle.pf_core.specs.Calls.{Call, call, AgreesWith, legal_step, IsLegalStep}
+use Rattle.pf_core.specs.Edits.{Kept, Edit, applied, after}
+use Rattle.pf_core.specs.Pages.{Page, IsFolded, IsAt, Leads}
+use Rattle.pf_core.specs.Wholes.{Whole}
+use Rattle.pf_core.specs.WorldLaws.{wants-mentions}
+use Rattle.pf_core.specs.Worlds.{Held, upshot, flat, log_of, durable_of, step_in, if_ok, or_refused, due_at, grouped, group_at, due, group_in, LegalReply}
+use Rattle.pf_core.proofs.LongerWorlds.{flat-push, refused-leads}
+use Rattle.pfd.specs.Books.{singles, IsMore, IsUnkept}
 
--- what a step says of a core: its reply is legal wherever the calls have led
-abbrev pub Steps : Whole → Command → Result Step Refusal → Type 0
-Steps core c r = (calls : List Call) → AgreesWith core.tickets calls → IsLegalStep r (legal_step core.tickets.epoch calls core.durable c)
+pub flat-singles : (es : List Edit) → flat (singles es) ≡ es
+flat-singles [] = refl
+flat-singles (e ∷ es) = ap (λ (l : List Edit). e ∷ l) (flat-singles es)
 
--- whatever calls led to the first page, this one leads to the second
-abbrev pub Leads : Page → Page → Call → Type 0
-Leads old new c = (base : Kept) (h : Held) → IsAt base h old → Follows base h old new c
+-- a book with another core
+abbrev pub with_core : Page → Whole → Page
+with_core b w = record b { whole = w }
 
-leads-from : (old now new : Page) (c : Call) → old ≡ now → Leads old new c → Leads now new c
-leads-from old now new c is leads = subst (λ (p : Page). Leads p new c) is leads
+-- what a step says of a core: it is legal wherever the calls have led
+abbrev pub Steps : Page → Command → Result Step Refusal → Type 0
+Steps b c r = (calls : List Call) → AgreesWith b.whole.tickets calls → IsLegalStep r (legal_step b.whole.tickets.epoch calls b.whole.durable c)
 
-pub done-leads : (core core' : Whole) (log : List Edit) (limit : ℕ) (shown : Kept) (now : Page) (c : Command) (a : Answer) → page core log limit shown ≡ now → Steps core c (Ok (Done a)) →
-    ((calls : List Call) → AgreesWith core.tickets calls → AgreesAfter core'.tickets calls c (Ok (Done a))) → core'.durable ≡ core.durable → core'.tickets.epoch ≡ core.tickets.epoch →
-    Leads now (page core' log limit shown) (call c (Answered a))
-done-leads core core' log limit shown now c a is steps agrees durable epoch =
-    leads-from (page core log limit shown) now (page core' log limit shown) (call c (Answered a)) is
-    (λ base h at. answered-follows base h (page core log limit shown) (page core' log limit shown) c a at (steps h.calls at.calls) refl durable (agrees h.calls at.calls) epoch refl refl)
+-- the step that is taken is the world's
+step-is : (h : Held) (b : Page) (c : Command) (r : Result Step Refusal) → IsAt h b → IsFolded b → Steps b c r → IsLegalStep r (step_in h c)
+step-is h b c r at folded steps other =
+    let durable : b.whole.durable ≡ durable_of h = folded.durable ∙ ap (λ (k : Kept). after k (flat b.acked)) at.base ∙ ap (λ (l : List (List Edit)). after h.base (flat l)) at.acked in
+    steps h.calls at.calls other ∙ ap (λ (k : ℕ). legal_step k h.calls b.whole.durable c) at.epoch ∙ ap (λ (k : Kept). legal_step h.base.epoch h.calls k c) durable
 
-pub full-leads : (core : Whole) (log : List Edit) (limit : ℕ) (shown : Kept) (now new : Page) (c : Command) (e : Edit) (o : Outcome) → page core log limit shown ≡ now → Steps core c (Ok (Wants e o)) →
-    limit ≤ length log → new ≡ page core log limit shown → Leads now new (call c (Refused HistoryFull))
-full-leads core log limit shown now new c e o is steps full same =
-    leads-from (page core log limit shown) now new (call c (Refused HistoryFull)) is
-    (λ base h at. refused-follows base h (page core log limit shown) new c HistoryFull at (full-is-legal base h (page core log limit shown) c e o at (steps h.calls at.calls) full) same)
+-- ---- nothing is kept
 
-pub memory-leads : (core : Whole) (log : List Edit) (limit : ℕ) (shown : Kept) (now new : Page) (c : Command) → page core log limit shown ≡ now → new ≡ page core log limit shown → Leads now new (call c (Refused Memory))
-memory-leads core log limit shown now new c is same =
-    leads-from (page core log limit shown) now new (call c (Refused Memory)) is
-    (λ base h at. refused-follows base h (page core log limit shown) new c Memory at (memory-is-legal base limit h c) same)
+pub answer-is-legal : (h : Held) (b : Page) (c : Command) (a : Answer) → IsAt h b → IsFolded b → Steps b c (Ok (Done a)) → LegalReply h c (Answered a) false
+answer-is-legal h b c a at folded steps = inl (ap (due_at h) (step-is h b c (Ok (Done a)) at folded steps (λ m. cc (m))))
 
-pub err-leads : (core : Whole) (log : List Edit) (limit : ℕ) (shown : Kept) (now new : Page) (c : Command) (e : Refusal) → page core log limit shown ≡ now → Steps core c (Err e) → new ≡ page core log limit shown → Leads now new (call c (Refused e))
-err-leads core log limit shown now new c e is steps same =
-    leads-from (page core log limit shown) now new (call c (Refused e)) is
-    (λ base h at. refused-follows base h (page core log limit shown) new c e at (refusal-is-legal base h (page core log limit shown) c e at (steps h.calls at.calls)) same)
+-- the core's own refusal
+pub refusal-is-legal : (h : Held) (b : Page) (c : Command) (e : Refusal) → IsAt h b → IsFolded b → Steps b c (Err e) → LegalReply h c (Refused e) false
+refusal-is-legal h b c Memory at folded steps = inr tt
+refusal-is-legal h b c e at folded steps = inl (ap (due_at h) (step-is h b c (Err e) at folded steps (λ m. cc (m))))
 
--- the core is still itself when the change is put in place, and the copy that is shown is then what is kept
-pub kept-leads : (core still core' : Whole) (log log' : List Edit) (limit : ℕ) (shown shown' : Kept) (now : Page) (c : Command) (e : Edit) (o : Outcome) (n : ℕ) (r : Ready) → page core log limit shown ≡ now → Steps core c (Ok (Wants e o)) → still ≡ core →
-    length log < limit → n ≡ length log + 1 → log' ≡ log ++ e ∷ [] → r ≡ ready (applied still.durable e) (voided_by e) → core'.durable ≡ r.durable →
-    ((calls : List Call) (d : Command) (k : ℕ) (p : Outcome) → mentions_of (call d (Applied k p)) ≡ switches r.voided → AgreesWith still.tickets calls → AgreesWith core'.tickets (calls ++ call d (Applied k p) ∷ [])) →
-    core'.tickets.epoch ≡ still.tickets.epoch → shown' ≡ core'.durable → Leads now (page core' log' limit shown') (call c (Applied n o))
-kept-leads core still core' log log' limit shown shown' now c e o n r is steps stays low number logged made durable agrees epoch copied =
-    let from : r ≡ ready (applied core.durable e) (voided_by e) = made ∙ ap (λ (w : Whole). ready (applied w.durable e) (voided_by e)) stays in
-    leads-from (page core log limit shown) now (page core' log' limit shown') (call c (Applied n o)) is
-    (λ base h at. applied-follows base h (page core log limit shown) (page core' log' limit shown') c e o n at
-    (sym (steps h.calls at.calls (λ m. cc (m)))) low number logged (durable ∙ ap (λ (x : Ready). x.durable) from)
-    (λ names. agrees h.calls c n o (names ∙ ap (λ (x : Ready). switches x.voided) (sym from)) (subst (λ (w : Whole). AgreesWith w.tickets h.calls) (sym stays) at.calls))
-    (epoch ∙ ap (λ (w : Whole). w.tickets.epoch) stays) refl copied)
+-- ---- a change is wanted
 
--- ---- rollbacks
+-- the log is what was acknowledged
+log-is : (h : Held) (b : Page) → IsAt h b → b.pending ≡ [] → length (log_of h) ≡ length (flat b.acked)
+log-is h b at none =
+    ap (λ (l : List (List Edit)). length (flat (h.acked ++ l))) (sym at.pending ∙ none) ∙ ap (λ (l : List (List Edit)). length (flat l)) (append-nil h.acked ∙ sym at.acked)
 
--- what a step says of a rollback: it is the one that its list alone gives
-abbrev pub RollsBack : Command → Result Step Refusal → Type 0
-RollsBack c r = (entries : List Entry) → c ≡ Rollback entries → r ≡ rollback_step entries
+full-is-legal : (h : Held) (b : Page) (c : Command) (e : Edit) (o : Outcome) → IsAt h b → IsFolded b → b.pending ≡ [] → Steps b c (Ok (Wants e o)) → b.limit ≤ length (flat b.acked) → LegalReply h c (Refused HistoryFull) false
+full-is-legal h b c e o at folded none steps full =
+    let log : length (log_of h) ≡ length (flat b.acked) = log-is h b at none in
+    let limit : b.limit ≡ h.setting.limit = at.limit in
+    let past : nat_lt h.setting.limit (length (log_of h) + 1) ≡ true = grind (arith, nat_tests, full, log, limit) in
+    inl (sym (ap (due_at h) (sym (step-is h b c (Ok (Wants e o)) at folded steps (λ m. cc (m)))) ∙ ap (λ (x : Bool). or_refused (cond x (Err HistoryFull) (Ok tt)) (Applied (length (log_of h) + 1) o)) past))
 
--- the reply to such a step
-pub rolled-back : (old : Page) (c : Command) (r : Result Step Refusal) → RollsBack c r → IsRolledBack old c (reply_to old.limit old.log r)
-rolled-back old (Rollback entries) r step = ap (λ (x : Result Step Refusal). reply_to old.limit old.log x) (step entries refl)
-rolled-back old c r step = tt
+-- the change that is kept, and its number
+record IsDue (h : Held) (c : Command) (e : Edit) (n : ℕ) (o : Outcome) : Type 0 where
+  reply : Applied n o ≡ due h c
+  group : group_in h c ≡ (e ∷ []) ∷ []
 
-checked-wants-none : (checked : Result (Unit {0}) Refusal) (e : Edit) (o : Outcome) → Ok (Wants e o) ≡ checked >>= (λ u. Ok (Done answer.Done)) → ⊥
-checked-wants-none (Ok u) e o h = cc (h)
-checked-wants-none (Err f) e o h = cc (h)
+is-due : (h : Held) (b : Page) (c : Command) (e : Edit) (n : ℕ) (o : Outcome) → IsAt h b → b.pending ≡ [] → Ok (Wants e o) ≡ step_in h c → length (flat b.acked) < b.limit → n ≡ length (flat b.acked) + 1 → IsDue h c e n o
+is-due h b c e n o at none is low number =
+    let log : length (log_of h) ≡ length (flat b.acked) = log-is h b at none in
+    let limit : b.limit ≡ h.setting.limit = at.limit in
+    let room : nat_lt h.setting.limit (length (log_of h) + 1) ≡ false = grind (arith, nat_tests, low, log, limit) in
+    let same : n ≡ length (log_of h) + 1 = omega (arith, log, number) in
+    record {
+      reply = ap (λ (m : ℕ). Applied m o) same ∙ sym (ap (λ (x : Bool). or_refused (cond x (Err HistoryFull) (Ok tt)) (Applied (length (log_of h) + 1) o)) room) ∙ ap (due_at h) is;
+      group = ap (group_at h) (sym is) ∙ ap (λ (x : Bool). if_ok (cond x (Err HistoryFull) (Ok tt)) (grouped (e ∷ [])) []) room;
+    }
 
--- where a change is wanted it was no rollback
-pub wants-no-rollback : (old : Page) (c : Command) (e : Edit) (o : Outcome) (r : Reply) → RollsBack c (Ok (Wants e o)) → IsRolledBack old c r
-wants-no-rollback old (Rollback entries) e o r step = absurd (checked-wants-none (list_check entries) e o (step entries refl))
-wants-no-rollback old c e o r step = tt
+-- a change was kept
+pub kept-leads : (h : Held) (b new : Page) (c : Command) (e : Edit) (n : ℕ) (o : Outcome) → IsFolded b → b.pending ≡ [] → Steps b c (Ok (Wants e o)) → IsMore b new e n → IsAt h b → Leads h new (call c (Applied n o)) (upshot new.shown false)
+kept-leads h b new c e n o folded none steps more at =
+    let is : Ok (Wants e o) ≡ step_in h c = step-is h b c (Ok (Wants e o)) at folded steps (λ m. cc (m)) in
+    let kept : IsDue h c e n o = is-due h b c e n o at none is more.room more.number in
+    record {
+      legal = record { reply = inl kept.reply; shown = more.shown };
+      at = record {
+        base = more.base ∙ at.base;
+        calls = more.agrees h.calls c n o (wants-mentions h.base.epoch h.calls (durable_of h) c e o n (sym is)) at.calls;
+        epoch = more.epoch ∙ at.epoch;
+        acked = more.acked ∙ ap (λ (l : List (List Edit)). l ++ (e ∷ []) ∷ []) at.acked ∙ ap (λ (l : List (List Edit)). h.acked ++ l) (sym kept.group);
+        pending = more.pending ∙ at.pending;
+        shown = refl;
+        limit = more.limit ∙ at.limit;
+      };
+    }
+
+-- what is seen of the fields is the book
+pub more-from : (inside now new : Page) (e : Edit) (n : ℕ) → inside ≡ now → IsMore inside new e n → IsMore now new e n
+more-from inside now new e n is more = subst (λ (b : Page). IsMore b new e n) is more
+
+-- its number is how many there are then
+pub number-is : (b new : Page) (e : Edit) (n : ℕ) → IsMore b new e n → n ≡ length (flat new.acked)
+number-is b new e n more = more.number ∙ sym (ap (λ (l : List (List Edit)). length (flat l)) more.acked ∙ ap length (flat-push b.acked e) ∙ length-append (flat b.acked) (e ∷ []))
+
+-- or it was not
+pub unkept-leads : (h : Held) (b new : Page) (c : Command) (e : Edit) (o : Outcome) (why : Refusal) → IsFolded b → b.pending ≡ [] → Steps b c (Ok (Wants e o)) → IsUnkept b why → new ≡ b → IsAt h b → Leads h new (call c (Refused why)) (upshot new.shown false)
+unkept-leads h b new c e o HistoryFull folded none steps full same at = refused-leads h b new c HistoryFull (full-is-legal h b c e o at folded none steps full) same at
+unkept-leads h b new c e o Memory folded none steps why same at = refused-leads h b new c Memory (inr tt) same at
+unkept-leads h b new c e o why folded none steps never same at = absurd never
+
+-- the book is still what its changes leave, and shows them all
+pub folded-more : (b new : Page) (e : Edit) → IsFolded b → new.base ≡ b.base → new.acked ≡ b.acked ++ (e ∷ []) ∷ [] → new.whole.durable ≡ applied b.whole.durable e → new.published ≡ new.whole.durable → new.shown ≡ length (flat new.acked) → IsFolded new
+folded-more b new e folded base acked durable published shown =
+    let is : new.whole.durable ≡ after new.base (flat new.acked) =
+    durable ∙ ap (λ (k : Kept). applied k e) folded.durable ∙ sym (ap (after b.base) (flat-push b.acked e) ∙ fold_push applied b.base (flat b.acked) e)
+    ∙ ap (λ (k : Kept). after k (flat (b.acked ++ (e ∷ []) ∷ []))) (sym base) ∙ ap (λ (l : List (List Edit)). after new.base (flat l)) (sym acked) in
+    record {
+      durable = is;
+      within = omega (arith, shown);
+      published = published ∙ is ∙ ap (after new.base) (sym (take_all new.shown (flat new.acked) (omega (arith, shown))));
+    }

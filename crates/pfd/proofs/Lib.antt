@@ -1,10 +1,3 @@
 pub mod Booking
 pub mod Calling
-pub mod Answering
-pub mod Splitting
-pub mod Same
-pub mod Progress
-pub mod Moving
-pub mod Session
-pub mod Reading
-pub mod Unstarted
+pub mod Limits

@@ -1,5 +1,4 @@
-pub mod Lines
-pub mod Pieces
+pub mod Books
 pub mod Serving
-pub mod Replied
+pub mod ServingLaws
 pub mod Program

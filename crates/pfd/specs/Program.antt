@@ -1,9 +1,15 @@
 -- What the program does with the words `pfd run`. Own.
-use Rattle.std.specs.Prelude.{◌≡◌, ℕ, List, [], ◌∷◌, Option, Result, Ok, Err, codes}
+use Rattle.std.specs.Prelude.{◌≡◌, ℕ, List, [], ◌∷◌, Option, Result, Ok, Err, codes, ◌⊎◌}
+use Rattle.std.specs.Io.KnownBytes.{Keeps}
+use Rattle.std.specs.declared.io.ErrorKind.{ErrorKind}
+use Rattle.std.specs.declared.io.ErrorKind.TheVariants.{OutOfMemory}
 use Rattle.pf_core.specs.Edits.{kept}
-use Rattle.pf_core.specs.Worlds.{Page, StandsFor}
-use Rattle.pfd.specs.declared.engine.EngineFault.{EngineFault}
-use Rattle.pfd.specs.Serving.{IsSession}
+use Rattle.pf_core.specs.Pages.{Page, StandsFor}
+use Rattle.pf_core.specs.Worlds.{setting_with, opened}
+use Rattle.pf_engine.specs.declared.fault.EngineFault.{EngineFault}
+use Rattle.pf_engine.specs.declared.fault.EngineFault.TheVariants.{Memory}
+use Rattle.pf_engine.specs.Sessions.{IsSession}
+use Rattle.pfd.specs.Serving.{Serves}
 
 -- the program's name, whatever it is, and `run`
 abbrev pub IsRun : List (List ℕ) → Type 0
@@ -13,9 +19,18 @@ IsRun words = (name : List ℕ) × (words ≡ name ∷ codes "run" ∷ [])
 pub record Ran (result : Result (Unit {0}) EngineFault) (unread unread' held held' : Option (List ℕ)) : Type 0 where
   pub old : Page
   pub new : Page
-  pub fresh : StandsFor (kept 1 []) old []
+  pub fresh : StandsFor (kept 0 []) old (opened (setting_with 65536) ∷ [])
   pub limit : old.limit ≡ 65536
-  pub session : IsSession result unread unread' held held' old new
+  pub session : IsSession Serves result unread unread' old new held held'
+
+-- There was no memory to begin with: nothing was read or written.
+pub record Unbegun (result : Result (Unit {0}) EngineFault) (unread unread' held held' : Option (List ℕ)) : Type 0 where
+  pub memory : result ≡ Err Memory
+  pub unread_still : Keeps unread unread'
+  pub held_still : Keeps held held'
+
+abbrev pub Runs : Result (Unit {0}) EngineFault → Option (List ℕ) → Option (List ℕ) → Option (List ℕ) → Option (List ℕ) → Type 0
+Runs result unread unread' held held' = Ran result unread unread' held held' ⊎ Unbegun result unread unread' held held'
 
 abbrev pub status_of : Result (Unit {0}) EngineFault → ℕ
 status_of (Ok u) = 0
@@ -23,4 +38,9 @@ status_of (Err fault) = 1
 
 -- The same, and the status says whether it came to the input's end.
 abbrev pub RanWith : ℕ → Option (List ℕ) → Option (List ℕ) → Option (List ℕ) → Option (List ℕ) → Type 0
-RanWith status unread unread' held held' = (result : Result (Unit {0}) EngineFault) × (status ≡ status_of result) × Ran result unread unread' held held'
+RanWith status unread unread' held held' = (result : Result (Unit {0}) EngineFault) × (status ≡ status_of result) × Runs result unread unread' held held'
+
+-- The status where the words couldn't be had: 1 for want of memory, else 2.
+abbrev pub status_without_words : ErrorKind → ℕ
+status_without_words OutOfMemory = 1
+status_without_words _ = 2

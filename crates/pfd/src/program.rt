@@ -2,12 +2,14 @@
 ghost use Rattle.std.specs.Prelude.{◌≡◌, ◌≤◌, IfErr, map, string_bytes};
 ghost use Rattle.std.specs.Io.KnownBytes.{Keeps};
 ghost use Rattle.clap.specs.Words.{kind_of};
-ghost use Rattle.pfd.specs.Program.{IsRun, Ran, RanWith};
+ghost use Rattle.std.specs.IoError.{error_kind};
+ghost use Rattle.pfd.specs.Program.{IsRun, Runs, RanWith, status_without_words};
 
 use crate::book::Book;
-use crate::engine::{EngineFault, serve_alone};
+use crate::engine::serve_alone;
 use clap::error::ErrorKind;
 use clap::{Command, Error};
+use pf_engine::EngineFault;
 use std::alloc::Global;
 use std::io::{self, Read, Write};
 
@@ -33,7 +35,7 @@ fn check_words(alloc: Global, words: &[String]) -> Result<(), Error>
 
 // A session over a fresh book.
 fn run<R: Read, W: Write>(alloc: Global, reader: &mut R, writer: &mut W) -> Result<(), EngineFault>
-    ensures { Ran result (R.remaining reader.old) (R.remaining reader.new) (W.contents writer.old) (W.contents writer.new) }
+    ensures { Runs result (R.remaining reader.old) (R.remaining reader.new) (W.contents writer.old) (W.contents writer.new) }
 {
     let Ok(mut book) = Book::fresh(alloc, HISTORY_LIMIT) else {
         return Err(EngineFault::Memory);
@@ -42,7 +44,7 @@ fn run<R: Read, W: Write>(alloc: Global, reader: &mut R, writer: &mut W) -> Resu
 }
 
 // Says in one line what failed. Where that can't be written there is nowhere else to say it.
-pub(crate) fn fail<F: Write>(fault: EngineFault, faults: &mut F) -> u8
+fn fail<F: Write>(fault: EngineFault, faults: &mut F) -> u8
     ensures { result ≡ 1 }
 {
     let _ = writeln!(faults, "pfd: {fault}");
@@ -80,8 +82,8 @@ fn explain<W: Write, F: Write>(error: &Error, writer: &mut W, faults: &mut F) ->
 /// the input ended, or help was asked for, whose text goes to the writer. Status 1: a read, a write, a flush or a growth
 /// of memory failed, also one for the words; one line on the faults says `pfd: input`, `pfd: output` or `pfd: memory`.
 /// Status 2: the words were refused, as where there are none; the faults have clap's text, and nothing was read or
-/// written. Where the faults can't be written, the status alone tells. Words that aren't text don't come here: `main`
-/// ends with status 2.
+/// written. Where the faults can't be written, the status alone tells. Words that aren't text don't come here but to
+/// `without_words`.
 ///
 /// What the texts are, and which other words are help and which are refused, is only tested.
 pub fn start<R: Read, W: Write, F: Write>(
@@ -101,5 +103,19 @@ pub fn start<R: Read, W: Write, F: Write>(
             Err(fault) => fail(fault, faults),
         },
         Err(error) => explain(&error, writer, faults),
+    }
+}
+
+/// What the program does where its words couldn't be had: status 1 and `pfd: memory` on the faults where memory was
+/// refused, else status 2 and `pfd: a word isn't text`.
+pub fn without_words<F: Write>(error: &io::Error, faults: &mut F) -> u8
+    ensures { result ≡ status_without_words (error_kind error.now) }
+{
+    match error.kind() {
+        io::ErrorKind::OutOfMemory => fail(EngineFault::Memory, faults),
+        _ => {
+            let _ = faults.write_all(b"pfd: a word isn't text\n");
+            2
+        }
     }
 }

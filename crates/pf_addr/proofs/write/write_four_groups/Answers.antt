@@ -1,14 +1,11 @@
-use Rattle.std.proofs.Common.{rules, ◌+◌, subst, ◌++◌, ◌∷◌}
-use Rattle.pf_addr.specs.Spelling.{group_text}
-use Rattle.pf_addr.specs.Writing.{Writes, WritesFront}
-use Rattle.pf_addr.proofs.Writers.{first_fails, between_fails, both, four_in_a_row}
+use Rattle.pf_addr.specs.Writing.{Continues-then}
 use Rattle.pf_addr.proofs.write.write_four_groups.Goals as goal
 
-pub returns-in_err-write_two_groups-clause-text : goal.returns-in_err-write_two_groups-clause-text
-returns-in_err-write_two_groups-clause-text g c = let w = subst (WritesFront (g.W.Write.contents c.args.out.now) (g.W.Write.contents c.write_two_groups.new.out)) (four_in_a_row (group_text c.args.number (c.args.last + 48)) (group_text c.args.number (c.args.last + 32)) (group_text c.args.number (c.args.last + 16)) (group_text c.args.number c.args.last) 58) (first_fails (g.W.Write.contents c.args.out.now) (g.W.Write.contents c.write_two_groups.new.out) (group_text c.args.number (c.args.last + 48) ++ 58 ∷ group_text c.args.number (c.args.last + 32)) (group_text c.args.number (c.args.last + 16) ++ 58 ∷ group_text c.args.number c.args.last) 58 (search rules)) in search (rules, w)
-
-pub returns-in_err-write_text-clause-text : goal.returns-in_err-write_text-clause-text
-returns-in_err-write_text-clause-text g c = let w = subst (WritesFront (g.W.Write.contents c.args.out.now) (g.W.Write.contents c.write_text.new.out)) (four_in_a_row (group_text c.args.number (c.args.last + 48)) (group_text c.args.number (c.args.last + 32)) (group_text c.args.number (c.args.last + 16)) (group_text c.args.number c.args.last) 58) (between_fails (g.W.Write.contents c.args.out.now) (g.W.Write.contents c.write_two_groups.new.out) (g.W.Write.contents c.write_text.new.out) (group_text c.args.number (c.args.last + 48) ++ 58 ∷ group_text c.args.number (c.args.last + 32)) (group_text c.args.number (c.args.last + 16) ++ 58 ∷ group_text c.args.number c.args.last) 58 (search rules) c.in_err-write_text.ensures.text) in search (rules, w)
-
-pub returns-clause-text : goal.returns-clause-text
-returns-clause-text g c = subst (Writes c.write_two_groups-2.result (g.W.Write.contents c.args.out.now) (g.W.Write.contents c.write_two_groups-2.new.out)) (four_in_a_row (group_text c.args.number (c.args.last + 48)) (group_text c.args.number (c.args.last + 32)) (group_text c.args.number (c.args.last + 16)) (group_text c.args.number c.args.last) 58) (both c.write_two_groups-2.result (g.W.Write.contents c.args.out.now) (g.W.Write.contents c.write_two_groups.new.out) (g.W.Write.contents c.write_text.new.out) (g.W.Write.contents c.write_two_groups-2.new.out) (group_text c.args.number (c.args.last + 48) ++ 58 ∷ group_text c.args.number (c.args.last + 32)) (group_text c.args.number (c.args.last + 16) ++ 58 ∷ group_text c.args.number c.args.last) 58 (search rules) c.in_ok-write_text.ensures.text (search rules))
+pub returns : goal.returns
+returns g c =
+    Continues-then (rw c.group.ensures at c.write_group-first.ensures)
+    (Continues-then c.write_more-colon.ensures
+    (Continues-then (rw c.group-2.ensures at c.write_group-second.ensures)
+    (Continues-then c.write_more-colon-2.ensures
+    (Continues-then (rw c.group-3.ensures at c.write_group-third.ensures)
+    (Continues-then c.write_more-colon-3.ensures (rw c.group-4.ensures at c.write_group.ensures))))))

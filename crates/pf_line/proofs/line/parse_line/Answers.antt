@@ -1,5 +1,5 @@
 use Rattle.std.proofs.Common.{refl}
-use Rattle.pf_rule.specs.Words.{words_of}
+use Rattle.pf_form.specs.Words.{words_of}
 use Rattle.pf_line.specs.Lines.{is_bad_line, is_silent}
 use Rattle.pf_line.proofs.Lines.{is_exact, is_bad, is_quiet, is_found, is_only, is_refused}
 use Rattle.pf_line.proofs.line.parse_line.Goals as goal

@@ -1,5 +1,5 @@
 use Rattle.std.proofs.Common.{◌≡◌, true, false, get_or, sym, ◌∙◌}
-use Rattle.pf_rule.specs.Words.{is_blank}
+use Rattle.pf_form.specs.Words.{is_blank}
 use Rattle.pf_line.proofs.Silence.{is_silent-quiet, quiet_blank, quiet_ink, quiet_end}
 use Rattle.pf_line.proofs.line.silent.Goals as goal
 

@@ -1,6 +1,6 @@
 use Rattle.std.proofs.Common.{rules}
 use Rattle.std.specs.Prelude.{codes}
-use Rattle.pf_core.specs.Calls.{tickets_of}
+use Rattle.pf_ticket.specs.Names.{tickets_of}
 use Rattle.pf_line.specs.Replies.{tickets_text}
 use Rattle.pf_addr.specs.Writing.{WritesFront-longer, Writes-then}
 use Rattle.pf_line.proofs.reply.write_given.Goals as goal

@@ -1,5 +1,5 @@
 use Rattle.std.specs.Io.KnownBytes.{Appends}
-use Rattle.pf_core.specs.Calls.{tickets_from}
+use Rattle.pf_ticket.specs.Names.{tickets_from}
 use Rattle.pf_line.specs.Replies.{tickets_text}
 use Rattle.pf_line.proofs.reply.write_tickets.Given as goal
 

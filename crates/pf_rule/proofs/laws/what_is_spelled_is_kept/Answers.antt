@@ -1,9 +1,8 @@
-use Rattle.pf_rule.proofs.Kept.{packet_kept}
-use Rattle.pf_rule.proofs.WordsAgain.{spelled_is}
+use Rattle.pf_rule.proofs.Kept.{rule_kept, packet_kept}
 use Rattle.pf_rule.proofs.laws.what_is_spelled_is_kept.Goals as goal
 
 pub returns-clause-rules : goal.returns-clause-rules
-returns-clause-rules c = spelled_is
+returns-clause-rules c = rule_kept
 
 pub returns-clause-packets : goal.returns-clause-packets
-returns-clause-packets c = λ p ws h. packet_kept h.0 ws p h.1 h.2
+returns-clause-packets c = packet_kept

@@ -1,5 +1,4 @@
-use Rattle.pf_rule.proofs.Canonical.{spells_canonical}
-use Rattle.pf_rule.proofs.WordsAgain.{words_are, read_again}
+use Rattle.pf_rule.proofs.Canonical.{spells_canonical, words_are, read_again}
 use Rattle.pf_rule.proofs.laws.what_is_written_is_read_again.Goals as goal
 
 pub returns-clause-words : goal.returns-clause-words

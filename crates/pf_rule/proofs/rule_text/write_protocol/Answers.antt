@@ -1,13 +1,5 @@
-use Rattle.std.proofs.Common.{rules}
-use Rattle.std.specs.Prelude.{codes}
-use Rattle.pf_addr.specs.Writing.{Writes-then, WritesFront-longer}
-use Rattle.pf_rule.specs.RuleText.{protocol_word}
+use Rattle.pf_addr.specs.Writing.{Continues-then}
 use Rattle.pf_rule.proofs.rule_text.write_protocol.Goals as goal
 
-pub returns-in_err-write_text-in-Some : goal.returns-in_err-write_text-in-Some
-returns-in_err-write_text-in-Some g c =
-    let w = WritesFront-longer (g.W.Write.contents c.args.out.now) (g.W.Write.contents c.write_text.new.out) (codes " proto ") (protocol_word c.in-Some.protocol) c.in_err-write_text-in-Some.ensures.text in
-    search (rules, w)
-
-pub returns-in_ok-write_text-in-Some : goal.returns-in_ok-write_text-in-Some
-returns-in_ok-write_text-in-Some g c = rw c.in-Some.is (Writes-then c.write_protocol_word.result (g.W.Write.contents c.args.out.now) (g.W.Write.contents c.write_text.new.out) (g.W.Write.contents c.write_protocol_word.new.out) (codes " proto ") (protocol_word c.in-Some.protocol) c.in_ok-write_text-in-Some.ensures.text (c.write_protocol_word.ensures))
+pub returns-in-Some : goal.returns-in-Some
+returns-in-Some g c = rw c.in-Some.is (Continues-then c.write_more-so_far.ensures c.write_protocol_word.ensures)

@@ -1,9 +1,13 @@
+use Rattle.std.proofs.Common.{false}
+use Rattle.pf_core.specs.Worlds.{upshot}
 use Rattle.pf_line.specs.Lines.{line_at}
 use Rattle.pfd.proofs.Calling.{told-reply, told-refusal}
 use Rattle.pfd.proofs.engine.reply_to.Goals as goal
 
 pub returns-in-Ok-Some : goal.returns-in-Ok-Some
-returns-in-Ok-Some c = told-reply (line_at c.args.line.now) c.in-Ok-Some.command c.run.result c.args.book.now c.run.new.self (rw c.in-Ok-Some.field-0-is at c.in-Ok-Some.ensures.exact) c.run.ensures.worlds
+returns-in-Ok-Some c =
+    told-reply (line_at c.args.line.now) c.in-Ok-Some.command c.run.result (upshot c.run.new.self.shown false) c.args.book.now c.run.new.self (rw c.in-Ok-Some.field-0-is at c.in-Ok-Some.ensures.exact)
+    (record { worlds = c.run.ensures.worlds; limit = c.run.ensures.limit })
 
 pub returns-in-Err : goal.returns-in-Err
-returns-in-Err c = told-refusal c.args.line.now c.in-Err.refusal c.args.book.now c.in-Err.ensures.exact c.in-Err.ensures.silent c.in-Err.ensures.bad
+returns-in-Err c = told-refusal c.args.line.now c.in-Err.refusal c.args.book.now c.in-Err.ensures.exact c.in-Err.ensures.refused

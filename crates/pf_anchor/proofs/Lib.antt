@@ -1,0 +1,7 @@
+pub mod PathTexts
+pub mod PathsRead
+pub mod Maps
+pub mod RulesetMaps
+pub mod Pages
+pub mod Growth
+pub mod Evaluations

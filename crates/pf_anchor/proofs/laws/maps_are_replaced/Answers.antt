@@ -1,0 +1,11 @@
+use Rattle.pf_anchor.proofs.Maps.{replaces_the_key, stays_sorted, one_list}
+use Rattle.pf_anchor.proofs.laws.maps_are_replaced.Goals as goal
+
+pub returns-clause-key : goal.returns-clause-key
+returns-clause-key g c = replaces_the_key _ g.met.K.Ord.total
+
+pub returns-clause-sorted : goal.returns-clause-sorted
+returns-clause-sorted g c = stays_sorted _ g.met.K.Ord.total
+
+pub returns-clause-one : goal.returns-clause-one
+returns-clause-one g c = one_list _ g.met.K.Ord.total

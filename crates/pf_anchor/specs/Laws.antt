@@ -1,0 +1,49 @@
+-- What follows from the definitions of maps, as law functions promise it.
+use Rattle.std.specs.Prelude.{◌≡◌, ℕ, T, true, cond, List, [], ◌∷◌, Option, fold}
+use Rattle.std.specs.declared.cmp.Ordering.{Ordering}
+use Rattle.std.specs.FinMap.{IsAntisymmetric, find, is_sorted}
+use Rattle.std.specs.Ordering.{eq_by_cmp}
+use Rattle.pf_rule.specs.Rules.{PlainRule}
+use Rattle.pf_anchor.specs.Maps.{with_value}
+use Rattle.pf_anchor.specs.Rulesets.{Ruled, same_path, rules_at, with_rules, IsMap}
+
+-- ---- any map, under keys in a total order
+
+-- a key that was replaced has the new value, or none, and all else stays
+abbrev pub ReplacesTheKey : {K : Type 0} → (X : Type 0) → (K → K → Ordering) → Type 0
+ReplacesTheKey {K} X R = (es : List (K × X)) (k : K) (v : Option X) (q : K) → find R q (with_value R es k v) ≡ cond (eq_by_cmp R q k) v (find R q es)
+
+-- what is left has its keys in order
+abbrev pub StaysSorted : {K : Type 0} → (X : Type 0) → (K → K → Ordering) → Type 0
+StaysSorted {K} X R = (es : List (K × X)) (k : K) (v : Option X) → T (is_sorted R es) → T (is_sorted R (with_value R es k v))
+
+-- two lists in order of which the same is read at each key are one, where only equal keys tie
+abbrev pub OneList : {K : Type 0} → (X : Type 0) → (K → K → Ordering) → Type 0
+OneList {K} X R = IsAntisymmetric R → (a b : List (K × X)) → T (is_sorted R a) → T (is_sorted R b) → ((q : K) → find R q a ≡ find R q b) → a ≡ b
+
+-- ---- the map of rulesets
+
+-- the rules at a path that is replaced are the new ones, and all else stays
+abbrev pub ReplacesTheNamed : Type 0
+ReplacesTheNamed = (es : List Ruled) (new : Ruled) (q : List ℕ) → rules_at q (with_rules es new) ≡ cond (same_path new.0 q) new.1 (rules_at q es)
+
+-- the rules at a path once these were replaced in turn: those of the last one that has this path, else the old ones
+abbrev pub rules_by : List Ruled → List ℕ → List PlainRule → List PlainRule
+rules_by [] q old = old
+rules_by (e ∷ es) q old = rules_by es q (cond (same_path e.0 q) e.1 old)
+
+-- the rulesets after a commit, whole
+pub record AreReplaced (es items new : List Ruled) : Type 0 where
+  pub map : IsMap new
+  pub rules : (q : List ℕ) → rules_at q new ≡ rules_by items q (rules_at q es)
+
+abbrev pub ReplacesExactly : Type 0
+ReplacesExactly = (es items : List Ruled) → IsMap es → AreReplaced es items (fold with_rules es items)
+
+-- paths that are the same are equal
+abbrev pub SamePathIsEqual : Type 0
+SamePathIsEqual = (p q : List ℕ) → same_path p q ≡ true → p ≡ q
+
+-- two maps of which the same is read at each path are one
+abbrev pub OneMap : Type 0
+OneMap = (a b : List Ruled) → IsMap a → IsMap b → ((q : List ℕ) → rules_at q a ≡ rules_at q b) → a ≡ b

@@ -1,0 +1,10 @@
+pub mod Maps
+pub mod Rulesets
+pub mod Shared
+pub mod Pages
+pub mod Laws
+pub mod Paths
+pub mod PathGrammar
+pub mod PathLaws
+pub mod Evaluation
+pub mod EvaluationLaws

@@ -1,0 +1,60 @@
+-- The texts of paths (pf.conf(5), ANCHORS): components, with a slash between each two. The limits, and that the main ruleset is written "-", are own.
+use Rattle.std.specs.Prelude.{ℕ, ◌==◌, ◌&&◌, Bool, true, not, if◌then◌else◌, List, [], ◌∷◌, length, codes, Option, Some, None, Result, Ok, Err, nat_lt}
+use Rattle.std.specs.List.{list_all, slice_split}
+use Rattle.std.specs.Option.{is_none}
+use Rattle.std.specs.Str.{bytes_eq}
+use Rattle.pf_form.specs.declared.fault.Kind.{Kind}
+use Rattle.pf_form.specs.declared.fault.Kind.TheVariants.{BadWord, NameTooLong}
+use Rattle.pf_rule.specs.Names.{is_name_byte}
+use Rattle.pf_form.specs.Words.{Word}
+use Rattle.pf_anchor.specs.declared.limits.TheConstants.{PATH_LIMIT, COMPONENT_LIMIT, DEPTH_LIMIT}
+use Rattle.pf_anchor.specs.Rulesets.{main}
+
+-- a slash (47)
+abbrev pub is_slash : ℕ → Bool
+is_slash b = b == 47
+
+-- what stands before, between and behind the slashes
+abbrev pub components : List ℕ → List (List ℕ)
+components w = slice_split is_slash w
+
+-- a component isn't empty, has the bytes of a name alone, and is neither ".." nor "-"
+abbrev pub is_component : List ℕ → Bool
+is_component c = nat_lt 0 (length c) && list_all is_name_byte c && not (bytes_eq c (codes "..")) && not (bytes_eq c (codes "-"))
+
+abbrev pub component_fault : List ℕ → Option Kind
+component_fault c = if not (is_component c) then Some BadWord else (if nat_lt COMPONENT_LIMIT (length c) then Some NameTooLong else None)
+
+abbrev pub or_else : Option Kind → Option Kind → Option Kind
+or_else (Some k) other = Some k
+or_else None other = other
+
+-- the fault of the first component that has one
+abbrev pub first_fault : List (List ℕ) → Option Kind
+first_fault [] = None
+first_fault (c ∷ cs) = or_else (component_fault c) (first_fault cs)
+
+abbrev pub depth_fault : ℕ → Option Kind
+depth_fault n = if nat_lt DEPTH_LIMIT n then Some NameTooLong else None
+
+-- why a word is no path: its length first, then its components from left to right, then their number
+abbrev pub path_fault : Word → Option Kind
+path_fault w = if nat_lt PATH_LIMIT (length w) then Some NameTooLong else or_else (first_fault (components w)) (depth_fault (length (components w)))
+
+abbrev pub path_unless : Option Kind → Word → Result (List ℕ) Kind
+path_unless None w = Ok w
+path_unless (Some k) w = Err k
+
+-- PATH: "-" for the main ruleset, else the path itself
+abbrev pub path_of : Word → Result (List ℕ) Kind
+path_of w = if bytes_eq w (codes "-") then Ok main else path_unless (path_fault w) w
+
+-- a path is the main ruleset's, or a word that has no fault
+abbrev pub is_path : List ℕ → Bool
+is_path [] = true
+is_path (b ∷ bs) = is_none (path_fault (b ∷ bs))
+
+-- PATH as it is written
+abbrev pub path_text : List ℕ → Word
+path_text [] = codes "-"
+path_text (b ∷ bs) = b ∷ bs

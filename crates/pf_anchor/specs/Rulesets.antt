@@ -1,0 +1,52 @@
+-- Rulesets at paths (pf.conf(5), ANCHORS): a finite map. That an empty ruleset doesn't exist and that paths are ordered by their bytes is own.
+use Rattle.std.specs.Prelude.{ℕ, ◌<◌, T, length, Bool, List, [], ◌∷◌, Option, Some, None}
+use Rattle.std.specs.declared.cmp.Ordering.{Ordering}
+use Rattle.std.specs.Ordering.{nat_cmp, eq_by_cmp}
+use Rattle.std.specs.Cmp.Lexicographic.{slice_cmp}
+use Rattle.std.specs.FinMap.{find, is_sorted}
+use Rattle.pf_rule.specs.Rules.{PlainRule}
+use Rattle.pf_anchor.specs.Maps.{with_value}
+
+-- the path of the main ruleset
+abbrev pub main : List ℕ
+main = []
+
+-- paths are ordered by the bytes of their text
+abbrev pub path_order : List ℕ → List ℕ → Ordering
+path_order p q = slice_cmp nat_cmp p q
+
+abbrev pub same_path : List ℕ → List ℕ → Bool
+same_path p q = eq_by_cmp path_order p q
+
+-- a path and the rules there
+abbrev pub Ruled : Type 0
+Ruled = List ℕ × List PlainRule
+
+abbrev pub ruled : List ℕ → List PlainRule → Ruled
+ruled p rs = (p, rs)
+
+-- an empty ruleset has no entry
+abbrev pub unless_empty : List PlainRule → Option (List PlainRule)
+unless_empty [] = None
+unless_empty (r ∷ rs) = Some (r ∷ rs)
+
+-- the map with the rules at one path replaced
+abbrev pub with_rules : List Ruled → Ruled → List Ruled
+with_rules es e = with_value path_order es e.0 (unless_empty e.1)
+
+abbrev pub rules_in : Option (List PlainRule) → List PlainRule
+rules_in None = []
+rules_in (Some rs) = rs
+
+-- the rules at a path: none where it has no entry
+abbrev pub rules_at : List ℕ → List Ruled → List PlainRule
+rules_at p es = rules_in (find path_order p es)
+
+abbrev pub AllHaveRules : List Ruled → Type 0
+AllHaveRules [] = Unit {0}
+AllHaveRules (e ∷ es) = (0 < length e.1) × AllHaveRules es
+
+-- entries in the order of their paths, none of them twice, and each with rules
+pub record IsMap (es : List Ruled) : Type 0 where
+  pub sorted : T (is_sorted path_order es)
+  pub ruled : AllHaveRules es

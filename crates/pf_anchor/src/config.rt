@@ -1,0 +1,237 @@
+//! The active rulesets.
+ghost use Rattle.std.specs.Prelude.{◌≡◌, ◌≤◌, ◌<◌, T, [], ◌∷◌, ◌++◌, length, take, drop, IfOk, OnOk, IfSome, IfNone, fold, nat_lt};
+ghost use Rattle.std.specs.FinMap.{is_sorted};
+ghost use Rattle.pf_anchor.specs.Rulesets.{Ruled, path_order, rules_at, with_rules, IsMap};
+ghost use Rattle.pf_anchor.specs.Evaluation.{judged};
+ghost use Rattle.pf_anchor.specs.Pages.{joined, starts_behind, page_before, IsPlace};
+
+use crate::limits::RULESET_LIMIT;
+use crate::page::{PAGE_LIMIT, Page, replaced};
+use crate::path::Path;
+use crate::placed::Placed;
+use crate::rule_list::RuleList;
+use crate::verdict::RuleVerdict;
+use pf_rule::Packet;
+use std::alloc::{AllocError, Global};
+use std::cmp::Ordering;
+use std::marker::Model;
+
+/// The active rulesets: those that have rules, in the order of their paths. Contracts see it as the list.
+///
+/// They stand in pages, so that a commit shares all pages but those in which it replaces a ruleset.
+#[derive(Drop)]
+pub struct Config {
+    pages: Vec<Page>,
+}
+
+impl Model for Config {
+    ghost use Rattle.std.specs.Prelude.{List};
+    ghost use Rattle.pf_anchor.specs.Pages.{joined};
+    ghost use Rattle.pf_anchor.specs.Rulesets.{Ruled, IsMap};
+
+    ghost Value = { List Ruled };
+
+    ghost view = { λ c. joined c.pages.items };
+
+    ghost invariant = { λ c. IsMap (joined c.pages.items) };
+}
+
+// Whether a page's rulesets come behind a path: whether its first one does.
+fn starts_behind(page: &Page, path: &Path) -> bool
+    ensures value { result ≡ starts_behind path_order path.now page.now }
+    ensures some { 0 < length page.now }
+{
+    match page.as_slice() {
+        [first, ..] => first.path().order(path) == Ordering::Greater,
+        [] => false,
+    }
+}
+
+// How many pages there are up to the one where a path's ruleset is, or would be: the last that doesn't start behind the path,
+// or else the first.
+fn place_in(pages: &[Page], path: &Path) -> usize
+    ensures { IsPlace path_order path.now pages.now result }
+{
+    for index in 1..pages.len() {
+        if starts_behind(&pages[index], path) {
+            return index;
+        }
+    }
+    pages.len()
+}
+
+// The rulesets of the page just before a place.
+fn page_before(pages: &[Page], place: usize) -> &[Placed]
+    requires { place ≤ length pages.now }
+    ensures { result.now ≡ page_before place pages.now }
+{
+    match place.checked_sub(1) {
+        Some(index) => pages[index].as_slice(),
+        None => &[],
+    }
+}
+
+// Adds a page behind those that are there, unless it would have no rulesets.
+fn push_page(alloc: Global, pages: &mut Vec<Page>, entries: Vec<Placed>) -> Result<(), AllocError>
+    ensures { OnOk result (joined pages.new.items ≡ joined pages.old.items ++ entries.items) }
+{
+    if !entries.is_empty() {
+        pages.push(Page::of(alloc, entries)?)?;
+    }
+    Ok(())
+}
+
+// Adds rulesets behind those that are there, in one page or two.
+fn push_entries(
+    alloc: Global,
+    pages: &mut Vec<Page>,
+    mut entries: Vec<Placed>,
+) -> Result<(), AllocError>
+    ensures { OnOk result (joined pages.new.items ≡ joined pages.old.items ++ entries.items) }
+{
+    if entries.len() > PAGE_LIMIT {
+        let back = entries.split_off(PAGE_LIMIT / 2)?;
+        push_page(alloc, pages, entries)?;
+        push_page(alloc, pages, back)
+    } else {
+        push_page(alloc, pages, entries)
+    }
+}
+
+// One ruleset replaced: one page is made anew, and those behind it are moved.
+fn replace(alloc: Global, pages: &mut Vec<Page>, new: &Placed) -> Result<(), AllocError>
+    requires { T (is_sorted path_order (joined pages.old.items)) }
+    ensures { OnOk result (joined pages.new.items ≡ with_rules (joined pages.old.items) new.now) }
+{
+    let place = place_in(pages, new.path());
+    let entries = replaced(alloc, page_before(pages, place), new)?;
+    let mut behind = pages.split_off(place)?;
+    pages.truncate(place.saturating_sub(1));
+    push_entries(alloc, pages, entries)?;
+    pages.append(&mut behind)?;
+    Ok(())
+}
+
+// The rulesets replaced in order.
+fn replace_all(alloc: Global, pages: &mut Vec<Page>, items: &[Placed]) -> Result<(), AllocError>
+    requires { T (is_sorted path_order (joined pages.old.items)) }
+    ensures { OnOk result (joined pages.new.items ≡ fold with_rules (joined pages.old.items) items.now) }
+{
+    for item in items {
+        replace(alloc, pages, item)?;
+    }
+    Ok(())
+}
+
+// The same pages, shared.
+fn all_shared(alloc: Global, pages: &[Page]) -> Result<Vec<Page>, AllocError>
+    ensures { IfOk result (λ v. v.items ≡ pages.now) }
+{
+    let mut shared = Vec::with_capacity(alloc, pages.len())?;
+    for page in pages {
+        shared.push(page.shared()?)?;
+    }
+    Ok(shared)
+}
+
+// The first ruleset at a path.
+fn find<'a>(entries: &'a [Placed], path: &Path) -> Option<&'a Placed>
+    ensures some { IfSome result (λ p. p.now.1 ≡ rules_at path.now entries.now) }
+    ensures none { IfNone result (rules_at path.now entries.now ≡ []) }
+{
+    for placed in entries {
+        if path.same(placed.path()) {
+            return Some(placed);
+        }
+    }
+    None
+}
+
+// Whether there are more rulesets than a limit.
+fn are_more_than(pages: &[Page], limit: usize) -> bool
+    ensures { result ≡ nat_lt limit (length (joined pages.now)) }
+{
+    let mut left = limit;
+    for page in pages {
+        let count = page.as_slice().len();
+        if count > left {
+            return true;
+        }
+        left -= count;
+    }
+    false
+}
+
+impl Config {
+    /// No rulesets. It takes no memory.
+    pub fn empty(alloc: Global) -> Config
+        ensures { result ≡ [] }
+    {
+        Config {
+            pages: Vec::new(alloc),
+        }
+    }
+
+    /// The rulesets after a commit of these, in order. All others are shared, and no rule and no path is copied.
+    /// `AllocError`: nothing is made.
+    pub fn with_rulesets(&self, alloc: Global, items: &[Placed]) -> Result<Config, AllocError>
+        ensures { IfOk result (λ c. c ≡ fold with_rules self.now items.now) }
+    {
+        let mut pages = all_shared(alloc, &self.pages)?;
+        replace_all(alloc, &mut pages, items)?;
+        Ok(Config { pages })
+    }
+
+    /// Whether a commit of these would leave more rulesets than there may be. Only near the limit they are made, to be
+    /// counted; else it takes no memory. `AllocError`: nothing is made.
+    pub fn would_be_too_many(&self, alloc: Global, items: &[Placed]) -> Result<bool, AllocError>
+        ensures { IfOk result (λ b. b ≡ nat_lt RULESET_LIMIT (length (fold with_rules self.now items.now))) }
+    {
+        if let Some(room) = RULESET_LIMIT.checked_sub(items.len()) {
+            if !are_more_than(&self.pages, room) {
+                return Ok(false);
+            }
+        }
+        let after = self.with_rulesets(alloc, items)?;
+        Ok(are_more_than(&after.pages, RULESET_LIMIT))
+    }
+
+    // The ruleset at a path.
+    fn placed_at(&self, path: &Path) -> Option<&Placed>
+        ensures some { IfSome result (λ p. p.now.1 ≡ rules_at path.now self.now) }
+        ensures none { IfNone result (rules_at path.now self.now ≡ []) }
+        ensures map { IsMap self.now }
+    {
+        find(page_before(&self.pages, place_in(&self.pages, path)), path)
+    }
+
+    /// The rules at a path: none where it has no ruleset. No rule is copied. `AllocError`: nothing is made.
+    pub fn rules_at(&self, path: &Path) -> Result<RuleList, AllocError>
+        ensures value { IfOk result (λ l. l ≡ rules_at path.now self.now) }
+        // what each map keeps
+        ensures map { IsMap self.now }
+    {
+        match self.placed_at(path) {
+            Some(placed) => placed.rules().shared(),
+            None => Ok(RuleList::none()),
+        }
+    }
+
+    /// What the rules say of a packet: the main ruleset's rule that decides, or the default pass. It takes no memory.
+    pub fn judge(&self, packet: &Packet) -> RuleVerdict
+        ensures { result ≡ judged self.now packet.now }
+    {
+        let main = Path::main();
+        let Some(placed) = self.placed_at(&main) else {
+            return RuleVerdict::Default;
+        };
+        match placed.rules().evaluate(packet).last() {
+            Some(decision) => RuleVerdict::Rule {
+                path: main,
+                number: decision.number,
+                action: decision.action,
+            },
+            None => RuleVerdict::Default,
+        }
+    }
+}

@@ -1,0 +1,104 @@
+//! Rules that are shared.
+ghost use Rattle.std.specs.Prelude.{◌≡◌, ◌<◌, [], ◌∷◌, ◌++◌, length, IfOk, OnOk, OnErr};
+ghost use Rattle.std.specs.Arc.{arc_value};
+ghost use Rattle.pf_anchor.specs.Evaluation.{evaluation};
+
+use crate::evaluated::{Decision, Evaluated, evaluate};
+use crate::limits::RULE_LIMIT;
+use pf_rule::{Packet, Rule};
+use std::alloc::{AllocError, Global};
+use std::marker::Model;
+use std::sync::Arc;
+
+/// The rules of a ruleset in order, at most 1,024, shared with whatever else holds them. Contracts see it as the list.
+#[derive(Drop)]
+pub struct RuleList {
+    // None where there are no rules, so that an empty list takes no memory.
+    rules: Option<Arc<Vec<Rule>>>,
+}
+
+impl Model for RuleList {
+    ghost use Rattle.std.specs.Prelude.{List, length, ◌≤◌};
+    ghost use Rattle.pf_rule.specs.Rules.{PlainRule};
+    ghost use Rattle.pf_anchor.specs.declared.limits.TheConstants.{RULE_LIMIT};
+    ghost use Rattle.pf_anchor.specs.Shared.{shared};
+
+    ghost Value = { List PlainRule };
+
+    ghost view = { λ l. shared l.rules };
+
+    ghost invariant = { λ l. length (shared l.rules) ≤ RULE_LIMIT };
+}
+
+// Appends a rule. What others hold stays as it is: they share the rules so far, which are copied.
+fn add_own(rules: &mut Arc<Vec<Rule>>, alloc: Global, rule: Rule) -> Result<(), AllocError>
+    ensures ok { OnOk result ((arc_value rules.new).items ≡ (arc_value rules.old).items ++ rule ∷ []) }
+    ensures err { OnErr result ((arc_value rules.new).items ≡ (arc_value rules.old).items) }
+{
+    if let Some(own) = Arc::get_mut(rules) {
+        own.push(rule)?;
+        return Ok(());
+    }
+    let mut copy = Vec::from_slice(alloc, rules.as_slice())?;
+    copy.push(rule)?;
+    *rules = Arc::new(alloc, copy)?;
+    Ok(())
+}
+
+impl RuleList {
+    /// No rules. It takes no memory.
+    pub fn none() -> RuleList
+        ensures { result ≡ [] }
+    {
+        RuleList { rules: None }
+    }
+
+    /// The same rules, none of them copied. `AllocError`: they can't have another owner.
+    pub fn shared(&self) -> Result<RuleList, AllocError>
+        ensures { IfOk result (λ l. l ≡ self.now) }
+    {
+        match &self.rules {
+            Some(rules) => Ok(RuleList {
+                rules: Some(Arc::try_clone(rules)?),
+            }),
+            None => Ok(RuleList::none()),
+        }
+    }
+
+    /// What the rules give for a packet: the last that matches, or the first quick one that does (pf.conf(5), Packet
+    /// Filtering). It takes no memory.
+    pub fn evaluate(&self, packet: &Packet) -> Evaluated<Decision>
+        ensures { result ≡ evaluation self.now packet.now }
+    {
+        match &self.rules {
+            Some(rules) => evaluate(rules.as_slice(), packet),
+            None => Evaluated::Open(None),
+        }
+    }
+
+    /// The rules in order.
+    pub fn as_slice(&self) -> &[Rule]
+        ensures { result.now ≡ self.now }
+    {
+        match &self.rules {
+            Some(rules) => rules.as_slice(),
+            None => &[],
+        }
+    }
+
+    /// Appends a rule, where there are fewer than 1,024. Rules that others share are copied. Where memory is refused all
+    /// is as before.
+    pub fn add(&mut self, alloc: Global, rule: Rule) -> Result<(), AllocError>
+        requires { length self.old < RULE_LIMIT }
+        ensures ok { OnOk result (self.new ≡ self.old ++ rule ∷ []) }
+        ensures err { OnErr result (self.new ≡ self.old) }
+    {
+        if let Some(rules) = &mut self.rules {
+            return add_own(rules, alloc, rule);
+        }
+        let mut own = Vec::new(alloc);
+        own.push(rule)?;
+        self.rules = Some(Arc::new(alloc, own)?);
+        Ok(())
+    }
+}

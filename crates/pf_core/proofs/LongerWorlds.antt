@@ -1,0 +1,57 @@
+-- Longer worlds, one event at a time.
+use Rattle.std.proofs.Common.{◌≡◌, ◌<◌, List, [], ◌∷◌, ◌++◌, inr, refl, sym, ap, ◌∙◌, subst, append_assoc, append-nil, false}
+use Rattle.std.proofs.lemmas.List.Sums.{fold_push}
+use Rattle.pf_core.specs.declared.command.Command.{Command}
+use Rattle.pf_core.specs.declared.reply.Refusal.{Refusal}
+use Rattle.pf_core.specs.declared.reply.Refusal.TheVariants.{Memory}
+use Rattle.pf_core.specs.declared.reply.Reply.{Reply}
+use Rattle.pf_core.specs.declared.reply.Reply.TheVariants.{Refused}
+use Rattle.pf_core.specs.Calls.{Call, call, AgreesWith}
+use Rattle.pf_core.specs.Edits.{Kept, Edit}
+use Rattle.pf_core.specs.Pages.{Page, IsAt, StandsFor, Leads}
+use Rattle.pf_core.specs.Wholes.{Whole}
+use Rattle.pf_core.specs.WorldLaws.{agrees-refused}
+use Rattle.pf_core.specs.Worlds.{Setting, Held, State, up, down, begun, raised, flat, group_in, Upshot, upshot, Event, called, opened, acked_by, shown_by, heard, next, LegalReply, last_epoch, IsLegal, state_after, IsLegalFrom, IsWorld}
+
+-- a group of one change more
+pub flat-push : (gs : List (List Edit)) (e : Edit) → flat (gs ++ (e ∷ []) ∷ []) ≡ flat gs ++ e ∷ []
+flat-push [] e = refl
+flat-push (g ∷ gs) e = ap (λ (es : List Edit). g ++ es) (flat-push gs e) ∙ sym (append_assoc g (flat gs) (e ∷ []))
+
+legal-push : (st : State) (world : List Event) (e : Event) → IsLegalFrom st world → IsLegal (state_after st world) e → IsLegalFrom st (world ++ e ∷ [])
+legal-push st [] e all now = (now, tt)
+legal-push st (x ∷ xs) e all now = (all.0, legal-push (next st x) xs e all.1 now)
+
+-- a legal event leads to a longer world
+stands-by : (first : Kept) (new : Page) (world : List Event) (e : Event) (st : State) (h : Held) →
+    IsWorld first world → state_after (down first) world ≡ st → IsLegal st e → next st e ≡ up h → IsAt h new → StandsFor first new (world ++ e ∷ [])
+stands-by first new world e st h legal comes now is at = record {
+  legal = legal-push (down first) world e legal (subst (λ (x : State). IsLegal x e) (sym comes) now);
+  held = h;
+  comes = fold_push next (down first) world e ∙ ap (λ (x : State). next x e) comes ∙ is;
+  at = at;
+}
+
+pub stands-on : (first : Kept) (old new : Page) (world : List Event) (c : Call) (t : Upshot) → (stands : StandsFor first old world) → Leads stands.held new c t → StandsFor first new (world ++ called c t ∷ [])
+stands-on first old new world c t stands leads = stands-by first new world (called c t) (up stands.held) (heard stands.held c t) stands.legal stands.comes leads.legal refl leads.at
+
+-- an opening has begun
+pub stands-opened : (first : Kept) (new : Page) (setting : Setting) → first.epoch < last_epoch → IsAt (begun setting (raised first)) new → StandsFor first new (opened setting ∷ [])
+stands-opened first new setting low at = stands-by first new [] (opened setting) (down first) (begun setting (raised first)) tt refl low refl at
+
+-- a reply that keeps nothing leads to another core at most
+pub nothing-leads : (h : Held) (b : Page) (w : Whole) (c : Command) (r : Reply) → LegalReply h c r false → acked_by r (group_in h c) ≡ [] → shown_by r h.shown ≡ h.shown → AgreesWith w.tickets (h.calls ++ call c r ∷ []) →
+    w.tickets.epoch ≡ b.whole.tickets.epoch → IsAt h b → Leads h (record b { whole = w }) (call c r) (upshot b.shown false)
+nothing-leads h b w c r legal none still agrees epoch at = record {
+  legal = record { reply = legal; shown = at.shown ∙ sym still };
+  at = record { base = at.base; calls = agrees; epoch = epoch ∙ at.epoch; acked = at.acked ∙ sym (append-nil h.acked) ∙ ap (λ (gs : List (List Edit)). h.acked ++ gs) (sym none); pending = at.pending; shown = refl; limit = at.limit };
+}
+
+-- a refusal leads to nothing else
+pub refused-leads : (h : Held) (b new : Page) (c : Command) (e : Refusal) → LegalReply h c (Refused e) false → new ≡ b → IsAt h b → Leads h new (call c (Refused e)) (upshot new.shown false)
+refused-leads h b new c e legal same at =
+    subst (λ (p : Page). Leads h p (call c (Refused e)) (upshot p.shown false)) (sym same) (nothing-leads h b b.whole c (Refused e) legal refl refl (agrees-refused b.whole.tickets h.calls c e at.calls) refl at)
+
+-- each world may go on with a call refused for memory
+pub stands-refused : (first : Kept) (b : Page) (world : List Event) (c : Command) → StandsFor first b world → StandsFor first b (world ++ called (call c (Refused Memory)) (upshot b.shown false) ∷ [])
+stands-refused first b world c stands = stands-on first b b world (call c (Refused Memory)) (upshot b.shown false) stands (refused-leads stands.held b b c Memory (inr tt) refl stands.at)

@@ -1,8 +1,0 @@
-use Rattle.std.proofs.Common.{◌≡◌, ℕ, ◌<◌, false, get_or}
-use Rattle.pf_core.specs.Calls.{same_name}
-use Rattle.pf_core.specs.Tickets.{Offer}
-use Rattle.pf_core.proofs.tickets.Tickets.place.Given as goal
-
--- no slot so far is the ruleset's
-abbrev pub invariant-loop-place : goal.invariant-loop-place
-invariant-loop-place l = (k : ℕ) (x : Offer) → k < l.place → x ≡ get_or l.self.offers k x → same_name x.name l.name ≡ false

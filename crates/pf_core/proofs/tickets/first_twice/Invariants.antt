@@ -1,8 +1,0 @@
-use Rattle.std.proofs.Common.{◌≡◌, take, drop}
-use Rattle.pf_core.specs.Calls.{names_of}
-use Rattle.pf_core.specs.Legal.{twice_in, twice_from}
-use Rattle.pf_core.proofs.tickets.first_twice.Given as goal
-
--- no entry so far names a ruleset named before it
-abbrev pub invariant-loop-place : goal.invariant-loop-place
-invariant-loop-place l = twice_in l.entries ≡ twice_from (names_of (take l.place l.entries)) l.place (drop l.place l.entries)

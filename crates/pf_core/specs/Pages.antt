@@ -1,0 +1,45 @@
+-- What contracts see of a Book, and when it stands for a world. Own.
+use Rattle.std.specs.Prelude.{◌≡◌, ℕ, ◌≤◌, List, length, take}
+use Rattle.pf_core.specs.Calls.{Call, AgreesWith}
+use Rattle.pf_core.specs.Edits.{Kept, Edit, after}
+use Rattle.pf_core.specs.Wholes.{Whole}
+use Rattle.pf_core.specs.Worlds.{Held, up, down, Upshot, Event, flat, LegalCall, heard, state_after, IsWorld}
+
+-- a Book: what its opening gave, the core, the groups of changes that were acknowledged, and the one that wasn't, how
+-- many changes there may be, how many are shown, and the copy that shows them
+pub record Page : Type 0 where
+  pub base : Kept
+  pub whole : Whole
+  pub acked : List (List Edit)
+  pub pending : List (List Edit)
+  pub limit : ℕ
+  pub shown : ℕ
+  pub published : Kept
+
+-- what a Book's type keeps
+pub record IsFolded (b : Page) : Type 0 where
+  pub durable : b.whole.durable ≡ after b.base (flat b.acked)
+  pub within : b.shown ≤ length (flat b.acked)
+  pub published : b.published ≡ after b.base (take b.shown (flat b.acked))
+
+-- the page is this opening, as it has come so far
+pub record IsAt (h : Held) (b : Page) : Type 0 where
+  pub base : b.base ≡ h.base
+  pub calls : AgreesWith b.whole.tickets h.calls
+  pub epoch : b.whole.tickets.epoch ≡ h.base.epoch
+  pub acked : b.acked ≡ h.acked
+  pub pending : b.pending ≡ h.pending
+  pub shown : b.shown ≡ h.shown
+  pub limit : b.limit ≡ h.setting.limit
+
+-- these events were legal, and the Book is what they leave
+pub record StandsFor (first : Kept) (b : Page) (world : List Event) : Type 0 where
+  pub legal : IsWorld first world
+  pub held : Held
+  pub comes : state_after (down first) world ≡ up held
+  pub at : IsAt held b
+
+-- a call is a legal event, and leads to what it leaves
+pub record Leads (h : Held) (new : Page) (c : Call) (t : Upshot) : Type 0 where
+  pub legal : LegalCall h c t
+  pub at : IsAt (heard h c t) new

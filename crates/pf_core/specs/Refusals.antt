@@ -1,0 +1,14 @@
+-- What is told where the tickets refuse.
+use Rattle.pf_core.specs.declared.reply.Refusal.{Refusal}
+use Rattle.pf_core.specs.declared.reply.Refusal.TheVariants as told
+use Rattle.pf_ticket.specs.declared.refusal.TicketRefusal.{TicketRefusal}
+use Rattle.pf_ticket.specs.declared.refusal.TicketRefusal.TheVariants.{BadCount, Twice, Busy, RulesetFull, TooManyRulesets, TicketsExhausted, Memory}
+
+abbrev pub refusal_of : TicketRefusal → Refusal
+refusal_of BadCount = told.BadCount
+refusal_of (Twice i) = told.Twice i
+refusal_of (Busy i) = told.Busy i
+refusal_of RulesetFull = told.RulesetFull
+refusal_of TooManyRulesets = told.TooManyRulesets
+refusal_of TicketsExhausted = told.TicketsExhausted
+refusal_of Memory = told.Memory

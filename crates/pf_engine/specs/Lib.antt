@@ -1,0 +1,5 @@
+pub mod Lines
+pub mod Laws
+pub mod Sessions
+pub mod Pieces
+pub mod Bytes

@@ -1,0 +1,16 @@
+//! Why a session ends before its input does.
+use thiserror::Error;
+
+/// Why a session ended before its input did.
+#[derive(Clone, Copy, Debug, PartialEq, Eq, Error)]
+pub enum EngineFault {
+    /// A read failed, or there were 2^62 of them.
+    #[error("input")]
+    Read,
+    /// A write or a flush failed.
+    #[error("output")]
+    Write,
+    /// The line buffer was refused.
+    #[error("memory")]
+    Memory,
+}

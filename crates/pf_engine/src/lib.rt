@@ -1,0 +1,13 @@
+//! The engine: bytes from a reader, cut into lines, each answered, and the replies to a writer; over whatever answers a
+//! line.
+#![tactic(auto)]
+
+mod answer_line;
+mod cutting;
+mod engine;
+mod fault;
+pub mod laws;
+
+pub use answer_line::{AnswerLine, LOOKED_AT};
+pub use engine::serve;
+pub use fault::EngineFault;

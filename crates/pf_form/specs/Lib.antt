@@ -1,0 +1,12 @@
+pub mod Words
+pub mod Numbers
+pub mod NumberLaws
+pub mod Forms
+pub mod Readers
+pub mod Laws
+pub mod WordLaws
+pub mod PairLaws
+pub mod ListLaws
+pub mod FormLaws
+pub mod TextLaws
+pub mod Lists

@@ -1,0 +1,11 @@
+pub mod Once
+pub mod Mentions
+pub mod Agreement
+pub mod Latest
+pub mod Twice
+pub mod Counting
+pub mod Beginning
+pub mod Standing
+pub mod Silence
+pub mod Told
+pub mod Adding

@@ -1,0 +1,54 @@
+-- Two names of one ruleset are alike, and one.
+use Rattle.std.specs.Prelude.{◌≡◌, ℕ, ◌&&◌, Bool, true, false, List}
+use Rattle.std.proofs.Common.{refl, sym, ap, ◌∙◌}
+use Rattle.std.proofs.lemmas.Cmp.{eq_by_cmp_equiv, nat_list_cmp_total, and_equiv, on_equiv}
+use Rattle.std.proofs.lemmas.Map.Text.{is_eq-slice_cmp}
+use Rattle.std.proofs.lemmas.Slice.Eq.{bytes_eq-Decides}
+use Rattle.std.specs.Cmp.{IsEquivalence}
+use Rattle.pf_ticket.specs.declared.name.RulesetKind.{RulesetKind}
+use Rattle.pf_ticket.specs.declared.name.RulesetKind.TheVariants.{Filter}
+use Rattle.pf_ticket.specs.declared.name.RulesetName.{RulesetName}
+use Rattle.pf_ticket.specs.Names.{filter_at, same_kind, same_name}
+use Rattle.pf_anchor.specs.Rulesets.{same_path}
+
+pub paths_alike : IsEquivalence same_path
+paths_alike = eq_by_cmp_equiv nat_list_cmp_total
+
+kind-refl : (a : RulesetKind) → same_kind a a ≡ true
+kind-refl Filter = refl
+
+kind-symm : (a b : RulesetKind) → same_kind a b ≡ same_kind b a
+kind-symm Filter Filter = refl
+
+kind-congr : (a b c : RulesetKind) → same_kind a b ≡ true → same_kind a c ≡ same_kind b c
+kind-congr Filter Filter c h = refl
+
+pub kinds_alike : IsEquivalence same_kind
+kinds_alike = record { refl = kind-refl; symm = kind-symm; congr = kind-congr }
+
+pub names_alike : IsEquivalence same_name
+names_alike = and_equiv (on_equiv (λ (n : RulesetName). n.kind) kinds_alike) (on_equiv (λ (n : RulesetName). n.path) paths_alike)
+
+-- and one
+kind_is : (a b : RulesetKind) → same_kind a b ≡ true → a ≡ b
+kind_is Filter Filter h = refl
+
+path_is : (p q : List ℕ) → same_path p q ≡ true → p ≡ q
+path_is p q h = (bytes_eq-Decides p q).0 (sym (is_eq-slice_cmp p q) ∙ h)
+
+both : (a b : Bool) → (a && b) ≡ true → (a ≡ true) × (b ≡ true)
+both true b h = (refl, h)
+both false b h = absurd (cc (h))
+
+pub name_is : (a b : RulesetName) → same_name a b ≡ true → a ≡ b
+name_is a b h =
+    let named : RulesetKind → List ℕ → RulesetName = λ k p. record { kind = k; path = p } in
+    let each : (same_kind a.kind b.kind ≡ true) × (same_path a.path b.path ≡ true) = both (same_kind a.kind b.kind) (same_path a.path b.path) h in
+    ap (λ (k : RulesetKind). named k a.path) (kind_is a.kind b.kind each.0) ∙ ap (λ (p : List ℕ). named b.kind p) (path_is a.path b.path each.1)
+
+of_filter : (k : RulesetKind) (b : Bool) → b ≡ true → (same_kind Filter k && b) ≡ true
+of_filter Filter b h = h
+
+-- a name is its kind's at its path
+pub filter_is : (n : RulesetName) → filter_at n.path ≡ n
+filter_is n = name_is (filter_at n.path) n (of_filter n.kind (same_path n.path n.path) (paths_alike.refl n.path))

@@ -1,0 +1,49 @@
+-- Names of rulesets, and tickets (pf(4), DIOCXBEGIN). That a ticket is an epoch and a count, with one counter for all rulesets, is own.
+use Rattle.std.specs.Prelude.{ℕ, zero, suc, ◌+◌, ◌==◌, ◌&&◌, Bool, true, false, cond, List, [], ◌∷◌, ◌++◌, map, Option, Some, None}
+use Rattle.std.specs.List.{list_any}
+use Rattle.pf_anchor.specs.Rulesets.{same_path}
+use Rattle.pf_ticket.specs.declared.entry.Entry.{Entry}
+use Rattle.pf_ticket.specs.declared.name.RulesetKind.{RulesetKind}
+use Rattle.pf_ticket.specs.declared.name.RulesetKind.TheVariants.{Filter}
+use Rattle.pf_ticket.specs.declared.name.RulesetName.{RulesetName}
+use Rattle.pf_ticket.specs.declared.ticket.Ticket.{Ticket}
+use Rattle.pf_ticket.specs.declared.ticket.TicketRange.{TicketRange}
+
+abbrev pub filter_at : List ℕ → RulesetName
+filter_at p = record { kind = Filter; path = p }
+
+abbrev pub same_kind : RulesetKind → RulesetKind → Bool
+same_kind Filter Filter = true
+
+-- a ruleset is a kind and a path
+abbrev pub same_name : RulesetName → RulesetName → Bool
+same_name a b = same_kind a.kind b.kind && same_path a.path b.path
+
+abbrev pub is_named : List RulesetName → RulesetName → Bool
+is_named names name = list_any (λ n. same_name n name) names
+
+-- one more name, unless it is among them
+abbrev pub with_name : List RulesetName → RulesetName → List RulesetName
+with_name names n = cond (is_named names n) names (names ++ n ∷ [])
+
+abbrev pub names_of : List Entry → List RulesetName
+names_of entries = map (λ e. e.name) entries
+
+abbrev pub ticket : ℕ → ℕ → Ticket
+ticket epoch count = record { epoch = epoch; count = count }
+
+abbrev pub same_ticket : Ticket → Ticket → Bool
+same_ticket a b = (a.epoch == b.epoch) && (a.count == b.count)
+
+-- whether a ticket is this one
+abbrev pub is_ticket : Option Ticket → Ticket → Bool
+is_ticket None t = false
+is_ticket (Some u) t = same_ticket u t
+
+-- so many tickets of an epoch, from a count on
+abbrev pub tickets_from : ℕ → ℕ → ℕ → List Ticket
+tickets_from epoch count zero = []
+tickets_from epoch count (suc n) = ticket epoch count ∷ tickets_from epoch (count + 1) n
+
+abbrev pub tickets_of : TicketRange → List Ticket
+tickets_of r = tickets_from r.first.epoch r.first.count r.number

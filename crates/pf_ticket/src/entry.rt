@@ -1,0 +1,53 @@
+//! Rulesets with their tickets.
+ghost use Rattle.std.specs.Prelude.{◌≡◌};
+
+use crate::name::RulesetName;
+use crate::ticket::Ticket;
+use std::marker::Model;
+
+/// A ruleset with a ticket for it, as a commit or a rollback names it.
+#[derive(Drop)]
+pub struct Entry {
+    /// The ruleset that is switched or dropped.
+    pub name: RulesetName,
+    /// The ticket that a commit wants to be its valid one. Where it isn't, a rollback lets the ruleset be.
+    pub ticket: Ticket,
+}
+
+/// Rulesets with their tickets, in the order in which a commit or a rollback names them.
+#[derive(Drop)]
+pub struct Entries {
+    entries: Vec<Entry>,
+}
+
+impl Model for Entries {
+    ghost use Rattle.std.specs.Prelude.{List};
+    ghost use Rattle.pf_ticket.specs.declared.entry.Entry.{Entry};
+
+    ghost Value = { List Entry };
+
+    ghost view = { λ e. e.entries.items };
+}
+
+impl Entries {
+    /// The list of these. It takes no memory.
+    pub fn new(entries: Vec<Entry>) -> Entries
+        ensures { result ≡ entries.items }
+    {
+        Entries { entries }
+    }
+
+    /// The entries, given back. It takes no memory.
+    pub fn into_vec(self) -> Vec<Entry>
+        ensures { result.items ≡ self }
+    {
+        self.entries
+    }
+
+    /// The entries in order.
+    pub fn as_slice(&self) -> &[Entry]
+        ensures { result.now ≡ self.now }
+    {
+        self.entries.as_slice()
+    }
+}

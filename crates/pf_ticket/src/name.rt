@@ -1,0 +1,99 @@
+//! Names of rulesets.
+ghost use Rattle.std.specs.Prelude.{◌≡◌};
+ghost use Rattle.pf_ticket.specs.Names.{filter_at, same_kind, same_name};
+
+use pf_anchor::Path;
+use std::marker::Model;
+
+/// The kinds of ruleset that have tickets.
+#[derive(Clone, Copy, Debug, PartialEq, Eq)]
+pub enum RulesetKind {
+    /// Filter rules.
+    Filter,
+}
+
+/// A ruleset, as a transaction names it (pf(4), DIOCXBEGIN).
+#[derive(Drop)]
+pub struct RulesetName {
+    /// What its rules are for.
+    pub kind: RulesetKind,
+    /// Where it is; the main ruleset's path has no bytes.
+    pub path: Path,
+}
+
+impl RulesetKind {
+    fn is(self, other: RulesetKind) -> bool
+        ensures { result ≡ same_kind self other }
+    {
+        match (self, other) {
+            (RulesetKind::Filter, RulesetKind::Filter) => true,
+        }
+    }
+}
+
+impl RulesetName {
+    /// The filter ruleset at a path. It takes no memory.
+    pub fn filter(path: &Path) -> RulesetName
+        ensures { result ≡ filter_at path.now }
+    {
+        RulesetName {
+            kind: RulesetKind::Filter,
+            path: path.copied(),
+        }
+    }
+
+    /// The same name. It takes no memory.
+    pub fn copied(&self) -> RulesetName
+        ensures { result ≡ self.now }
+    {
+        RulesetName {
+            kind: self.kind,
+            path: self.path.copied(),
+        }
+    }
+
+    /// Whether both name one ruleset.
+    pub fn same(&self, other: &RulesetName) -> bool
+        ensures { result ≡ same_name self.now other.now }
+    {
+        self.kind.is(other.kind) && self.path.same(&other.path)
+    }
+}
+
+/// Rulesets in the order in which a begin names them.
+#[derive(Drop)]
+pub struct RulesetNames {
+    names: Vec<RulesetName>,
+}
+
+impl Model for RulesetNames {
+    ghost use Rattle.std.specs.Prelude.{List};
+    ghost use Rattle.pf_ticket.specs.declared.name.RulesetName.{RulesetName};
+
+    ghost Value = { List RulesetName };
+
+    ghost view = { λ n. n.names.items };
+}
+
+impl RulesetNames {
+    /// The list of these. It takes no memory.
+    pub fn new(names: Vec<RulesetName>) -> RulesetNames
+        ensures { result ≡ names.items }
+    {
+        RulesetNames { names }
+    }
+
+    /// The names, given back. It takes no memory.
+    pub fn into_vec(self) -> Vec<RulesetName>
+        ensures { result.items ≡ self }
+    {
+        self.names
+    }
+
+    /// The names in order.
+    pub fn as_slice(&self) -> &[RulesetName]
+        ensures { result.now ≡ self.now }
+    {
+        self.names.as_slice()
+    }
+}

@@ -1,0 +1,32 @@
+//! Why nothing was done.
+ghost use Rattle.std.specs.Prelude.{◌≡◌};
+ghost use Rattle.pf_ticket.specs.declared.refusal.TicketRefusal.TheVariants.{Memory};
+
+use std::alloc::AllocError;
+
+/// Why nothing was done with tickets. After each of these all is as before.
+#[derive(Clone, Copy, Debug, PartialEq, Eq)]
+pub enum TicketRefusal {
+    /// A list without entries, or with more than 64.
+    BadCount,
+    /// The first entry of a commit or a rollback, from 0, that names a ruleset named before it.
+    Twice { at: usize },
+    /// The first entry of a commit, from 0, whose ticket isn't valid; 0 for an add.
+    Busy { at: usize },
+    /// The inactive ruleset has 1,024 rules, and no ruleset may have more.
+    RulesetFull,
+    /// A begin would leave more than 1,024 rulesets with a valid ticket.
+    TooManyRulesets,
+    /// A begin needs more counts than are left up to 4,294,967,295, the last of an opening. None of them is given.
+    TicketsExhausted,
+    /// A growth of memory was refused.
+    Memory,
+}
+
+impl From<AllocError> for TicketRefusal {
+    ghost from_gives = { λ _ e. e ≡ Memory };
+
+    fn from(_e: AllocError) -> TicketRefusal {
+        TicketRefusal::Memory
+    }
+}

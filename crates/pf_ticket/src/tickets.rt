@@ -1,0 +1,295 @@
+//! The tickets that are valid, and what is offered with them.
+ghost use Rattle.std.specs.Prelude.{◌≡◌, ◌<◌, ◌≤◌, List, [], ◌∷◌, ◌++◌, IfOk, OnOk, OnErr, IfSome, IfNone, length, filter, fold, get_or, vec_len, vec_capacity};
+ghost use Rattle.std.specs.List.{list_any};
+ghost use Rattle.pf_anchor.specs.declared.limits.TheConstants.{RULE_LIMIT};
+ghost use Rattle.pf_ticket.specs.Mentions.{Mention, gives, switches, drops, added, rules_in};
+ghost use Rattle.pf_ticket.specs.Names.{filter_at, is_named, same_name, tickets_of};
+ghost use Rattle.pf_ticket.specs.Offers.{without, take_out, add_to, IsPlace, IsNowhere};
+ghost use Rattle.pf_ticket.specs.Replies.{bad_count, twice_in, is_valid, busy_in, list_check, commit_check, begin_reply, add_reply, IsReply};
+ghost use Rattle.pf_ticket.specs.Tickets.{Offer, Agrees, ticket_at, offered_at, facts_in};
+
+use crate::entry::Entry;
+use crate::limits::{ENTRY_LIMIT, LAST_COUNT};
+use crate::name::RulesetName;
+use crate::offered::Offered;
+use crate::refusal::TicketRefusal;
+use crate::ticket::{Ticket, TicketRange};
+use pf_anchor::{Path, RULE_LIMIT, RULESET_LIMIT};
+use pf_rule::Rule;
+use std::alloc::{AllocError, Global};
+use std::marker::Model;
+
+/// An inactive ruleset with its valid ticket.
+#[derive(Drop)]
+struct Slot {
+    name: RulesetName,
+    ticket: Ticket,
+    offered: Offered,
+}
+
+impl Model for Slot {
+    ghost use Rattle.pf_ticket.specs.Tickets.{Offer, offer};
+
+    ghost Value = { Offer };
+
+    ghost view = { λ s. offer s.name s.ticket s.offered };
+}
+
+/// The valid tickets of one opening, and the inactive rulesets. Contracts see it as an `Open`.
+#[derive(Drop)]
+pub struct Tickets {
+    alloc: Global,
+    epoch: u32,
+    // One more than the greatest count once all counts are given.
+    next: u64,
+    slots: Vec<Slot>,
+}
+
+impl Model for Tickets {
+    ghost use Rattle.std.specs.Prelude.{◌≤◌, ◌+◌};
+    ghost use Rattle.pf_ticket.specs.declared.limits.TheConstants.{LAST_COUNT};
+    ghost use Rattle.pf_ticket.specs.Tickets.{Open, open_with};
+
+    ghost Value = { Open };
+
+    ghost view = { λ t. open_with t.epoch t.next t.slots.items };
+
+    ghost invariant = { λ t. t.next ≤ LAST_COUNT + 1 };
+}
+
+fn is_bad_count(number: usize) -> bool
+    ensures { result ≡ bad_count number }
+{
+    number == 0 || number > ENTRY_LIMIT
+}
+
+// Whether a name stands in a list.
+fn is_named(names: &[RulesetName], name: &RulesetName) -> bool
+    ensures { result ≡ is_named names.now name.now }
+{
+    names.iter().any(|other| other.same(name))
+}
+
+// Whether one of these entries names the ruleset.
+fn names_it(entries: &[Entry], name: &RulesetName) -> bool
+    ensures { result ≡ list_any (λ e. same_name e.name name.now) entries.now }
+{
+    entries.iter().any(|other| other.name.same(name))
+}
+
+// The first entry that names a ruleset named before it.
+fn first_twice(entries: &[Entry]) -> Option<usize>
+    ensures { result ≡ twice_in entries.now }
+{
+    for (place, entry) in entries.iter().enumerate() {
+        if names_it(&entries[..place], &entry.name) {
+            return Some(place);
+        }
+    }
+    None
+}
+
+// Whether the entries of a commit or a rollback are good by themselves.
+fn check_list(entries: &[Entry]) -> Result<(), TicketRefusal>
+    ensures { result ≡ list_check entries.now }
+{
+    if is_bad_count(entries.len()) {
+        return Err(TicketRefusal::BadCount);
+    }
+    match first_twice(entries) {
+        Some(at) => Err(TicketRefusal::Twice { at }),
+        None => Ok(()),
+    }
+}
+
+// Takes a ruleset's slot out.
+fn leave_out(slots: &mut Vec<Slot>, name: &RulesetName)
+    ensures items { slots.new.items ≡ without name.now slots.old.items }
+    ensures len { vec_len slots.new ≤ vec_len slots.old }
+    ensures capacity { vec_capacity slots.new ≡ vec_capacity slots.old }
+{
+    slots.retain(|slot| !slot.name.same(name));
+}
+
+impl Tickets {
+    /// An opening's tickets: none yet. It takes no memory.
+    pub fn new(alloc: Global, epoch: u32) -> Tickets
+        ensures epoch { result.epoch ≡ epoch }
+        ensures agrees { Agrees result [] }
+    {
+        Tickets {
+            alloc,
+            epoch,
+            next: 1,
+            slots: Vec::new(alloc),
+        }
+    }
+
+    // The place of a ruleset's slot.
+    fn place(&self, name: &RulesetName) -> Option<usize>
+        ensures within { IfSome result (λ i. i < length self.now.offers) }
+        ensures some { IfSome result (λ i. (o : Offer) → o ≡ get_or self.now.offers i o → IsPlace name.now self.now.offers i o) }
+        ensures none { IfNone result (IsNowhere name.now self.now.offers) }
+    {
+        for (place, slot) in self.slots.iter().enumerate() {
+            if slot.name.same(name) {
+                return Some(place);
+            }
+        }
+        None
+    }
+
+    // Whether a ticket is the ruleset's valid one.
+    fn is_valid(&self, name: &RulesetName, ticket: Ticket) -> bool
+        ensures { result ≡ is_valid (ticket_at self.now.offers) name.now ticket }
+    {
+        match self.place(name) {
+            Some(place) => self.slots[place].ticket == ticket,
+            None => false,
+        }
+    }
+
+    fn first_busy(&self, entries: &[Entry]) -> Option<usize>
+        ensures { result ≡ busy_in (ticket_at self.now.offers) entries.now }
+    {
+        entries
+            .iter()
+            .position(|entry| !self.is_valid(&entry.name, entry.ticket))
+    }
+
+    // How many rulesets have a valid ticket once these are given one too.
+    fn opened_with(&self, names: &[RulesetName]) -> usize
+        ensures { result ≡ (facts_in self.now).opened names.now }
+    {
+        let mut count = self.slots.len();
+        for (place, name) in names.iter().enumerate() {
+            if self.place(name).is_none() && !is_named(&names[..place], name) {
+                count += 1;
+            }
+        }
+        count
+    }
+
+    // Voids a ruleset's ticket.
+    fn take_out(&mut self, out: &RulesetName)
+        ensures { self.new ≡ take_out self.old out.now }
+    {
+        leave_out(&mut self.slots, out);
+    }
+
+    // Appends a rule to the ruleset's offer, which stands at this place.
+    fn grow(&mut self, name: &RulesetName, place: usize, rule: Rule) -> Result<(), AllocError>
+        requires within { place < length self.old.offers }
+        requires stands { (o : Offer) → o ≡ get_or self.old.offers place o → IsPlace name.now self.old.offers place o }
+        requires room { length (rules_in (offered_at self.old.offers name.now)) < RULE_LIMIT }
+        ensures ok { OnOk result (self.new ≡ add_to self.old name.now rule) }
+        ensures err { OnErr result (self.new ≡ self.old) }
+    {
+        self.slots[place].offered.add(self.alloc, rule)
+    }
+
+    /// Gives a new ticket for each ruleset in turn, with nothing offered yet. After a refusal all is as before.
+    pub fn begin(&mut self, names: &[RulesetName]) -> Result<TicketRange, TicketRefusal>
+        ensures reply { IsReply result (begin_reply (facts_in self.old) names.now) }
+        ensures agrees { (ms : List Mention) → Agrees self.old ms → IfOk result (λ g. Agrees self.new (ms ++ gives names.now (tickets_of g))) }
+        ensures err { OnErr result (self.new ≡ self.old) }
+        ensures epoch { self.new.epoch ≡ self.old.epoch }
+    {
+        if is_bad_count(names.len()) {
+            return Err(TicketRefusal::BadCount);
+        }
+        if self.opened_with(names) > RULESET_LIMIT {
+            return Err(TicketRefusal::TooManyRulesets);
+        }
+        let number = names.len() as u32;
+        if self.next + u64::from(number) - 1 > LAST_COUNT {
+            return Err(TicketRefusal::TicketsExhausted);
+        }
+        self.slots.reserve(names.len())?;
+        let first = Ticket {
+            epoch: self.epoch,
+            count: self.next as u32,
+        };
+        for name in names {
+            leave_out(&mut self.slots, name);
+            self.slots.push_reserved(Slot {
+                name: name.copied(),
+                ticket: Ticket {
+                    epoch: self.epoch,
+                    count: self.next as u32,
+                },
+                offered: Offered::nothing(name.kind),
+            });
+            self.next += 1;
+        }
+        Ok(TicketRange { first, number })
+    }
+
+    /// Appends a rule to the filter ruleset that is offered with a valid ticket. After a refusal all is as before.
+    pub fn add_rule(&mut self, path: &Path, ticket: Ticket, rule: Rule) -> Result<(), TicketRefusal>
+        ensures reply { IsReply result (add_reply (facts_in self.old) (filter_at path.now) ticket) }
+        ensures agrees { (ms : List Mention) → Agrees self.old ms → OnOk result (Agrees self.new (ms ++ added (filter_at path.now) ticket rule ∷ [])) }
+        ensures err { OnErr result (self.new ≡ self.old) }
+        ensures epoch { self.new.epoch ≡ self.old.epoch }
+    {
+        let name = RulesetName::filter(path);
+        let Some(place) = self.place(&name) else {
+            return Err(TicketRefusal::Busy { at: 0 });
+        };
+        if self.slots[place].ticket != ticket {
+            return Err(TicketRefusal::Busy { at: 0 });
+        }
+        if self.slots[place].offered.rule_count() >= RULE_LIMIT {
+            return Err(TicketRefusal::RulesetFull);
+        }
+        self.grow(&name, place, rule)?;
+        Ok(())
+    }
+
+    /// Whether a commit of these entries may go on. It takes no memory.
+    pub fn check_all(&self, entries: &[Entry]) -> Result<(), TicketRefusal>
+        ensures { result ≡ commit_check (ticket_at self.now.offers) entries.now }
+    {
+        check_list(entries)?;
+        match self.first_busy(entries) {
+            Some(at) => Err(TicketRefusal::Busy { at }),
+            None => Ok(()),
+        }
+    }
+
+    /// What is offered for a ruleset with its valid ticket, shared.
+    pub fn contents(&self, name: &RulesetName) -> Result<Offered, AllocError>
+        ensures { IfOk result (λ o. o ≡ offered_at self.now.offers name.now) }
+    {
+        match self.place(name) {
+            Some(place) => self.slots[place].offered.shared(),
+            None => Ok(Offered::nothing(name.kind)),
+        }
+    }
+
+    /// Drops each of these rulesets whose ticket is valid. After a refusal all is as before. It takes no memory.
+    pub fn rollback(&mut self, entries: &[Entry]) -> Result<(), TicketRefusal>
+        ensures reply { result ≡ list_check entries.now }
+        ensures agrees { (ms : List Mention) → Agrees self.old ms → OnOk result (Agrees self.new (ms ++ drops entries.now)) }
+        ensures err { OnErr result (self.new ≡ self.old) }
+        ensures epoch { self.new.epoch ≡ self.old.epoch }
+    {
+        check_list(entries)?;
+        for entry in entries {
+            if self.is_valid(&entry.name, entry.ticket) {
+                self.take_out(&entry.name);
+            }
+        }
+        Ok(())
+    }
+
+    /// Voids the tickets of these rulesets, as a commit does. It takes no memory.
+    pub fn take_all(&mut self, names: &[RulesetName])
+        ensures agrees { (ms : List Mention) → Agrees self.old ms → Agrees self.new (ms ++ switches names.now) }
+        ensures epoch { self.new.epoch ≡ self.old.epoch }
+    {
+        for name in names {
+            self.take_out(name);
+        }
+    }
+}

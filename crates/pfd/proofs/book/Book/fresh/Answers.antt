@@ -1,0 +1,21 @@
+use Rattle.std.proofs.Common.{refl, ap, ◌∙◌, arith, []}
+use Rattle.std.specs.Prelude.{map}
+use Rattle.std.specs.Arc.{arc_value}
+use Rattle.pf_core.specs.Edits.{Kept, kept}
+use Rattle.pf_core.specs.Worlds.{setting_with}
+use Rattle.pf_core.proofs.LongerWorlds.{stands-opened}
+use Rattle.pfd.specs.Books.{singles}
+use Rattle.pfd.proofs.book.Book.fresh.Goals as goal
+
+pub returns-clause-stands : goal.returns-clause-stands
+returns-clause-stands c =
+    stands-opened (kept 0 []) _ (setting_with c.args.history_limit) (omega arith)
+    (record {
+      base = c.in_ok-base.ensures.ok ∙ c.empty.ensures;
+      calls = c.new-2.ensures.agrees;
+      epoch = c.new-2.ensures.epoch ∙ ap (λ (k : Kept). k.epoch) (c.in_ok-durable.ensures ∙ c.in_ok-base.ensures.ok ∙ c.empty.ensures);
+      acked = ap (λ xs. singles (map arc_value xs)) c.new-3.ensures.items;
+      pending = refl;
+      shown = refl;
+      limit = refl;
+    })

@@ -1,0 +1,78 @@
+-- What contracts see of a Book's fields, what its replies say by themselves, and what keeping a change leaves. Own.
+use Rattle.std.specs.Prelude.{◌≡◌, ℕ, ◌+◌, ◌<◌, ◌≤◌, List, [], ◌∷◌, ◌++◌, length, map, ⊤, Result, Ok, Err}
+use Rattle.std.specs.Arc.{arc_value}
+use Rattle.pf_ticket.specs.declared.refusal.TicketRefusal.{TicketRefusal}
+use Rattle.pf_ticket.specs.Mentions.{switches}
+use Rattle.pf_ticket.specs.Replies.{list_check}
+use Rattle.pf_core.specs.declared.command.Command.{Command}
+use Rattle.pf_core.specs.declared.command.Command.TheVariants.{Transact, Ask}
+use Rattle.pf_core.specs.declared.command.Question.TheVariants.{Judge}
+use Rattle.pf_core.specs.declared.command.Transaction.TheVariants.{Rollback}
+use Rattle.pf_core.specs.declared.reply.Answer.TheVariants as answer
+use Rattle.pf_core.specs.declared.reply.Outcome.{Outcome}
+use Rattle.pf_core.specs.declared.reply.Refusal.{Refusal}
+use Rattle.pf_core.specs.declared.reply.Refusal.TheVariants.{HistoryFull, Memory}
+use Rattle.pf_core.specs.declared.reply.Reply.{Reply}
+use Rattle.pf_core.specs.declared.reply.Reply.TheVariants.{Answer, Applied, Refused}
+use Rattle.pf_core.specs.Calls.{Call, call, mentions_of, AgreesWith}
+use Rattle.pf_core.specs.Edits.{Kept, Edit, voided_by, verdict}
+use Rattle.pf_core.specs.Pages.{Page}
+use Rattle.pf_core.specs.Refusals.{refusal_of}
+use Rattle.pf_core.specs.Worlds.{flat}
+use Rattle.pfd.specs.declared.book.Book.TheInside.{Inside}
+
+-- each change is a group of its own
+abbrev pub singles : List Edit → List (List Edit)
+singles es = map (λ e. e ∷ []) es
+
+-- in memory every change is acknowledged
+abbrev pub page_in : Inside → Page
+page_in b = record { base = arc_value b.base; whole = b.core; acked = singles (map arc_value b.log.items); pending = []; limit = b.limit; shown = b.shown_len; published = arc_value b.shown }
+
+-- ---- replies
+
+-- a change's number is how many changes were acknowledged by then
+abbrev pub IsNumbered : Reply → Page → Type 0
+IsNumbered (Answer a) new = ⊤
+IsNumbered (Applied seq outcome) new = seq ≡ length (flat new.acked)
+IsNumbered (Refused e) new = ⊤
+
+-- a packet is always judged, and by what is kept
+abbrev pub IsJudged : Kept → Command → Reply → Type 0
+IsJudged d (Ask (Judge packet)) r = r ≡ Answer (answer.Judged (verdict d packet))
+IsJudged d c r = ⊤
+
+abbrev pub done_unless : Result (Unit {0}) TicketRefusal → Reply
+done_unless (Ok u) = Answer answer.Done
+done_unless (Err e) = Refused (refusal_of e)
+
+-- a rollback is done, or refused for its list: memory is never refused for it
+abbrev pub IsRolledBack : Command → Reply → Type 0
+IsRolledBack (Transact (Rollback entries)) r = r ≡ done_unless (list_check entries)
+IsRolledBack c r = ⊤
+
+-- nothing changes where a command is refused
+abbrev pub StaysIfRefused : Reply → Page → Page → Type 0
+StaysIfRefused (Answer a) old new = ⊤
+StaysIfRefused (Applied seq outcome) old new = ⊤
+StaysIfRefused (Refused e) old new = new ≡ old
+
+-- ---- a change is kept
+
+-- a change was kept with this number, and is shown
+pub record IsMore (old new : Page) (e : Edit) (seq : ℕ) : Type 0 where
+  pub room : length (flat old.acked) < old.limit
+  pub number : seq ≡ length (flat old.acked) + 1
+  pub acked : new.acked ≡ old.acked ++ (e ∷ []) ∷ []
+  pub shown : new.shown ≡ seq
+  pub agrees : (calls : List Call) (c : Command) (n : ℕ) (o : Outcome) → mentions_of (call c (Applied n o)) ≡ switches (voided_by e) → AgreesWith old.whole.tickets calls → AgreesWith new.whole.tickets (calls ++ call c (Applied n o) ∷ [])
+  pub epoch : new.whole.tickets.epoch ≡ old.whole.tickets.epoch
+  pub base : new.base ≡ old.base
+  pub pending : new.pending ≡ old.pending
+  pub limit : new.limit ≡ old.limit
+
+-- why a change is not kept
+abbrev pub IsUnkept : Page → Refusal → Type 0
+IsUnkept b HistoryFull = b.limit ≤ length (flat b.acked)
+IsUnkept b Memory = ⊤
+IsUnkept b e = ⊥

@@ -1,0 +1,64 @@
+-- Lines that were served one list after another, and what is looked at of a line.
+use Rattle.std.proofs.Common.{◌≡◌, ℕ, ◌<◌, ◌≤◌, List, [], ◌∷◌, ◌++◌, length, take, map, Option, Result, inl, inr, refl, sym, ap, ◌∙◌, subst, append_assoc, arith}
+use Rattle.std.proofs.lemmas.List.{append-nil, length-take, take_all}
+use Rattle.std.proofs.lemmas.Bool.{cases_lt}
+use Rattle.pf_core.specs.declared.command.Command.{Command}
+use Rattle.pf_core.specs.declared.reply.Refusal.{Refusal}
+use Rattle.pf_core.specs.Pages.{Page, StandsFor}
+use Rattle.pf_core.specs.Worlds.{Event}
+use Rattle.pf_line.specs.Lines.{line_at, long_line}
+use Rattle.pf_engine.specs.Lines.{seen}
+use Rattle.pfd.specs.Serving.{Says, Served, Continues, Serves}
+
+pub continues-still : (page : Page) → Continues page page []
+continues-still page = record {
+  worlds = λ first world stands. subst (λ (w : List Event). StandsFor first page w) (sym (append-nil world)) stands;
+  limit = refl;
+}
+
+continues-then : (a b c : Page) (x y : List Event) → Continues a b x → Continues b c y → Continues a c (x ++ y)
+continues-then a b c x y p q = record {
+  worlds = λ first world stands. subst (λ (w : List Event). StandsFor first c w) (append_assoc world x y) (q.worlds first (world ++ x) (p.worlds first world stands));
+  limit = q.limit ∙ p.limit;
+}
+
+served-then : (xs ys : List (List ℕ)) (cs ds : List Event) (s t : List ℕ) → Served xs cs s → Served ys ds t → Served (xs ++ ys) (cs ++ ds) (s ++ t)
+served-then [] ys cs ds s t p q =
+    let e : ds ≡ cs ++ ds = ap (λ (l : List Event). l ++ ds) (sym p.0) in
+    let f : t ≡ s ++ t = ap (λ (l : List ℕ). l ++ t) (sym p.1) in
+    subst (λ (l : List Event). Served ys l (s ++ t)) e (subst (λ (l : List ℕ). Served ys ds l) f q)
+served-then (x ∷ xs) ys cs ds s t (first, rest, reply, replies, says, more, events, text) q = (
+  first,
+  rest ++ ds,
+  reply,
+  replies ++ t,
+  says,
+  served-then xs ys rest ds replies t more q,
+  ap (λ (l : List Event). l ++ ds) events ∙ append_assoc first rest ds,
+  ap (λ (l : List ℕ). l ++ t) text ∙ append_assoc reply replies t,
+)
+
+-- of a line that is too long as much is looked at as shows that
+seen-says : (line : List ℕ) → line_at (seen line) ≡ line_at line
+seen-says line = elim (cases_lt 4097 (length line)) [
+  | inl h ↦ long_line (seen line) (omega (arith, length-take 4097 line)) ∙ sym (long_line line (omega arith))
+  | inr h ↦ ap line_at (take_all 4097 line h)
+]
+
+served-seen : (lines : List (List ℕ)) (events : List Event) (text : List ℕ) → Served (map seen lines) events text → Served lines events text
+served-seen [] events text p = p
+served-seen (line ∷ lines) events text (first, rest, reply, replies, says, more, c, t) =
+    (first, rest, reply, replies, subst (λ (said : Result (Option Command) Refusal). Says said first reply) (seen-says line) says, served-seen lines rest replies more, c, t)
+
+pub serves-none : (page : Page) → Serves page page [] []
+serves-none page = record { events = []; served = (refl, refl); book = continues-still page; }
+
+pub serves-then : (old mid new : Page) (lines others : List (List ℕ)) (text more : List ℕ) → Serves old mid lines text → Serves mid new others more → Serves old new (lines ++ others) (text ++ more)
+serves-then old mid new lines others text more p q = record {
+  events = p.events ++ q.events;
+  served = served-then lines others p.events q.events text more p.served q.served;
+  book = continues-then old mid new p.events q.events p.book q.book;
+}
+
+pub serves-seen : (old new : Page) (lines : List (List ℕ)) (text : List ℕ) → Serves old new (map seen lines) text → Serves old new lines text
+serves-seen old new lines text p = record { events = p.events; served = served-seen lines p.events text p.served; book = p.book; }

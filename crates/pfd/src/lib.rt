@@ -1,0 +1,11 @@
+//! A control plane for rulesets of pf: commands come as lines, and each gets a reply. The program is a `main` over this.
+#![tactic(auto)]
+
+mod book;
+mod engine;
+mod program;
+
+pub use book::Book;
+pub use engine::serve_alone;
+pub use pf_engine::EngineFault;
+pub use program::{start, without_words};

@@ -1,0 +1,136 @@
+//! Rows, played over Books.
+ghost use Rattle.std.specs.Prelude.{◌≡◌, ℕ, List, [], Option, Some, None, Ok};
+ghost use Rattle.pf_engine.specs.Sessions.{IsSession};
+ghost use Rattle.pfd.specs.Serving.{Serves};
+
+use crate::spelling::{choose, fill, push_line, reply_bytes};
+use crate::table::Table;
+use pfd::{Book, serve_alone};
+use std::alloc::{AllocError, Global};
+
+/// In how many ways a row is read at most.
+const MOST_WAYS: usize = 100_000;
+
+/// The most changes that a history may have.
+const MOST_HISTORY: usize = 1_048_576;
+
+/// What a table came to: how many rows were played, and a line for each reply that differs.
+#[derive(Drop)]
+pub(crate) struct Tally {
+    pub(crate) rows: usize,
+    pub(crate) differing: String,
+}
+
+// What is written for an input, where that isn't what is wanted. There is nothing to tell only where a session over the
+// input came to its end and wrote just the wanted bytes.
+fn written_instead(alloc: Global, book: &mut Book, input: &[u8], wanted: &[u8]) -> Option<Vec<u8>>
+    ensures { result ≡ None → (unread : Option (List ℕ)) × IsSession Serves (Ok tt) (Some input.now) unread book.old book.new (Some []) (Some wanted.now) }
+{
+    let mut reader = input;
+    let mut written = Vec::new(alloc);
+    match serve_alone(alloc, &mut reader, &mut written, book) {
+        Ok(()) if written.as_slice() == wanted => None,
+        _ => Some(written),
+    }
+}
+
+// The line of a row and its reply, which is empty where there is none.
+fn cut(row: &str) -> (&str, &str) {
+    row.split_once(" -> ").unwrap_or((row, ""))
+}
+
+// Plays a line, and tells where the reply differs.
+fn play_line(
+    alloc: Global,
+    table: &Table,
+    book: &mut Book,
+    line: &str,
+    reply: &str,
+    differing: &mut String,
+) -> Result<(), AllocError> {
+    let mut input = Vec::new(alloc);
+    push_line(alloc, &mut input, line)?;
+    if !table.as_input {
+        input.push(b'\n')?;
+    }
+    let wanted = reply_bytes(alloc, reply)?;
+    if let Some(written) = written_instead(alloc, book, input.as_slice(), wanted.as_slice()) {
+        let written = std::str::from_utf8(written.as_slice()).unwrap_or("no text");
+        write!(differing, "  {line} -> {written:?}\n")?;
+    }
+    Ok(())
+}
+
+// A Book of a table, after what comes before its rows.
+fn begun(alloc: Global, table: &Table, differing: &mut String) -> Result<Book, AllocError> {
+    let mut book = Book::fresh(alloc, table.history.clamp(1, MOST_HISTORY))?;
+    for row in &table.before {
+        let (line, reply) = cut(row);
+        play_line(alloc, table, &mut book, line, reply, differing)?;
+    }
+    Ok(book)
+}
+
+// The fields of a row, read in the way of this number, where there are so many ways.
+fn fields_of(alloc: Global, row: &str, way: usize) -> Result<Option<Vec<String>>, AllocError> {
+    let mut fields = Vec::new(alloc);
+    for field in row.split(" -> ") {
+        let (chosen, left) = choose(alloc, field, way)?;
+        if left > 0 && fields.is_empty() {
+            return Ok(None);
+        }
+        fields.push(chosen)?;
+    }
+    Ok(Some(fields))
+}
+
+// Plays a row in one way.
+fn play_way(
+    alloc: Global,
+    table: &Table,
+    book: &mut Book,
+    fields: &[String],
+    differing: &mut String,
+) -> Result<(), AllocError> {
+    for shape in &table.shapes {
+        let (line, reply) = cut(shape);
+        let line = fill(alloc, line, fields)?;
+        let reply = fill(alloc, reply, fields)?;
+        play_line(alloc, table, book, line.as_str(), reply.as_str(), differing)?;
+    }
+    Ok(())
+}
+
+// Plays a row in each way, and counts them.
+fn play_row(
+    alloc: Global,
+    table: &Table,
+    book: &mut Book,
+    row: &str,
+    tally: &mut Tally,
+) -> Result<(), AllocError> {
+    for way in 0..MOST_WAYS {
+        let Some(fields) = fields_of(alloc, row, way)? else {
+            break;
+        };
+        if !table.in_turn {
+            *book = begun(alloc, table, &mut tally.differing)?;
+        }
+        play_way(alloc, table, book, fields.as_slice(), &mut tally.differing)?;
+        tally.rows = tally.rows.saturating_add(1);
+    }
+    Ok(())
+}
+
+/// Plays all rows of a table.
+pub(crate) fn play(alloc: Global, table: &Table) -> Result<Tally, AllocError> {
+    let mut tally = Tally {
+        rows: 0,
+        differing: String::new(alloc),
+    };
+    let mut book = begun(alloc, table, &mut tally.differing)?;
+    for row in &table.rows {
+        play_row(alloc, table, &mut book, row, &mut tally)?;
+    }
+    Ok(tally)
+}

@@ -1,0 +1,121 @@
+//! How rows are spelled: choices, shapes, repeats and bytes. `stdin` says in its head what each of them means.
+ghost use Rattle.std.specs.Prelude.{◌<◌};
+
+use std::alloc::{AllocError, Global};
+
+/// The text with its choices taken as the number says, and what is left of the number: 0 where there are so many ways.
+pub(crate) fn choose(
+    alloc: Global,
+    text: &str,
+    number: usize,
+) -> Result<(String, usize), AllocError> {
+    let mut chosen = String::new(alloc);
+    let mut left = number;
+    for (place, piece) in text.split('(').enumerate() {
+        match piece.split_once(')') {
+            Some((choices, rest)) if place > 0 => {
+                let count = choices.split('|').count().max(1);
+                let choice = choices.split('|').nth(left % count);
+                chosen.push_str(choice.unwrap_or(""))?;
+                chosen.push_str(rest)?;
+                left /= count;
+            }
+            _ => chosen.push_str(piece)?,
+        }
+    }
+    Ok((chosen, left))
+}
+
+/// A shape with the fields in the places of `$1`, `$2` and so on.
+pub(crate) fn fill(alloc: Global, shape: &str, fields: &[String]) -> Result<String, AllocError> {
+    let mut filled = String::new(alloc);
+    for (place, piece) in shape.split('$').enumerate() {
+        match piece.as_bytes() {
+            [digit, ..] if place > 0 => {
+                let index = usize::from(digit.wrapping_sub(b'1'));
+                filled.push_str(fields.get(index).map_or("", |field| field.as_str()))?;
+                filled.push_str(piece.get(1..).unwrap_or(""))?;
+            }
+            _ => filled.push_str(piece)?,
+        }
+    }
+    Ok(filled)
+}
+
+fn hex_digit(digit: u8) -> u8
+    ensures { result < 16 }
+{
+    match digit {
+        b'0'..=b'9' => digit - b'0',
+        b'a'..=b'f' => digit - b'a' + 10,
+        _ => 0,
+    }
+}
+
+// A text in which `\` and two digits stand for a byte.
+fn push_bytes(bytes: &mut Vec<u8>, text: &str) -> Result<(), AllocError> {
+    for (place, piece) in text.split('\\').enumerate() {
+        match piece.as_bytes() {
+            [high, low, rest @ ..] if place > 0 => {
+                bytes.push(16 * hex_digit(*high) + hex_digit(*low))?;
+                bytes.extend_from_slice(rest)?;
+            }
+            all => bytes.extend_from_slice(all)?,
+        }
+    }
+    Ok(())
+}
+
+// A text with a number in the place of each `#`.
+fn push_numbered(
+    alloc: Global,
+    bytes: &mut Vec<u8>,
+    text: &str,
+    number: u32,
+) -> Result<(), AllocError> {
+    for (place, piece) in text.split('#').enumerate() {
+        if place > 0 {
+            bytes.extend_from_slice(format!(in alloc; "{number}")?.as_bytes())?;
+        }
+        push_bytes(bytes, piece)?;
+    }
+    Ok(())
+}
+
+// What stands in braces: FIRST..LAST:TEXT.
+fn push_repeated(alloc: Global, bytes: &mut Vec<u8>, repeat: &str) -> Result<(), AllocError> {
+    let (range, text) = repeat.split_once(':').unwrap_or((repeat, ""));
+    let (first, last) = range.split_once("..").unwrap_or((range, ""));
+    let first = first.parse::<u32>().unwrap_or(1);
+    let last = last.parse::<u32>().unwrap_or(0);
+    for number in first..=last {
+        push_numbered(alloc, bytes, text, number)?;
+    }
+    Ok(())
+}
+
+/// Appends the bytes of a line.
+pub(crate) fn push_line(alloc: Global, bytes: &mut Vec<u8>, text: &str) -> Result<(), AllocError> {
+    for (place, piece) in text.split('{').enumerate() {
+        match piece.split_once('}') {
+            Some((repeat, rest)) if place > 0 => {
+                push_repeated(alloc, bytes, repeat)?;
+                push_bytes(bytes, rest)?;
+            }
+            _ => push_bytes(bytes, piece)?,
+        }
+    }
+    Ok(())
+}
+
+/// The bytes of a reply, each of whose lines ends in a newline.
+pub(crate) fn reply_bytes(alloc: Global, text: &str) -> Result<Vec<u8>, AllocError> {
+    let mut bytes = Vec::new(alloc);
+    for line in text.split(" | ") {
+        push_line(alloc, &mut bytes, line)?;
+        if bytes.last().is_some_and(|last| *last != b'\n') {
+            bytes.push(b'\n')?;
+        }
+    }
+    Ok(bytes)
+}

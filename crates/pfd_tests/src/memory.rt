@@ -1,0 +1,76 @@
+//! Want of memory. `bench/refuse-allocations` runs both tests with each growth of memory refused in turn.
+use pfd::{Book, EngineFault, serve_alone};
+use std::alloc::Global;
+use std::process::Abort;
+use std::test::*;
+
+/// Lines of every kind, in turn, and their replies.
+const LINES: [(&str, &str); 18] = [
+    ("begin filter - filter web filter a/b", "ok 1.1 1.2 1.3\n"),
+    ("add - 1.1 block in all", "ok\n"),
+    ("add - 1.1 pass in quick on em0 proto udp from 10/8", "ok\n"),
+    ("add web 1.2 block in all", "ok\n"),
+    ("add - 1.1 pass inet6 to 10/8", "err family\n"),
+    ("commit filter - 1.1 filter web 1.2", "applied 1\n"),
+    ("judge in em0 udp 10.0.0.1 5 10.0.0.2 53", "pass rule 1\n"),
+    ("show rules web", "@0 block in all\nend 1\n"),
+    ("begin filter - filter web", "ok 1.4 1.5\n"),
+    ("begin filter - table -", "err word 3\n"),
+    ("rollback filter - 1.1 filter web 1.5", "ok\n"),
+    ("commit filter - 1.4", "applied 2\n"),
+    ("commit filter a/b 1.3 filter - 1.4", "busy 1\n"),
+    ("judge in em0 udp 10.0.0.1 5 10.0.0.2 53", "pass default\n"),
+    ("show rules -", "end 0\n"),
+    ("judge in em0 0", "err proto 3\n"),
+    ("frob", "err word 0\n"),
+    ("# a comment", ""),
+];
+
+// What a session over one line writes, or that it was refused the memory for its buffer.
+fn answer(
+    alloc: Global,
+    book: &mut Book,
+    line: &str,
+    room: &mut Vec<u8>,
+) -> Result<(), EngineFault> {
+    room.clear();
+    let mut reader = line.as_bytes();
+    serve_alone(alloc, &mut reader, room, book)
+}
+
+// Each line in turn has its reply. One for which memory was refused is given once more, if it may be.
+fn ask_each(rt: &impl Abort, alloc: Global, again: bool) -> Result<(), Fail> {
+    let mut book = match Book::fresh(alloc, 65_536) {
+        Err(_) if again => Book::fresh(alloc, 65_536)?,
+        made => made?,
+    };
+    let mut written = Vec::new(alloc);
+    written.reserve(100)?;
+    for (line, reply) in LINES.iter() {
+        let mut end = answer(alloc, &mut book, line, &mut written);
+        let refused = end == Err(EngineFault::Memory)
+            || written.as_slice() == b"err memory\n".as_slice();
+        if refused && again {
+            end = answer(alloc, &mut book, line, &mut written);
+        }
+        assert_eq!(rt; end, Ok(()), "at {line}");
+        assert_eq!(rt;
+            std::str::from_utf8(written.as_slice()),
+            Ok(*reply),
+            "at {line}"
+        );
+    }
+    Ok(())
+}
+
+// To be run with each growth refused: each line has its reply, or is refused for memory and then has it.
+#[test]
+fn allocations_refused(rt: HostRuntime) -> Result<(), Fail> {
+    ask_each(&rt, rt.alloc(), true)
+}
+
+// To be run beside it: this one asks but once, so it fails where a growth was refused and a line told so.
+#[test]
+fn allocations_not_refused(rt: HostRuntime) -> Result<(), Fail> {
+    ask_each(&rt, rt.alloc(), false)
+}
