@@ -13,8 +13,7 @@ use Rattle.std.proofs.lemmas.Bool.Decides.{nat_tests}
 use Rattle.pf_addr.specs.declared.fault.AddrFault.{AddrFault}
 use Rattle.pf_addr.specs.Grammar.{IsNumber, Dotted}
 use Rattle.pf_addr.specs.Reading.{is_dot, part_at, parts_at, numbers_at, ◌>>=◌}
-use Rattle.pf_addr.proofs.Split.{fails}
-use Rattle.pf_addr.proofs.Part.{part_read, part_found, none_past}
+use Rattle.pf_addr.proofs.Part.{part_read, part_found, none_past, fails}
 use Rattle.pf_addr.proofs.Numbers.{good_part, bad_part, no_part}
 
 -- ---- a byte that stands nowhere in a text

@@ -1,6 +1,6 @@
 -- The front of a number's bits, and the number with the other bits cleared.
 use Rattle.std.proofs.Common.{◌≡◌, ℕ, zero, suc, ◌+◌, ◌*◌, ◌-◌, ◌/◌, ◌%◌, ◌^◌, ◌<◌, ◌≤◌, ◌==◌, Bool, true, false, List, [], ◌∷◌, ◌++◌, length, take, refl, sym, ap, ◌∙◌, subst, arith}
-use Rattle.std.proofs.lemmas.Nat.{pow_pos, shr_split, shr_below, mod_low, shl-shr}
+use Rattle.std.proofs.lemmas.Nat.{shr_split, shr_below, shl-shr}
 use Rattle.std.proofs.lemmas.List.{length-take-le}
 use Rattle.std.proofs.lemmas.Bool.Decides.{nat_tests}
 use Rattle.std.specs.Prelude.{replicate}
@@ -15,14 +15,6 @@ use Rattle.pf_addr.specs.BitLaws.{length-bits, number_of-bits, take-bits}
 
 abbrev pub first_of : ℕ → ℕ → ℕ
 first_of n k = n / 2 ^ k * 2 ^ k
-
-pub first-le : (n k : ℕ) → first_of n k ≤ n
-first-le n k = omega (arith, shr_split n k)
-
-pub first-host : (n k : ℕ) → first_of n k % 2 ^ k ≡ 0
-first-host n k =
-    let e : n / 2 ^ k * 2 ^ k ≡ n / 2 ^ k * 2 ^ k + 0 = omega arith in
-    ap (λ (v : ℕ). v % 2 ^ k) e ∙ mod_low (n / 2 ^ k) k 0 (pow_pos k)
 
 pub first-again : (n k : ℕ) → first_of n k / 2 ^ k ≡ n / 2 ^ k
 first-again n k = shl-shr (n / 2 ^ k) k

@@ -1,9 +1,7 @@
-pub mod Split
 pub mod Numbers
 pub mod Part
 pub mod Dots
 pub mod Texts
 pub mod Fronts
 pub mod Writers
-pub mod Unique
 pub mod Equal

@@ -7,7 +7,7 @@ use Rattle.pf_addr.specs.declared.fault.AddrFault.{AddrFault}
 use Rattle.pf_addr.specs.declared.fault.AddrFault.TheVariants.{Empty}
 use Rattle.pf_addr.specs.declared.reading.Parts.{Parts}
 use Rattle.pf_addr.specs.Reading.{is_dot, part_at, parts_at, numbers_at, parts_of, ◌>>=◌}
-use Rattle.pf_addr.proofs.Split.{split_some, split_none}
+use Rattle.pf_addr.proofs.Part.{split_some, split_none}
 
 -- ---- the bytes that are kept
 

@@ -1,7 +1,7 @@
 -- A text of digits is what the reader takes as one part.
-use Rattle.std.proofs.Common.{◌≡◌, ℕ, ◌<◌, ◌==◌, Bool, true, false, cond, List, [], ◌∷◌, length, Option, Some, None, Ok, Err, refl, ap, ◌∙◌, arith, ltb, leb}
+use Rattle.std.proofs.Common.{◌≡◌, ℕ, ◌<◌, ◌==◌, Bool, true, false, cond, List, [], ◌∷◌, length, Option, Some, None, Ok, Err, refl, ap, ◌∙◌, arith, ltb, leb, ◌+◌, take, drop, subst, get_or}
 use Rattle.std.specs.Prelude.{not}
-use Rattle.std.specs.List.{position, position_or_len}
+use Rattle.std.specs.List.{position, position_or_len, slice_split}
 use Rattle.std.specs.Str.Parse.{AllDigits}
 use Rattle.std.specs.Char.{digit_value}
 use Rattle.std.proofs.lemmas.Bool.Decides.{nat_tests}
@@ -10,6 +10,8 @@ use Rattle.pf_form.specs.NumberLaws.{number_only, number_found}
 use Rattle.pf_addr.specs.declared.fault.AddrFault.TheVariants.{BadDigit, TooBig, BadLength}
 use Rattle.pf_addr.specs.Grammar.{IsNumber}
 use Rattle.pf_addr.specs.Reading.{valued_at, judged_at, part_at, length_of, length_at}
+use Rattle.std.proofs.lemmas.List.Splits.{slice_split_first, slice_split_none}
+use Rattle.std.proofs.lemmas.List.Sums.{prefix_len-le-length, prefix_len_passes}
 
 abbrev pub is_other : ℕ → Bool
 is_other b = not (is_digit b)
@@ -77,3 +79,26 @@ length_found at text n e = by_number (number_of 3 text) refl e where
   by_number : (o : Option ℕ) → number_of 3 text ≡ o → length_of at o ≡ Ok n → IsNumber 32 text n
   by_number (Some m) h e = by_value m (leb m 32) h refl e
   by_number None h e = absurd (cc)
+
+-- ---- a text is cut at its first byte that passes a test, and the rest after it
+
+-- what `position` says: a place before the end, or none
+first_at : (p : ℕ → Bool) (xs : List ℕ) (i : ℕ) → position p xs ≡ Some i → (position_or_len p xs < length xs) × (position_or_len p xs ≡ i)
+first_at p xs i e = grind (arith, nat_tests)
+
+pub first_none : (p : ℕ → Bool) (xs : List ℕ) → position p xs ≡ None → position_or_len p xs ≡ length xs
+first_none p xs e = grind (arith, nat_tests, prefix_len-le-length)
+
+pub split_some : (p : ℕ → Bool) (xs : List ℕ) (i : ℕ) → position p xs ≡ Some i → slice_split p xs ≡ take i xs ∷ slice_split p (drop (i + 1) xs)
+split_some p xs i e =
+    let at = first_at p xs i e in
+    subst (λ (k : ℕ). slice_split p xs ≡ take k xs ∷ slice_split p (drop (k + 1) xs)) at.1 (slice_split_first p xs 0 at.0)
+
+pub fails : (b : Bool) → not b ≡ true → b ≡ false
+fails true e = cc
+fails false e = refl
+
+pub split_none : (p : ℕ → Bool) (xs : List ℕ) → position p xs ≡ None → slice_split p xs ≡ xs ∷ []
+split_none p xs e =
+    let whole : position_or_len p xs ≡ length xs = first_none p xs e in
+    slice_split_none p xs (λ k d lt. fails (p (get_or xs k d)) (prefix_len_passes (λ x. not (p x)) xs k d (omega (arith, whole))))

@@ -1,5 +1,5 @@
 -- The reading functions and the grammar belong together.
-use Rattle.std.proofs.Common.{◌≡◌, ℕ, ◌+◌, ◌-◌, ◌≤◌, ◌==◌, Bool, true, false, List, [], ◌∷◌, ◌++◌, length, take, drop, Option, Some, None, Result, Ok, Err, refl, sym, ap, ◌∙◌, subst, arith, leb, inl, inr, length-drop, suc, add-one}
+use Rattle.std.proofs.Common.{◌≡◌, ℕ, ◌+◌, ◌-◌, ◌≤◌, ◌==◌, Bool, true, false, List, [], ◌∷◌, ◌++◌, length, take, drop, Option, Some, None, Result, Ok, Err, refl, sym, ap, ◌∙◌, subst, arith, leb, inl, inr, length-drop, suc, add-one, ◌^◌, ◌<◌}
 use Rattle.std.specs.Prelude.{replicate, IfOk}
 use Rattle.std.specs.List.{position}
 use Rattle.std.specs.Int.{from_be_bytes, w32}
@@ -18,6 +18,8 @@ use Rattle.pf_addr.specs.Grammar.{Dotted, SpellsAddr, SpellsNet, SpellsFront, fo
 use Rattle.pf_addr.specs.Reading.{is_slash, numbers_at, address_of, addr_at, at_most_four, length_at, cut_at, net_at, parts_of, kept_parts, ◌>>=◌}
 use Rattle.pf_addr.proofs.Part.{length_read, length_found}
 use Rattle.pf_addr.proofs.Dots.{dotted_without, place_after, no_place, numbers_read, numbers_found, cut_there}
+use Rattle.pf_addr.specs.Spelling.{addr_text, net_text}
+use Rattle.pf_addr.specs.SpellingLaws.{IsV4Network, SpellsAddr-addr_text, SpellsNet-net_text}
 
 abbrev mk_network : Family → List Bool → Network
 mk_network f l = record { family = f; front = l }
@@ -170,3 +172,22 @@ net_made text i parts len n net e count is_len is family front =
 pub single_is : (net : Network) (a : Addr) → net.family ≡ family_of a → net.front ≡ take (width (family_of a)) (bits_of a) → net ≡ network_of a
 single_is net (addr.V4 n) p q = network_is net V4 (bits 32 n) p (q ∙ take_all 32 (bits 32 n) (omega (arith, length-bits 32 n)))
 single_is net (addr.V6 n) p q = network_is net V6 (bits 128 n) p (q ∙ take_all 128 (bits 128 n) (omega (arith, length-bits 128 n)))
+
+-- ---- a text spells one value, and a value has a text of its own
+
+same_value : {A : Type 0} (a b : A) → ◌≡◌ {A = Result A AddrFault} (Ok a) (Ok b) → a ≡ b
+same_value a b e = cc
+
+pub one_addr : (text : List ℕ) (a b : Addr) → SpellsAddr text a → SpellsAddr text b → a ≡ b
+one_addr text a b p q = same_value a b (sym (addr_only text a p) ∙ addr_only text b q)
+
+pub one_net : (text : List ℕ) (a b : Network) → SpellsNet text a → SpellsNet text b → a ≡ b
+one_net text a b p q = same_value a b (sym (net_only text a p) ∙ net_only text b q)
+
+pub own_addr_text : (m n : ℕ) → m < 2 ^ 32 → n < 2 ^ 32 → addr_text (addr.V4 m) ≡ addr_text (addr.V4 n) → m ≡ n
+own_addr_text m n p q e =
+    let same : addr.V4 m ≡ addr.V4 n = one_addr (addr_text (addr.V4 n)) (addr.V4 m) (addr.V4 n) (subst (λ (t : List ℕ). SpellsAddr t (addr.V4 m)) e (SpellsAddr-addr_text m p)) (SpellsAddr-addr_text n q) in
+    cc
+
+pub own_net_text : (a b : Network) → IsV4Network a → IsV4Network b → net_text a ≡ net_text b → a ≡ b
+own_net_text a b p q e = one_net (net_text b) a b (subst (λ (t : List ℕ). SpellsNet t a) e (SpellsNet-net_text a p)) (SpellsNet-net_text b q)

@@ -214,10 +214,6 @@ word front le = elim (cases_lt (length front) 32) [
 pub IsNetWord-net_text : (net : Network) → IsV4Network net → IsNetWord 18 (net_text net)
 IsNetWord-net_text net is = subst (λ (n : Network). IsNetWord 18 (net_text n)) (v4-is net is.family) (word net.front is.within)
 
--- and an address's one of at most 15
-pub IsNetWord-addr_text : (n : ℕ) → IsNetWord 15 (addr_text (addr.V4 n))
-IsNetWord-addr_text n = addr_word n
-
 -- ---- what a text spells
 
 alone_v4 : (text : List ℕ) (net : Network) (a : Addr) → SpellsAddr text a → net ≡ network_of a → IsV4Network net

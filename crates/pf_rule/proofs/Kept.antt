@@ -1,5 +1,5 @@
 -- What words spell is what a rule or a packet keeps.
-use Rattle.std.proofs.Common.{◌≡◌, ℕ, ◌<◌, Bool, true, false, cond, List, [], ◌∷◌, length, Option, Some, None, Result, Ok, Err, inl, inr, refl, sym, subst, arith}
+use Rattle.std.proofs.Common.{◌≡◌, ℕ, ◌<◌, Bool, true, false, cond, List, [], ◌∷◌, length, Option, Some, None, Result, Ok, Err, inl, inr, refl, sym, subst, arith, ◌≤◌, ◌^◌, take}
 use Rattle.std.specs.Prelude.{IfSome, nat_lt, ◌&&◌, codes, option_map, option_and_then}
 use Rattle.std.specs.List.{list_all}
 use Rattle.std.specs.Str.{bytes_eq}
@@ -14,7 +14,7 @@ use Rattle.pf_addr.specs.declared.addr.Family.TheVariants.{V4, V6}
 use Rattle.pf_addr.specs.declared.fault.AddrFault.{AddrFault}
 use Rattle.pf_addr.specs.Address.{Network, IsAddr, family_of, same_family}
 use Rattle.pf_form.specs.Numbers.{number_of}
-use Rattle.pf_addr.specs.SpellingLaws.{IsV4Network}
+use Rattle.pf_addr.specs.SpellingLaws.{IsV4Network, IsV4Network-spelled}
 use Rattle.pf_addr.specs.Reading.{net_at, addr_at}
 use Rattle.pf_rule.specs.declared.rule.Host.{Host}
 use Rattle.pf_rule.specs.declared.rule.Host.TheVariants.{Any, Net}
@@ -24,7 +24,33 @@ use Rattle.pf_rule.specs.Packets.{PlainPacket, IsPacket, has_ports}
 use Rattle.pf_rule.specs.Rules.{PlainRule, IsRule, HostFits}
 use Rattle.pf_rule.specs.PacketGrammar.{packet_words, packet, packet_decided}
 use Rattle.pf_rule.specs.RuleGrammar.{interface, protocol, destination, hosts, rule_words, host_family, agreed, agreeing, rule, rule_decided}
-use Rattle.pf_rule.proofs.Nets.{addr_is, net_is}
+use Rattle.std.specs.Int.{from_be_bytes, w32}
+use Rattle.pf_addr.specs.declared.addr.Addr.TheVariants as addr
+use Rattle.pf_addr.specs.Grammar.{Dotted, SpellsAddr}
+use Rattle.pf_addr.proofs.Texts.{addr_found, net_found}
+
+-- ---- what is read as a network or an address
+
+net_is : (w : List ℕ) (n : Network) → net_at w ≡ Ok n → IsV4Network n
+net_is w n e = IsV4Network-spelled w n (net_found w n e)
+
+four_bytes_below : (a b c d : ℕ) → a < 256 → b < 256 → c < 256 → d < 256 → from_be_bytes w32 (a ∷ b ∷ c ∷ d ∷ []) < 2 ^ 32
+four_bytes_below a b c d la lb lc ld = omega arith
+
+spelled_below : (w : List ℕ) (parts : List ℕ) → Dotted parts w → length parts ≡ 4 → from_be_bytes w32 parts < 2 ^ 32
+spelled_below w (a ∷ b ∷ c ∷ d ∷ []) (p, q, na, (p', q', nb, (p'', q'', nc, nd, e''), e'), e) len = four_bytes_below a b c d (omega (arith, na.small)) (omega (arith, nb.small)) (omega (arith, nc.small)) (omega (arith, nd.small))
+spelled_below w [] ds len = absurd ds
+spelled_below w (a ∷ []) ds len = absurd (omega (arith, len))
+spelled_below w (a ∷ b ∷ []) ds len = absurd (omega (arith, len))
+spelled_below w (a ∷ b ∷ c ∷ []) ds len = absurd (omega (arith, len))
+spelled_below w (a ∷ b ∷ c ∷ d ∷ e ∷ ns) ds len = absurd (omega (arith, len))
+
+addr_fits : (w : List ℕ) (a : Addr) → SpellsAddr w a → IsAddr a
+addr_fits w (addr.V4 n) is = subst (λ (m : ℕ). m < 2 ^ 32) (sym is.3) (spelled_below w is.0 is.1 is.2)
+addr_fits w (addr.V6 n) is = absurd is
+
+addr_is : (w : List ℕ) (a : Addr) → addr_at w ≡ Ok a → IsAddr a
+addr_is w a e = addr_fits w a (addr_found w a e)
 
 -- ---- one word
 
@@ -234,6 +260,3 @@ packet_kept p ws (x, text, is) = by (same_family (family_of x.source) (family_of
 
 pub rule_read_kept : (ws rest : List Word) (r : PlainRule) → reads rule ws ≡ Ok (Some r, rest) → IsRule r
 rule_read_kept ws rest r e = let t = (lawful rule rule_decided).takes ws (Some r) rest e in rule_kept r t.0 t.1
-
-pub packet_read_kept : (ws rest : List Word) (p : PlainPacket) → reads packet ws ≡ Ok (Some p, rest) → IsPacket p
-packet_read_kept ws rest p e = let t = (lawful packet packet_decided).takes ws (Some p) rest e in packet_kept p t.0 t.1

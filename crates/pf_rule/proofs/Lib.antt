@@ -1,4 +1,3 @@
-pub mod Nets
 pub mod Kept
 pub mod Answering
 pub mod Spacing

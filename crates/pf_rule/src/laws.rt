@@ -10,6 +10,7 @@ ghost use Rattle.pf_rule.specs.PacketGrammar.{packet};
 ghost use Rattle.pf_rule.specs.RuleText.{canonical, rule_text};
 
 /// The text that a rule is written as has the rule's canonical words, which spell the rule; so it is read back as that rule.
+#[tactic(auto, using(crate::proofs::Canonical::spells_canonical, crate::proofs::Canonical::words_are, crate::proofs::Canonical::read_again))]
 pub fn what_is_written_is_read_again()
     ensures words { (r : PlainRule) → IsRule r → words_of (rule_text r) ≡ canonical r }
     ensures spelled { (r : PlainRule) → IsRule r → Spells rule (Some r) (canonical r) }
@@ -22,6 +23,7 @@ pub fn different_rules_have_different_texts()
 {}
 
 /// What a text spells is a rule or a packet; so a rule is exactly what some text spells.
+#[tactic(auto, using(crate::proofs::Kept::rule_kept, crate::proofs::Kept::packet_kept))]
 pub fn what_is_spelled_is_kept()
     ensures rules { (r : PlainRule) (ws : List Word) → Spells rule (Some r) ws → IsRule r }
     ensures packets { (p : PlainPacket) (ws : List Word) → Spells packet (Some p) ws → IsPacket p }
