@@ -15,47 +15,78 @@ fn words_in(alloc: Global, line: &str) -> Result<Vec<String>, AllocError> {
     Ok(words)
 }
 
-/// Words, whether a read fails, a writer's room and flushes, the status, and how what is written and what the faults are
-/// told begin.
-const STARTS: [(&str, bool, usize, u32, u8, &str, &str); 12] = [
-    ("pfd run", false, 999, 9, 0, "err word 0\n", ""),
-    ("pfd --help", false, 999, 9, 0, "A control plane", ""),
-    ("pfd help", false, 999, 9, 0, "A control plane", ""),
-    ("pfd run --help", false, 999, 9, 0, "Answers the lines", ""),
-    ("pfd", false, 999, 9, 2, "", "error: 'pfd' requires"),
-    ("pfd frob", false, 999, 9, 2, "", "error: unrecognized"),
-    ("pfd run now", false, 999, 9, 2, "", "error: unexpected"),
-    ("pfd run --size", false, 999, 9, 2, "", "error: unexpected"),
-    ("pfd run", true, 999, 9, 1, "", "pfd: input\n"),
-    ("pfd run", false, 999, 0, 1, "", "pfd: output\n"),
-    ("pfd --help", false, 9, 9, 1, "A control", "pfd: output\n"),
-    ("pfd --help", false, 999, 0, 1, "A con", "pfd: output\n"),
+/// Words, the status, and how what is written and what the faults are told begin.
+const WORDS: [(&str, u8, &str, &str); 8] = [
+    ("pfd run", 0, "err word 0\n", ""),
+    ("pfd --help", 0, "A control plane", ""),
+    ("pfd help", 0, "A control plane", ""),
+    ("pfd run --help", 0, "Answers the lines", ""),
+    ("pfd", 2, "", "error: 'pfd' requires a subcommand"),
+    ("pfd frob", 2, "", "error: unrecognized subcommand 'frob'"),
+    ("pfd run now", 2, "", "error: unexpected argument 'now'"),
+    (
+        "pfd run --size 1",
+        2,
+        "",
+        "error: unexpected argument '--size'",
+    ),
 ];
 
 #[test]
 fn starts_as_its_words_say(rt: HostRuntime) -> Result<(), Fail> {
     let alloc = rt.alloc();
-    let turns = [Turn::Gives(b"frob"), Turn::Fails(ErrorKind::Other)];
-    for (line, fails, room, flushes, status, writes, faults) in STARTS {
-        let waiting = &Cell::new(false);
-        let turns = if fails { &turns[1..] } else { &turns[..1] };
-        let mut reader = Script { turns, waiting };
+    for (line, status, writes, faults) in WORDS.iter() {
+        let words = words_in(alloc, line)?;
+        let mut reader = b"frob".as_slice();
+        let mut writer = Vec::new(alloc);
+        let mut told = Vec::new(alloc);
+        let got = start(alloc, words.as_slice(), &mut reader, &mut writer, &mut told);
+        assert_eq!(rt; got, *status, "at {line}");
+        assert!(rt;
+            writer.as_slice().starts_with(writes.as_bytes()),
+            "at {line}"
+        );
+        assert!(rt; told.as_slice().starts_with(faults.as_bytes()), "at {line}");
+        assert_eq!(rt; writer.is_empty(), writes.is_empty(), "at {line}");
+        assert_eq!(rt; told.is_empty(), faults.is_empty(), "at {line}");
+    }
+    Ok(())
+}
+
+/// Words, a writer's room and flushes, and the line on the faults.
+const FAULTS: [(&str, usize, u32, &str); 4] = [
+    ("pfd run", 100, 100, "pfd: input\n"),
+    ("pfd run", 100, 0, "pfd: output\n"),
+    ("pfd --help", 9, 100, "pfd: output\n"),
+    ("pfd --help", 10_000, 0, "pfd: output\n"),
+];
+
+#[test]
+fn says_what_failed(rt: HostRuntime) -> Result<(), Fail> {
+    let alloc = rt.alloc();
+    let turns = [Turn::Fails(ErrorKind::Other)];
+    for (line, room, flushes, fault) in FAULTS.iter() {
+        let words = words_in(alloc, line)?;
+        let waiting = Cell::new(false);
+        let mut reader = Script {
+            turns: &turns,
+            waiting: &waiting,
+        };
         let mut writer = Tight {
             text: Vec::new(alloc),
-            room,
+            room: *room,
             interruptions: 0,
-            flushes,
-            waiting,
+            flushes: *flushes,
+            waiting: &waiting,
         };
         let mut told = Vec::new(alloc);
-        let words = words_in(alloc, line)?;
-        let got = start(alloc, words.as_slice(), &mut reader, &mut writer, &mut told);
-        assert_eq!(rt; got, status, "at {line}");
-        let written = writer.text.as_slice();
-        assert!(rt; written.starts_with(writes.as_bytes()), "at {line}");
-        assert!(rt; told.as_slice().starts_with(faults.as_bytes()), "at {line}");
-        assert_eq!(rt; written.is_empty(), writes.is_empty(), "at {line}");
-        assert_eq!(rt; told.is_empty(), faults.is_empty(), "at {line}");
+        let status = start(alloc, words.as_slice(), &mut reader, &mut writer, &mut told);
+        assert_eq!(rt; status, 1, "at {line}");
+        assert_eq!(rt;
+            std::str::from_utf8(told.as_slice()),
+            Ok(*fault),
+            "at {line}"
+        );
     }
     Ok(())
 }
