@@ -9,4 +9,3 @@ pub mod RuleViews
 pub mod RuleGrammar
 pub mod RuleText
 pub mod Refusals
-pub mod Evaluation
