@@ -21,7 +21,7 @@ const PATH: &str = "appends.device";
 const HALF: usize = SIZE / 2;
 
 /// Appends in a round.
-const EACH: u32 = 200;
+const EACH: u32 = 50;
 
 const PAYLOAD: [u8; 64] = [7; 64];
 
@@ -77,6 +77,23 @@ fn round(
     println!(rt; "raw {EACH} {}", start.elapsed(rt)?.as_micros())
 }
 
+fn four_rounds(
+    rt: &HostRuntime,
+    file: &mut Journal<FileDisk>,
+    memory: &mut Journal<MemDisk>,
+    raw: &File,
+) -> io::Result<()>
+    requires file { IsReady ⟦<FileDisk as Disk>⟧.seen ⟦<FileDisk as Disk>⟧.unsynced file.old }
+    requires memory { IsReady ⟦<MemDisk as Disk>⟧.seen ⟦<MemDisk as Disk>⟧.unsynced memory.old }
+    ensures file { OnOk result (IsReady ⟦<FileDisk as Disk>⟧.seen ⟦<FileDisk as Disk>⟧.unsynced file.new) }
+    ensures memory { OnOk result (IsReady ⟦<MemDisk as Disk>⟧.seen ⟦<MemDisk as Disk>⟧.unsynced memory.new) }
+{
+    round(rt, file, memory, raw)?;
+    round(rt, file, memory, raw)?;
+    round(rt, file, memory, raw)?;
+    round(rt, file, memory, raw)
+}
+
 fn open(rt: &HostRuntime) -> io::Result<File> {
     OpenOptions::new().read(true).write(true).open(rt, PATH)
 }
@@ -106,9 +123,8 @@ fn main(rt: HostRuntime) -> io::Result<()> {
     };
     let mut file = over(disk)?;
     let mut memory = over(MemDisk::of(alloc, vec![in alloc; 0u8; HALF]?)?)?;
-    round(&rt, &mut file, &mut memory, &raw)?;
-    round(&rt, &mut file, &mut memory, &raw)?;
-    round(&rt, &mut file, &mut memory, &raw)?;
-    round(&rt, &mut file, &mut memory, &raw)?;
-    round(&rt, &mut file, &mut memory, &raw)
+    four_rounds(&rt, &mut file, &mut memory, &raw)?;
+    four_rounds(&rt, &mut file, &mut memory, &raw)?;
+    four_rounds(&rt, &mut file, &mut memory, &raw)?;
+    four_rounds(&rt, &mut file, &mut memory, &raw)
 }

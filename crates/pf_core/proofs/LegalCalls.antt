@@ -11,7 +11,7 @@ use Rattle.pf_ticket.specs.Mentions.{Mention, gives, Facts, facts}
 use Rattle.pf_ticket.specs.Names.{filter_at}
 use Rattle.pf_ticket.specs.Replies.{begin_reply, add_reply}
 use Rattle.pf_ticket.specs.Standing.{Brings, voids, OnlyVoid}
-use Rattle.pf_ticket.proofs.Standing.{begin_brings, add_brings, others_only_void}
+use Rattle.pf_ticket.proofs.Standing.{within, begin_brings, add_brings, others_only_void}
 use Rattle.pf_core.specs.declared.command.Command.{Command}
 use Rattle.pf_core.specs.declared.command.Command.TheVariants.{Transact, Ask}
 use Rattle.pf_core.specs.declared.command.Transaction.{Transaction}
@@ -30,7 +30,7 @@ use Rattle.pf_core.specs.Calls.{Call, mentions, legal_step}
 use Rattle.pf_core.specs.Commands.{given_in, items, rulesets_after, mentioned, transacted, transact_step}
 use Rattle.pf_core.specs.Edits.{Kept, Edit, commits, voided_by}
 use Rattle.pf_core.specs.Worlds.{Held, log_of, durable_of, step_in, room_for, if_ok, or_refused, due_at, grouped, group_at, LegalReply}
-use Rattle.pf_core.specs.WorldLaws.{IsPassed, passed, IsWanted, commit-wants, commit-alone, wants-mentions, refused-mentions}
+use Rattle.pf_core.specs.WorldLaws.{unit_is, IsPassed, passed, IsWanted, commit-wants, commit-alone, wants-mentions, refused-mentions}
 
 -- ---- by the step that was answered
 
@@ -40,9 +40,6 @@ begin-told epoch ms names a s =
     let told : Ok (Done (answer.Given range)) ≡ Ok (Done a) = s.step in
     let is : answer.Given range ≡ a = cc (told) in
     subst (λ (x : Answer). Brings epoch ms (gives names (given_in x))) is (begin_brings epoch ms names range s.passed)
-
-unit_is : (r : Result (Unit {0}) TicketRefusal) (u : Unit {0}) → r ≡ Ok u → r ≡ Ok tt
-unit_is r tt h = h
 
 -- a commit is never answered
 never-answered : (f : Facts) (d : Kept) (entries : List Entry) (a : Answer) → IsWanted f d entries (Done a) → ⊥
@@ -65,9 +62,6 @@ answered-brings epoch calls d (Ask q) a h = voids (others_only_void [] []).0
 -- the change is a commit's, and leaves no more rulesets than there may be
 pub data WantedBy (f : Facts) (d : Kept) (e : Edit) : Type 0 where
   commit : (entries : List Entry) → rulesets_after d (items f.offered entries) ≤ RULESET_LIMIT → commits (items f.offered entries) ≡ e → WantedBy f d e
-
-within : (most n : ℕ) → nat_lt most n ≡ false → n ≤ most
-within most n h = grind (arith, nat_tests, h)
 
 wanted-commit : (f : Facts) (d : Kept) (entries : List Entry) (e : Edit) (o : Outcome) → IsWanted f d entries (Wants e o) → WantedBy f d e
 wanted-commit f d entries e o is =

@@ -61,7 +61,7 @@ pub record IsWanted (f : Facts) (d : Kept) (entries : List Entry) (s : Step) : T
   pub few : nat_lt RULESET_LIMIT (rulesets_after d (items f.offered entries)) ≡ false
   pub step : Wants (commits (items f.offered entries)) Committed ≡ s
 
-unit_is : (r : Result (Unit {0}) TicketRefusal) (u : Unit {0}) → r ≡ Ok u → r ≡ Ok tt
+pub unit_is : (r : Result (Unit {0}) TicketRefusal) (u : Unit {0}) → r ≡ Ok u → r ≡ Ok tt
 unit_is r tt h = h
 
 wanted_by : (b : Bool) (w s : Step) → cond b (Err TooManyRulesets) (Ok w) ≡ Ok s → (b ≡ false) × (w ≡ s)

@@ -86,20 +86,12 @@ fn item_of(alloc: Global, name: &RulesetName, offered: Offered) -> Result<Item, 
     ensures { IfOk result (λ i. i ≡ item_of name.now offered) }
 {
     match offered {
-        Offered::Rules(rules) => Ok(Item::Rules(Placed::new(
-            alloc,
-            name.path.copied(),
-            rules,
-        )?)),
+        Offered::Rules(rules) => Ok(Item::Rules(Placed::new(alloc, name.path.copied(), rules)?)),
     }
 }
 
 // What a commit of these entries replaces.
-fn take_items(
-    alloc: Global,
-    tickets: &Tickets,
-    entries: &[Entry],
-) -> Result<Vec<Item>, AllocError>
+fn take_items(alloc: Global, tickets: &Tickets, entries: &[Entry]) -> Result<Vec<Item>, AllocError>
     ensures { IfOk result (λ v. v.items ≡ items (offered_at tickets.now.offers) entries.now) }
 {
     let mut taken = Vec::with_capacity(alloc, entries.len())?;
@@ -236,9 +228,7 @@ impl Core {
                 &mut self.tickets,
                 transaction,
             ),
-            Command::Ask(question) => {
-                Ok(Step::Done(answer(&self.durable, question)?))
-            }
+            Command::Ask(question) => { Ok(Step::Done(answer(&self.durable, question)?)) }
         }
     }
 

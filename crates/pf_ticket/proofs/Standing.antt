@@ -172,7 +172,7 @@ not-refused : {A : Type 0} (b : Bool) (x : TicketRefusal) (r : Result A TicketRe
 not-refused true x r a h = absurd (cc (h))
 not-refused false x r a h = (refl, h)
 
-within : (most n : ℕ) → nat_lt most n ≡ false → n ≤ most
+pub within : (most n : ℕ) → nat_lt most n ≡ false → n ≤ most
 within most n h = grind (arith, nat_tests, h)
 
 below : (most n : ℕ) → nat_le most n ≡ false → n < most

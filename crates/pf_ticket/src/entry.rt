@@ -37,13 +37,6 @@ impl Entries {
         Entries { entries }
     }
 
-    /// The entries, given back. It takes no memory.
-    pub fn into_vec(self) -> Vec<Entry>
-        ensures { result.items ≡ self }
-    {
-        self.entries
-    }
-
     /// The entries in order.
     pub fn as_slice(&self) -> &[Entry]
         ensures { result.now ≡ self.now }

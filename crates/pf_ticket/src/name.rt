@@ -83,13 +83,6 @@ impl RulesetNames {
         RulesetNames { names }
     }
 
-    /// The names, given back. It takes no memory.
-    pub fn into_vec(self) -> Vec<RulesetName>
-        ensures { result.items ≡ self }
-    {
-        self.names
-    }
-
     /// The names in order.
     pub fn as_slice(&self) -> &[RulesetName]
         ensures { result.now ≡ self.now }

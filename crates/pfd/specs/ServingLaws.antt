@@ -51,7 +51,7 @@ served-seen (line ∷ lines) events text (first, rest, reply, replies, says, mor
     (first, rest, reply, replies, subst (λ (said : Result (Option Command) Refusal). Says said first reply) (seen-says line) says, served-seen lines rest replies more, c, t)
 
 pub serves-none : (page : Page) → Serves page page [] []
-serves-none page = record { events = []; served = (refl, refl); book = continues-still page; }
+serves-none page = record { events = []; served = (refl, refl); book = continues-still page }
 
 pub serves-then : (old mid new : Page) (lines others : List (List ℕ)) (text more : List ℕ) → Serves old mid lines text → Serves mid new others more → Serves old new (lines ++ others) (text ++ more)
 serves-then old mid new lines others text more p q = record {
@@ -61,4 +61,4 @@ serves-then old mid new lines others text more p q = record {
 }
 
 pub serves-seen : (old new : Page) (lines : List (List ℕ)) (text : List ℕ) → Serves old new (map seen lines) text → Serves old new lines text
-serves-seen old new lines text p = record { events = p.events; served = served-seen lines p.events text p.served; book = p.book; }
+serves-seen old new lines text p = record { events = p.events; served = served-seen lines p.events text p.served; book = p.book }

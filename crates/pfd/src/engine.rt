@@ -26,7 +26,12 @@ fn reply_to(alloc: Global, line: &[u8], book: &mut Book) -> Option<Reply>
 impl AnswerLine for Book {
     ghost Serves = { Serves };
 
-    fn answer_line<W: Write>(&mut self, alloc: Global, line: &[u8], writer: &mut W) -> io::Result<()> {
+    fn answer_line<W: Write>(
+        &mut self,
+        alloc: Global,
+        line: &[u8],
+        writer: &mut W,
+    ) -> io::Result<()> {
         match reply_to(alloc, line, self) {
             Some(reply) => write_reply(writer, &reply),
             None => Ok(()),
