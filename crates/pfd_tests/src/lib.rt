@@ -1,5 +1,5 @@
 //! Tests of what no line can reach: want of memory, readers and writers that fail in mid-stream, the program's words and statuses,
-//! the shown copy, and values that no line has yet. What lines are answered stands in the tables of `pfd_rows`.
+//! values that no line has yet. What lines are answered stands in the tables of `pfd_rows`.
 #![tactic(auto)]
 
 #[cfg(test)]
