@@ -1,7 +1,15 @@
-//! Laws of numbers. The function's contract is the law, and its body does nothing.
-ghost use Rattle.std.specs.Prelude.{◌≡◌, ℕ, Some};
-ghost use Rattle.pf_form.specs.Words.{Word};
+//! Laws of words and numbers. A function's contract is the law, and its body does nothing.
+ghost use Rattle.std.specs.Prelude.{◌≡◌, ℕ, List, Some, All};
+ghost use Rattle.pf_form.specs.Words.{Word, words_of};
+ghost use Rattle.pf_form.specs.Cuts.{IsWord, IsCut};
 ghost use Rattle.pf_form.specs.Numbers.{IsNumber, number_of};
+
+/// The words of a line stand between blanks, and are all that stands so.
+pub fn words_stand_between_blanks()
+    ensures each { (line : List ℕ) → All IsWord (words_of line) }
+    ensures cut { (line : List ℕ) → IsCut line (words_of line) }
+    ensures only { (line : List ℕ) (ws : List Word) → IsCut line ws → words_of line ≡ ws }
+{}
 
 /// A number is read from a word exactly where the word writes it.
 pub fn numbers_are_read_as_written()

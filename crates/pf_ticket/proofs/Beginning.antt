@@ -1,12 +1,12 @@
 -- What a begin leaves: nothing offered with its tickets, and as many rulesets open as it was counted.
-use Rattle.std.proofs.Common.{◌≡◌, ℕ, ◌+◌, Bool, true, false, cond, ◌||◌, List, [], ◌∷◌, ◌++◌, length, fold, refl, sym, ap, ◌∙◌, subst, Option, Some, None, append_assoc}
+use Rattle.std.proofs.Common.{◌≡◌, ℕ, ◌+◌, Bool, true, false, cond, ◌||◌, List, [], ◌∷◌, ◌++◌, length, fold, refl, sym, ap, ◌∙◌, Option, Some, None, append_assoc}
 use Rattle.std.proofs.lemmas.List.{append-nil}
 use Rattle.std.proofs.lemmas.List.Sums.{fold-append}
 use Rattle.pf_ticket.specs.declared.name.RulesetName.{RulesetName}
 use Rattle.pf_ticket.specs.declared.offered.Offered.{Offered}
 use Rattle.pf_ticket.specs.declared.ticket.Ticket.{Ticket}
 use Rattle.pf_ticket.specs.Names.{same_name, is_named, with_name, ticket, tickets_from}
-use Rattle.pf_ticket.specs.Mentions.{Mention, gave, gives, touched, valid_ticket, nothing_for, content, content_under, next_count, AreNumbered, AddsAreKnown, has_ticket, open_rulesets, opened_with}
+use Rattle.pf_ticket.specs.Mentions.{Mention, gave, gives, touched, valid_ticket, nothing_for, content, content_under, next_count, AreNumbered, AddsAreKnown, has_ticket, open_rulesets}
 use Rattle.pf_ticket.specs.Laws.{begun, StartsWithNothing, CountsTheOpen}
 use Rattle.pf_ticket.proofs.Agreement.{nothing_alike, gave_content}
 use Rattle.pf_ticket.proofs.Counting.{or-false, or-true, alike-count, distinct-with, distinct-open, named-with, named-open}

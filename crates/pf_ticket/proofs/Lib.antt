@@ -9,3 +9,4 @@ pub mod Standing
 pub mod Silence
 pub mod Told
 pub mod Adding
+pub mod Again

@@ -1,13 +1,12 @@
 -- What a step leaves of the rulesets that it doesn't name.
-use Rattle.std.proofs.Common.{◌≡◌, Bool, true, false, cond, ◌&&◌, List, [], ◌∷◌, ◌++◌, fold, refl, ap, ◌∙◌, Option, Some, None}
+use Rattle.std.proofs.Common.{◌≡◌, Bool, false, cond, ◌&&◌, List, [], ◌∷◌, ◌++◌, fold, refl, ap, ◌∙◌, Option, Some, None}
 use Rattle.std.proofs.lemmas.List.Sums.{fold-append}
 use Rattle.pf_rule.specs.Rules.{PlainRule}
 use Rattle.pf_ticket.specs.declared.entry.Entry.{Entry}
 use Rattle.pf_ticket.specs.declared.name.RulesetName.{RulesetName}
-use Rattle.pf_ticket.specs.declared.offered.Offered.{Offered}
 use Rattle.pf_ticket.specs.declared.ticket.Ticket.{Ticket}
 use Rattle.pf_ticket.specs.Names.{same_name, same_ticket, is_ticket, is_named, names_of}
-use Rattle.pf_ticket.specs.Mentions.{Mention, added, gives, switches, drops, touched, valid_ticket, nothing_for, with_rule, offering, offered_with, content, content_under}
+use Rattle.pf_ticket.specs.Mentions.{Mention, added, gives, switches, drops, touched, valid_ticket, nothing_for, with_rule, offering, offered_with, content_under}
 use Rattle.pf_ticket.specs.Standing.{IsSilent, NamesAlone, SilenceLeavesAlone}
 use Rattle.pf_ticket.proofs.Once.{neither}
 

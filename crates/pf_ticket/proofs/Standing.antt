@@ -1,6 +1,6 @@
 -- That the limits hold of all that is mentioned, one step after another.
-use Rattle.std.proofs.Common.{◌≡◌, ℕ, ◌+◌, ◌-◌, ◌<◌, ◌≤◌, Bool, true, false, not, cond, ◌&&◌, ◌||◌, List, [], ◌∷◌, ◌++◌, length, refl, sym, ap, ◌∙◌, subst, Option, Some, None, Result, Ok, Err, arith, append_assoc}
-use Rattle.std.specs.Prelude.{fold, flat_map, nat_lt, nat_le}
+use Rattle.std.proofs.Common.{◌≡◌, ℕ, ◌+◌, ◌-◌, ◌<◌, ◌≤◌, Bool, true, false, not, cond, ◌&&◌, List, [], ◌∷◌, ◌++◌, length, refl, sym, ap, ◌∙◌, subst, Option, Some, None, Result, Ok, Err, arith}
+use Rattle.std.specs.Prelude.{fold, nat_lt, nat_le}
 use Rattle.std.specs.List.{list_any}
 use Rattle.std.proofs.lemmas.Bool.Decides.{nat_tests}
 use Rattle.std.proofs.lemmas.List.{append-nil, length-append}
@@ -19,16 +19,15 @@ use Rattle.pf_ticket.specs.declared.refusal.TicketRefusal.{TicketRefusal}
 use Rattle.pf_ticket.specs.declared.refusal.TicketRefusal.TheVariants.{BadCount, Busy, RulesetFull, TooManyRulesets, TicketsExhausted}
 use Rattle.pf_ticket.specs.declared.ticket.Ticket.{Ticket}
 use Rattle.pf_ticket.specs.declared.ticket.TicketRange.{TicketRange}
-use Rattle.pf_ticket.specs.Names.{filter_at, same_name, same_ticket, ticket, tickets_from, tickets_of, is_ticket, is_named, with_name, names_of}
+use Rattle.pf_ticket.specs.Names.{filter_at, same_name, same_ticket, ticket, tickets_from, tickets_of, is_ticket}
 use Rattle.pf_ticket.specs.NameLaws.{name_is}
 use Rattle.pf_ticket.specs.Laws.{begun}
-use Rattle.pf_ticket.specs.Mentions.{Mention, gave, added, gives, switches, drops, touched, valid_ticket, nothing_for, rules_in, with_rule, offering, offered_with, content, content_under, ticket_given, ruleset_given, tickets_given, next_count, AreNumbered, AddsAreKnown, has_ticket, open_rulesets, opened_with, Facts, facts}
-use Rattle.pf_ticket.specs.Replies.{bad_count, is_valid, range, begin_reply, add_reply}
-use Rattle.pf_ticket.specs.Standing.{IsSound, Stands, OnlyVoid, Brings, begins, adds, voids, IsSilent, StartsSound, KeepsTheLimits, BeginBrings, AddBrings, OthersOnlyVoid}
+use Rattle.pf_ticket.specs.Mentions.{Mention, gave, added, gives, switches, drops, touched, valid_ticket, nothing_for, rules_in, with_rule, offering, offered_with, content, content_under, ticket_given, tickets_given, next_count, has_ticket, open_rulesets, opened_with, Facts, facts}
+use Rattle.pf_ticket.specs.Replies.{bad_count, is_valid, range}
+use Rattle.pf_ticket.specs.Standing.{IsSound, Stands, OnlyVoid, begins, adds, voids, StartsSound, KeepsTheLimits, BeginBrings, AddBrings, OthersOnlyVoid}
 use Rattle.pf_ticket.proofs.Beginning.{begun-first, counts-the-open}
 use Rattle.pf_ticket.proofs.Counting.{count-le, distinct-open, named-open}
-use Rattle.pf_ticket.proofs.Mentions.{both-true, ticket_is, valid_push, tickets_push, offered_push, under_quiet, next-gave, gave-numbered, next-is-not-given, quiet-known, quiet-numbered, added-known, valid-is-given}
-use Rattle.pf_ticket.proofs.Once.{neither}
+use Rattle.pf_ticket.proofs.Mentions.{both-true, ticket_is, valid_push, tickets_push, offered_push, under_quiet, gave-numbered, next-is-not-given, quiet-known, quiet-numbered, added-known, valid-is-given}
 
 kind_short : (k : RulesetKind) → length (rules_in (nothing_for k)) ≤ RULE_LIMIT
 kind_short Filter = omega arith

@@ -1,13 +1,13 @@
 -- The facts that replies read are the same, read off the open transactions or off the mentions.
-use Rattle.std.proofs.Common.{◌≡◌, ℕ, List, ap, ◌∙◌, length, Option}
+use Rattle.std.proofs.Common.{ℕ, List, ap, ◌∙◌, length, Option}
 use Rattle.std.specs.Prelude.{fold}
 use Rattle.pf_ticket.specs.declared.name.RulesetName.{RulesetName}
 use Rattle.pf_ticket.specs.declared.offered.Offered.{Offered}
 use Rattle.pf_ticket.specs.declared.ticket.Ticket.{Ticket}
 use Rattle.pf_ticket.specs.Names.{with_name}
-use Rattle.pf_ticket.specs.Mentions.{Mention, valid_ticket, content, next_count, Facts, facts}
+use Rattle.pf_ticket.specs.Mentions.{valid_ticket, content, next_count, Facts}
 use Rattle.pf_ticket.specs.Laws.{AgreeingIsTold}
-use Rattle.pf_ticket.specs.Tickets.{Open, ticket_at, offered_at, names_under}
+use Rattle.pf_ticket.specs.Tickets.{ticket_at, offered_at, names_under}
 use Rattle.pf_ticket.proofs.Counting.{opened-agree}
 use mathlib.Core.Path.{fun_ext}
 

@@ -1,12 +1,14 @@
 -- What follows from the definitions, as law functions promise it.
-use Rattle.std.specs.Prelude.{◌≡◌, ℕ, ◌&&◌, true, false, cond, List, [], ◌∷◌, ◌++◌, length, flat_map, Option, Some}
+use Rattle.std.specs.Prelude.{◌≡◌, ℕ, ◌&&◌, true, false, cond, List, [], ◌∷◌, ◌++◌, length, flat_map, Some, None}
 use Rattle.pf_rule.specs.Rules.{PlainRule}
+use Rattle.pf_ticket.specs.declared.entry.Entry.{Entry}
 use Rattle.pf_ticket.specs.declared.name.RulesetName.{RulesetName}
 use Rattle.pf_ticket.specs.declared.ticket.Ticket.{Ticket}
 use Rattle.std.specs.List.{list_any}
-use Rattle.pf_ticket.specs.Names.{filter_at, same_name, same_ticket, is_named, tickets_from}
+use Rattle.pf_ticket.specs.Names.{filter_at, same_name, same_ticket, is_named, names_of, tickets_from}
 use Rattle.pf_ticket.specs.Mentions.{Mention, gave, added, switched, dropped, gives, rules_in, offered_with, touches, valid_ticket, nothing_for, content, tickets_given, next_count, AreNumbered, AddsAreKnown, open_rulesets, opened_with, facts}
-use Rattle.pf_ticket.specs.Tickets.{Open, Agrees, facts_in}
+use Rattle.pf_ticket.specs.Tickets.{Open, Agrees, IsDistinct, facts_in}
+use Rattle.pf_ticket.specs.Replies.{twice_in}
 
 -- nothing here touches a ruleset whose valid ticket is this one
 abbrev pub AreQuiet : RulesetName → Ticket → List Mention → Type 0
@@ -64,3 +66,21 @@ rules_added name t (dropped n u) = []
 -- for a filter ruleset the rules of the accepted adds with a ticket are offered, in order
 abbrev pub OffersTheAdded : Type 0
 OffersTheAdded = (ms : List Mention) (p : List ℕ) (t : Ticket) → rules_in (offered_with ms (filter_at p) t) ≡ flat_map (rules_added (filter_at p) t) ms
+
+-- the entry at this place names a ruleset that one before it names, and those before it name each ruleset once
+pub record IsFirstAgain (entries : List Entry) (place : ℕ) : Type 0 where
+  pub before : List Entry
+  pub entry : Entry
+  pub behind : List Entry
+  pub all : entries ≡ before ++ entry ∷ behind
+  pub placed : length before ≡ place
+  pub again : is_named (names_of before) entry.name ≡ true
+  pub once : IsDistinct (names_of before)
+
+-- where a ruleset is named twice, that place is the first at which one is named again
+abbrev pub TwiceIsFirstAgain : Type 0
+TwiceIsFirstAgain = (entries : List Entry) (place : ℕ) → twice_in entries ≡ Some place → IsFirstAgain entries place
+
+-- and otherwise each ruleset is named once
+abbrev pub OtherwiseOnce : Type 0
+OtherwiseOnce = (entries : List Entry) → twice_in entries ≡ None → IsDistinct (names_of entries)

@@ -9,7 +9,7 @@ use Rattle.pf_ticket.specs.declared.name.RulesetName.{RulesetName}
 use Rattle.pf_ticket.specs.declared.offered.Offered.{Offered}
 use Rattle.pf_ticket.specs.declared.offered.Offered.TheVariants.{Rules}
 use Rattle.pf_ticket.specs.declared.ticket.Ticket.{Ticket}
-use Rattle.pf_ticket.specs.Names.{same_name, same_ticket, is_ticket, tickets_from, is_named, with_name}
+use Rattle.pf_ticket.specs.Names.{same_name, same_ticket, is_ticket, tickets_from, with_name}
 
 -- ---- what is done to a ruleset
 

@@ -1,6 +1,5 @@
 -- What the steps that aren't refused bring, and that the limits hold of all that they bring.
-use Rattle.std.specs.Prelude.{◌≡◌, ℕ, ◌+◌, ◌-◌, ◌<◌, ◌≤◌, true, false, List, [], ◌∷◌, ◌++◌, length, fold, Option, Result, Ok}
-use Rattle.std.specs.List.{list_any}
+use Rattle.std.specs.Prelude.{◌≡◌, ℕ, ◌+◌, ◌-◌, ◌<◌, ◌≤◌, true, false, List, [], ◌∷◌, ◌++◌, length, fold, Option, Ok}
 use Rattle.pf_rule.specs.Rules.{PlainRule}
 use Rattle.pf_anchor.specs.declared.limits.TheConstants.{RULE_LIMIT, RULESET_LIMIT}
 use Rattle.pf_ticket.specs.declared.entry.Entry.{Entry}
@@ -9,7 +8,7 @@ use Rattle.pf_ticket.specs.declared.name.RulesetName.{RulesetName}
 use Rattle.pf_ticket.specs.declared.offered.Offered.{Offered}
 use Rattle.pf_ticket.specs.declared.ticket.Ticket.{Ticket}
 use Rattle.pf_ticket.specs.declared.ticket.TicketRange.{TicketRange}
-use Rattle.pf_ticket.specs.Names.{filter_at, same_ticket, is_named, names_of, tickets_from, tickets_of, is_ticket}
+use Rattle.pf_ticket.specs.Names.{filter_at, is_named, names_of, tickets_from, tickets_of, is_ticket}
 use Rattle.pf_ticket.specs.Mentions.{Mention, added, gives, switches, drops, touched, valid_ticket, offering, rules_in, content, tickets_given, next_count, AreNumbered, AddsAreKnown, has_ticket, open_rulesets, opened_with, facts}
 use Rattle.pf_ticket.specs.Replies.{begin_reply, add_reply}
 

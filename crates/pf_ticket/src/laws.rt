@@ -1,5 +1,5 @@
 //! What follows from the definitions that contracts cite: functions that do nothing, whose contracts are the laws.
-ghost use Rattle.pf_ticket.specs.Laws.{ValidIsGivenLast, GivenLastIsValid, StartsWithNothing, CountsTheOpen, AgreeingIsTold, GivesEachOnce, OffersTheAdded};
+ghost use Rattle.pf_ticket.specs.Laws.{ValidIsGivenLast, GivenLastIsValid, StartsWithNothing, CountsTheOpen, AgreeingIsTold, GivesEachOnce, OffersTheAdded, TwiceIsFirstAgain, OtherwiseOnce};
 ghost use Rattle.pf_ticket.specs.Standing.{StartsSound, KeepsTheLimits, BeginBrings, AddBrings, OthersOnlyVoid, NamesAlone, SilenceLeavesAlone};
 
 /// A ticket is valid for a ruleset exactly where the latest mention that touched the ruleset is a begin's that gave it
@@ -52,4 +52,10 @@ pub fn reads_the_mentions()
 /// Tickets that are numbered from 1 on are given once each.
 pub fn gives_each_ticket_once()
     ensures { GivesEachOnce }
+{}
+
+/// What a list of entries is refused for as naming a ruleset twice is its first entry of a ruleset named before it.
+pub fn twice_is_the_first_named_again()
+    ensures found { TwiceIsFirstAgain }
+    ensures otherwise { OtherwiseOnce }
 {}
