@@ -10,9 +10,9 @@ use crate::{Disk, DiskFault};
 pub enum Fuse {
     /// None.
     Whole,
-    /// All behind so many more.
+    /// All calls behind so many that pass.
     After(u64),
-    /// The one behind so many more, alone.
+    /// The one call behind so many that pass.
     Once(u64),
 }
 
