@@ -184,6 +184,7 @@ impl Disk for MemDisk {
         ensures unsynced { AreIn (unsynced_of self.new) (with_range at (length bytes.now) (unsynced_of self.old)) }
         ensures still { AreIn (unsynced_of self.old) (unsynced_of self.new) }
         ensures marked { OnOk result (AreIn (is_within at (length bytes.now)) (unsynced_of self.new)) }
+        ensures unwritten { OnErr result (seen_of self.new ≡ seen_of self.old) }
         ensures time { Elapses (length (events_of self.old)) (length (events_of self.new)) (LeftSince (first_of self.old) (events_of self.old)) (LeftSince (first_of self.new) (events_of self.new)) (seen_of self.new) (unsynced_of self.new) }
         ensures faults { CountsFault result self.old.fault_count self.new.fault_count }
     {
