@@ -1,5 +1,5 @@
 // The device as its users see it.
-ghost use Rattle.std.specs.Prelude.{◌≡◌, ◌+◌, ◌^◌, ◌<◌, ◌≤◌, ℕ, Bool, List, length, take, drop, OnOk, OnErr};
+ghost use Rattle.std.specs.Prelude.{◌≡◌, ◌⊎◌, ◌+◌, ◌^◌, ◌<◌, ◌≤◌, ℕ, Bool, List, length, take, drop, OnOk, OnErr};
 ghost use Rattle.pf_disk.specs.Disk.{IsImage, IsSynced, AreIn, is_within, with_range, overwritten, Elapses, CountsFault};
 
 /// A call of the device failed.
@@ -48,7 +48,8 @@ pub trait Disk {
         ensures time { Elapses (moment self.old) (moment self.new) (left_since self.old) (left_since self.new) (seen self.new) (unsynced self.new) }
         ensures faults { CountsFault result (fault_count self.old) (fault_count self.new) };
 
-    /// Writes these bytes from place `at` on. After an `Err` a read of the range may give any bytes.
+    /// Writes these bytes from place `at` on. After an `Err` a read gives what it gave, or the range is unsynced and a read of it
+    /// may give any bytes.
     fn write_at(&mut self, at: usize, bytes: &[u8]) -> Result<(), DiskFault>
         requires within { at + length bytes.now ≤ length (seen self.old) }
         requires few { fault_count self.old < 2 ^ 63 }
@@ -57,6 +58,7 @@ pub trait Disk {
         ensures unsynced { AreIn (unsynced self.new) (with_range at (length bytes.now) (unsynced self.old)) }
         ensures still { AreIn (unsynced self.old) (unsynced self.new) }
         ensures marked { OnOk result (AreIn (is_within at (length bytes.now)) (unsynced self.new)) }
+        ensures failed { OnErr result ((seen self.new ≡ seen self.old) ⊎ AreIn (is_within at (length bytes.now)) (unsynced self.new)) }
         ensures time { Elapses (moment self.old) (moment self.new) (left_since self.old) (left_since self.new) (seen self.new) (unsynced self.new) }
         ensures faults { CountsFault result (fault_count self.old) (fault_count self.new) };
 

@@ -1,7 +1,7 @@
 // A device over a file.
 ghost use Rattle.std.specs.Prelude.{◌≡◌, ◌+◌, ◌^◌, ◌<◌, ◌≤◌, ◌++◌, [], ◌∷◌, true, ℕ, length, replicate, IfOk, OnOk, OnErr, take, drop};
 ghost use Rattle.pf_disk.specs.Calls.{at_rest, after, all_fit, LeftSince};
-ghost use Rattle.pf_disk.specs.Disk.{IsSynced};
+ghost use Rattle.pf_disk.specs.Disk.{IsImage, IsSynced, AreIn, is_within, with_range, overwritten, Elapses, CountsFault};
 ghost use Rattle.pf_disk.specs.declared.file.FileFault.TheVariants.{Memory};
 ghost use Rattle.pf_disk.specs.Past.{now_counts, now_only};
 
@@ -97,6 +97,8 @@ fn started(bytes: &[u8]) -> History
 }
 
 impl Disk for FileDisk {
+    ghost use Rattle.pf_disk.specs.File.{seen_of, unsynced_of, events_of};
+
     ghost seen = { λ f. f.bytes.items };
 
     ghost unsynced = { λ f. (after (at_rest (replicate f.size 0)) f.history.events).unsynced };
@@ -129,7 +131,18 @@ impl Disk for FileDisk {
         Ok(())
     }
 
-    fn write_at(&mut self, at: usize, bytes: &[u8]) -> Result<(), DiskFault> {
+    fn write_at(&mut self, at: usize, bytes: &[u8]) -> Result<(), DiskFault>
+        requires within { at + length bytes.now ≤ length (seen_of self.old) }
+        requires few { self.old.fault_count < 2 ^ 63 }
+        ensures written { OnOk result (seen_of self.new ≡ overwritten (seen_of self.old) at bytes.now) }
+        ensures unwritten { OnErr result (seen_of self.new ≡ seen_of self.old) }
+        ensures elsewhere { IsImage (seen_of self.old) (is_within at (length bytes.now)) (seen_of self.new) }
+        ensures unsynced { AreIn (unsynced_of self.new) (with_range at (length bytes.now) (unsynced_of self.old)) }
+        ensures still { AreIn (unsynced_of self.old) (unsynced_of self.new) }
+        ensures marked { AreIn (is_within at (length bytes.now)) (unsynced_of self.new) }
+        ensures time { Elapses (length (events_of self.old)) (length (events_of self.new)) (LeftSince (replicate self.old.size 0) (events_of self.old)) (LeftSince (replicate self.new.size 0) (events_of self.new)) (seen_of self.new) (unsynced_of self.new) }
+        ensures faults { CountsFault result self.old.fault_count self.new.fault_count }
+    {
         if self.file.write_all_at(bytes, at as u64).is_err() {
             // Some of it may have been written: the range is unsynced.
             self.history.note(&[at], &self.bytes[at..at + bytes.len()]);

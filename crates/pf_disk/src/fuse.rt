@@ -1,5 +1,5 @@
 // A device that fails where it is told to.
-ghost use Rattle.std.specs.Prelude.{◌≡◌, ◌+◌, ◌-◌, ◌^◌, ◌<◌, ◌≤◌, true, false, List, ℕ, length, take, drop, OnOk, OnErr, MatchResult};
+ghost use Rattle.std.specs.Prelude.{◌≡◌, ◌⊎◌, ◌+◌, ◌-◌, ◌^◌, ◌<◌, ◌≤◌, true, false, List, ℕ, length, take, drop, OnOk, OnErr, MatchResult};
 ghost use Rattle.pf_disk.specs.Disk.{IsImage, IsSynced, AreIn, is_within, with_range, overwritten, Elapses, CountsFault};
 ghost use Rattle.pf_disk.specs.Burning.{blows, burnt, counted};
 
@@ -10,9 +10,9 @@ use crate::{Disk, DiskFault};
 pub enum Fuse {
     /// None.
     Whole,
-    /// All behind so many more.
+    /// All calls behind so many that pass.
     After(u64),
-    /// The one behind so many more, alone.
+    /// The one call behind so many that pass.
     Once(u64),
 }
 
@@ -146,6 +146,7 @@ impl<D: Disk> Disk for FuseDisk<D> {
         ensures unsynced { AreIn (D.unsynced self.new.inner) (with_range at (length bytes.now) (D.unsynced self.old.inner)) }
         ensures still { AreIn (D.unsynced self.old.inner) (D.unsynced self.new.inner) }
         ensures marked { OnOk result (AreIn (is_within at (length bytes.now)) (D.unsynced self.new.inner)) }
+        ensures failed { OnErr result ((D.seen self.new.inner ≡ D.seen self.old.inner) ⊎ AreIn (is_within at (length bytes.now)) (D.unsynced self.new.inner)) }
         ensures time { Elapses (D.moment self.old.inner) (D.moment self.new.inner) (D.left_since self.old.inner) (D.left_since self.new.inner) (D.seen self.new.inner) (D.unsynced self.new.inner) }
         ensures faults { CountsFault result (D.fault_count self.old.inner + self.old.refused) (D.fault_count self.new.inner + self.new.refused) }
     {

@@ -154,6 +154,7 @@ impl Disk for MemDisk {
     fn read_at(&mut self, at: usize, buf: &mut [u8]) -> Result<(), DiskFault>
         requires within { at + length buf.old ≤ length (seen_of self.old) }
         requires few { self.old.fault_count < 2 ^ 63 }
+        ensures first { first_of self.new ≡ first_of self.old }
         ensures kept { OnOk result (events_of self.new ≡ events_of self.old ++ reading ∷ []) }
         ensures not_kept { OnErr result (events_of self.new ≡ events_of self.old) }
         ensures read { OnOk result (buf.new ≡ take (length buf.old) (drop at (seen_of self.old))) }
@@ -175,6 +176,7 @@ impl Disk for MemDisk {
     fn write_at(&mut self, at: usize, bytes: &[u8]) -> Result<(), DiskFault>
         requires within { at + length bytes.now ≤ length (seen_of self.old) }
         requires few { self.old.fault_count < 2 ^ 63 }
+        ensures first { first_of self.new ≡ first_of self.old }
         ensures kept { OnOk result (events_of self.new ≡ events_of self.old ++ writing at bytes.now ∷ []) }
         ensures not_kept { OnErr result (events_of self.new ≡ events_of self.old) }
         ensures written { OnOk result (seen_of self.new ≡ overwritten (seen_of self.old) at bytes.now) }
@@ -182,6 +184,7 @@ impl Disk for MemDisk {
         ensures unsynced { AreIn (unsynced_of self.new) (with_range at (length bytes.now) (unsynced_of self.old)) }
         ensures still { AreIn (unsynced_of self.old) (unsynced_of self.new) }
         ensures marked { OnOk result (AreIn (is_within at (length bytes.now)) (unsynced_of self.new)) }
+        ensures unwritten { OnErr result (seen_of self.new ≡ seen_of self.old) }
         ensures time { Elapses (length (events_of self.old)) (length (events_of self.new)) (LeftSince (first_of self.old) (events_of self.old)) (LeftSince (first_of self.new) (events_of self.new)) (seen_of self.new) (unsynced_of self.new) }
         ensures faults { CountsFault result self.old.fault_count self.new.fault_count }
     {
@@ -200,6 +203,7 @@ impl Disk for MemDisk {
 
     fn sync(&mut self) -> Result<(), DiskFault>
         requires few { self.old.fault_count < 2 ^ 63 }
+        ensures first { first_of self.new ≡ first_of self.old }
         ensures kept { OnOk result (events_of self.new ≡ events_of self.old ++ syncing ∷ []) }
         ensures not_kept { OnErr result (events_of self.new ≡ events_of self.old) }
         ensures synced { OnOk result (IsSynced (unsynced_of self.new)) }

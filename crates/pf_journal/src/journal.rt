@@ -1,6 +1,6 @@
 // Adding a record.
 ghost use Rattle.std.specs.Prelude.{◌≡◌, ◌↔◌, ◌+◌, ◌^◌, ◌<◌, ◌≤◌, ◌++◌, [], ◌∷◌, List, ℕ, length, IfOk, OnOk, IsErrOf, if◌then◌else◌};
-ghost use Rattle.pf_disk.specs.Disk.{EachMoment, IsImage};
+ghost use Rattle.pf_disk.specs.Disk.{EachMoment, IsImage, is_within};
 ghost use Rattle.pf_journal.specs.Records.{counted, StandsFor, HasBeforeOrAfter};
 ghost use Rattle.pf_journal.specs.Journal.{IsReady, Keeps};
 ghost use Rattle.pf_journal.specs.Faults.{is_append_fault};
@@ -15,7 +15,7 @@ pub const CLOSED_GATE: u8 = 0;
 /// Bytes of a gate and the length behind it.
 pub const HEADER: usize = 5;
 
-/// The records between two places of a device, `start` and `end`, the last not counted. `gate` is the place of the closed gate
+/// The records from place `start` of a device up to place `end`, which isn't theirs. `gate` is the place of the closed gate
 /// behind them. Places are bytes from the device's start.
 #[derive(Drop)]
 pub struct Journal<D: Disk> {
@@ -38,6 +38,10 @@ impl<D: Disk> Journal<D> {
         // At each moment of the call an image has the records from before, or those and the new one.
         ensures any_moment { (payloads : List (List ℕ)) → Keeps D.seen self.old payloads
             → EachMoment D.moment D.left_since self.old.disk self.new.disk (HasBeforeOrAfter self.old.start self.old.end payloads payload.now) }
+
+        // At each moment of the call an image is as the read before, but from the gate to the next one; after it so is the read.
+        ensures elsewhere { EachMoment D.moment D.left_since self.old.disk self.new.disk (IsImage (D.seen self.old.disk) (is_within self.old.gate (HEADER + length payload.now + 1))) }
+        ensures seen_elsewhere { IsImage (D.seen self.old.disk) (is_within self.old.gate (HEADER + length payload.now + 1)) (D.seen self.new.disk) }
 
         // After `Ok` each image has the new one, and so does the read.
         ensures images { OnOk result ((payloads : List (List ℕ)) → Keeps D.seen self.old payloads → (c : List ℕ)

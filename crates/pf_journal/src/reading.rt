@@ -37,6 +37,7 @@ pub fn read_all<D: Disk>(
 
     ensures seen { D.seen disk.new ≡ D.seen disk.old }
     ensures unsynced { AreIn (D.unsynced disk.new) (D.unsynced disk.old) }
+    ensures still { AreIn (D.unsynced disk.old) (D.unsynced disk.new) }
     ensures any_moment { EachMoment D.moment D.left_since disk.old disk.new (IsImage (D.seen disk.old) (D.unsynced disk.old)) }
     ensures faults { D.fault_count disk.new ≡ D.fault_count disk.old + (if is_read_fault result then 1 else 0) }
 {
@@ -59,6 +60,7 @@ fn read_region<D: Disk>(
     ensures bytes { IfOk result (λ bytes. bytes.items ≡ take (end - start) (drop start (D.seen disk.old))) }
     ensures seen { D.seen disk.new ≡ D.seen disk.old }
     ensures unsynced { AreIn (D.unsynced disk.new) (D.unsynced disk.old) }
+    ensures still { AreIn (D.unsynced disk.old) (D.unsynced disk.new) }
     ensures any_moment { EachMoment D.moment D.left_since disk.old disk.new (IsImage (D.seen disk.old) (D.unsynced disk.old)) }
     ensures not_corrupt { IfErr result (λ e. ¬ IsCorrupt e) }
     ensures faults { D.fault_count disk.new ≡ D.fault_count disk.old + (if is_read_fault result then 1 else 0) }

@@ -37,6 +37,9 @@ returns-then-is_err-clause-unsynced c i out = (again c.args.self.now c.args.at (
 pub returns-then-is_err-clause-still : goal.returns-then-is_err-clause-still
 returns-then-is_err-clause-still c i out = (again c.args.self.now c.args.at (length c.args.bytes.now) c.deref.result.now _ c.requires.within c.deref.ensures.value c.note.ensures).still i out
 
+pub returns-then-is_err-clause-marked : goal.returns-then-is_err-clause-marked
+returns-then-is_err-clause-marked c i out = (again c.args.self.now c.args.at (length c.args.bytes.now) c.deref.result.now _ c.requires.within c.deref.ensures.value c.note.ensures).marked i out
+
 pub returns-then-is_err-clause-time : goal.returns-then-is_err-clause-time
 returns-then-is_err-clause-time c = (again c.args.self.now c.args.at (length c.args.bytes.now) c.deref.result.now _ c.requires.within c.deref.ensures.value c.note.ensures).time
 
