@@ -7,7 +7,6 @@ ghost use Rattle.pf_line.specs.Tickets.{is_dot, part_of, ticket_of};
 use pf_form::{Kind, read_number};
 use pf_ticket::Ticket;
 
-
 /// How many digits an epoch or a count may have, leading zeros among them.
 pub const DIGIT_LIMIT: usize = 10;
 
