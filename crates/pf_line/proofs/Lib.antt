@@ -1,6 +1,5 @@
 pub mod Silence
 pub mod Writers
-pub mod ShownRules
 pub mod Lines
 pub mod SpelledTickets
 pub mod WrittenTickets

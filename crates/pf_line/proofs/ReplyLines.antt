@@ -1,5 +1,5 @@
 -- Each line of a reply is one line.
-use Rattle.std.proofs.Common.{◌≡◌, ℕ, zero, suc, ◌+◌, ◌/◌, ◌%◌, ◌<◌, ◌==◌, ◌&&◌, not, Bool, true, false, cond, List, [], ◌∷◌, ◌++◌, length, take, get_or, decimal, refl, sym, subst, ◌≤◌, arith}
+use Rattle.std.proofs.Common.{◌≡◌, ℕ, zero, suc, ◌+◌, ◌/◌, ◌%◌, ◌<◌, ◌==◌, not, Bool, true, false, cond, List, [], ◌∷◌, ◌++◌, length, take, get_or, decimal, refl, sym, ap, subst, ◌∙◌, append_assoc, ◌≤◌, arith}
 use Rattle.std.specs.Prelude.{Option, Some, None, IfSome, codes, All}
 use Rattle.std.specs.List.{list_all, join_with_byte}
 use Rattle.std.specs.Option.{is_none}
@@ -38,7 +38,7 @@ use Rattle.pf_core.specs.declared.reply.Verdict.{Verdict}
 use Rattle.pf_core.specs.declared.reply.Verdict.TheVariants.{Rules}
 use Rattle.pf_ticket.specs.Names.{tickets_of}
 use Rattle.pf_line.specs.Tickets.{ticket_text}
-use Rattle.pf_line.specs.Replies.{tickets_text, place_text, action_text, rule_verdict_text, verdict_text, answer_text, refusal_text, last_line, shown_in, rule_line, rule_lines, reply_lines, reply_text, line_count, HasNoNewline, NoneHasNewline, HasLines, rule_path, verdict_path, answer_path, path_in, AreRules}
+use Rattle.pf_line.specs.Replies.{tickets_text, place_text, action_text, rule_verdict_text, verdict_text, answer_text, refusal_text, last_line, shown_in, rule_line, rule_lines, lines_text, reply_text, line_count, HasNoNewline, NoneHasNewline, HasLines, rule_path, verdict_path, answer_path, path_in, AreRules}
 
 abbrev clear : ℕ → Bool
 clear b = not (b == 10)
@@ -235,10 +235,14 @@ length-rule_lines : (n : ℕ) (rs : List PlainRule) → length (rule_lines n rs)
 length-rule_lines n [] = refl
 length-rule_lines n (r ∷ rs) = omega (arith, length-rule_lines (n + 1) rs)
 
+lines-last : (ls : List (List ℕ)) (l : List ℕ) → lines_text ls ++ (l ++ 10 ∷ []) ≡ lines_text (ls ++ l ∷ [])
+lines-last [] l = refl
+lines-last (k ∷ ls) l = append_assoc k (10 ∷ lines_text ls) (l ++ 10 ∷ []) ∙ ap (λ (t : List ℕ). k ++ 10 ∷ t) (lines-last ls l)
+
 pub reply_lined : (r : Reply) → HasNoNewline (path_in r) → AreRules (shown_in r) → HasLines (line_count r) (reply_text r)
 reply_lined r path kept =
     let rules = rule_lines 0 (shown_in r) in
-    (reply_lines r, refl, clear-append rules (last_line r ∷ []) (lines_clear 0 (shown_in r) kept) (words_clear r path, tt), omega (arith, length-append rules (last_line r ∷ []), length-rule_lines 0 (shown_in r)))
+    (rules ++ last_line r ∷ [], lines-last rules (last_line r), clear-append rules (last_line r ∷ []) (lines_clear 0 (shown_in r) kept) (words_clear r path, tt), omega (arith, length-append rules (last_line r ∷ []), length-rule_lines 0 (shown_in r)))
 
 -- ---- what the types keep
 

@@ -1,5 +1,5 @@
 -- The text of each reply: one line, before which a shown ruleset has a line for each rule. Own; rules as pfctl(8) shows them.
-use Rattle.std.specs.Prelude.{◌≡◌, ℕ, ◌+◌, ◌==◌, not, true, List, [], ◌∷◌, ◌++◌, length, codes, decimal, Option, Some, None, map, if◌then◌else◌}
+use Rattle.std.specs.Prelude.{◌≡◌, ℕ, ◌+◌, ◌==◌, not, true, List, [], ◌∷◌, ◌++◌, length, codes, decimal, if◌then◌else◌}
 use Rattle.std.specs.List.{list_all}
 use Rattle.pf_rule.specs.declared.rule.Action.{Action}
 use Rattle.pf_rule.specs.declared.rule.Action.TheVariants.{Pass, Block}
@@ -92,11 +92,8 @@ abbrev pub lines_text : List (List ℕ) → List ℕ
 lines_text [] = []
 lines_text (l ∷ ls) = l ++ 10 ∷ lines_text ls
 
-abbrev pub reply_lines : Reply → List (List ℕ)
-reply_lines r = rule_lines 0 (shown_in r) ++ last_line r ∷ []
-
 abbrev pub reply_text : Reply → List ℕ
-reply_text r = lines_text (reply_lines r)
+reply_text r = lines_text (rule_lines 0 (shown_in r)) ++ (last_line r ++ 10 ∷ [])
 
 -- ---- each line is one line
 

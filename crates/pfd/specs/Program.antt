@@ -9,18 +9,19 @@ use Rattle.pf_core.specs.Worlds.{setting_with, opened}
 use Rattle.pf_engine.specs.declared.fault.EngineFault.{EngineFault}
 use Rattle.pf_engine.specs.declared.fault.EngineFault.TheVariants.{Memory}
 use Rattle.pf_engine.specs.Sessions.{IsSession}
+use Rattle.pfd.specs.declared.program.TheConstants.{HISTORY_LIMIT}
 use Rattle.pfd.specs.Serving.{Serves}
 
 -- the program's name, whatever it is, and `run`
 abbrev pub IsRun : List (List ℕ) → Type 0
 IsRun words = (name : List ℕ) × (words ≡ name ∷ codes "run" ∷ [])
 
--- A session was served from a fresh book with room for 65,536 changes.
+-- A session was served from a fresh book with room for `HISTORY_LIMIT` changes.
 pub record Ran (result : Result (Unit {0}) EngineFault) (unread unread' held held' : Option (List ℕ)) : Type 0 where
   pub old : Page
   pub new : Page
-  pub fresh : StandsFor (kept 0 []) old (opened (setting_with 65536) ∷ [])
-  pub limit : old.limit ≡ 65536
+  pub fresh : StandsFor (kept 0 []) old (opened (setting_with HISTORY_LIMIT) ∷ [])
+  pub limit : old.limit ≡ HISTORY_LIMIT
   pub session : IsSession Serves result unread unread' old new held held'
 
 -- There was no memory to begin with: nothing was read or written.

@@ -13,8 +13,8 @@ use pf_engine::EngineFault;
 use std::alloc::Global;
 use std::io::{self, Read, Write};
 
-/// How many changes the history of a session may have.
-const HISTORY_LIMIT: usize = 65_536;
+/// How many changes the history of a session may have. Definitions cite it.
+pub const HISTORY_LIMIT: usize = 65_536;
 
 // What the words ask: a session, or else why not. `run` is the only subcommand, and there has to be one.
 fn check_words(alloc: Global, words: &[String]) -> Result<(), Error>
@@ -78,8 +78,8 @@ fn explain<W: Write, F: Write>(error: &Error, writer: &mut W, faults: &mut F) ->
 
 /// The program, with its words as `env::args` gives them, the program's own name first.
 ///
-/// `pfd run` serves the reader's lines to the writer from a fresh book whose history may have 65,536 changes. Status 0:
-/// the input ended, or help was asked for, whose text goes to the writer. Status 1: a read, a write, a flush or a growth
+/// `pfd run` serves the reader's lines to the writer from a fresh book whose history may have `HISTORY_LIMIT` changes.
+/// Status 0: the input ended, or help was asked for, whose text goes to the writer. Status 1: a read, a write, a flush or a growth
 /// of memory failed, also one for the words; one line on the faults says `pfd: input`, `pfd: output` or `pfd: memory`.
 /// Status 2: the words were refused, as where there are none; the faults have clap's text, and nothing was read or
 /// written. Where the faults can't be written, the status alone tells. Words that aren't text don't come here but to

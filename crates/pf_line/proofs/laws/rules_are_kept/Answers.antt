@@ -1,6 +1,6 @@
 use Rattle.std.proofs.Common.{subst}
 use Rattle.pf_rule.specs.Rules.{IsRule}
-use Rattle.pf_line.proofs.ReplyLines.{one_more, all_taken}
+use Rattle.pf_line.proofs.ReplyLines.{one_more}
 use Rattle.pf_line.proofs.laws.rules_are_kept.Goals as goal
 
 pub loop-rule-preserved : goal.loop-rule-preserved
