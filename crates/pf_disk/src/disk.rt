@@ -2,7 +2,7 @@
 ghost use Rattle.std.specs.Prelude.{◌≡◌, ◌⊎◌, ◌+◌, ◌^◌, ◌<◌, ◌≤◌, ℕ, Bool, List, length, take, drop, OnOk, OnErr};
 ghost use Rattle.pf_disk.specs.Disk.{IsImage, IsSynced, AreIn, is_within, with_range, overwritten, Elapses, CountsFault};
 
-/// A call of the device failed.
+/// A call of the device failed. Own.
 #[derive(Clone, Copy, Debug, PartialEq, Eq)]
 pub struct DiskFault;
 
@@ -12,7 +12,7 @@ pub struct DiskFault;
 /// bytes may stand. A write adds its range to them from its own start on, and a sync that succeeds empties them at its end.
 ///
 /// A call fails exactly where it raises the count of faults by one. A caller keeps ranges within the device and stops at 2^63
-/// faults.
+/// faults. Own.
 pub trait Disk {
     /// The bytes that a read gives.
     ghost seen: { Self → List ℕ };

@@ -12,7 +12,7 @@ use std::alloc::{AllocError, Global};
 use std::fs::File;
 use std::os::unix::fs::FileExt;
 
-/// Why a file isn't taken as a device. Nothing was written to it.
+/// Why a file isn't taken as a device. Nothing was written to it. Own.
 #[derive(Clone, Copy, Debug, PartialEq, Eq)]
 pub enum FileFault {
     /// The file hasn't the length that it has to have.
@@ -34,7 +34,7 @@ impl From<AllocError> for FileFault {
 /// A device over a file of fixed length, by positioned reads and writes; a sync reaches the file's own device.
 ///
 /// The bytes that a read has to give are kept in memory too, and a read that finds others in the file is a fault. No clause
-/// can say what a file holds: that its bytes after a crash are as a `Disk` says is a premise, and no promise.
+/// can say what a file holds: that its bytes after a crash are as a `Disk` says is a premise, and no promise. Own.
 #[derive(Drop)]
 pub struct FileDisk {
     file: File,
@@ -49,7 +49,7 @@ pub struct FileDisk {
 
 impl FileDisk {
     /// The file as a device. It is read and synced, so that nothing of it is unsynced. It has to be open for reading and
-    /// writing, and to have `size` bytes; nobody else writes it.
+    /// writing, and to have `size` bytes; nobody else writes it. Own.
     pub fn of(alloc: Global, file: File, size: usize) -> Result<FileDisk, FileFault>
         ensures size { IfOk result (λ disk. length (⟦<FileDisk as Disk>⟧.seen disk) ≡ size) }
         ensures synced { IfOk result (λ disk. IsSynced (⟦<FileDisk as Disk>⟧.unsynced disk)) }

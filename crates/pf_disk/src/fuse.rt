@@ -5,7 +5,7 @@ ghost use Rattle.pf_disk.specs.Burning.{blows, burnt, counted};
 
 use crate::{Disk, DiskFault};
 
-/// Which calls fail. A call is a read, a write or a sync.
+/// Which calls fail. A call is a read, a write or a sync. Own.
 #[derive(Clone, Copy, Debug, PartialEq, Eq)]
 pub enum Fuse {
     /// None.
@@ -17,7 +17,7 @@ pub enum Fuse {
 }
 
 /// Passes calls on to another device, and fails where its fuse says. A call that it fails isn't passed on and changes nothing
-/// but the count of faults.
+/// but the count of faults. Own.
 #[derive(Drop)]
 pub struct FuseDisk<D: Disk> {
     inner: D,
@@ -30,7 +30,7 @@ impl<D: Disk> FuseDisk<D> {
     ghost use Rattle.pf_disk.specs.declared.fuse.Fuse.TheVariants.{After, Once};
     ghost use Rattle.pf_disk.specs.Fuse.{inner_of, fuse_of, refused_of};
 
-    /// Passes `k` calls on, and then fails all.
+    /// Passes `k` calls on, and then fails all. Own.
     pub fn after(disk: D, k: u64) -> FuseDisk<D>
         requires { D.fault_count disk ≤ 2 ^ 63 }
         ensures inner { inner_of result ≡ disk }
@@ -44,7 +44,7 @@ impl<D: Disk> FuseDisk<D> {
         }
     }
 
-    /// Fails call number `k + 1` alone.
+    /// Fails call number `k + 1` alone. Own.
     pub fn once(disk: D, k: u64) -> FuseDisk<D>
         requires { D.fault_count disk ≤ 2 ^ 63 }
         ensures inner { inner_of result ≡ disk }
@@ -58,7 +58,7 @@ impl<D: Disk> FuseDisk<D> {
         }
     }
 
-    /// The device as it stands.
+    /// The device as it stands. Own.
     pub fn into_inner(self) -> D
         ensures { result ≡ inner_of self }
     {

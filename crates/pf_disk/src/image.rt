@@ -8,10 +8,10 @@ ghost use Rattle.pf_disk.specs.Filled.{fill_byte, FillsAll, IsFilled, Shows};
 use crate::memory::{Call, overwrite};
 use std::alloc::{AllocError, Global};
 
-/// The byte that opens a gate of the layers above. No other byte does.
+/// The byte that opens a gate of the layers above. No other byte does. Own.
 pub const OPEN_GATE: u8 = 0xA5;
 
-/// What a crash leaves at the unsynced places.
+/// What a crash leaves at the unsynced places. Own.
 #[derive(Clone, Copy, Debug)]
 pub enum Fill<'a> {
     /// The bytes of the last sync.

@@ -6,7 +6,7 @@ ghost use Rattle.pf_journal.specs.declared.fault.ReadFault.TheVariants as readin
 use pf_disk::DiskFault;
 use std::alloc::{AllocError, AllocFailed};
 
-/// Why a record wasn't added.
+/// Why a record wasn't added. Own.
 #[derive(Clone, Copy, Debug, PartialEq, Eq)]
 pub enum AppendFault {
     /// Memory was refused. No call of the device was made, and all is as before.
@@ -17,12 +17,12 @@ pub enum AppendFault {
     Fault,
 }
 
-/// Why no payloads were read. The device's bytes are as before.
+/// Why no payloads were read. The device's bytes are as before. Own.
 #[derive(Clone, Copy, Debug, PartialEq, Eq)]
 pub enum ReadFault {
     /// Memory was refused.
     Memory,
-    /// Behind the open gate at this place of the device no record stands whole with a gate behind it.
+    /// Behind the open gate at this place of the device no record stands whole in the region with a gate behind it.
     Corrupt { at: usize },
     /// A call of the device failed.
     Fault,

@@ -9,14 +9,14 @@ use crate::AppendFault;
 use pf_disk::{Disk, OPEN_GATE, write_synced};
 use std::alloc::{AllocError, Global};
 
-/// The byte that a closed gate is written as. Each byte but the open one closes it too.
+/// The byte that a closed gate is written as. Each byte but the open one closes it too. Own.
 pub const CLOSED_GATE: u8 = 0;
 
-/// Bytes of a gate and the length behind it.
+/// Bytes of a gate and the length behind it. Own.
 pub const HEADER: usize = 5;
 
 /// The records from place `start` of a device up to place `end`, which isn't theirs. `gate` is the place of the closed gate
-/// behind them. Places are bytes from the device's start.
+/// behind them. Places are bytes from the device's start. Own.
 #[derive(Drop)]
 pub struct Journal<D: Disk> {
     pub disk: D,
@@ -30,7 +30,7 @@ impl<D: Disk> Journal<D> {
     /// memory is taken before the first.
     ///
     /// At its start nothing is unsynced, and no earlier append has answered `Fault`: the journal is ready, which `Ok`, `NoRoom`
-    /// and `Memory` leave it.
+    /// and `Memory` leave it. Own.
     pub fn append(&mut self, alloc: Global, payload: &[u8]) -> Result<(), AppendFault>
         requires ready { IsReady D.seen D.unsynced self.old }
         requires few { D.fault_count self.old.disk < 2 ^ 63 }

@@ -9,7 +9,7 @@ use crate::journal::HEADER;
 use pf_disk::{Disk, OPEN_GATE};
 use std::alloc::Global;
 
-/// What a region holds.
+/// What a region holds. Own.
 #[derive(Debug, Drop)]
 pub struct Found {
     /// The payloads of the records behind open gates, the first of them first.
@@ -18,7 +18,7 @@ pub struct Found {
     pub gate: usize,
 }
 
-/// Reads the records between two places of a device, the last not counted, by one call of the device.
+/// Reads the records between two places of a device, the last not counted, by one call of the device. Own.
 pub fn read_all<D: Disk>(
     alloc: Global,
     disk: &mut D,

@@ -21,17 +21,19 @@ const SECOND: [u8; 29] = [
     1, 4, 0, 1, 0x74, 0, 0, 0, 1, 4, 8, 0, 0, 10, 0, 0, 0, 0, 0, 0, 0, 0, 0, 0, 0, 0, 0, 0, 0,
 ];
 
-/// A device of zeros, all of them synced.
-fn zeros(alloc: Global) -> Result<MemDisk, AllocError>
+/// A synced device of open gates, but for a closed one at the region's start: what isn't written isn't closed.
+fn all_open(alloc: Global) -> Result<MemDisk, AllocError>
     ensures size { IfOk result (λ disk. length (⟦<MemDisk as Disk>⟧.seen disk) ≡ SIZE) }
     ensures synced { IfOk result (λ disk. IsSynced (⟦<MemDisk as Disk>⟧.unsynced disk)) }
     ensures faults { IfOk result (λ disk. ⟦<MemDisk as Disk>⟧.fault_count disk ≡ 0) }
 {
-    let disk = MemDisk::of(alloc, vec![in alloc; 0u8; SIZE]?)?;
+    let mut bytes = vec![in alloc; 0xA5u8; SIZE]?;
+    bytes[START] = 0;
+    let disk = MemDisk::of(alloc, bytes)?;
     Ok(disk)
 }
 
-/// The journal of a device of zeros, up to this place.
+/// The journal of such a device, up to this place.
 fn empty(alloc: Global, end: usize) -> Result<Journal<MemDisk>, AllocError>
     requires some { START < end }
     requires within { end ≤ SIZE }
@@ -41,20 +43,24 @@ fn empty(alloc: Global, end: usize) -> Result<Journal<MemDisk>, AllocError>
     ensures end { IfOk result (λ journal. journal.end ≡ end) }
 {
     Ok(Journal {
-        disk: zeros(alloc)?,
+        disk: all_open(alloc)?,
         start: START,
         gate: START,
         end,
     })
 }
 
-/// What a device that holds these bytes is read as.
+/// What a device that holds these bytes is read as, by one call.
 fn found(alloc: Global, bytes: Vec<u8>) -> Result<Found, ReadFault> {
     let mut disk = MemDisk::of(alloc, bytes)?;
     if disk.size() < END {
         return Err(ReadFault::Fault);
     }
-    read_all(alloc, &mut disk, START, END)
+    let read = read_all(alloc, &mut disk, START, END);
+    if disk.calls() != 1 {
+        return Err(ReadFault::Fault);
+    }
+    read
 }
 
 /// The device's bytes as a read gives them.
@@ -125,7 +131,7 @@ fn a_crash_leaves_the_record_or_not(rt: HostRuntime) -> Result<(), Fail> {
     journal.append(alloc, &FIRST)?;
     journal.append(alloc, &SECOND)?;
     assert_eq!(rt; journal.disk.calls(), 8);
-    let rows = [
+    let rows: &[(u64, [usize; 6])] = &[
         (5, [1, 1, 1, 1, 1, 1]),
         (6, [1, 1, 1, 1, 1, 1]),
         (7, [1, 2, 1, 2, 1, 1]),
@@ -134,8 +140,8 @@ fn a_crash_leaves_the_record_or_not(rt: HostRuntime) -> Result<(), Fail> {
     ];
     for (moment, counts) in rows {
         for fill in 0..6u8 {
-            let read = found(alloc, image(alloc, &journal.disk, moment, fill)?)?;
-            let count: usize = counts[fill as usize];
+            let read = found(alloc, image(alloc, &journal.disk, *moment, fill)?)?;
+            let count = counts[fill as usize];
             assert_eq!(rt; read.payloads.len(), count, "call {moment}, fill {fill}");
             assert_eq!(rt; read.payloads[0].as_slice(), FIRST.as_slice());
             if count == 2 {
@@ -146,9 +152,10 @@ fn a_crash_leaves_the_record_or_not(rt: HostRuntime) -> Result<(), Fail> {
     Ok(())
 }
 
-/// An append of which call `k + 1` fails, alone or with all that follow: what it answers, and how many records are there.
+/// An append of which call `k + 1` fails, alone or with all that follow, so that `k` reach the device: whether it answers so, and
+/// how many records are there.
 fn with_fault(alloc: Global, k: u64, once: bool) -> Result<(bool, usize), Fail> {
-    let disk = zeros(alloc)?;
+    let disk = all_open(alloc)?;
     let fuse = if once {
         FuseDisk::once(disk, k)
     } else {
@@ -169,7 +176,11 @@ fn with_fault(alloc: Global, k: u64, once: bool) -> Result<(bool, usize), Fail> 
         return Err(Fail::new("another fault"));
     }
     let Journal { disk, .. } = journal;
-    let bytes = bytes_of(alloc, &disk.into_inner())?;
+    let inner = disk.into_inner();
+    if inner.calls() != k {
+        return Err(Fail::new("another number of calls"));
+    }
+    let bytes = bytes_of(alloc, &inner)?;
     Ok((failed, found(alloc, bytes)?.payloads.len()))
 }
 
@@ -177,14 +188,15 @@ fn with_fault(alloc: Global, k: u64, once: bool) -> Result<(bool, usize), Fail> 
 fn a_fault_at_each_call(rt: HostRuntime) -> Result<(), Fail> {
     let alloc = rt.alloc();
     for once in [false, true] {
-        for (k, failed, count) in [
+        let rows: &[(u64, bool, usize)] = &[
             (0, true, 0),
             (1, true, 0),
             (2, true, 0),
             (3, true, 1),
             (4, false, 1),
-        ] {
-            assert_eq!(rt; with_fault(alloc, k, once)?, (failed, count), "call {k}");
+        ];
+        for (k, failed, count) in rows {
+            assert_eq!(rt; with_fault(alloc, *k, once)?, (*failed, *count), "call {k}");
         }
     }
     Ok(())
