@@ -1,16 +1,14 @@
 //! Tables of rows with their settings.
 
+use pfd::HISTORY_LIMIT;
 use std::alloc::{AllocError, Global};
-
-/// The changes that the history of a Book may have, where the heading names no other number.
-const HISTORY_LIMIT: usize = 65_536;
 
 /// A table, and how its rows are played. `stdin` says in its head what its settings are.
 #[derive(Drop)]
 pub(crate) struct Table<'a> {
     /// What the table shows.
     pub(crate) name: &'a str,
-    /// How many changes the history of a Book may have.
+    /// How many changes the history of a Book may have, the session's limit where the heading names no other number.
     pub(crate) history: usize,
     /// All rows are played on one Book, and not each on its own.
     pub(crate) in_turn: bool,

@@ -1,5 +1,5 @@
 //! Want of memory. `bench/refuse-allocations` runs both tests with each growth of memory refused in turn.
-use pfd::{Book, EngineFault, serve_alone};
+use pfd::{Book, EngineFault, HISTORY_LIMIT, serve_alone};
 use std::alloc::Global;
 use std::process::Abort;
 use std::test::*;
@@ -40,8 +40,8 @@ fn answer(
 
 // Each line in turn has its reply. One for which memory was refused is given once more, if it may be.
 fn ask_each(rt: &impl Abort, alloc: Global, again: bool) -> Result<(), Fail> {
-    let mut book = match Book::fresh(alloc, 65_536) {
-        Err(_) if again => Book::fresh(alloc, 65_536)?,
+    let mut book = match Book::fresh(alloc, HISTORY_LIMIT) {
+        Err(_) if again => Book::fresh(alloc, HISTORY_LIMIT)?,
         made => made?,
     };
     let mut written = Vec::new(alloc);

@@ -1,6 +1,6 @@
 //! Sessions over readers and writers that fail, or do little at a time.
 use crate::streams::{Script, Tight, Turn};
-use pfd::{Book, EngineFault, serve_alone};
+use pfd::{Book, EngineFault, HISTORY_LIMIT, serve_alone};
 use std::alloc::Global;
 use std::cell::Cell;
 use std::io::ErrorKind;
@@ -25,7 +25,7 @@ fn check(
         flushes,
         waiting,
     };
-    let mut book = Book::fresh(alloc, 65_536)?;
+    let mut book = Book::fresh(alloc, HISTORY_LIMIT)?;
     let result = serve_alone(alloc, &mut reader, &mut writer, &mut book);
     let written = std::str::from_utf8(writer.text.as_slice());
     assert_eq!(rt; result, end, "with room for {room}");
@@ -64,20 +64,22 @@ fn writers_that_fail(rt: HostRuntime) -> Result<(), Fail> {
 
 #[test]
 fn readers_that_fail(rt: HostRuntime) -> Result<(), Fail> {
-    let interrupted = [
-        Turn::Fails(ErrorKind::Interrupted),
-        Turn::Gives(b"begin filter -\nfr"),
-        Turn::Fails(ErrorKind::Interrupted),
-        Turn::Gives(b"ob\n"),
-        Turn::Fails(ErrorKind::Interrupted),
-    ];
+    let mut interrupted = Vec::new(rt.alloc());
+    interrupted.push(Turn::Fails(ErrorKind::Interrupted))?;
+    interrupted.push(Turn::Gives(b"begin filter -\nfr"))?;
+    for _ in 0..10 {
+        interrupted.push(Turn::Fails(ErrorKind::Interrupted))?;
+    }
+    interrupted.push(Turn::Gives(b"ob\n"))?;
+    interrupted.push(Turn::Fails(ErrorKind::Interrupted))?;
     let broken = [
         Turn::Gives(b"begin filter -\nfrob\nbegin filter -"),
         Turn::Fails(ErrorKind::Other),
         Turn::Gives(b"\nfrob\n"),
     ];
     let told = "ok 1.1\nerr word 0\n";
-    check(&rt, rt.alloc(), &interrupted, (100, 0, 9), Ok(()), told)?;
+    let interrupted = interrupted.as_slice();
+    check(&rt, rt.alloc(), interrupted, (100, 0, 9), Ok(()), told)?;
     let failed = Err(EngineFault::Read);
     check(&rt, rt.alloc(), &broken, (100, 0, 9), failed, told)
 }

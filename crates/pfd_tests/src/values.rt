@@ -1,7 +1,7 @@
 //! Values that no line has yet, and that values cross threads.
 use pf_addr::{Addr, Net, write_addr, write_net};
 use pf_core::{Change, Command, Durable, Reply};
-use pf_rule::Rule;
+use pf_rule::{Packet, Rule};
 use std::test::*;
 
 /// IPv6 addresses, and their texts.
@@ -35,6 +35,8 @@ fn writes_addresses(rt: HostRuntime) -> Result<(), Fail> {
 fn reads_texts(rt: HostRuntime) -> Result<(), Fail> {
     assert!(rt; Addr::parse("10.0.0.1") == Ok(Addr::V4(0x0a00_0001)));
     assert!(rt; Net::parse("10/8") == Ok(Net::new(Addr::V4(0x0a00_0000), 8)));
+    let packet = Packet::parse(rt.alloc(), "in em0 tcp 10.0.0.1 1234 10.0.0.2 80")?;
+    assert_eq!(rt; packet.destination_port(), 80);
     let rule = Rule::parse(rt.alloc(), "block drop in")?;
     let mut out = Vec::new(rt.alloc());
     rule.write(&mut out)?;
