@@ -79,7 +79,7 @@ fn readers_that_fail(rt: HostRuntime) -> Result<(), Fail> {
     ];
     let told = "ok 1.1\nerr word 0\n";
     let interrupted = interrupted.as_slice();
-    check(&rt, rt.alloc(), interrupted, (100, 0, 9), Ok(()), told)?;
+    check(&rt, rt.alloc(), interrupted, (100, 0, 20), Ok(()), told)?;
     let failed = Err(EngineFault::Read);
     check(&rt, rt.alloc(), &broken, (100, 0, 9), failed, told)
 }
