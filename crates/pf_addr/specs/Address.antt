@@ -1,11 +1,13 @@
 -- Addresses, networks, and which network contains which address (pf.conf(5), PARAMETERS, networks in CIDR notation).
-use Rattle.std.specs.Prelude.{ℕ, ◌^◌, ◌<◌, Bool, true, false, cond, List}
+use Rattle.std.specs.Prelude.{ℕ, ◌^◌, ◌<◌, Bool, true, false, ◌&&◌, List}
+use Rattle.std.specs.Bool.{beq}
+use Rattle.std.specs.List.{starts_with}
 use Rattle.pf_addr.specs.declared.addr.Addr.{Addr}
 use Rattle.pf_addr.specs.declared.addr.Addr.TheVariants as addr
 use Rattle.pf_addr.specs.declared.addr.TheConstants.{V4_BITS, V6_BITS}
 use Rattle.pf_addr.specs.declared.addr.Family.{Family}
 use Rattle.pf_addr.specs.declared.addr.Family.TheVariants.{V4, V6}
-use Rattle.pf_addr.specs.Bits.{bits, begins_with}
+use Rattle.pf_addr.specs.Bits.{bits}
 
 -- how many bits an address of the family has
 abbrev pub width : Family → ℕ
@@ -34,7 +36,7 @@ same_family V6 V6 = true
 
 -- A network contains an address of its family whose bits begin with its front.
 abbrev pub contains : Network → Addr → Bool
-contains n a = cond (same_family n.family (family_of a)) (begins_with n.front (bits_of a)) false
+contains n a = same_family n.family (family_of a) && starts_with beq (bits_of a) n.front
 
 -- the number of an address fits its family's bits
 abbrev pub IsAddr : Addr → Type 0

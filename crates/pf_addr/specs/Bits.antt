@@ -1,5 +1,5 @@
 -- Numbers as lists of bits, the highest bit first.
-use Rattle.std.specs.Prelude.{ℕ, zero, suc, ◌+◌, ◌*◌, ◌/◌, ◌%◌, ◌==◌, Bool, true, false, List, [], ◌∷◌, ◌++◌, fold, cond}
+use Rattle.std.specs.Prelude.{ℕ, zero, suc, ◌+◌, ◌-◌, ◌*◌, ◌/◌, ◌%◌, ◌==◌, Bool, true, false, List, [], ◌∷◌, ◌++◌, length, replicate, fold, cond}
 
 -- the lowest w bits of a number
 unfoldable pub bits : ℕ → ℕ → List Bool
@@ -13,13 +13,6 @@ with_bit n b = 2 * n + cond b 1 0
 abbrev pub number_of : List Bool → ℕ
 number_of = fold with_bit 0
 
-abbrev pub same_bit : Bool → Bool → Bool
-same_bit true b = b
-same_bit false true = false
-same_bit false false = true
-
--- whether a list of bits begins with these
-abbrev pub begins_with : List Bool → List Bool → Bool
-begins_with [] bs = true
-begins_with (p ∷ ps) [] = false
-begins_with (p ∷ ps) (b ∷ bs) = cond (same_bit p b) (begins_with ps bs) false
+-- the first number of w bits that begins with these: behind them are zeros
+abbrev pub first_number : ℕ → List Bool → ℕ
+first_number w front = number_of (front ++ replicate (w - length front) false)

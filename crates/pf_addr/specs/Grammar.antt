@@ -1,5 +1,6 @@
 -- Which texts spell an address or a network: V4 in decimal numbers between dots, a network in CIDR notation.
-use Rattle.std.specs.Prelude.{◌≡◌, ℕ, ◌-◌, ◌≤◌, ◌⊎◌, List, [], ◌∷◌, ◌++◌, length, take, replicate}
+use Rattle.std.specs.Prelude.{◌≡◌, ℕ, ◌≤◌, ◌==◌, ◌⊎◌, Bool, List, ◌∷◌, ◌++◌, length, take, replicate}
+use Rattle.std.specs.List.{AllZip, slice_split}
 use Rattle.std.specs.Int.{from_be_bytes, w32}
 use Rattle.pf_form.specs.Numbers as digits
 use Rattle.pf_addr.specs.declared.addr.Addr.{Addr}
@@ -15,11 +16,12 @@ pub record IsNumber (most : ℕ) (text : List ℕ) (n : ℕ) : Type 0 where
   pub number : digits.IsNumber NUMBER_DIGITS text n
   pub small : n ≤ most
 
--- one or more numbers of a byte, with dots between them
+abbrev pub is_dot : ℕ → Bool
+is_dot b = b == 46
+
+-- The text's parts, between its dots, are these numbers of a byte.
 abbrev pub Dotted : List ℕ → List ℕ → Type 0
-Dotted [] text = ⊥
-Dotted (n ∷ []) text = IsNumber 255 text n
-Dotted (n ∷ m ∷ ns) text = (part rest : List ℕ) × IsNumber 255 part n × Dotted (m ∷ ns) rest × (text ≡ part ++ 46 ∷ rest)
+Dotted numbers text = AllZip (IsNumber 255) (slice_split is_dot text) numbers
 
 -- An address is four parts, its bytes from the first on.
 abbrev pub SpellsAddr : List ℕ → Addr → Type 0
@@ -28,7 +30,7 @@ SpellsAddr text (addr.V6 n) = ⊥
 
 -- the four bytes of an address of which these are written, the missing ones zero
 abbrev pub four_bytes : List ℕ → List ℕ
-four_bytes parts = parts ++ replicate (4 - length parts) 0
+four_bytes parts = take 4 (parts ++ replicate 4 0)
 
 -- the network of one address
 abbrev pub network_of : Addr → Network

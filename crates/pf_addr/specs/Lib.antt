@@ -4,6 +4,8 @@ pub mod Address
 pub mod Nets
 pub mod Grammar
 pub mod Reading
+pub mod PlaceLaws
+pub mod ReadingLaws
 pub mod Spelling
 pub mod SpellingLaws
 pub mod Faults

@@ -1,5 +1,5 @@
 -- The one text that an address or a network is written as.
-use Rattle.std.specs.Prelude.{ℕ, ◌-◌, ◌/◌, ◌%◌, ◌^◌, ◌==◌, List, [], ◌∷◌, ◌++◌, map, length, false, replicate, decimal, if◌then◌else◌}
+use Rattle.std.specs.Prelude.{ℕ, ◌/◌, ◌%◌, ◌^◌, ◌==◌, List, [], ◌∷◌, ◌++◌, map, length, decimal, if◌then◌else◌}
 use Rattle.std.specs.List.{join_with_byte}
 use Rattle.std.specs.Int.{to_be_bytes, w32}
 use Rattle.std.specs.Net.Text.{hex}
@@ -7,7 +7,7 @@ use Rattle.pf_addr.specs.declared.addr.Addr.{Addr}
 use Rattle.pf_addr.specs.declared.addr.Addr.TheVariants as addr
 use Rattle.pf_addr.specs.declared.addr.Family.{Family}
 use Rattle.pf_addr.specs.declared.addr.Family.TheVariants.{V4, V6}
-use Rattle.pf_addr.specs.Bits.{number_of}
+use Rattle.pf_addr.specs.Bits.{first_number}
 use Rattle.pf_addr.specs.Address.{Network, width}
 
 -- the 16 bits of a V6 address that end so many bits before its end, in lower-case hexadecimal with no leading zeros
@@ -25,7 +25,7 @@ addr_in V6 n = addr.V6 n
 
 -- the first address of a network: its front, and zeros
 abbrev pub first_addr : Network → Addr
-first_addr net = addr_in net.family (number_of (net.front ++ replicate (width net.family - length net.front) false))
+first_addr net = addr_in net.family (first_number (width net.family) net.front)
 
 -- a slash (47) and the front's length, where the network has more than one address
 abbrev pub length_text : Network → List ℕ

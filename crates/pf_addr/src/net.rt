@@ -7,7 +7,7 @@ ghost use Rattle.pf_addr.specs.Spelling.{first_addr};
 
 use crate::addr::{Addr, Family, V4_BITS, V6_BITS};
 use crate::fault::AddrFault;
-use crate::reading::{first_slash, read_parts, read_prefix_len};
+use crate::reading::{first, read_parts, read_prefix_len};
 use std::marker::Model;
 
 /// A network: the addresses of one family that begin with the same bits. The bits past the front are zero.
@@ -132,7 +132,7 @@ impl Net {
     fn with_or_without_len(text: &[u8]) -> Result<Net, AddrFault>
         ensures { result ≡ net_at text.now }
     {
-        match first_slash(text) {
+        match first(b'/', text) {
             Some(slash) => Net::cut_at(text, slash),
             None => Ok(Net::single(Addr::from_ascii(text)?)),
         }

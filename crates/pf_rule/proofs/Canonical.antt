@@ -18,7 +18,7 @@ use Rattle.pf_addr.specs.Address.{Network, width}
 use Rattle.pf_addr.specs.Reading.{numbers_at, parts_at, part_at, net_at}
 use Rattle.pf_addr.specs.Spelling.{net_text}
 use Rattle.pf_addr.specs.SpellingLaws.{IsNumber-decimal, IsV4Network, IsNetByte, SpellsNet-net_text, IsNetWord-net_text}
-use Rattle.pf_addr.proofs.Texts.{net_only}
+use Rattle.pf_addr.specs.ReadingLaws.{net_only}
 use Rattle.pf_rule.specs.declared.rule.Action.{Action}
 use Rattle.pf_rule.specs.declared.rule.Action.TheVariants.{Pass, Block}
 use Rattle.pf_rule.specs.declared.rule.Direction.{Direction}

@@ -1,5 +1,5 @@
 use Rattle.std.proofs.Common.{sym, ap, ◌∙◌, length}
-use Rattle.pf_addr.proofs.Fronts.{front_length}
+use Rattle.pf_addr.specs.Nets.{front_length}
 use Rattle.pf_addr.proofs.net.Net.prefix_len.Goals as goal
 
 pub returns-clause-value : goal.returns-clause-value

@@ -1,6 +1,6 @@
 use Rattle.std.proofs.Common.{ap, ◌∙◌, take}
 use Rattle.pf_addr.specs.Address.{bits_of, width}
-use Rattle.pf_addr.proofs.Texts.{single_is}
+use Rattle.pf_addr.proofs.Values.{single_is}
 use Rattle.pf_addr.proofs.net.Net.single.Goals as goal
 
 pub returns : goal.returns
