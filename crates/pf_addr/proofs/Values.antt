@@ -9,17 +9,13 @@ use Rattle.pf_form.specs.Forms.{◌>>=◌}
 use Rattle.pf_addr.specs.declared.addr.Addr.{Addr}
 use Rattle.pf_addr.specs.declared.addr.Addr.TheVariants as addr
 use Rattle.pf_addr.specs.declared.fault.AddrFault.{AddrFault}
-use Rattle.pf_addr.specs.declared.addr.Family.{Family}
-use Rattle.pf_addr.specs.declared.addr.Family.TheVariants.{V4}
 use Rattle.pf_addr.specs.declared.reading.Parts.{Parts}
-use Rattle.pf_addr.specs.Bits.{bits}
-use Rattle.pf_addr.specs.BitLaws.{length-bits}
-use Rattle.pf_addr.specs.Address.{Network, family_of, bits_of, width}
-use Rattle.pf_addr.specs.Grammar.{SpellsAddr, SpellsNet, four_bytes, network_of, v4_network}
+use Rattle.pf_addr.specs.Address.{Network, network_from}
+use Rattle.pf_addr.specs.Grammar.{SpellsAddr, SpellsNet, four_bytes}
 use Rattle.pf_addr.specs.Reading.{numbers_at, addr_at, length_at, cut_at, net_at, parts_of, kept_parts}
 use Rattle.pf_addr.specs.ReadingLaws.{addr_found, addr_only, net_found, net_only}
 use Rattle.pf_addr.specs.Spelling.{addr_text, net_text}
-use Rattle.pf_addr.specs.SpellingLaws.{IsV4Network, network_is, SpellsAddr-addr_text, SpellsNet-net_text}
+use Rattle.pf_addr.specs.SpellingLaws.{IsV4Network, SpellsAddr-addr_text, SpellsNet-net_text}
 
 pub addr_if_ok : (text : List ℕ) (r : Result Addr AddrFault) → r ≡ addr_at text → IfOk r (λ a. SpellsAddr text a)
 addr_if_ok text (Ok a) e = addr_found text a (sym e)
@@ -43,18 +39,12 @@ addr_made text parts n e count is =
     let number : n ≡ from_be_bytes w32 all.0 = is ∙ ap (λ (p : Parts). from_be_bytes w32 p.bytes) all.2 ∙ ap (λ (l : List ℕ). from_be_bytes w32 l) (all_four all.0 four) in
     rw (all.1, four, number) refl
 
-pub net_made : (text : List ℕ) (i : ℕ) (parts : Parts) (len n : ℕ) (net : Network) → Ok parts ≡ kept_parts (numbers_at (take i text)) → parts.count ≤ 4 → Ok len ≡ length_at (i + 1) (drop (i + 1) text) → n ≡ from_be_bytes w32 parts.bytes → net.family ≡ V4 → net.front ≡ take len (bits 32 n) → Ok net ≡ cut_at text (Some i)
-net_made text i parts len n net e count is_len is family front =
+pub net_made : (text : List ℕ) (i : ℕ) (parts : Parts) (len n : ℕ) (net : Network) → Ok parts ≡ kept_parts (numbers_at (take i text)) → parts.count ≤ 4 → Ok len ≡ length_at (i + 1) (drop (i + 1) text) → n ≡ from_be_bytes w32 parts.bytes → net ≡ network_from (addr.V4 n) len → Ok net ≡ cut_at text (Some i)
+net_made text i parts len n net e count is_len is made =
     let all = kept (numbers_at (take i text)) parts e in
     let four : length all.0 ≤ 4 = omega (arith, count, ap (λ (p : Parts). p.count) all.2) in
     let number : n ≡ from_be_bytes w32 (four_bytes all.0) = is ∙ ap (λ (p : Parts). from_be_bytes w32 p.bytes) all.2 in
-    let whole : net ≡ v4_network all.0 len = network_is net V4 (take len (bits 32 (from_be_bytes w32 (four_bytes all.0)))) family (front ∙ ap (λ (k : ℕ). take len (bits 32 k)) number) in
-    rw (all.1, le-leb (length all.0) 4 four, ← is_len, whole) refl
-
--- the network of one address
-pub single_is : (net : Network) (a : Addr) → net.family ≡ family_of a → net.front ≡ take (width (family_of a)) (bits_of a) → net ≡ network_of a
-single_is net (addr.V4 n) p q = network_is net (family_of (addr.V4 n)) (bits 32 n) p (q ∙ take_all 32 (bits 32 n) (omega (arith, length-bits 32 n)))
-single_is net (addr.V6 n) p q = network_is net (family_of (addr.V6 n)) (bits 128 n) p (q ∙ take_all 128 (bits 128 n) (omega (arith, length-bits 128 n)))
+    rw (all.1, le-leb (length all.0) 4 four, ← is_len, made, number) refl
 
 -- ---- a text spells one value, and a value has a text of its own
 

@@ -25,5 +25,5 @@ groups_more n ends i lt = flat_map_more (behind_colon n) (group_text n 112) (tak
 
 -- ---- a network's length
 
-pub not_full : (net : Network) → length net.front ≢ width net.family → length_text net ≡ 47 ∷ decimal (length net.front)
-not_full net ne = let no_end : (length net.front == width net.family) ≡ false = grind (arith, nat_tests) in rw no_end refl
+pub not_full : (net : Network) → net.len ≢ width net.family → length_text net ≡ 47 ∷ decimal (net.len)
+not_full net ne = let no_end : (net.len == width net.family) ≡ false = grind (arith, nat_tests) in rw no_end refl

@@ -6,10 +6,8 @@ use Rattle.pf_form.specs.Numbers as digits
 use Rattle.pf_addr.specs.declared.addr.Addr.{Addr}
 use Rattle.pf_addr.specs.declared.addr.Addr.TheVariants as addr
 use Rattle.pf_addr.specs.declared.addr.TheConstants.{V4_BITS}
-use Rattle.pf_addr.specs.declared.addr.Family.TheVariants.{V4}
 use Rattle.pf_addr.specs.declared.reading.TheConstants.{NUMBER_DIGITS}
-use Rattle.pf_addr.specs.Bits.{bits}
-use Rattle.pf_addr.specs.Address.{Network, family_of, bits_of}
+use Rattle.pf_addr.specs.Address.{Network, network_from, network_of}
 
 -- a number of at most `most` in one to three decimal digits, of which the first may be zeros
 pub record IsNumber (most : ℕ) (text : List ℕ) (n : ℕ) : Type 0 where
@@ -32,17 +30,9 @@ SpellsAddr text (addr.V6 n) = ⊥
 abbrev pub four_bytes : List ℕ → List ℕ
 four_bytes parts = take 4 (parts ++ replicate 4 0)
 
--- the network of one address
-abbrev pub network_of : Addr → Network
-network_of a = record { family = family_of a; front = bits_of a }
-
--- the V4 network of which these are the first bytes, with a front of so many bits
-abbrev pub v4_network : List ℕ → ℕ → Network
-v4_network parts len = record { family = V4; front = take len (bits V4_BITS (from_be_bytes w32 (four_bytes parts))) }
-
 -- up to four parts, a slash (47) and how many bits are the front
 abbrev pub SpellsFront : List ℕ → Network → Type 0
-SpellsFront text net = (parts front digits : List ℕ) × (len : ℕ) × Dotted parts front × (length parts ≤ 4) × IsNumber V4_BITS digits len × (text ≡ front ++ 47 ∷ digits) × (net ≡ v4_network parts len)
+SpellsFront text net = (parts front digits : List ℕ) × (len : ℕ) × Dotted parts front × (length parts ≤ 4) × IsNumber V4_BITS digits len × (text ≡ front ++ 47 ∷ digits) × (net ≡ network_from (addr.V4 (from_be_bytes w32 (four_bytes parts))) len)
 
 -- A network is an address alone, or the first parts of an address and a length.
 abbrev pub SpellsNet : List ℕ → Network → Type 0

@@ -1,5 +1,3 @@
-pub mod Bits
-pub mod BitLaws
 pub mod Address
 pub mod Nets
 pub mod Grammar

@@ -14,8 +14,8 @@ use Rattle.pf_addr.specs.declared.fault.AddrFault.TheVariants.{Empty, BadDigit, 
 use Rattle.pf_addr.specs.declared.addr.TheConstants.{V4_BITS}
 use Rattle.pf_addr.specs.declared.reading.Parts.{Parts}
 use Rattle.pf_addr.specs.declared.reading.TheConstants.{NUMBER_DIGITS}
-use Rattle.pf_addr.specs.Address.{Network}
-use Rattle.pf_addr.specs.Grammar.{is_dot, four_bytes, network_of, v4_network}
+use Rattle.pf_addr.specs.Address.{Network, network_from, network_of}
+use Rattle.pf_addr.specs.Grammar.{is_dot, four_bytes}
 
 -- the number, if it is at most `most`
 abbrev pub kept_to : ℕ → Option ℕ → Option ℕ
@@ -74,7 +74,7 @@ length_at at text = ok_or (small_number V4_BITS text) (BadLength at)
 
 -- with these parts, and with a length that begins at `at`
 abbrev pub front_at : ℕ → List ℕ → List ℕ → Result Network AddrFault
-front_at at digits parts = if nat_le (length parts) 4 then (length_at at digits >>= λ len. Ok (v4_network parts len)) else Err (BadGroups 0)
+front_at at digits parts = if nat_le (length parts) 4 then (length_at at digits >>= λ len. Ok (network_from (addr.V4 (from_be_bytes w32 (four_bytes parts))) len)) else Err (BadGroups 0)
 
 -- with the place of its first slash
 abbrev pub cut_at : List ℕ → Option ℕ → Result Network AddrFault

@@ -17,8 +17,8 @@ use Rattle.pf_addr.specs.declared.addr.Addr.{Addr}
 use Rattle.pf_addr.specs.declared.addr.Addr.TheVariants as addr
 use Rattle.pf_addr.specs.declared.fault.AddrFault.{AddrFault}
 use Rattle.pf_addr.specs.declared.fault.AddrFault.TheVariants.{BadLength}
-use Rattle.pf_addr.specs.Address.{Network}
-use Rattle.pf_addr.specs.Grammar.{IsNumber, is_dot, Dotted, SpellsAddr, SpellsNet, SpellsFront, network_of, v4_network}
+use Rattle.pf_addr.specs.Address.{Network, network_from, network_of}
+use Rattle.pf_addr.specs.Grammar.{IsNumber, is_dot, Dotted, SpellsAddr, SpellsNet, SpellsFront, four_bytes}
 use Rattle.pf_addr.specs.Reading.{kept_to, small_number, part_fault, part_at, parts_at, numbers_at, address_of, addr_at, is_slash, length_at, front_at, cut_at, net_at}
 use Rattle.pf_addr.specs.PlaceLaws.{without, digits_without, no_place, place_after, cut_there}
 
@@ -112,8 +112,8 @@ front_found text i net p e =
     elim (leb_tells (length all.0) 4) [
       | inl few ↦
           let made = rw few.0 at all.2 in
-          let last = bind_ok (length_at (i + 1) digits) (λ len. Ok (v4_network all.0 len)) net made in
-          let is : net ≡ v4_network all.0 last.0 = cc in
+          let last = bind_ok (length_at (i + 1) digits) (λ len. Ok (network_from (addr.V4 (from_be_bytes w32 (four_bytes all.0))) len)) net made in
+          let is : net ≡ network_from (addr.V4 (from_be_bytes w32 (four_bytes all.0))) last.0 = cc in
           let len : IsNumber 32 digits last.0 = small_found 32 digits last.0 (given (small_number 32 digits) (BadLength (i + 1)) last.0 last.1) in
           (all.0, take i text, digits, last.0, numbers_found all.0 (take i text) all.1, few.1, len, cut_there 47 text i p, is)
       | inr many ↦ let no = rw many.0 at all.2 in absurd cc

@@ -1,5 +1,5 @@
 -- What is written is a text of the grammar, and what the values and the texts of the grammar look like.
-use Rattle.std.proofs.Common.{◌≡◌, ℕ, zero, suc, ◌+◌, ◌/◌, ◌%◌, ◌^◌, ◌==◌, ◌<◌, ◌≤◌, Bool, List, [], ◌∷◌, ◌++◌, length, take, decimal, map, get_or, refl, sym, ap, ◌∙◌, subst, inl, inr, arith, append-nil, length-append}
+use Rattle.std.proofs.Common.{◌≡◌, ℕ, zero, suc, ◌+◌, ◌-◌, ◌*◌, ◌/◌, ◌%◌, ◌^◌, ◌==◌, ◌<◌, ◌≤◌, List, [], ◌∷◌, ◌++◌, length, decimal, map, get_or, refl, sym, ap, ◌∙◌, subst, inl, inr, arith, append-nil, length-append}
 use Rattle.std.specs.Int.{to_be_bytes, from_be_bytes, w32}
 use Rattle.std.specs.List.{All, AllZip, slice_split, join_with_byte}
 use Rattle.std.specs.Str.Parse.{AllDigits}
@@ -8,16 +8,14 @@ use Rattle.std.proofs.lemmas.List.Elements.{All-cons, All-append, All-from_get_o
 use Rattle.std.proofs.lemmas.List.Splits.{slice_split_at, slice_split_none}
 use Rattle.std.proofs.lemmas.Str.Parse.{digit_at}
 use Rattle.std.proofs.lemmas.Fmt.{decimal_is_IsNumeral, length-decimal-le}
-use Rattle.std.proofs.lemmas.List.{take_all, length-take-le}
-use Rattle.std.proofs.lemmas.Nat.{from_be_bytes-to_be_bytes_4}
+use Rattle.std.proofs.lemmas.Nat.{from_be_bytes-to_be_bytes_4, shl_below, shl-shr, shr_below}
 use Rattle.pf_addr.specs.declared.addr.Addr.{Addr}
 use Rattle.pf_addr.specs.declared.addr.Addr.TheVariants as addr
 use Rattle.pf_addr.specs.declared.addr.Family.{Family}
 use Rattle.pf_addr.specs.declared.addr.Family.TheVariants.{V4}
-use Rattle.pf_addr.specs.Bits.{bits, first_number}
-use Rattle.pf_addr.specs.BitLaws.{length-bits, first_number-below, take-first_number}
-use Rattle.pf_addr.specs.Address.{Network, IsAddr}
-use Rattle.pf_addr.specs.Grammar.{IsNumber, is_dot, Dotted, SpellsAddr, SpellsNet, four_bytes, v4_network}
+use Rattle.pf_addr.specs.Address.{Network, network_from, IsAddr}
+pub use Rattle.pf_addr.specs.Address.{IsV4Network}
+use Rattle.pf_addr.specs.Grammar.{IsNumber, is_dot, Dotted, SpellsAddr, SpellsNet, four_bytes}
 use Rattle.pf_addr.specs.PlaceLaws.{digits_without}
 use Rattle.pf_addr.specs.ReadingLaws.{dotted_bytes}
 use Rattle.pf_addr.specs.Spelling.{addr_text, net_text}
@@ -49,69 +47,62 @@ dotted-addr_text n =
 pub SpellsAddr-addr_text : (n : ℕ) → n < 2 ^ 32 → SpellsAddr (addr_text (addr.V4 n)) (addr.V4 n)
 SpellsAddr-addr_text n lt = (to_be_bytes w32 n, dotted-addr_text n, refl, sym (from_be_bytes-to_be_bytes_4 n lt))
 
-byte_below : (ps : List (List ℕ)) (ns : List ℕ) (i : ℕ) → AllZip (IsNumber 255) ps ns → get_or ns i 0 < 256
-byte_below [] [] i is = omega arith
-byte_below [] (n ∷ ns) i is = absurd is
-byte_below (p ∷ ps) [] i is = omega arith
-byte_below (p ∷ ps) (n ∷ ns) zero is = omega (arith, is.0.small)
-byte_below (p ∷ ps) (n ∷ ns) (suc i) is = byte_below ps ns i is.1
+byte_below : (ps : List (List ℕ)) (ns : List ℕ) → AllZip (IsNumber 255) ps ns → (i : ℕ) → get_or ns i 0 < 256
+byte_below [] [] is i = omega arith
+byte_below [] (n ∷ ns) is i = absurd is
+byte_below (p ∷ ps) [] is i = omega arith
+byte_below (p ∷ ps) (n ∷ ns) is zero = omega (arith, is.0.small)
+byte_below (p ∷ ps) (n ∷ ns) is (suc i) = byte_below ps ns is.1 i
 
 -- each address that a text spells fits its family's bits
 pub IsAddr-spelled : (text : List ℕ) (a : Addr) → SpellsAddr text a → IsAddr a
 IsAddr-spelled text (addr.V4 n) (parts, dotted, four, is) =
-    let below : (i : ℕ) → get_or parts i 0 < 256 = λ i. byte_below (slice_split is_dot text) parts i dotted in
+    let below : (i : ℕ) → get_or parts i 0 < 256 = byte_below (slice_split is_dot text) parts dotted in
     omega (arith, is, below 0, below 1, below 2, below 3)
 IsAddr-spelled text (addr.V6 n) is = absurd is
 
 -- ---- a network
 
--- A V4 network: its front is at most 32 bits, of which there are as many as an address has.
-pub record IsV4Network (net : Network) : Type 0 where
-  pub family : net.family ≡ V4
-  pub within : length net.front ≤ 32
+abbrev with_family : Network → Family → Network
+with_family net f = record net { family = f }
 
-abbrev network : Family → List Bool → Network
-network f front = record { family = f; front = front }
+-- what holds of the network with the family V4 holds of it
+at_v4 : (P : Network → Type 0) (net : Network) → IsV4Network net → P (with_family net V4) → P net
+at_v4 P net is holds = subst (λ (f : Family). P (with_family net f)) (sym is.family) holds
 
-pub network_is : (net : Network) (f : Family) (front : List Bool) → net.family ≡ f → net.front ≡ front → net ≡ network f front
-network_is net f front p q = ap (λ (g : Family). network g net.front) p ∙ ap (network f) q
-
-abbrev v4 : List Bool → Network
-v4 = network V4
-
--- what holds of the V4 network with a front holds of each V4 network
-at_v4 : (P : Network → Type 0) (net : Network) → IsV4Network net → (length net.front ≤ 32 → P (v4 net.front)) → P net
-at_v4 P net is holds = subst P (sym (network_is net V4 net.front is.family refl)) (holds is.within)
-
-spells : (front : List Bool) → length front ≤ 32 → SpellsNet (net_text (v4 front)) (v4 front)
-spells front le =
-    let n : ℕ = first_number 32 front in
-    let lt : n < 2 ^ 32 = first_number-below 32 front le in
-    let back : take (length front) (bits 32 n) ≡ front = take-first_number 32 front le in
-    elim (eqb_tells (length front) 32) [
-      | inl full ↦
-          let whole : bits 32 n ≡ front = sym (take_all (length front) (bits 32 n) (omega (arith, length-bits 32 n, full.1))) ∙ back in
-          rw (full.0, append-nil (addr_text (addr.V4 n))) (inl (addr.V4 n, SpellsAddr-addr_text n lt, ap v4 (sym whole)))
+spells : (net : Network) → IsV4Network net → SpellsNet (net_text (with_family net V4)) (with_family net V4)
+spells net is =
+    let n : ℕ = net.front * 2 ^ (32 - net.len) in
+    let lt : n < 2 ^ 32 = let sum : net.len + (32 - net.len) ≡ 32 = let le = is.len in omega arith in rw sum at (shl_below net.front net.len (32 - net.len) is.front) in
+    let same : with_family net V4 ≡ network_from (addr.V4 n) net.len = ap (λ (m : ℕ). record net { family = V4; front = m }) (sym (shl-shr net.front (32 - net.len))) in
+    elim (eqb_tells net.len 32) [
+      | inl full ↦ rw (full.0, append-nil (addr_text (addr.V4 n))) (inl (addr.V4 n, SpellsAddr-addr_text n lt, same ∙ ap (network_from (addr.V4 n)) full.1))
       | inr short ↦
           let number : from_be_bytes w32 (to_be_bytes w32 n) ≡ n = from_be_bytes-to_be_bytes_4 n lt in
-          let same : v4 front ≡ v4_network (to_be_bytes w32 n) (length front) = ap v4 (sym (ap (λ (m : ℕ). take (length front) (bits 32 m)) number ∙ back)) in
-          rw short.0 (inr (to_be_bytes w32 n, addr_text (addr.V4 n), decimal (length front), length front, dotted-addr_text n, omega arith, IsNumber-decimal 32 (length front) le (omega arith), refl, same))
+          rw short.0 (inr (to_be_bytes w32 n, addr_text (addr.V4 n), decimal net.len, net.len, dotted-addr_text n, omega arith, IsNumber-decimal 32 net.len is.len (omega arith), refl, same ∙ ap (λ (m : ℕ). network_from (addr.V4 m) net.len) (sym number)))
     ]
 
 -- a network is read again from the text that it is written as
 pub SpellsNet-net_text : (net : Network) → IsV4Network net → SpellsNet (net_text net) net
-SpellsNet-net_text net is = at_v4 (λ n. SpellsNet (net_text n) n) net is (spells net.front)
+SpellsNet-net_text net is = at_v4 (λ n. SpellsNet (net_text n) n) net is (spells net is)
 
-front_v4 : (parts : List ℕ) (len : ℕ) → len ≤ 32 → IsV4Network (v4_network parts len)
-front_v4 parts len le =
-    let n : ℕ = from_be_bytes w32 (four_bytes parts) in
-    record { family = refl; within = omega (arith, length-take-le len (bits 32 n) (omega (arith, length-bits 32 n))) }
+from_v4 : (n len : ℕ) → n < 2 ^ 32 → len ≤ 32 → IsV4Network (network_from (addr.V4 n) len)
+from_v4 n len lt le =
+    let sum : len + (32 - len) ≡ 32 = omega arith in
+    record { family = refl; len = le; front = shr_below n len (32 - len) (rw sum lt) }
+
+four_below : (ns : List ℕ) → ((i : ℕ) → get_or ns i 0 < 256) → from_be_bytes w32 (four_bytes ns) < 2 ^ 32
+four_below [] below = omega arith
+four_below (a ∷ []) below = omega (arith, below 0)
+four_below (a ∷ b ∷ []) below = omega (arith, below 0, below 1)
+four_below (a ∷ b ∷ c ∷ []) below = omega (arith, below 0, below 1, below 2)
+four_below (a ∷ b ∷ c ∷ d ∷ ns) below = omega (arith, below 0, below 1, below 2, below 3)
 
 -- each network that a text spells is a V4 network
 pub IsV4Network-spelled : (text : List ℕ) (net : Network) → SpellsNet text net → IsV4Network net
-IsV4Network-spelled text net (inl (addr.V4 n, is, e)) = subst IsV4Network (sym e) (record { family = refl; within = omega (arith, length-bits 32 n) })
+IsV4Network-spelled text net (inl (addr.V4 n, is, e)) = rw e (from_v4 n 32 (IsAddr-spelled text (addr.V4 n) is) (omega arith))
 IsV4Network-spelled text net (inl (addr.V6 n, is, e)) = absurd is
-IsV4Network-spelled text net (inr (parts, front, digits, len, dotted, few, number, cut, e)) = subst IsV4Network (sym e) (front_v4 parts len number.small)
+IsV4Network-spelled text net (inr (parts, front, digits, len, dotted, few, number, cut, e)) = rw e (from_v4 (from_be_bytes w32 (four_bytes parts)) len (four_below parts (byte_below (slice_split is_dot front) parts dotted)) number.small)
 
 -- ---- the bytes of a network's text
 
@@ -142,20 +133,20 @@ addr_length n =
     let few : (m : ℕ) → length (decimal (m % 256)) ≤ 3 = λ m. length-decimal-le 3 (m % 256) (omega arith) (omega arith) (omega arith) in
     (omega (arith, length-append {A = ℕ}), omega (arith, length-append {A = ℕ}, few (n / 16777216), few (n / 65536), few (n / 256), few n))
 
-net_length : (front : List Bool) → length front ≤ 32 → (0 < length (net_text (v4 front))) × (length (net_text (v4 front)) ≤ 18)
-net_length front le =
-    let n : ℕ = first_number 32 front in
+net_length : (net : Network) → net.len ≤ 32 → (0 < length (net_text (with_family net V4))) × (length (net_text (with_family net V4)) ≤ 18)
+net_length net le =
+    let n : ℕ = net.front * 2 ^ (32 - net.len) in
     let address = addr_length n in
-    elim (eqb_tells (length front) 32) [
+    elim (eqb_tells net.len 32) [
       | inl full ↦ rw (full.0, append-nil (addr_text (addr.V4 n))) (address.0, omega (arith, address.1))
       | inr short ↦
-          let few = length-decimal-le 2 (length front) (omega arith) (omega arith) (omega arith) in
-          let sum = length-append (addr_text (addr.V4 n)) (47 ∷ decimal (length front)) in
+          let few = length-decimal-le 2 net.len (omega arith) (omega arith) (omega arith) in
+          let sum = length-append (addr_text (addr.V4 n)) (47 ∷ decimal net.len) in
           rw short.0 (omega arith, omega arith)
     ]
 
 -- a V4 network's text is one word of at most 18 digits, dots and slashes
 pub IsNetWord-net_text : (net : Network) → IsV4Network net → IsNetWord 18 (net_text net)
 IsNetWord-net_text net is =
-    let size = at_v4 (λ n. (0 < length (net_text n)) × (length (net_text n) ≤ 18)) net is (net_length net.front) in
+    let size = at_v4 (λ n. (0 < length (net_text n)) × (length (net_text n) ≤ 18)) net is (net_length net is.len) in
     record { some = size.0; few = size.1; bytes = spelled_bytes (net_text net) net (SpellsNet-net_text net is) }

@@ -14,7 +14,7 @@ use Rattle.pf_form.specs.Forms.{Spells, read_all}
 use Rattle.pf_form.specs.TextLaws.{only}
 use Rattle.pf_addr.specs.declared.addr.Family.{Family}
 use Rattle.pf_addr.specs.declared.addr.Family.TheVariants.{V4, V6}
-use Rattle.pf_addr.specs.Address.{Network, width}
+use Rattle.pf_addr.specs.Address.{Network}
 use Rattle.pf_addr.specs.Reading.{numbers_at, parts_at, part_at, net_at}
 use Rattle.pf_addr.specs.Spelling.{net_text}
 use Rattle.pf_addr.specs.SpellingLaws.{IsNumber-decimal, IsV4Network, IsNetByte, SpellsNet-net_text, IsNetWord-net_text}
@@ -176,8 +176,7 @@ net_is_word n is =
 host_written : (f : Option Family) (h : Host) → HostFits f h → Written Host a_host h (host_word h ∷ [])
 host_written f Any is = one_word refl (plain (codes "any") refl)
 host_written f (Net n) is =
-    let v4 : IsV4Network n = record { family = is.1; within = let le = is.2 in subst (λ (g : Family). length n.front ≤ width g) is.1 le } in
-    one_word (net_read (net_text n) n (net_only (net_text n) n (SpellsNet-net_text n v4))) (net_is_word n v4)
+    one_word (net_read (net_text n) n (net_only (net_text n) n (SpellsNet-net_text n is.1))) (net_is_word n is.1)
 
 from_to : (f : Option Family) (s d : Host) → HostFits f s → HostFits f d → Written (Host × Host) hosts (s, d) (codes "from" ∷ host_word s ∷ codes "to" ∷ host_word d ∷ [])
 unfolding hosts destination

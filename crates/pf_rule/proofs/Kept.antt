@@ -181,11 +181,11 @@ source_fits : (h : Host) (o f g d : Option Family) → HostIs h → agreed o (ho
 source_fits Any o f g d is e e' = tt
 source_fits (Net n) o f g d is e e' =
     let known : f ≡ Some n.family = agreed_right o n.family f e in
-    (agreed_left n.family d g (subst (λ (p : Option Family). agreed p d ≡ Some g) known e'), is.family, rw is.family is.within)
+    (agreed_left n.family d g (subst (λ (p : Option Family). agreed p d ≡ Some g) known e'), is)
 
 destination_fits : (h : Host) (f g : Option Family) → HostIs h → agreed f (host_family h) ≡ Some g → HostFits g h
 destination_fits Any f g is e = tt
-destination_fits (Net n) f g is e = (agreed_right f n.family g e, is.family, rw is.family is.within)
+destination_fits (Net n) f g is e = (agreed_right f n.family g e, is)
 
 agreeing_kept : (x r : PlainRule) → WordsAre x → Some r ≡ agreeing x → IsRule r
 agreeing_kept x r is e = first (agreed x.family (host_family x.source)) refl e where
