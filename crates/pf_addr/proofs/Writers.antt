@@ -22,8 +22,3 @@ groups_to n ends i = group_text n 112 ++ flat_map (behind_colon n) (take i ends)
 
 pub groups_more : (n : ℕ) (ends : List ℕ) (i : ℕ) → i < length ends → groups_to n ends i ++ 58 ∷ group_text n (get_or ends i 0) ≡ groups_to n ends (i + 1)
 groups_more n ends i lt = flat_map_more (behind_colon n) (group_text n 112) (take i ends) (get_or ends i 0) ∙ ap (λ (l : List ℕ). group_text n 112 ++ flat_map (behind_colon n) l) (sym (take_more ends i 0 lt))
-
--- ---- a network's length
-
-pub not_full : (net : Network) → net.len ≢ width net.family → length_text net ≡ 47 ∷ decimal (net.len)
-not_full net ne = let no_end : (net.len == width net.family) ≡ false = grind (arith, nat_tests) in rw no_end refl

@@ -9,6 +9,7 @@ ghost use Rattle.pf_addr.specs.SpellingLaws.{IsV4Network, IsNetWord};
 use crate::addr::Addr;
 
 /// The text that a V4 address is written as spells it.
+#[tactic(auto, using(crate::specs::SpellingLaws::addr_text_spells))]
 pub fn written_addr_is_read_again()
     ensures { (n : ℕ) → n < 2 ^ 32 → SpellsAddr (addr_text (Addr.V4 n)) (Addr.V4 n) }
 {}
@@ -25,6 +26,7 @@ pub fn text_spells_one_addr()
 {}
 
 /// A text spells at most one network.
+#[tactic(auto, using(crate::proofs::Values::one_net))]
 pub fn text_spells_one_net()
     ensures { (text : List ℕ) (a b : Network) → SpellsNet text a → SpellsNet text b → a ≡ b }
 {}
