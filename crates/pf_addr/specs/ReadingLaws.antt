@@ -1,5 +1,6 @@
 -- A text is read as an address or a network exactly where it spells it.
-use Rattle.std.proofs.Common.{◌≡◌, ℕ, ◌+◌, ◌≤◌, ◌<◌, ◌==◌, Bool, false, List, [], ◌∷◌, ◌++◌, length, take, drop, Option, Some, None, Ok, Err, inl, inr, refl, sym, ap, ◌∙◌, subst, arith, append_assoc}
+use Rattle.std.proofs.Common.{◌≡◌, ℕ, ◌+◌, ◌≤◌, ◌<◌, ◌==◌, Bool, false, List, [], ◌∷◌, ◌++◌, length, take, drop, Option, Some, None, Result, Ok, Err, inl, inr, refl, sym, ap, ◌∙◌, subst, arith, append_assoc}
+use Rattle.std.specs.Prelude.{IfOk}
 use Rattle.std.specs.List.{position, slice_split, join_with_byte, All, AllZip}
 use Rattle.std.specs.Option.{ok_or}
 use Rattle.std.specs.Str.Parse.{AllDigits}
@@ -103,6 +104,10 @@ addr_found text a e =
       | inr other ↦ let no = rw other.0 at made in absurd cc
     ]
 
+pub addr_if_ok : (text : List ℕ) (r : Result Addr AddrFault) → r ≡ addr_at text → IfOk r (λ a. SpellsAddr text a)
+addr_if_ok text (Ok a) e = addr_found text a (sym e)
+addr_if_ok text (Err f) e = tt
+
 pub addr_only : (text : List ℕ) (a : Addr) → SpellsAddr text a → addr_at text ≡ Ok a
 unfolding SpellsAddr
 addr_only text a (parts, dotted, four, is) = rw (numbers_read parts text dotted, four, is) refl
@@ -133,6 +138,10 @@ net_found text net e = by (position is_slash text) refl e where
       let is : net ≡ network_of one.0 = cc in
       inl (one.0, addr_found text one.0 one.1, is)
   by (Some i) p e = inr (front_found text i net p e)
+
+pub net_if_ok : (text : List ℕ) (r : Result Network AddrFault) → r ≡ net_at text → IfOk r (λ n. SpellsNet text n)
+net_if_ok text (Ok n) e = net_found text n (sym e)
+net_if_ok text (Err f) e = tt
 
 -- what stands behind a text and one byte more
 behind : (front digits : List ℕ) → drop (length front + 1) (front ++ 47 ∷ digits) ≡ digits

@@ -17,7 +17,8 @@ use Rattle.pf_addr.specs.Address.{Network, network_from, IsAddr}
 pub use Rattle.pf_addr.specs.Address.{IsV4Network}
 use Rattle.pf_addr.specs.Grammar.{IsNumber, is_dot, Dotted, SpellsAddr, SpellsNet, four_bytes}
 use Rattle.pf_addr.specs.PlaceLaws.{digits_without}
-use Rattle.pf_addr.specs.ReadingLaws.{dotted_bytes}
+use Rattle.pf_addr.specs.Reading.{net_at}
+use Rattle.pf_addr.specs.ReadingLaws.{dotted_bytes, addr_only, net_only}
 use Rattle.pf_addr.specs.Spelling.{addr_text, net_text}
 
 -- ---- numbers between dots
@@ -47,6 +48,13 @@ dotted-addr_text n =
 pub addr_text_spells : (n : ℕ) → n < 2 ^ 32 → SpellsAddr (addr_text (addr.V4 n)) (addr.V4 n)
 unfolding SpellsAddr
 addr_text_spells n lt = (to_be_bytes w32 n, dotted-addr_text n, refl, ap (λ (m : ℕ). addr.V4 m) (sym (from_be_bytes-to_be_bytes_4 n lt)))
+
+-- two addresses that are written as one text are one
+pub own_addr_text : (m n : ℕ) → m < 2 ^ 32 → n < 2 ^ 32 → addr_text (addr.V4 m) ≡ addr_text (addr.V4 n) → m ≡ n
+own_addr_text m n p q e =
+    let first = addr_only (addr_text (addr.V4 m)) (addr.V4 m) (addr_text_spells m p) in
+    let second = addr_only (addr_text (addr.V4 n)) (addr.V4 n) (addr_text_spells n q) in
+    cc
 
 byte_below : (ps : List (List ℕ)) (ns : List ℕ) → AllZip (IsNumber 255) ps ns → (i : ℕ) → get_or ns i 0 < 256
 byte_below [] [] is i = omega arith
@@ -93,8 +101,16 @@ spells net is =
     ]
 
 -- a network is read again from the text that it is written as
-pub SpellsNet-net_text : (net : Network) → IsV4Network net → SpellsNet (net_text net) net
-SpellsNet-net_text net is = at_v4 (λ n. SpellsNet (net_text n) n) net is (spells net is)
+pub net_text_spells : (net : Network) → IsV4Network net → SpellsNet (net_text net) net
+net_text_spells net is = at_v4 (λ n. SpellsNet (net_text n) n) net is (spells net is)
+
+-- two networks that are written as one text are one
+pub own_net_text : (a b : Network) → IsV4Network a → IsV4Network b → net_text a ≡ net_text b → a ≡ b
+own_net_text a b p q e =
+    let first = net_only (net_text a) a (net_text_spells a p) in
+    let second = net_only (net_text b) b (net_text_spells b q) in
+    let same : net_at (net_text a) ≡ net_at (net_text b) = ap net_at e in
+    cc
 
 from_v4 : (n len : ℕ) → n < 2 ^ 32 → len ≤ 32 → IsV4Network (network_from (addr.V4 n) len)
 from_v4 n len lt le =
@@ -149,7 +165,7 @@ net_length net le =
     ]
 
 -- a V4 network's text is one word of at most 18 digits, dots and slashes
-pub IsNetWord-net_text : (net : Network) → IsV4Network net → IsNetWord 18 (net_text net)
-IsNetWord-net_text net is =
+pub net_text_is_word : (net : Network) → IsV4Network net → IsNetWord 18 (net_text net)
+net_text_is_word net is =
     let size = at_v4 (λ n. (0 < length (net_text n)) × (length (net_text n) ≤ 18)) net is (net_length net is.len) in
-    record { some = size.0; few = size.1; bytes = spelled_bytes (net_text net) net (SpellsNet-net_text net is) }
+    record { some = size.0; few = size.1; bytes = spelled_bytes (net_text net) net (net_text_spells net is) }

@@ -74,5 +74,5 @@ Continues-err {A = A} q e mid text is = record {
 }
 
 -- behind nothing
-pub Continues-whole : {A B : Type 0} (u : A) {r : Result B Error} {mid new : Option (List ℕ)} {text : List ℕ} → Continues {A = A} (Ok u) mid r new text → Wrote r mid new text
-Continues-whole u {mid = mid} all = all.behind mid [] (Appends-none mid, tt)
+pub behind_nothing : {A B : Type 0} (u : A) {r : Result B Error} {mid new : Option (List ℕ)} {text : List ℕ} → Continues {A = A} (Ok u) mid r new text → Wrote r mid new text
+behind_nothing u {mid = mid} all = all.behind mid [] (Appends-none mid, tt)

@@ -17,7 +17,7 @@ use Rattle.pf_addr.specs.declared.addr.Family.TheVariants.{V4, V6}
 use Rattle.pf_addr.specs.Address.{Network}
 use Rattle.pf_addr.specs.Reading.{numbers_at, parts_at, part_at, net_at}
 use Rattle.pf_addr.specs.Spelling.{net_text}
-use Rattle.pf_addr.specs.SpellingLaws.{IsNumber-decimal, IsV4Network, IsNetByte, SpellsNet-net_text, IsNetWord-net_text}
+use Rattle.pf_addr.specs.SpellingLaws.{IsNumber-decimal, IsV4Network, IsNetByte, net_text_spells, net_text_is_word}
 use Rattle.pf_addr.specs.ReadingLaws.{net_only}
 use Rattle.pf_rule.specs.declared.rule.Action.{Action}
 use Rattle.pf_rule.specs.declared.rule.Action.TheVariants.{Pass, Block}
@@ -170,13 +170,13 @@ net_read w n is = by (bytes_eq w (codes "any")) refl where
 
 net_is_word : (n : Network) → IsV4Network n → IsWord (net_text n)
 net_is_word n is =
-    let w = IsNetWord-net_text n is in
+    let w = net_text_is_word n is in
     record { some = lt-ltb 0 (length (net_text n)) w.some; bytes = λ k d lt. let b : IsNetByte (slice_index_or (net_text n) k d) = w.bytes k d lt in no_blank (slice_index_or (net_text n) k d) (λ e. omega (arith, b.0, e)) (λ e. omega (arith, b.0, e)) (λ e. omega (arith, b.0, e)) }
 
 host_written : (f : Option Family) (h : Host) → HostFits f h → Written Host a_host h (host_word h ∷ [])
 host_written f Any is = one_word refl (plain (codes "any") refl)
 host_written f (Net n) is =
-    one_word (net_read (net_text n) n (net_only (net_text n) n (SpellsNet-net_text n is.1))) (net_is_word n is.1)
+    one_word (net_read (net_text n) n (net_only (net_text n) n (net_text_spells n is.1))) (net_is_word n is.1)
 
 from_to : (f : Option Family) (s d : Host) → HostFits f s → HostFits f d → Written (Host × Host) hosts (s, d) (codes "from" ∷ host_word s ∷ codes "to" ∷ host_word d ∷ [])
 unfolding hosts destination
