@@ -1,5 +1,4 @@
 pub mod Kept
 pub mod Answering
 pub mod Spacing
-pub mod Written
 pub mod Canonical

@@ -1,62 +1,44 @@
 -- Words with spaces between them.
-use Rattle.std.proofs.Common.{◌≡◌, ℕ, Bool, true, false, List, [], ◌∷◌, ◌++◌, length, refl, sym, ap, ◌∙◌, append_assoc, append-nil}
+use Rattle.std.proofs.Common.{◌≡◌, ℕ, true, false, List, [], ◌∷◌, ◌++◌, length, refl, sym, ap, ◌∙◌, append_assoc, append-nil, arith}
 use Rattle.std.specs.Prelude.{filter, nat_lt}
-use Rattle.std.specs.List.{join_with_byte, All}
+use Rattle.std.specs.List.{join_with_byte, list_all, slice_index_or, All}
+use Rattle.std.proofs.lemmas.Bool.{and_parts}
+use Rattle.std.proofs.lemmas.Bool.Decides.{nat_tests}
 use Rattle.std.proofs.lemmas.List.Splits.{slice_split_none, slice_split_at}
+use Rattle.std.proofs.lemmas.List.Sums.{AllPass-from_list_all}
 use Rattle.pf_form.specs.Words.{Word, is_blank, words_of}
 use Rattle.pf_rule.specs.Rules.{PlainRule}
 use Rattle.pf_rule.specs.RuleText.{action_word, direction_words, quick_words, interface_words, family_words, protocol_words, host_words, state_words, rule_text, spaced}
+use Rattle.pf_rule.specs.RuleTextLaws.{is_visible, is_visible_word}
 
 first_spaced : (w : Word) (ws : List Word) → join_with_byte 32 (w ∷ ws) ≡ w ++ spaced ws
 first_spaced w [] = sym (append-nil w)
 first_spaced w (v ∷ vs) = refl
 
-pub spaced-append : (a b : List Word) → spaced (a ++ b) ≡ spaced a ++ spaced b
+spaced-append : (a b : List Word) → spaced (a ++ b) ≡ spaced a ++ spaced b
 spaced-append [] b = refl
-spaced-append (w ∷ ws) b =
-    let whole : join_with_byte 32 (w ∷ (ws ++ b)) ≡ (w ++ spaced ws) ++ spaced b = first_spaced w (ws ++ b) ∙ ap (λ (t : List ℕ). w ++ t) (spaced-append ws b) ∙ sym (append_assoc w (spaced ws) (spaced b)) in
-    ap (λ (t : List ℕ). 32 ∷ t) (whole ∙ ap (λ (t : List ℕ). t ++ spaced b) (sym (first_spaced w ws)))
-
-six : (a b c d e f g : List Word) → spaced (a ++ (b ++ (c ++ (d ++ (e ++ (f ++ g)))))) ≡ spaced a ++ (spaced b ++ (spaced c ++ (spaced d ++ (spaced e ++ (spaced f ++ spaced g)))))
-six a b c d e f g =
-    spaced-append a (b ++ (c ++ (d ++ (e ++ (f ++ g)))))
-    ∙ ap (λ (t : List ℕ). spaced a ++ t) (spaced-append b (c ++ (d ++ (e ++ (f ++ g))))
-    ∙ ap (λ (t : List ℕ). spaced b ++ t) (spaced-append c (d ++ (e ++ (f ++ g)))
-    ∙ ap (λ (t : List ℕ). spaced c ++ t) (spaced-append d (e ++ (f ++ g))
-    ∙ ap (λ (t : List ℕ). spaced d ++ t) (spaced-append e (f ++ g)
-    ∙ ap (λ (t : List ℕ). spaced e ++ t) (spaced-append f g)))))
+spaced-append (w ∷ ws) b = ap (λ (t : List ℕ). 32 ∷ t) (first_spaced w (ws ++ b) ∙ ap (λ (t : List ℕ). w ++ t) (spaced-append ws b) ∙ sym (append_assoc w (spaced ws) (spaced b)) ∙ ap (λ (t : List ℕ). t ++ spaced b) (sym (first_spaced w ws)))
 
 -- a rule's text, part by part
 pub in_order : (r : PlainRule) → rule_text r ≡ action_word r.action ++ (spaced (direction_words r.direction) ++ (spaced (quick_words r.quick) ++ (spaced (interface_words r.interface) ++ (spaced (family_words r.family)
     ++ (spaced (protocol_words r.protocol) ++ (spaced (host_words r.source r.destination) ++ spaced (state_words r.action)))))))
 unfolding rule_text
-in_order r =
-    first_spaced (action_word r.action) (direction_words r.direction ++ (quick_words r.quick ++ (interface_words r.interface ++ (family_words r.family ++ (protocol_words r.protocol ++ (host_words r.source r.destination ++ state_words r.action))))))
-    ∙ ap (λ (t : List ℕ). action_word r.action ++ t) (six (direction_words r.direction) (quick_words r.quick) (interface_words r.interface) (family_words r.family) (protocol_words r.protocol) (host_words r.source r.destination) (state_words r.action))
+in_order r = first_spaced (action_word r.action) _ ∙ ap (λ (t : List ℕ). action_word r.action ++ t) (simp spaced-append)
 
 -- ---- and back
 
--- a word: some bytes, and no blank among them
-pub record IsWord (w : Word) : Type 0 where
-  pub some : nat_lt 0 (length w) ≡ true
-  pub bytes : All (λ b. is_blank b ≡ false) w
+some_byte : (w : Word) → is_visible_word w ≡ true → nat_lt 0 (length w) ≡ true
+some_byte w is = (and_parts (nat_lt 0 (length w)) (list_all is_visible w) is).0
 
-abbrev pub AreWords : List Word → Type 0
-AreWords [] = Unit {0}
-AreWords (w ∷ ws) = IsWord w × AreWords ws
+not_blank : (b : ℕ) → is_visible b ≡ true → is_blank b ≡ false
+not_blank b e = grind (arith, nat_tests)
 
-abbrev some_byte : Word → Bool
-some_byte w = nat_lt 0 (length w)
+no_blanks : (w : Word) → is_visible_word w ≡ true → All (λ b. is_blank b ≡ false) w
+no_blanks w is = let all = (and_parts (nat_lt 0 (length w)) (list_all is_visible w) is).1 in λ k d lt. not_blank (slice_index_or w k d) (AllPass-from_list_all is_visible w all k d lt)
 
-words_again : (w : Word) (ws : List Word) → IsWord w → AreWords ws → words_of (join_with_byte 32 (w ∷ ws)) ≡ w ∷ ws
-words_again w [] is all = ap (λ (t : List Word). filter some_byte t) (slice_split_none is_blank w is.bytes) ∙ rw is.some refl
-words_again w (v ∷ vs) is all =
-    ap (λ (t : List Word). filter some_byte t) (slice_split_at is_blank w 32 (join_with_byte 32 (v ∷ vs)) is.bytes refl) ∙ rw is.some (ap (λ (t : List Word). w ∷ t) (words_again v vs all.0 all.1))
-
-pub words_of-join : (ws : List Word) → AreWords ws → words_of (join_with_byte 32 ws) ≡ ws
+pub words_of-join : (ws : List Word) → list_all is_visible_word ws ≡ true → words_of (join_with_byte 32 ws) ≡ ws
 words_of-join [] all = refl
-words_of-join (w ∷ ws) all = words_again w ws all.0 all.1
-
-pub AreWords-append : (a b : List Word) → AreWords a → AreWords b → AreWords (a ++ b)
-AreWords-append [] b p q = q
-AreWords-append (w ∷ ws) b p q = (p.0, AreWords-append ws b p.1 q)
+words_of-join (w ∷ []) all = let is = (and_parts (is_visible_word w) true all).0 in ap (filter (λ v. nat_lt 0 (length v))) (slice_split_none is_blank w (no_blanks w is)) ∙ rw (some_byte w is) refl
+words_of-join (w ∷ v ∷ vs) all =
+    let both = and_parts (is_visible_word w) (list_all is_visible_word (v ∷ vs)) all in
+    ap (filter (λ v. nat_lt 0 (length v))) (slice_split_at is_blank w 32 (join_with_byte 32 (v ∷ vs)) (no_blanks w both.0) refl) ∙ rw (some_byte w both.0) (ap (λ (t : List Word). w ∷ t) (words_of-join (v ∷ vs) both.1))

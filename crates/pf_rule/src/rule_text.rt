@@ -20,50 +20,61 @@ impl Rule {
         ensures text { Writes result (W.contents out.old) (W.contents out.new) (rule_text self.now) }
         ensures retried { IfErr result (λ e. error_kind e ≢ ErrorKind.Interrupted) }
     {
-        let so_far = write_action(out, self.action());
-        let so_far = write_direction(out, so_far, self.direction());
-        let so_far = write_quick(out, so_far, self.is_quick());
+        let so_far = write_text(out, action_text(self.action()));
+        let so_far = write_more(out, so_far, direction_text(self.direction()));
+        let so_far = write_more(out, so_far, quick_text(self.is_quick()));
         let so_far = write_interface(out, so_far, self.interface());
-        let so_far = write_family(out, so_far, self.family());
+        let so_far = write_more(out, so_far, family_text(self.family()));
         let so_far = write_protocol(out, so_far, self.protocol());
         let so_far = write_hosts(out, so_far, self.source(), self.destination());
-        write_state(out, so_far, self.action())
+        write_more(out, so_far, state_text(self.action()))
     }
 }
 
-fn write_action<W: Write>(out: &mut W, action: Action) -> io::Result<()>
-    ensures text { Writes result (W.contents out.old) (W.contents out.new) (action_word action) }
-    ensures retried { IfErr result (λ e. error_kind e ≢ ErrorKind.Interrupted) }
+fn action_text(action: Action) -> &'static [u8]
+    ensures { result.now ≡ action_word action }
 {
     match action {
-        Action::Pass { .. } => write_text(out, b"pass"),
-        Action::Block => write_text(out, b"block"),
+        Action::Pass { .. } => b"pass",
+        Action::Block => b"block",
     }
 }
 
-// Each of these writes its words with a space before each, behind what was written so far.
+// The texts of the parts behind the action, with a space before each word.
 
-fn write_direction<W: Write>(
-    out: &mut W,
-    so_far: io::Result<()>,
-    direction: Option<Direction>,
-) -> io::Result<()>
-    ensures { Continues so_far (W.contents out.old) result (W.contents out.new) (spaced (direction_words direction)) }
+fn direction_text(direction: Option<Direction>) -> &'static [u8]
+    ensures { result.now ≡ spaced (direction_words direction) }
 {
     match direction {
-        Some(Direction::In) => write_more(out, so_far, b" in"),
-        Some(Direction::Out) => write_more(out, so_far, b" out"),
-        None => write_more(out, so_far, b""),
+        Some(Direction::In) => b" in",
+        Some(Direction::Out) => b" out",
+        None => b"",
     }
 }
 
-fn write_quick<W: Write>(out: &mut W, so_far: io::Result<()>, quick: bool) -> io::Result<()>
-    ensures { Continues so_far (W.contents out.old) result (W.contents out.new) (spaced (quick_words quick)) }
+fn quick_text(quick: bool) -> &'static [u8]
+    ensures { result.now ≡ spaced (quick_words quick) }
 {
-    if quick {
-        write_more(out, so_far, b" quick")
-    } else {
-        write_more(out, so_far, b"")
+    if quick { b" quick" } else { b"" }
+}
+
+fn family_text(family: Option<Family>) -> &'static [u8]
+    ensures { result.now ≡ spaced (family_words family) }
+{
+    match family {
+        Some(Family::V4) => b" inet",
+        Some(Family::V6) => b" inet6",
+        None => b"",
+    }
+}
+
+fn state_text(action: Action) -> &'static [u8]
+    ensures { result.now ≡ spaced (state_words action) }
+{
+    match action {
+        Action::Pass { keeps_state: true } => b" keep state",
+        Action::Pass { keeps_state: false } => b" no state",
+        Action::Block => b"",
     }
 }
 
@@ -79,20 +90,6 @@ fn write_interface<W: Write>(
             let so_far = write_more(out, so_far, b" on ");
             write_more(out, so_far, interface.as_bytes())
         }
-        None => write_more(out, so_far, b""),
-    }
-}
-
-fn write_family<W: Write>(
-    out: &mut W,
-    so_far: io::Result<()>,
-    family: Option<Family>,
-) -> io::Result<()>
-    ensures { Continues so_far (W.contents out.old) result (W.contents out.new) (spaced (family_words family)) }
-{
-    match family {
-        Some(Family::V4) => write_more(out, so_far, b" inet"),
-        Some(Family::V6) => write_more(out, so_far, b" inet6"),
         None => write_more(out, so_far, b""),
     }
 }
@@ -153,15 +150,5 @@ fn write_host<W: Write>(out: &mut W, so_far: io::Result<()>, host: Host) -> io::
     match host {
         Host::Any => write_more(out, so_far, b"any"),
         Host::Net(net) => write_more_net(out, so_far, net),
-    }
-}
-
-fn write_state<W: Write>(out: &mut W, so_far: io::Result<()>, action: Action) -> io::Result<()>
-    ensures { Continues so_far (W.contents out.old) result (W.contents out.new) (spaced (state_words action)) }
-{
-    match action {
-        Action::Pass { keeps_state: true } => write_more(out, so_far, b" keep state"),
-        Action::Pass { keeps_state: false } => write_more(out, so_far, b" no state"),
-        Action::Block => write_more(out, so_far, b""),
     }
 }
