@@ -1,6 +1,6 @@
 -- Words with spaces between them.
 use Rattle.std.proofs.Common.{◌≡◌, ℕ, true, false, List, [], ◌∷◌, ◌++◌, length, refl, sym, ap, ◌∙◌, append_assoc, append-nil, arith}
-use Rattle.std.specs.Prelude.{filter, nat_lt}
+use Rattle.std.specs.Prelude.{Bool, ◌&&◌, filter, nat_lt}
 use Rattle.std.specs.List.{join_with_byte, list_all, slice_index_or, All}
 use Rattle.std.proofs.lemmas.Bool.{and_parts}
 use Rattle.std.proofs.lemmas.Bool.Decides.{nat_tests}
@@ -9,7 +9,6 @@ use Rattle.std.proofs.lemmas.List.Sums.{AllPass-from_list_all}
 use Rattle.pf_form.specs.Words.{Word, is_blank, words_of}
 use Rattle.pf_rule.specs.Rules.{PlainRule}
 use Rattle.pf_rule.specs.RuleText.{action_word, direction_words, quick_words, interface_words, family_words, protocol_words, host_words, state_words, rule_text, spaced}
-use Rattle.pf_rule.specs.RuleTextLaws.{is_visible, is_visible_word}
 
 first_spaced : (w : Word) (ws : List Word) → join_with_byte 32 (w ∷ ws) ≡ w ++ spaced ws
 first_spaced w [] = sym (append-nil w)
@@ -27,18 +26,22 @@ in_order r = first_spaced (action_word r.action) _ ∙ ap (λ (t : List ℕ). ac
 
 -- ---- and back
 
-some_byte : (w : Word) → is_visible_word w ≡ true → nat_lt 0 (length w) ≡ true
-some_byte w is = (and_parts (nat_lt 0 (length w)) (list_all is_visible w) is).0
+-- some bytes, each above a space
+abbrev pub is_word : Word → Bool
+is_word w = nat_lt 0 (length w) && list_all (nat_lt 32) w
 
-not_blank : (b : ℕ) → is_visible b ≡ true → is_blank b ≡ false
+some_byte : (w : Word) → is_word w ≡ true → nat_lt 0 (length w) ≡ true
+some_byte w is = (and_parts (nat_lt 0 (length w)) (list_all (nat_lt 32) w) is).0
+
+not_blank : (b : ℕ) → nat_lt 32 b ≡ true → is_blank b ≡ false
 not_blank b e = grind (arith, nat_tests)
 
-no_blanks : (w : Word) → is_visible_word w ≡ true → All (λ b. is_blank b ≡ false) w
-no_blanks w is = let all = (and_parts (nat_lt 0 (length w)) (list_all is_visible w) is).1 in λ k d lt. not_blank (slice_index_or w k d) (AllPass-from_list_all is_visible w all k d lt)
+no_blanks : (w : Word) → is_word w ≡ true → All (λ b. is_blank b ≡ false) w
+no_blanks w is = let all = (and_parts (nat_lt 0 (length w)) (list_all (nat_lt 32) w) is).1 in λ k d lt. not_blank (slice_index_or w k d) (AllPass-from_list_all (nat_lt 32) w all k d lt)
 
-pub words_of-join : (ws : List Word) → list_all is_visible_word ws ≡ true → words_of (join_with_byte 32 ws) ≡ ws
+pub words_of-join : (ws : List Word) → list_all is_word ws ≡ true → words_of (join_with_byte 32 ws) ≡ ws
 words_of-join [] all = refl
-words_of-join (w ∷ []) all = let is = (and_parts (is_visible_word w) true all).0 in ap (filter (λ v. nat_lt 0 (length v))) (slice_split_none is_blank w (no_blanks w is)) ∙ rw (some_byte w is) refl
+words_of-join (w ∷ []) all = let is = (and_parts (is_word w) true all).0 in ap (filter (λ v. nat_lt 0 (length v))) (slice_split_none is_blank w (no_blanks w is)) ∙ rw (some_byte w is) refl
 words_of-join (w ∷ v ∷ vs) all =
-    let both = and_parts (is_visible_word w) (list_all is_visible_word (v ∷ vs)) all in
+    let both = and_parts (is_word w) (list_all is_word (v ∷ vs)) all in
     ap (filter (λ v. nat_lt 0 (length v))) (slice_split_at is_blank w 32 (join_with_byte 32 (v ∷ vs)) (no_blanks w both.0) refl) ∙ rw (some_byte w both.0) (ap (λ (t : List Word). w ∷ t) (words_of-join (v ∷ vs) both.1))

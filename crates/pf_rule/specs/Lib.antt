@@ -6,5 +6,4 @@ pub mod PacketGrammar
 pub mod Rules
 pub mod RuleGrammar
 pub mod RuleText
-pub mod RuleTextLaws
 pub mod Refusals
