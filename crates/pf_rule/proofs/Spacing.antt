@@ -7,6 +7,7 @@ use Rattle.std.proofs.lemmas.Bool.Decides.{nat_tests}
 use Rattle.std.proofs.lemmas.List.Splits.{slice_split_none, slice_split_at}
 use Rattle.std.proofs.lemmas.List.Sums.{AllPass-from_list_all}
 use Rattle.pf_form.specs.Words.{Word, is_blank, words_of}
+use Rattle.pf_addr.specs.Writing.{Continues-then}
 use Rattle.pf_rule.specs.Rules.{PlainRule}
 use Rattle.pf_rule.specs.RuleText.{action_word, direction_words, quick_words, interface_words, family_words, protocol_words, host_words, state_words, rule_text, spaced}
 
@@ -24,24 +25,25 @@ pub in_order : (r : PlainRule) → rule_text r ≡ action_word r.action ++ (spac
 unfolding rule_text
 in_order r = first_spaced (action_word r.action) _ ∙ ap (λ (t : List ℕ). action_word r.action ++ t) (simp spaced-append)
 
+-- one part written behind another
+pub ruleset continuing = (Continues-then)
+
 -- ---- and back
 
 -- some bytes, each above a space
 abbrev pub is_word : Word → Bool
 is_word w = nat_lt 0 (length w) && list_all (nat_lt 32) w
 
-some_byte : (w : Word) → is_word w ≡ true → nat_lt 0 (length w) ≡ true
-some_byte w is = (and_parts (nat_lt 0 (length w)) (list_all (nat_lt 32) w) is).0
-
 not_blank : (b : ℕ) → nat_lt 32 b ≡ true → is_blank b ≡ false
 not_blank b e = grind (arith, nat_tests)
 
-no_blanks : (w : Word) → is_word w ≡ true → All (λ b. is_blank b ≡ false) w
-no_blanks w is = let all = (and_parts (nat_lt 0 (length w)) (list_all (nat_lt 32) w) is).1 in λ k d lt. not_blank (slice_index_or w k d) (AllPass-from_list_all (nat_lt 32) w all k d lt)
+parts : (w : Word) → is_word w ≡ true → (nat_lt 0 (length w) ≡ true) × All (λ b. is_blank b ≡ false) w
+parts w is = let both = and_parts (nat_lt 0 (length w)) (list_all (nat_lt 32) w) is in (both.0, λ k d lt. not_blank (slice_index_or w k d) (AllPass-from_list_all (nat_lt 32) w both.1 k d lt))
 
 pub words_of-join : (ws : List Word) → list_all is_word ws ≡ true → words_of (join_with_byte 32 ws) ≡ ws
 words_of-join [] all = refl
-words_of-join (w ∷ []) all = let is = (and_parts (is_word w) true all).0 in ap (filter (λ v. nat_lt 0 (length v))) (slice_split_none is_blank w (no_blanks w is)) ∙ rw (some_byte w is) refl
+words_of-join (w ∷ []) all = let is = parts w (and_parts (is_word w) true all).0 in ap (filter (λ v. nat_lt 0 (length v))) (slice_split_none is_blank w is.1) ∙ rw is.0 refl
 words_of-join (w ∷ v ∷ vs) all =
     let both = and_parts (is_word w) (list_all is_word (v ∷ vs)) all in
-    ap (filter (λ v. nat_lt 0 (length v))) (slice_split_at is_blank w 32 (join_with_byte 32 (v ∷ vs)) (no_blanks w both.0) refl) ∙ rw (some_byte w both.0) (ap (λ (t : List Word). w ∷ t) (words_of-join (v ∷ vs) both.1))
+    let is = parts w both.0 in
+    ap (filter (λ v. nat_lt 0 (length v))) (slice_split_at is_blank w 32 (join_with_byte 32 (v ∷ vs)) is.1 refl) ∙ rw is.0 (ap (λ (t : List Word). w ∷ t) (words_of-join (v ∷ vs) both.1))

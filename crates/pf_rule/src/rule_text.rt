@@ -2,7 +2,7 @@
 ghost use Rattle.std.specs.Prelude.{◌≡◌, ◌≢◌, IfErr};
 ghost use Rattle.std.specs.IoError.{error_kind};
 ghost use Rattle.pf_addr.specs.Writing.{Writes, Continues};
-ghost use Rattle.pf_rule.specs.RuleText.{action_word, direction_words, quick_words, interface_words, family_words, protocol_word, protocol_words, host_word, host_words, state_words, spaced, rule_text};
+ghost use Rattle.pf_rule.specs.RuleText.{action_word, direction_words, quick_words, interface_words, family_words, protocol_words, host_word, host_words, state_words, spaced, rule_text};
 
 use crate::interface::Interface;
 use crate::protocol::Protocol;
@@ -78,6 +78,7 @@ fn state_text(action: Action) -> &'static [u8]
     }
 }
 
+#[tactic(auto, using(crate::proofs::Spacing::continuing))]
 fn write_interface<W: Write>(
     out: &mut W,
     so_far: io::Result<()>,
@@ -94,6 +95,8 @@ fn write_interface<W: Write>(
     }
 }
 
+/// Writes a protocol's name, where it has one, or its number.
+#[tactic(auto, using(crate::proofs::Spacing::continuing))]
 fn write_protocol<W: Write>(
     out: &mut W,
     so_far: io::Result<()>,
@@ -101,23 +104,10 @@ fn write_protocol<W: Write>(
 ) -> io::Result<()>
     ensures { Continues so_far (W.contents out.old) result (W.contents out.new) (spaced (protocol_words protocol)) }
 {
-    match protocol {
-        Some(protocol) => {
-            let so_far = write_more(out, so_far, b" proto ");
-            write_protocol_word(out, so_far, protocol)
-        }
-        None => write_more(out, so_far, b""),
-    }
-}
-
-/// Writes a protocol's name, where it has one, or its number.
-fn write_protocol_word<W: Write>(
-    out: &mut W,
-    so_far: io::Result<()>,
-    protocol: Protocol,
-) -> io::Result<()>
-    ensures { Continues so_far (W.contents out.old) result (W.contents out.new) (protocol_word protocol) }
-{
+    let Some(protocol) = protocol else {
+        return write_more(out, so_far, b"");
+    };
+    let so_far = write_more(out, so_far, b" proto ");
     match protocol.number() {
         Protocol::ICMP => write_more(out, so_far, b"icmp"),
         Protocol::TCP => write_more(out, so_far, b"tcp"),
