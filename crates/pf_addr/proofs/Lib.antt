@@ -1,7 +1,5 @@
 pub mod Numbers
-pub mod Part
-pub mod Dots
-pub mod Texts
+pub mod Values
 pub mod Fronts
 pub mod Writers
 pub mod Equal

@@ -1,11 +1,10 @@
 -- Addresses, networks, and which network contains which address (pf.conf(5), PARAMETERS, networks in CIDR notation).
-use Rattle.std.specs.Prelude.{ℕ, ◌^◌, ◌<◌, Bool, true, false, cond, List}
+use Rattle.std.specs.Prelude.{◌≡◌, ℕ, ◌-◌, ◌/◌, ◌^◌, ◌==◌, ◌<◌, ◌≤◌, Bool, true, false, ◌&&◌}
 use Rattle.pf_addr.specs.declared.addr.Addr.{Addr}
 use Rattle.pf_addr.specs.declared.addr.Addr.TheVariants as addr
 use Rattle.pf_addr.specs.declared.addr.TheConstants.{V4_BITS, V6_BITS}
 use Rattle.pf_addr.specs.declared.addr.Family.{Family}
 use Rattle.pf_addr.specs.declared.addr.Family.TheVariants.{V4, V6}
-use Rattle.pf_addr.specs.Bits.{bits, begins_with}
 
 -- how many bits an address of the family has
 abbrev pub width : Family → ℕ
@@ -17,14 +16,28 @@ abbrev pub family_of : Addr → Family
 family_of (addr.V4 n) = V4
 family_of (addr.V6 n) = V6
 
-abbrev pub bits_of : Addr → List Bool
-bits_of (addr.V4 n) = bits V4_BITS n
-bits_of (addr.V6 n) = bits V6_BITS n
+-- its bits as a number, the first bit the highest
+abbrev pub number_in : Addr → ℕ
+number_in (addr.V4 n) = n
+number_in (addr.V6 n) = n
 
--- A network is a family and the front of an address of it.
+-- the number that its first `len` bits write
+abbrev pub first_bits : ℕ → Addr → ℕ
+first_bits len a = number_in a / 2 ^ (width (family_of a) - len)
+
+-- A network is a family and the front of an address of it: so many bits, and the number that they write.
 pub record Network : Type 0 where
   pub family : Family
-  pub front : List Bool
+  pub len : ℕ
+  pub front : ℕ
+
+-- the network of the addresses that begin as this one does
+abbrev pub network_from : Addr → ℕ → Network
+network_from a len = record { family = family_of a; len = len; front = first_bits len a }
+
+-- the network of one address
+abbrev pub network_of : Addr → Network
+network_of a = network_from a (width (family_of a))
 
 abbrev pub same_family : Family → Family → Bool
 same_family V4 V4 = true
@@ -32,11 +45,17 @@ same_family V4 V6 = false
 same_family V6 V4 = false
 same_family V6 V6 = true
 
--- A network contains an address of its family whose bits begin with its front.
+-- A network contains an address of its family that begins with its front.
 abbrev pub contains : Network → Addr → Bool
-contains n a = cond (same_family n.family (family_of a)) (begins_with n.front (bits_of a)) false
+contains n a = same_family n.family (family_of a) && (first_bits n.len a == n.front)
 
 -- the number of an address fits its family's bits
 abbrev pub IsAddr : Addr → Type 0
 IsAddr (addr.V4 n) = n < 2 ^ V4_BITS
 IsAddr (addr.V6 n) = n < 2 ^ V6_BITS
+
+-- A V4 network: at most 32 bits, and a number that they can write.
+pub record IsV4Network (net : Network) : Type 0 where
+  pub family : net.family ≡ V4
+  pub len : net.len ≤ 32
+  pub front : net.front < 2 ^ net.len

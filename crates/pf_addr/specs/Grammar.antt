@@ -1,25 +1,25 @@
 -- Which texts spell an address or a network: V4 in decimal numbers between dots, a network in CIDR notation.
-use Rattle.std.specs.Prelude.{◌≡◌, ℕ, ◌-◌, ◌≤◌, ◌⊎◌, List, [], ◌∷◌, ◌++◌, length, take, replicate}
+use Rattle.std.specs.Prelude.{◌≡◌, ℕ, ◌≤◌, ◌==◌, ◌⊎◌, Bool, List, ◌∷◌, ◌++◌, length, take, replicate}
+use Rattle.std.specs.List.{AllZip, slice_split}
 use Rattle.std.specs.Int.{from_be_bytes, w32}
 use Rattle.pf_form.specs.Numbers as digits
 use Rattle.pf_addr.specs.declared.addr.Addr.{Addr}
 use Rattle.pf_addr.specs.declared.addr.Addr.TheVariants as addr
 use Rattle.pf_addr.specs.declared.addr.TheConstants.{V4_BITS}
-use Rattle.pf_addr.specs.declared.addr.Family.TheVariants.{V4}
 use Rattle.pf_addr.specs.declared.reading.TheConstants.{NUMBER_DIGITS}
-use Rattle.pf_addr.specs.Bits.{bits}
-use Rattle.pf_addr.specs.Address.{Network, family_of, bits_of}
+use Rattle.pf_addr.specs.Address.{Network, network_from, network_of}
 
 -- a number of at most `most` in one to three decimal digits, of which the first may be zeros
 pub record IsNumber (most : ℕ) (text : List ℕ) (n : ℕ) : Type 0 where
   pub number : digits.IsNumber NUMBER_DIGITS text n
   pub small : n ≤ most
 
--- one or more numbers of a byte, with dots between them
+abbrev pub is_dot : ℕ → Bool
+is_dot b = b == 46
+
+-- The text's parts, between its dots, are these numbers of a byte.
 abbrev pub Dotted : List ℕ → List ℕ → Type 0
-Dotted [] text = ⊥
-Dotted (n ∷ []) text = IsNumber 255 text n
-Dotted (n ∷ m ∷ ns) text = (part rest : List ℕ) × IsNumber 255 part n × Dotted (m ∷ ns) rest × (text ≡ part ++ 46 ∷ rest)
+Dotted numbers text = AllZip (IsNumber 255) (slice_split is_dot text) numbers
 
 -- An address is four parts, its bytes from the first on.
 abbrev pub SpellsAddr : List ℕ → Addr → Type 0
@@ -28,19 +28,11 @@ SpellsAddr text (addr.V6 n) = ⊥
 
 -- the four bytes of an address of which these are written, the missing ones zero
 abbrev pub four_bytes : List ℕ → List ℕ
-four_bytes parts = parts ++ replicate (4 - length parts) 0
-
--- the network of one address
-abbrev pub network_of : Addr → Network
-network_of a = record { family = family_of a; front = bits_of a }
-
--- the V4 network of which these are the first bytes, with a front of so many bits
-abbrev pub v4_network : List ℕ → ℕ → Network
-v4_network parts len = record { family = V4; front = take len (bits V4_BITS (from_be_bytes w32 (four_bytes parts))) }
+four_bytes parts = take 4 (parts ++ replicate 4 0)
 
 -- up to four parts, a slash (47) and how many bits are the front
 abbrev pub SpellsFront : List ℕ → Network → Type 0
-SpellsFront text net = (parts front digits : List ℕ) × (len : ℕ) × Dotted parts front × (length parts ≤ 4) × IsNumber V4_BITS digits len × (text ≡ front ++ 47 ∷ digits) × (net ≡ v4_network parts len)
+SpellsFront text net = (parts front digits : List ℕ) × (len : ℕ) × Dotted parts front × (length parts ≤ 4) × IsNumber V4_BITS digits len × (text ≡ front ++ 47 ∷ digits) × (net ≡ network_from (addr.V4 (from_be_bytes w32 (four_bytes parts))) len)
 
 -- A network is an address alone, or the first parts of an address and a length.
 abbrev pub SpellsNet : List ℕ → Network → Type 0

@@ -1,9 +1,9 @@
-pub mod Bits
-pub mod BitLaws
 pub mod Address
 pub mod Nets
 pub mod Grammar
 pub mod Reading
+pub mod PlaceLaws
+pub mod ReadingLaws
 pub mod Spelling
 pub mod SpellingLaws
 pub mod Faults

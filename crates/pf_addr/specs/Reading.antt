@@ -1,9 +1,11 @@
 -- Which fault of a text is answered. Several faults may stand in one text, and the format fixes their order (parts
 -- from left to right; in a part the first byte that is no digit before its length and value; then the number of
 -- parts; then a network's length). So the fault and its place are a function of the text.
-use Rattle.std.specs.Prelude.{ℕ, ◌+◌, ◌==◌, not, nat_lt, nat_le, Bool, List, [], ◌∷◌, ◌++◌, length, take, drop, replicate, Option, Some, None, Result, Ok, Err, if◌then◌else◌}
+use Rattle.std.specs.Prelude.{ℕ, ◌+◌, ◌==◌, not, nat_le, Bool, List, [], ◌∷◌, length, take, drop, Option, Some, None, Result, Ok, Err, if◌then◌else◌}
 use Rattle.std.specs.List.{slice_split, position}
+use Rattle.std.specs.Option.{ok_or}
 use Rattle.std.specs.Int.{from_be_bytes, w32}
+use Rattle.pf_form.specs.Forms.{◌>>=◌}
 use Rattle.pf_form.specs.Numbers.{is_digit, number_of}
 use Rattle.pf_addr.specs.declared.addr.Addr.{Addr}
 use Rattle.pf_addr.specs.declared.addr.Addr.TheVariants as addr
@@ -12,33 +14,29 @@ use Rattle.pf_addr.specs.declared.fault.AddrFault.TheVariants.{Empty, BadDigit, 
 use Rattle.pf_addr.specs.declared.addr.TheConstants.{V4_BITS}
 use Rattle.pf_addr.specs.declared.reading.Parts.{Parts}
 use Rattle.pf_addr.specs.declared.reading.TheConstants.{NUMBER_DIGITS}
-use Rattle.pf_addr.specs.Address.{Network}
-use Rattle.pf_addr.specs.Grammar.{network_of, v4_network}
+use Rattle.pf_addr.specs.Address.{Network, network_from, network_of}
+use Rattle.pf_addr.specs.Grammar.{is_dot, four_bytes}
 
-infixl 10 ◌>>=◌
-abbrev pub ◌>>=◌ : {A B E : Type 0} → Result A E → (A → Result B E) → Result B E
-(Ok x) >>= f = f x
-(Err e) >>= f = Err e
+-- the number, if it is at most `most`
+abbrev pub kept_to : ℕ → Option ℕ → Option ℕ
+kept_to most (Some n) = if nat_le n most then Some n else None
+kept_to most None = None
 
-abbrev pub is_dot : ℕ → Bool
-is_dot b = b == 46
-
-abbrev pub is_slash : ℕ → Bool
-is_slash b = b == 47
+abbrev pub small_number : ℕ → List ℕ → Option ℕ
+small_number most text = kept_to most (number_of NUMBER_DIGITS text)
 
 -- ---- one part, which begins at `at`
 
-abbrev pub valued_at : ℕ → Option ℕ → Result ℕ AddrFault
-valued_at at (Some n) = if nat_lt 255 n then Err (TooBig at) else Ok n
-valued_at at None = Err (TooBig at)
+-- with the place in it of its first byte that is no digit
+abbrev pub fault_by : ℕ → List ℕ → Option ℕ → AddrFault
+fault_by at text (Some i) = BadDigit (at + i)
+fault_by at text None = if length text == 0 then BadDigit at else TooBig at
 
--- with the place of its first byte that is no digit
-abbrev pub judged_at : ℕ → List ℕ → Option ℕ → Result ℕ AddrFault
-judged_at at text (Some i) = Err (BadDigit (at + i))
-judged_at at text None = valued_at at (number_of NUMBER_DIGITS text)
+abbrev pub part_fault : ℕ → List ℕ → AddrFault
+part_fault at text = fault_by at text (position (λ b. not (is_digit b)) text)
 
 unfoldable pub part_at : ℕ → List ℕ → Result ℕ AddrFault
-part_at at text = if length text == 0 then Err (BadDigit at) else judged_at at text (position (λ b. not (is_digit b)) text)
+part_at at text = ok_or (small_number 255 text) (part_fault at text)
 
 -- ---- the parts of a text, of which the first begins at `at`, with one byte between two
 
@@ -52,7 +50,7 @@ numbers_at (b ∷ bs) = parts_at 0 (slice_split is_dot (b ∷ bs))
 
 -- what is kept of them: the first four, and how many they are
 abbrev pub parts_of : List ℕ → Parts
-parts_of ns = record { bytes = take 4 (ns ++ replicate 4 0); count = length ns }
+parts_of ns = record { bytes = four_bytes ns; count = length ns }
 
 abbrev pub kept_parts : Result (List ℕ) AddrFault → Result Parts AddrFault
 kept_parts r = r >>= λ ns. Ok (parts_of ns)
@@ -67,23 +65,21 @@ addr_at text = numbers_at text >>= address_of
 
 -- ---- a network
 
-abbrev pub at_most_four : List ℕ → Result (List ℕ) AddrFault
-at_most_four parts = if nat_le (length parts) 4 then Ok parts else Err (BadGroups 0)
+abbrev pub is_slash : ℕ → Bool
+is_slash b = b == 47
 
 -- A length has one fault, whatever is wrong with it.
-abbrev pub length_of : ℕ → Option ℕ → Result ℕ AddrFault
-length_of at (Some n) = if nat_le n V4_BITS then Ok n else Err (BadLength at)
-length_of at None = Err (BadLength at)
-
 abbrev pub length_at : ℕ → List ℕ → Result ℕ AddrFault
-length_at at text = length_of at (number_of NUMBER_DIGITS text)
+length_at at text = ok_or (small_number V4_BITS text) (BadLength at)
+
+-- with these parts, and with a length that begins at `at`
+abbrev pub front_at : ℕ → List ℕ → List ℕ → Result Network AddrFault
+front_at at digits parts = if nat_le (length parts) 4 then (length_at at digits >>= λ len. Ok (network_from (addr.V4 (from_be_bytes w32 (four_bytes parts))) len)) else Err (BadGroups 0)
 
 -- with the place of its first slash
 abbrev pub cut_at : List ℕ → Option ℕ → Result Network AddrFault
 cut_at text None = addr_at text >>= λ a. Ok (network_of a)
-cut_at text (Some i) =
-    numbers_at (take i text) >>= at_most_four >>= λ parts.
-    length_at (i + 1) (drop (i + 1) text) >>= λ len. Ok (v4_network parts len)
+cut_at text (Some i) = numbers_at (take i text) >>= front_at (i + 1) (drop (i + 1) text)
 
 abbrev pub net_at : List ℕ → Result Network AddrFault
 net_at text = cut_at text (position is_slash text)

@@ -1,5 +1,5 @@
 -- The one text that an address or a network is written as.
-use Rattle.std.specs.Prelude.{ℕ, ◌-◌, ◌/◌, ◌%◌, ◌^◌, ◌==◌, List, [], ◌∷◌, ◌++◌, map, length, false, replicate, decimal, if◌then◌else◌}
+use Rattle.std.specs.Prelude.{ℕ, ◌-◌, ◌*◌, ◌/◌, ◌%◌, ◌^◌, ◌==◌, List, [], ◌∷◌, ◌++◌, map, decimal, if◌then◌else◌}
 use Rattle.std.specs.List.{join_with_byte}
 use Rattle.std.specs.Int.{to_be_bytes, w32}
 use Rattle.std.specs.Net.Text.{hex}
@@ -7,7 +7,6 @@ use Rattle.pf_addr.specs.declared.addr.Addr.{Addr}
 use Rattle.pf_addr.specs.declared.addr.Addr.TheVariants as addr
 use Rattle.pf_addr.specs.declared.addr.Family.{Family}
 use Rattle.pf_addr.specs.declared.addr.Family.TheVariants.{V4, V6}
-use Rattle.pf_addr.specs.Bits.{number_of}
 use Rattle.pf_addr.specs.Address.{Network, width}
 
 -- the 16 bits of a V6 address that end so many bits before its end, in lower-case hexadecimal with no leading zeros
@@ -23,13 +22,13 @@ abbrev pub addr_in : Family → ℕ → Addr
 addr_in V4 n = addr.V4 n
 addr_in V6 n = addr.V6 n
 
--- the first address of a network: its front, and zeros
+-- the first address of a network: behind its front are zeros
 abbrev pub first_addr : Network → Addr
-first_addr net = addr_in net.family (number_of (net.front ++ replicate (width net.family - length net.front) false))
+first_addr net = addr_in net.family (net.front * 2 ^ (width net.family - net.len))
 
--- a slash (47) and the front's length, where the network has more than one address
+-- a slash (47) and how many bits the front has, where the network has more than one address
 abbrev pub length_text : Network → List ℕ
-length_text net = if length net.front == width net.family then [] else 47 ∷ decimal (length net.front)
+length_text net = if net.len == width net.family then [] else 47 ∷ decimal net.len
 
 abbrev pub net_text : Network → List ℕ
 net_text net = addr_text (first_addr net) ++ length_text net

@@ -19,7 +19,7 @@ pub fn written_net_is_read_again()
 {}
 
 /// A text spells at most one address.
-#[tactic(auto, using(crate::proofs::Texts::one_addr))]
+#[tactic(auto, using(crate::proofs::Values::one_addr))]
 pub fn text_spells_one_addr()
     ensures { (text : List ℕ) (a b : Addr) → SpellsAddr text a → SpellsAddr text b → a ≡ b }
 {}
@@ -30,13 +30,13 @@ pub fn text_spells_one_net()
 {}
 
 /// Two V4 addresses that are written as one text are one.
-#[tactic(auto, using(crate::proofs::Texts::own_addr_text))]
+#[tactic(auto, using(crate::proofs::Values::own_addr_text))]
 pub fn addrs_have_texts_of_their_own()
     ensures { (m n : ℕ) → m < 2 ^ 32 → n < 2 ^ 32 → addr_text (Addr.V4 m) ≡ addr_text (Addr.V4 n) → m ≡ n }
 {}
 
 /// Two V4 networks that are written as one text are one.
-#[tactic(auto, using(crate::proofs::Texts::own_net_text))]
+#[tactic(auto, using(crate::proofs::Values::own_net_text))]
 pub fn nets_have_texts_of_their_own()
     ensures { (a b : Network) → IsV4Network a → IsV4Network b → net_text a ≡ net_text b → a ≡ b }
 {}

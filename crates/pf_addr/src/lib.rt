@@ -17,5 +17,5 @@ pub use laws::{
 };
 pub use net::Net;
 pub use write::{
-    write_addr, write_more, write_more_net, write_more_number, write_net, write_number, write_text,
+    write_addr, write_more, write_more_net, write_more_number, write_net, write_text,
 };

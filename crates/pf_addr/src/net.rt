@@ -1,13 +1,13 @@
 //! Networks.
-ghost use Rattle.std.specs.Prelude.{◌≡◌, ℕ, ◌-◌, ◌*◌, ◌/◌, ◌^◌, ◌≤◌, ◌<◌, length, take, IfOk, Ok};
-ghost use Rattle.pf_addr.specs.Address.{Network, contains, width, family_of, bits_of};
-ghost use Rattle.pf_addr.specs.Grammar.{SpellsNet, network_of};
+ghost use Rattle.std.specs.Prelude.{◌≡◌, ℕ, ◌-◌, ◌*◌, ◌/◌, ◌^◌, ◌≤◌, ◌<◌, length, IfOk, Ok};
+ghost use Rattle.pf_addr.specs.Address.{Network, contains, width, family_of, network_from, network_of};
+ghost use Rattle.pf_addr.specs.Grammar.{SpellsNet};
 ghost use Rattle.pf_addr.specs.Reading.{net_at, cut_at};
 ghost use Rattle.pf_addr.specs.Spelling.{first_addr};
 
 use crate::addr::{Addr, Family, V4_BITS, V6_BITS};
 use crate::fault::AddrFault;
-use crate::reading::{first_slash, read_parts, read_prefix_len};
+use crate::reading::{first, read_parts, read_prefix_len};
 use std::marker::Model;
 
 /// A network: the addresses of one family that begin with the same bits. The bits past the front are zero.
@@ -39,8 +39,7 @@ impl Net {
     /// cleared.
     pub fn new(addr: Addr, len: u8) -> Net
         requires { len ≤ width (family_of addr) }
-        ensures family { result.family ≡ family_of addr }
-        ensures front { result.front ≡ take len (bits_of addr) }
+        ensures { result ≡ network_from addr len }
     {
         match addr {
             Addr::V4(number) => Net {
@@ -67,7 +66,7 @@ impl Net {
     pub fn family(self) -> Family
         ensures family { result ≡ self.family }
         // a network's front is no longer than an address of its family
-        ensures within { length self.front ≤ width self.family }
+        ensures within { self.len ≤ width self.family }
     {
         let Net { family, .. } = self;
         family
@@ -75,7 +74,7 @@ impl Net {
 
     /// How many bits the network's addresses share: at most 32 in a V4 network, and 128 in a V6 network.
     pub fn prefix_len(self) -> u8
-        ensures value { result ≡ length self.front }
+        ensures value { result ≡ self.len }
         ensures within { result ≤ width self.family }
     {
         let Net { len, .. } = self;
@@ -132,7 +131,7 @@ impl Net {
     fn with_or_without_len(text: &[u8]) -> Result<Net, AddrFault>
         ensures { result ≡ net_at text.now }
     {
-        match first_slash(text) {
+        match first(b'/', text) {
             Some(slash) => Net::cut_at(text, slash),
             None => Ok(Net::single(Addr::from_ascii(text)?)),
         }
@@ -155,7 +154,8 @@ impl Net {
 // The number with its last bits cleared, the `host` lowest of them.
 fn first_of(number: u128, host: u8) -> u128
     requires { host ≤ 128 }
-    ensures { result ≡ number / 2 ^ host * 2 ^ host }
+    ensures value { result ≡ number / 2 ^ host * 2 ^ host }
+    ensures front { result / 2 ^ host ≡ number / 2 ^ host }
 {
     // a shift by all 128 bits is none
     if host == 128 {

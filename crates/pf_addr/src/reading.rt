@@ -1,8 +1,8 @@
 //! The numbers between the dots of a text.
-ghost use Rattle.std.specs.Prelude.{◌≡◌, ◌+◌, ◌-◌, ◌*◌, ◌^◌, ◌<◌, ℕ, List, [], ◌∷◌, ◌++◌, length, not, IfSome, OnOk, Ok};
+ghost use Rattle.std.specs.Prelude.{◌≡◌, ◌+◌, ◌^◌, ◌<◌, ◌==◌, ◌-◌, length, set, not, IfSome};
 ghost use Rattle.std.specs.List.{position};
 ghost use Rattle.pf_form.specs.Numbers.{is_digit};
-ghost use Rattle.pf_addr.specs.Reading.{is_dot, is_slash, part_at, valued_at, length_at, numbers_at, parts_of, kept_parts};
+ghost use Rattle.pf_addr.specs.Reading.{small_number, part_at, part_fault, length_at, numbers_at, kept_parts};
 
 use crate::addr::V4_BITS;
 use crate::fault::AddrFault;
@@ -21,9 +21,11 @@ pub(crate) struct Parts {
 }
 
 impl Parts {
+    // a byte past the first four is only counted
     fn push(&mut self, byte: u8)
-        requires { self.old.count < 2 ^ 63 }
-        ensures { (ns : List ℕ) → self.old ≡ parts_of ns → self.new ≡ parts_of (ns ++ byte ∷ []) }
+        requires { self.old.count < 2 ^ 64 - 1 }
+        ensures count { self.new.count ≡ self.old.count + 1 }
+        ensures bytes { self.new.bytes ≡ set self.old.bytes self.old.count byte }
     {
         if self.count < 4 {
             self.bytes[self.count] = byte;
@@ -45,7 +47,7 @@ pub(crate) fn read_parts(text: &[u8]) -> Result<Parts, AddrFault>
     };
     let mut at = 0;
     let mut rest = text;
-    while let Some(dot) = first_dot(rest) {
+    while let Some(dot) = first(b'.', rest) {
         parts.push(read_part(at, &rest[..dot])?);
         at += dot + 1;
         rest = &rest[dot + 1..];
@@ -54,33 +56,35 @@ pub(crate) fn read_parts(text: &[u8]) -> Result<Parts, AddrFault>
     Ok(parts)
 }
 
-fn first_dot(text: &[u8]) -> Option<usize>
-    ensures place { result ≡ position is_dot text.now }
+/// The first place of a byte.
+pub(crate) fn first(byte: u8, text: &[u8]) -> Option<usize>
+    ensures place { result ≡ position (λ b. b == byte) text.now }
     ensures bound { IfSome result (λ i. i < length text.now) }
 {
-    text.iter().position(|b| *b == b'.')
-}
-
-pub(crate) fn first_slash(text: &[u8]) -> Option<usize>
-    ensures place { result ≡ position is_slash text.now }
-    ensures bound { IfSome result (λ i. i < length text.now) }
-{
-    text.iter().position(|b| *b == b'/')
+    text.iter().position(|b| *b == byte)
 }
 
 /// The number of one part, which begins at this byte.
 #[tactic(auto, unfolding(crate::specs::Reading::part_at))]
 fn read_part(at: usize, text: &[u8]) -> Result<u8, AddrFault>
     requires { at + length text.now < 2 ^ 64 }
-    ensures value { result ≡ part_at at text.now }
-    ensures some { OnOk result (0 < length text.now) }
+    ensures { result ≡ part_at at text.now }
 {
-    if text.is_empty() {
-        return Err(AddrFault::BadDigit { at });
+    match small_number(255, text) {
+        Some(byte) => Ok(byte),
+        None => Err(part_fault(at, text)),
     }
+}
+
+/// What is wrong with a part that is no number of a byte.
+fn part_fault(at: usize, text: &[u8]) -> AddrFault
+    requires { at + length text.now < 2 ^ 64 }
+    ensures { result ≡ part_fault at text.now }
+{
     match first_other(text) {
-        Some(i) => Err(AddrFault::BadDigit { at: at + i }),
-        None => byte_of(at, read_number(text, NUMBER_DIGITS)),
+        Some(i) => AddrFault::BadDigit { at: at + i },
+        None if text.is_empty() => AddrFault::BadDigit { at },
+        None => AddrFault::TooBig { at },
     }
 }
 
@@ -92,28 +96,25 @@ fn first_other(text: &[u8]) -> Option<usize>
     text.iter().position(|b| !digit(*b))
 }
 
-/// The byte that a number writes, which begins at this place.
-fn byte_of(at: usize, number: Option<u64>) -> Result<u8, AddrFault>
-    ensures { result ≡ valued_at at number }
-{
-    match number {
-        Some(number) if number <= 255 => Ok(number as u8),
-        _ => Err(AddrFault::TooBig { at }),
-    }
-}
-
 fn digit(b: u8) -> bool
     ensures { result ≡ is_digit b }
 {
     b.is_ascii_digit()
 }
 
+/// The number of at most `most` that one to three digits write.
+fn small_number(most: u8, text: &[u8]) -> Option<u8>
+    ensures { result ≡ small_number most text.now }
+{
+    match read_number(text, NUMBER_DIGITS) {
+        Some(number) if number <= u64::from(most) => Some(number as u8),
+        _ => None,
+    }
+}
+
 /// The prefix length behind a network's slash, which begins at this byte.
 pub(crate) fn read_prefix_len(at: usize, text: &[u8]) -> Result<u8, AddrFault>
     ensures { result ≡ length_at at text.now }
 {
-    match read_number(text, NUMBER_DIGITS) {
-        Some(len) if len <= u64::from(V4_BITS) => Ok(len as u8),
-        _ => Err(AddrFault::BadLength { at }),
-    }
+    small_number(V4_BITS, text).ok_or(AddrFault::BadLength { at })
 }

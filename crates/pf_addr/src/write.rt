@@ -10,7 +10,7 @@ ghost use Rattle.std.specs.List.{join_with_byte};
 ghost use Rattle.std.specs.Net.Text.{hex, leading_zero_digits};
 ghost use Rattle.pf_addr.specs.declared.addr.Addr.TheVariants as Addr;
 ghost use Rattle.pf_addr.specs.Spelling.{addr_text, net_text, length_text, group_text};
-ghost use Rattle.pf_addr.specs.Writing.{Writes, Continues};
+ghost use Rattle.pf_addr.specs.Writing.{Writes, Wrote, Continues};
 
 use crate::addr::Addr;
 use crate::net::Net;
@@ -60,20 +60,10 @@ fn write_some<W: Write>(out: &mut W, text: &[u8]) -> io::Result<usize>
     Err(io::Error::new(ErrorKind::TimedOut, message))
 }
 
-/// Writes the number in decimal digits, with no leading zeros.
-pub fn write_number<W: Write>(out: &mut W, number: u64) -> io::Result<()>
-    ensures text { Writes result (W.contents out.old) (W.contents out.new) (decimal number) }
-    ensures retried { IfErr result (λ e. error_kind e ≢ ErrorKind.Interrupted) }
-{
-    let mut buffer = Buffer::new();
-    write_text(out, buffer.format(number).as_bytes())
-}
-
 /// Writes an address: V4 as four decimal numbers between dots, V6 as eight groups between colons, in lower-case
 /// hexadecimal with no leading zeros (RFC 4291 section 2.2, form 1).
 pub fn write_addr<W: Write>(out: &mut W, addr: Addr) -> io::Result<()>
-    ensures text { Writes result (W.contents out.old) (W.contents out.new) (addr_text addr) }
-    ensures retried { IfErr result (λ e. error_kind e ≢ ErrorKind.Interrupted) }
+    ensures { Wrote result (W.contents out.old) (W.contents out.new) (addr_text addr) }
 {
     write_more_addr(out, Ok(()), addr)
 }
@@ -81,8 +71,7 @@ pub fn write_addr<W: Write>(out: &mut W, addr: Addr) -> io::Result<()>
 /// Writes a network: its first address, and unless it has no other address a slash and how many bits its addresses
 /// share.
 pub fn write_net<W: Write>(out: &mut W, net: Net) -> io::Result<()>
-    ensures text { Writes result (W.contents out.old) (W.contents out.new) (net_text net) }
-    ensures retried { IfErr result (λ e. error_kind e ≢ ErrorKind.Interrupted) }
+    ensures { Wrote result (W.contents out.old) (W.contents out.new) (net_text net) }
 {
     write_more_net(out, Ok(()), net)
 }
@@ -154,29 +143,12 @@ fn write_v4<W: Write>(out: &mut W, so_far: io::Result<()>, number: u32) -> io::R
 fn write_v6<W: Write>(out: &mut W, so_far: io::Result<()>, number: u128) -> io::Result<()>
     ensures { Continues so_far (W.contents out.old) result (W.contents out.new) (addr_text (Addr.V6 number)) }
 {
-    let front = write_four_groups(out, so_far, number, 64);
-    let colon = write_more(out, front, b":");
-    write_four_groups(out, colon, number, 0)
-}
-
-/// Writes the four groups whose last one begins `last` bits from the end.
-fn write_four_groups<W: Write>(
-    out: &mut W,
-    so_far: io::Result<()>,
-    number: u128,
-    last: u8,
-) -> io::Result<()>
-    requires { last ≤ 64 }
-    ensures { Continues so_far (W.contents out.old) result (W.contents out.new)
-        (join_with_byte 58 (map (group_text number) ((last + 48) ∷ (last + 32) ∷ (last + 16) ∷ last ∷ []))) }
-{
-    let first = write_group(out, so_far, group(number, last + 48));
-    let colon = write_more(out, first, b":");
-    let second = write_group(out, colon, group(number, last + 32));
-    let colon = write_more(out, second, b":");
-    let third = write_group(out, colon, group(number, last + 16));
-    let colon = write_more(out, third, b":");
-    write_group(out, colon, group(number, last))
+    let mut so_far = write_group(out, so_far, group(number, 112));
+    for end in [96, 80, 64, 48, 32, 16, 0] {
+        so_far = write_more(out, so_far, b":");
+        so_far = write_group(out, so_far, group(number, end));
+    }
+    so_far
 }
 
 /// Writes 16 bits in hexadecimal.

@@ -5,7 +5,7 @@ use Rattle.std.specs.List.{position}
 use Rattle.std.proofs.lemmas.List.{take_rest}
 use Rattle.std.proofs.lemmas.List.Splits.{length-slice_split}
 use Rattle.pf_form.specs.declared.fault.Kind.{Kind}
-use Rattle.pf_addr.proofs.Part.{split_some, split_none}
+use Rattle.pf_addr.specs.PlaceLaws.{split_some, split_none}
 use Rattle.pf_anchor.specs.Paths.{is_slash, components, component_fault, first_fault, or_else}
 
 pub count_components : (w : List ℕ) → length (components w) ≡ count_by is_slash w + 1

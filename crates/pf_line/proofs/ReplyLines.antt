@@ -9,7 +9,7 @@ use Rattle.std.specs.Fmt.{digits, digits_onto, digit_glyph}
 use Rattle.std.proofs.lemmas.Bool.Decides.{nat_tests}
 use Rattle.pf_addr.specs.declared.addr.Family.{Family}
 use Rattle.pf_addr.specs.declared.addr.Family.TheVariants.{V4, V6}
-use Rattle.pf_addr.specs.Address.{Network, width}
+use Rattle.pf_addr.specs.Address.{Network}
 use Rattle.pf_addr.specs.Spelling.{net_text}
 use Rattle.pf_addr.specs.SpellingLaws.{IsV4Network, IsNetByte, IsNetWord-net_text}
 use Rattle.pf_form.specs.declared.fault.Kind.{Kind}
@@ -160,7 +160,7 @@ net_clear n is = by (net_text n) (IsNetWord-net_text n is).bytes where
 
 host_clear : (f : Option Family) (h : Host) → HostFits f h → HasNoNewline (host_word h)
 host_clear f Any is = refl
-host_clear f (Net n) is = net_clear n (record { family = is.1; within = let le = is.2 in subst (λ (g : Family). length n.front ≤ width g) is.1 le })
+host_clear f (Net n) is = net_clear n is.1
 
 from_to_clear : (f : Option Family) (s d : Host) → HostFits f s → HostFits f d → NoneHasNewline (from_to_words s d)
 from_to_clear f s d p q = (refl, (host_clear f s p, (refl, (host_clear f d q, tt))))

@@ -7,7 +7,7 @@ use Rattle.std.proofs.lemmas.List.{take_at, drop_at, length-append}
 use Rattle.pf_form.specs.Words.{Word}
 use Rattle.pf_form.specs.Numbers.{number_of}
 use Rattle.pf_form.specs.NumberLaws.{number_found, number_only}
-use Rattle.pf_addr.proofs.Dots.{digits_without, place_after, cut_there}
+use Rattle.pf_addr.specs.PlaceLaws.{digits_without, place_after, cut_there}
 use Rattle.pf_ticket.specs.declared.ticket.Ticket.{Ticket}
 use Rattle.pf_ticket.specs.Names.{ticket}
 use Rattle.pf_line.specs.Tickets.{is_dot, of_32_bits, part_of, ticket_with, cut_at, ticket_of}

@@ -1,10 +1,9 @@
 -- Rules, and which packets they match (pf.conf(5), PARAMETERS).
-use Rattle.std.specs.Prelude.{◌≡◌, ◌<◌, ◌≤◌, ◌==◌, ◌&&◌, Bool, true, false, length, Option, Some, None, IfSome}
+use Rattle.std.specs.Prelude.{◌≡◌, ◌<◌, ◌==◌, ◌&&◌, Bool, true, false, Option, Some, None, IfSome}
 use Rattle.std.specs.Str.{bytes_eq}
 use Rattle.pf_addr.specs.declared.addr.Addr.{Addr}
 use Rattle.pf_addr.specs.declared.addr.Family.{Family}
-use Rattle.pf_addr.specs.declared.addr.Family.TheVariants as families
-use Rattle.pf_addr.specs.Address.{family_of, same_family, contains, width}
+use Rattle.pf_addr.specs.Address.{family_of, same_family, contains, IsV4Network}
 use Rattle.pf_rule.specs.declared.rule.Direction.{Direction}
 use Rattle.pf_rule.specs.declared.rule.Direction.TheVariants.{In, Out}
 use Rattle.pf_rule.specs.declared.rule.Host.{Host}
@@ -45,7 +44,7 @@ matches r p =
 -- a network as a host gives the rule its family; only IPv4 networks have a text so far
 abbrev pub HostFits : Option Family → Host → Type 0
 HostFits family Any = Unit {0}
-HostFits family (Net n) = (family ≡ Some n.family) × (n.family ≡ families.V4) × (length n.front ≤ width n.family)
+HostFits family (Net n) = (family ≡ Some n.family) × IsV4Network n
 
 -- what has a text, and so is a rule
 pub record IsRule (r : PlainRule) : Type 0 where

@@ -2,4 +2,4 @@ use Rattle.pf_addr.specs.Writing.{Continues-whole}
 use Rattle.pf_addr.proofs.write.write_addr.Goals as goal
 
 pub returns : goal.returns
-returns g c = let whole = Continues-whole _ c.write_more_addr.ensures in record { text = whole.0; retried = whole.1 }
+returns g c = Continues-whole _ c.write_more_addr.ensures

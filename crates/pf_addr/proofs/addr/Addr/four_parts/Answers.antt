@@ -1,5 +1,5 @@
 use Rattle.std.proofs.Common.{rules}
-use Rattle.pf_addr.proofs.Texts.{addr_made}
+use Rattle.pf_addr.proofs.Values.{addr_made}
 use Rattle.pf_addr.proofs.addr.Addr.four_parts.Goals as goal
 
 pub returns : goal.returns

@@ -1,5 +1,6 @@
 use Rattle.std.proofs.Common.{◌∙◌}
-use Rattle.pf_addr.proofs.Texts.{addr_if_ok, addr_only}
+use Rattle.pf_addr.proofs.Values.{addr_if_ok}
+use Rattle.pf_addr.specs.ReadingLaws.{addr_only}
 use Rattle.pf_addr.proofs.addr.Addr.from_ascii.Goals as goal
 
 pub returns : goal.returns

@@ -1,5 +1,6 @@
 use Rattle.std.proofs.Common.{◌∙◌}
-use Rattle.pf_addr.proofs.Texts.{net_if_ok, net_only}
+use Rattle.pf_addr.proofs.Values.{net_if_ok}
+use Rattle.pf_addr.specs.ReadingLaws.{net_only}
 use Rattle.pf_addr.proofs.net.Net.from_ascii.Goals as goal
 
 pub returns : goal.returns
