@@ -1,4 +1,2 @@
 pub mod Kept
 pub mod Answering
-pub mod Spacing
-pub mod Canonical

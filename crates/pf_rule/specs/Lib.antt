@@ -6,4 +6,6 @@ pub mod PacketGrammar
 pub mod Rules
 pub mod RuleGrammar
 pub mod RuleText
+pub mod Spacing
+pub mod RuleTextLaws
 pub mod Refusals

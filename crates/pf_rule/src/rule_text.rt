@@ -78,7 +78,7 @@ fn state_text(action: Action) -> &'static [u8]
     }
 }
 
-#[tactic(auto, using(crate::proofs::Spacing::continuing))]
+#[tactic(auto, using(crate::specs::Spacing::continuing))]
 fn write_interface<W: Write>(
     out: &mut W,
     so_far: io::Result<()>,
@@ -96,7 +96,7 @@ fn write_interface<W: Write>(
 }
 
 /// Writes a protocol's name, where it has one, or its number.
-#[tactic(auto, using(crate::proofs::Spacing::continuing))]
+#[tactic(auto, using(crate::specs::Spacing::continuing))]
 fn write_protocol<W: Write>(
     out: &mut W,
     so_far: io::Result<()>,

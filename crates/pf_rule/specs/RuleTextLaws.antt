@@ -28,7 +28,7 @@ use Rattle.pf_rule.specs.Values.{interface_of, protocol_names, number_named, pro
 use Rattle.pf_rule.specs.Rules.{PlainRule, IsRule, HostFits}
 use Rattle.pf_rule.specs.RuleGrammar.{opening, direction, quick, interface, family, protocol, destination, hosts, state, action_of, host_family, agreed, agreeing, rule, rule_decided}
 use Rattle.pf_rule.specs.RuleText.{action_word, direction_words, quick_words, interface_words, family_words, protocol_word, protocol_words, host_word, from_to_words, host_words, state_words, canonical, rule_text}
-use Rattle.pf_rule.proofs.Spacing.{is_word, words_of-join}
+use Rattle.pf_rule.specs.Spacing.{is_word, words_of-join, join_bytes}
 
 -- words that spell a value, each of which is a word of a line
 record Written {A : Type 0} (f : Form A) (x : A) (ws : List Word) : Type 0 where
@@ -191,6 +191,11 @@ spells_canonical r is = (rule_written r is).spells
 pub words_are : (r : PlainRule) → IsRule r → words_of (rule_text r) ≡ canonical r
 unfolding rule_text
 words_are r is = words_of-join (canonical r) (rule_written r is).words
+
+-- a rule's text has no byte below a space, and so no newline
+pub rule_text_bytes : (r : PlainRule) → IsRule r → list_all (nat_lt 31) (rule_text r) ≡ true
+unfolding rule_text
+rule_text_bytes r is = join_bytes (canonical r) (rule_written r is).words
 
 pub read_again : (r : PlainRule) → IsRule r → read_all rule (words_of (rule_text r)) ≡ Ok (Some r)
 read_again r is = ap (read_all rule) (words_are r is) ∙ only (Option PlainRule) rule rule_decided (canonical r) (Some r) (spells_canonical r is)
