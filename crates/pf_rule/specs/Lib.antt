@@ -2,10 +2,10 @@ pub mod Names
 pub mod Interfaces
 pub mod Values
 pub mod Packets
-pub mod PacketViews
 pub mod PacketGrammar
 pub mod Rules
-pub mod RuleViews
 pub mod RuleGrammar
 pub mod RuleText
+pub mod Spacing
+pub mod RuleTextLaws
 pub mod Refusals

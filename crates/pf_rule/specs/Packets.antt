@@ -1,19 +1,13 @@
 -- What the filter sees of a packet. Own: a packet here is a value, and carries no flags.
-use Rattle.std.specs.Prelude.{◌≡◌, ℕ, ◌<◌, ◌==◌, ◌||◌, Bool, false, List}
-use Rattle.pf_addr.specs.declared.addr.Addr.{Addr}
+use Rattle.std.specs.Prelude.{◌≡◌, ℕ, ◌<◌, ◌==◌, ◌||◌, Bool, false}
 use Rattle.pf_addr.specs.Address.{family_of, IsAddr}
 use Rattle.pf_rule.specs.declared.protocol.TheConstants.Protocol as protocols
-use Rattle.pf_rule.specs.declared.rule.Direction.{Direction}
+use Rattle.pf_rule.specs.declared.packet.PacketParts.{PacketParts}
 use Rattle.pf_rule.specs.Names.{IsInterfaceName}
 
-pub record PlainPacket : Type 0 where
-  pub direction : Direction
-  pub interface : List ℕ
-  pub protocol : ℕ
-  pub source : Addr
-  pub source_port : ℕ
-  pub destination : Addr
-  pub destination_port : ℕ
+-- a packet as contracts see it: its fields
+abbrev pub PlainPacket : Type 0
+PlainPacket = PacketParts
 
 -- TCP and UDP have ports
 abbrev pub has_ports : ℕ → Bool

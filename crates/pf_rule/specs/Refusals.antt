@@ -1,9 +1,9 @@
 -- What reading a text answers: a value, or the one refusal.
-use Rattle.std.specs.Prelude.{◌≡◌, ℕ, ◌-◌, List, length, Option, Some, None, Result, Ok, Err}
+use Rattle.std.specs.Prelude.{◌≡◌, ℕ, ◌-◌, List, length, Option, Some, None, Result, Ok, Err, IfOk, IfErr}
 use Rattle.pf_form.specs.declared.fault.Kind.{Kind}
 use Rattle.pf_form.specs.declared.fault.Kind.TheVariants as kinds
 use Rattle.pf_form.specs.Words.{Word}
-use Rattle.pf_form.specs.Forms.{Form, Spells, RefusedAt, read_all}
+use Rattle.pf_form.specs.Forms.{Form, Spells, RefusedAt, Reader, reads, ended, ◌>>=◌}
 use Rattle.pf_rule.specs.declared.fault.TextFault.{TextFault}
 use Rattle.pf_rule.specs.declared.fault.TextFault.TheVariants.{BadWord, NameTooLong, BadProto, MixedFamily, Memory}
 
@@ -18,9 +18,13 @@ told count (Ok (Some x)) = Ok x
 told count (Ok None) = Err MixedFamily
 told count (Err e) = Err (fault_at e.0 (count - length e.1))
 
+-- what a reader gives, where no word may be left
+abbrev pub told_by : {A : Type 0} → ℕ → Reader (Option A) → List Word → Result A TextFault
+told_by count read ws = told count (read ws >>= ended)
+
 -- what the words of a text give
-abbrev pub reading : {A : Type 0} → Form (Option A) → List Word → Result A TextFault
-reading text ws = told (length ws) (read_all text ws)
+unfoldable pub reading : {A : Type 0} → Form (Option A) → List Word → Result A TextFault
+reading text ws = told_by (length ws) (reads text) ws
 
 -- What was answered is this, unless memory was refused.
 abbrev pub Answers : {A : Type 0} → Result A TextFault → Result A TextFault → Type 0
@@ -35,3 +39,10 @@ Refused {A = A} text ws (NameTooLong at) = RefusedAt (Option A) text ws at kinds
 Refused {A = A} text ws (BadProto at) = RefusedAt (Option A) text ws at kinds.BadProto
 Refused text ws MixedFamily = Spells text None ws
 Refused text ws Memory = Unit {0}
+
+-- What reading the words answers, by the grammar alone, and by the grammar's reader.
+pub record IsAnswer (A : Type 0) (text : Form (Option A)) (ws : List Word) (result : Result A TextFault) : Type 0 where
+  pub found : IfOk result (λ x. Spells text (Some x) ws)
+  pub only : (x : A) → Spells text (Some x) ws → Answers result (Ok x)
+  pub refused : IfErr result (λ e. Refused text ws e)
+  pub exact : Answers result (reading text ws)

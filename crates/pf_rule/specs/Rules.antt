@@ -1,26 +1,20 @@
 -- Rules, and which packets they match (pf.conf(5), PARAMETERS).
-use Rattle.std.specs.Prelude.{◌≡◌, ℕ, ◌<◌, ◌==◌, ◌&&◌, Bool, true, false, List, Option, Some, None, IfSome}
+use Rattle.std.specs.Prelude.{◌≡◌, ◌<◌, ◌==◌, ◌&&◌, Bool, true, false, Option, Some, None, IfSome}
 use Rattle.std.specs.Str.{bytes_eq}
 use Rattle.pf_addr.specs.declared.addr.Addr.{Addr}
 use Rattle.pf_addr.specs.declared.addr.Family.{Family}
 use Rattle.pf_addr.specs.Address.{family_of, same_family, contains, IsV4Network}
-use Rattle.pf_rule.specs.declared.rule.Action.{Action}
 use Rattle.pf_rule.specs.declared.rule.Direction.{Direction}
 use Rattle.pf_rule.specs.declared.rule.Direction.TheVariants.{In, Out}
 use Rattle.pf_rule.specs.declared.rule.Host.{Host}
+use Rattle.pf_rule.specs.declared.rule.RuleParts.{RuleParts}
 use Rattle.pf_rule.specs.declared.rule.Host.TheVariants.{Any, Net}
 use Rattle.pf_rule.specs.Names.{IsInterfaceName}
 use Rattle.pf_rule.specs.Packets.{PlainPacket}
 
-pub record PlainRule : Type 0 where
-  pub action : Action
-  pub direction : Option Direction
-  pub quick : Bool
-  pub interface : Option (List ℕ)
-  pub family : Option Family
-  pub protocol : Option ℕ
-  pub source : Host
-  pub destination : Host
+-- a rule as contracts see it: its fields
+abbrev pub PlainRule : Type 0
+PlainRule = RuleParts
 
 -- a test that is absent holds
 abbrev pub holds : {A : Type 0} → Option A → (A → Bool) → Bool

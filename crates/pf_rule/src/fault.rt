@@ -1,12 +1,13 @@
 //! Why a text could not be read.
-ghost use Rattle.std.specs.Prelude.{◌≡◌, ◌-◌, Option, List, Result};
-ghost use Rattle.pf_form.specs.declared.fault.Kind.{Kind};
-ghost use Rattle.pf_form.specs.Readers.{GivesWhole};
-ghost use Rattle.pf_form.specs.Words.{Word};
-ghost use Rattle.pf_rule.specs.Refusals.{fault_at, told};
+ghost use Rattle.std.specs.Prelude.{◌≡◌, ◌-◌, Option, List};
+ghost use denote.Ref.{Bor};
+ghost use Rattle.pf_form.specs.Forms.{Reader};
+ghost use Rattle.pf_form.specs.Readers.{MovesBy};
+ghost use Rattle.pf_form.specs.Words.{Word, texts};
+ghost use Rattle.pf_rule.specs.Refusals.{fault_at, told_by};
 ghost use Rattle.pf_rule.specs.declared.fault.TextFault.TheVariants.{Memory};
 
-use pf_form::{Kind, Stop};
+use pf_form::{Kind, Stop, Words, end};
 use std::alloc::AllocError;
 use thiserror::Error;
 
@@ -42,14 +43,18 @@ fn fault_of(stop: Stop, count: usize) -> TextFault
     }
 }
 
-/// What reading a text of so many words answers.
-pub(crate) fn tell<T>(read: Result<Option<T>, Stop>, count: usize) -> Result<T, TextFault>
-    ensures { (q : Result (Option T) (Kind × List Word)) → GivesWhole (λ x. x) read q → result ≡ told count q }
+/// What a text of so many words answers, of which this was read and these are left.
+pub(crate) fn tell<T: Copy>(
+    read: Result<Option<T>, Stop>,
+    rest: Words<'_>,
+    count: usize,
+) -> Result<T, TextFault>
+    ensures { (at : Reader (Option T)) (ws : List (Bor Word)) → MovesBy at read ws rest.now → result ≡ told_by count at (texts ws) }
 {
-    match read {
-        Ok(Some(value)) => Ok(value),
-        Ok(None) => Err(TextFault::MixedFamily),
-        Err(stop) => Err(fault_of(stop, count)),
+    match (read, end(rest)) {
+        (Err(stop), _) | (Ok(_), Err(stop)) => Err(fault_of(stop, count)),
+        (Ok(None), Ok(())) => Err(TextFault::MixedFamily),
+        (Ok(Some(value)), Ok(())) => Ok(value),
     }
 }
 

@@ -2,6 +2,8 @@
 ghost use Rattle.std.specs.Prelude.{◌≡◌, ◌≤◌, length};
 ghost use Rattle.std.specs.Str.{bytes_eq};
 ghost use Rattle.pf_rule.specs.Names.{IsInterfaceName};
+ghost use Rattle.std.proofs.Common.{rules};
+ghost use Rattle.std.specs.Cmp.Lexicographic.{lists_per};
 
 use std::marker::Model;
 
@@ -52,11 +54,14 @@ impl Interface {
     {
         &self.bytes[..self.len as usize]
     }
+}
 
-    /// Whether both are one name.
-    pub fn is(&self, other: &Interface) -> bool
-        ensures { result ≡ bytes_eq self.now other.now }
-    {
+impl PartialEq for Interface {
+    ghost eq = { bytes_eq };
+
+    ghost laws = { Prim.search (rules, lists_per) };
+
+    fn eq(&self, other: &Interface) -> bool {
         self.as_bytes() == other.as_bytes()
     }
 }

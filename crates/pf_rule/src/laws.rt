@@ -10,7 +10,7 @@ ghost use Rattle.pf_rule.specs.PacketGrammar.{packet};
 ghost use Rattle.pf_rule.specs.RuleText.{canonical, rule_text};
 
 /// The text that a rule is written as has the rule's canonical words, which spell the rule; so it is read back as that rule.
-#[tactic(auto, using(crate::proofs::Canonical::spells_canonical, crate::proofs::Canonical::words_are, crate::proofs::Canonical::read_again))]
+#[tactic(auto, using(crate::specs::RuleTextLaws::spells_canonical, crate::specs::RuleTextLaws::words_are, crate::specs::RuleTextLaws::read_again))]
 pub fn what_is_written_is_read_again()
     ensures words { (r : PlainRule) → IsRule r → words_of (rule_text r) ≡ canonical r }
     ensures spelled { (r : PlainRule) → IsRule r → Spells rule (Some r) (canonical r) }

@@ -1,25 +1,24 @@
 //! Packets.
-ghost use Rattle.std.specs.Prelude.{◌≡◌, IfOk, IfErr, Ok, Some};
-ghost use Rattle.pf_form.specs.Forms.{Spells};
-ghost use Rattle.pf_form.specs.Readers.{Moves, ReadsWhole};
-ghost use Rattle.pf_form.specs.Words.{words_of};
+ghost use Rattle.std.specs.Prelude.{◌≡◌};
+ghost use Rattle.pf_form.specs.Readers.{Moves};
+ghost use Rattle.pf_form.specs.Words.{words_of, texts};
 ghost use Rattle.pf_rule.specs.PacketGrammar.{packet, way};
-ghost use Rattle.pf_rule.specs.Refusals.{Answers, Refused, reading};
+ghost use Rattle.pf_rule.specs.Refusals.{IsAnswer, reading};
 ghost use Rattle.pf_rule.specs.Packets.{PlainPacket, IsPacket};
 
 use crate::fault::{TextFault, tell};
 use crate::interface::Interface;
 use crate::protocol::Protocol;
-use crate::rule::{Direction, same_family};
+use crate::rule::Direction;
 use crate::value_words::{address_word, interface_word, port_word, protocol_word};
 use pf_addr::Addr;
-use pf_form::{Stop, Words, end, expect, takes, words};
+use pf_form::{Stop, Words, expect, takes, words};
 use std::alloc::Global;
 use std::marker::Model;
 
-/// What the filter sees of a packet. Its addresses are of one family, and its ports are 0 unless it is TCP or UDP.
+/// What the filter sees of a packet.
 #[derive(Clone, Copy)]
-pub struct Packet {
+struct PacketParts {
     direction: Direction,
     interface: Interface,
     protocol: Protocol,
@@ -29,18 +28,20 @@ pub struct Packet {
     destination_port: u16,
 }
 
+/// A packet. Its addresses are of one family, and its ports are 0 unless it is TCP or UDP.
+#[derive(Clone, Copy)]
+pub struct Packet(PacketParts);
+
 impl Model for Packet {
-    ghost use Rattle.pf_rule.specs.Packets.{PlainPacket};
+    ghost use Rattle.pf_rule.specs.Packets.{PlainPacket, IsPacket};
 
     ghost Value = { PlainPacket };
 
-    ghost use Rattle.pf_rule.specs.PacketViews.{plain_packet, IsPacketKept, packet_inside};
+    ghost view = { λ p. p.0 };
 
-    ghost view = { plain_packet };
+    ghost invariant = { λ p. IsPacket p.0 };
 
-    ghost invariant = { IsPacketKept };
-
-    ghost inverse = { packet_inside };
+    ghost inverse = { λ p. record { 0 = p } };
 }
 
 impl Packet {
@@ -59,10 +60,10 @@ impl Packet {
         let source_port = port_word(ports, words)?;
         let destination = address_word(words)?;
         let destination_port = port_word(ports, words)?;
-        if !same_family(source.family(), destination.family()) {
+        if source.family() != destination.family() {
             return Ok(None);
         }
-        Ok(Some(Packet {
+        Ok(Some(Packet(PacketParts {
             direction,
             interface,
             protocol,
@@ -70,16 +71,7 @@ impl Packet {
             source_port,
             destination,
             destination_port,
-        }))
-    }
-
-    fn read_all<'a>(words: Words<'a>) -> Result<Option<Packet>, Stop>
-        ensures { ReadsWhole (λ x. x) packet result words.now }
-    {
-        let mut rest = words;
-        let packet = Packet::read(&mut rest)?;
-        end(rest)?;
-        Ok(packet)
+        })))
     }
 
     /// Reads the text of a packet: its words between blanks.
@@ -88,21 +80,21 @@ impl Packet {
     /// [`TextFault::NameTooLong`] is for an interface of more than 15 bytes, [`TextFault::BadProto`] for a word that has to be a
     /// protocol, [`TextFault::BadWord`] for any other. [`TextFault::MixedFamily`] comes after the last word, and
     /// [`TextFault::Memory`] where memory for the list of words is refused.
+    #[tactic(auto, using(crate::proofs::Answering::is_answer_packet))]
     pub fn parse(alloc: Global, text: &str) -> Result<Packet, TextFault>
-        ensures found { IfOk result (λ p. Spells packet (Some p) (words_of text.now)) }
-        ensures only { (p : PlainPacket) → Spells packet (Some p) (words_of text.now) → Answers result (Ok p) }
-        ensures refused { IfErr result (λ e. Refused packet (words_of text.now) e) }
-        ensures exact { Answers result (reading packet (words_of text.now)) }
+        ensures { IsAnswer PlainPacket packet (words_of text.now) result }
     {
-        Packet::parse_bytes(alloc, text.as_bytes())
+        let words = words(alloc, text.as_bytes())?;
+        Packet::read_all(&words)
     }
 
-    // Kept apart, so that the answer is proved once for each way out.
-    fn parse_bytes(alloc: Global, text: &[u8]) -> Result<Packet, TextFault>
-        ensures { Answers result (reading packet (words_of text.now)) }
+    #[tactic(auto, unfolding(crate::specs::Refusals::reading))]
+    fn read_all<'a>(words: Words<'a>) -> Result<Packet, TextFault>
+        ensures { result ≡ reading packet (texts words.now) }
     {
-        let words = words(alloc, text)?;
-        tell(Packet::read_all(&words), words.len())
+        let mut rest = words;
+        let read = Packet::read(&mut rest);
+        tell(read, rest, words.len())
     }
 
     /// Which way the packet goes through its interface.
@@ -111,49 +103,49 @@ impl Packet {
         // what each packet keeps
         ensures kept { IsPacket self.now }
     {
-        self.direction
+        self.0.direction
     }
 
     /// The interface that the packet goes through.
     pub fn interface(&self) -> &Interface
         ensures { result.now ≡ self.now.interface }
     {
-        &self.interface
+        &self.0.interface
     }
 
     /// The packet's protocol.
     pub fn protocol(&self) -> Protocol
         ensures { result ≡ self.now.protocol }
     {
-        self.protocol
+        self.0.protocol
     }
 
     /// The address that the packet comes from.
     pub fn source(&self) -> Addr
         ensures { result ≡ self.now.source }
     {
-        self.source
+        self.0.source
     }
 
     /// The port that the packet comes from; 0 where the protocol has no ports.
     pub fn source_port(&self) -> u16
         ensures { result ≡ self.now.source_port }
     {
-        self.source_port
+        self.0.source_port
     }
 
     /// The address that the packet goes to.
     pub fn destination(&self) -> Addr
         ensures { result ≡ self.now.destination }
     {
-        self.destination
+        self.0.destination
     }
 
     /// The port that the packet goes to; 0 where the protocol has no ports.
     pub fn destination_port(&self) -> u16
         ensures { result ≡ self.now.destination_port }
     {
-        self.destination_port
+        self.0.destination_port
     }
 }
 

@@ -1,13 +1,10 @@
 //! Filter rules.
-ghost use Rattle.std.specs.Prelude.{◌≡◌, ◌==◌, IfOk, IfErr, Ok, Some};
-ghost use Rattle.std.specs.Str.{bytes_eq};
-ghost use Rattle.pf_form.specs.Forms.{Spells};
-ghost use Rattle.pf_form.specs.Readers.{Moves, ReadsWhole};
-ghost use Rattle.pf_form.specs.Words.{words_of};
-ghost use Rattle.pf_addr.specs.Address.{family_of, same_family};
+ghost use Rattle.std.specs.Prelude.{◌≡◌};
+ghost use Rattle.pf_form.specs.Readers.{Moves};
+ghost use Rattle.pf_form.specs.Words.{words_of, texts};
 ghost use Rattle.pf_rule.specs.RuleGrammar.{rule, host_family, agreed, one_family, action_of};
-ghost use Rattle.pf_rule.specs.Refusals.{Answers, Refused, reading};
-ghost use Rattle.pf_rule.specs.Rules.{PlainRule, IsRule, same_direction, holds, host_holds, matches};
+ghost use Rattle.pf_rule.specs.Refusals.{IsAnswer, reading};
+ghost use Rattle.pf_rule.specs.Rules.{PlainRule, IsRule, holds, host_holds, matches};
 
 use crate::fault::{TextFault, tell};
 use crate::interface::Interface;
@@ -18,7 +15,7 @@ use crate::rule_words::{
     read_state,
 };
 use pf_addr::{Addr, Family, Net};
-use pf_form::{Stop, Words, end, takes, words};
+use pf_form::{Stop, Words, takes, words};
 use std::alloc::Global;
 use std::marker::Model;
 
@@ -47,9 +44,9 @@ pub enum Host {
     Net(Net),
 }
 
-/// A filter rule (pf.conf(5), Packet Filtering). A rule is exactly what some text spells. A test that is absent holds for every packet.
+/// What a rule says. A test that is absent holds for every packet.
 #[derive(Clone, Copy)]
-pub struct Rule {
+struct RuleParts {
     action: Action,
     direction: Option<Direction>,
     quick: bool,
@@ -60,29 +57,20 @@ pub struct Rule {
     destination: Host,
 }
 
+/// A filter rule (pf.conf(5), Packet Filtering). A rule is exactly what some text spells.
+#[derive(Clone, Copy)]
+pub struct Rule(RuleParts);
+
 impl Model for Rule {
-    ghost use Rattle.pf_rule.specs.Rules.{PlainRule};
+    ghost use Rattle.pf_rule.specs.Rules.{PlainRule, IsRule};
 
     ghost Value = { PlainRule };
 
-    ghost use Rattle.pf_rule.specs.RuleViews.{plain_rule, IsKept, rule_inside};
+    ghost view = { λ r. r.0 };
 
-    ghost view = { plain_rule };
+    ghost invariant = { λ r. IsRule r.0 };
 
-    ghost invariant = { IsKept };
-
-    ghost inverse = { rule_inside };
-}
-
-impl Direction {
-    fn is(self, other: Direction) -> bool
-        ensures { result ≡ same_direction self other }
-    {
-        match (self, other) {
-            (Direction::In, Direction::In) | (Direction::Out, Direction::Out) => true,
-            _ => false,
-        }
-    }
+    ghost inverse = { λ r. record { 0 = r } };
 }
 
 impl Host {
@@ -95,9 +83,7 @@ impl Host {
             Host::Net(net) => net.contains(address),
         }
     }
-}
 
-impl Host {
     /// The family of the host's addresses, where it takes those of one alone.
     pub fn family(self) -> Option<Family>
         ensures { result ≡ host_family self }
@@ -128,7 +114,7 @@ impl Rule {
         let Some(family) = one_family(written, hosts.0, hosts.1) else {
             return Ok(None);
         };
-        Ok(Some(Rule {
+        Ok(Some(Rule(RuleParts {
             action: action_of(passes, keeps_state),
             direction,
             quick,
@@ -137,16 +123,7 @@ impl Rule {
             protocol,
             source: hosts.0,
             destination: hosts.1,
-        }))
-    }
-
-    fn read_all<'a>(words: Words<'a>) -> Result<Option<Rule>, Stop>
-        ensures { ReadsWhole (λ x. x) rule result words.now }
-    {
-        let mut rest = words;
-        let rule = Rule::read(&mut rest)?;
-        end(rest)?;
-        Ok(rule)
+        })))
     }
 
     /// Reads the text of a rule: its words between blanks.
@@ -155,33 +132,34 @@ impl Rule {
     /// [`TextFault::NameTooLong`] is for an interface of more than 15 bytes, [`TextFault::BadProto`] for a word that has to be a
     /// protocol, [`TextFault::BadWord`] for any other. [`TextFault::MixedFamily`] comes after the last word, and
     /// [`TextFault::Memory`] where memory for the list of words is refused.
+    #[tactic(auto, using(crate::proofs::Answering::is_answer_rule))]
     pub fn parse(alloc: Global, text: &str) -> Result<Rule, TextFault>
-        ensures found { IfOk result (λ r. Spells rule (Some r) (words_of text.now)) }
-        ensures only { (r : PlainRule) → Spells rule (Some r) (words_of text.now) → Answers result (Ok r) }
-        ensures refused { IfErr result (λ e. Refused rule (words_of text.now) e) }
-        ensures exact { Answers result (reading rule (words_of text.now)) }
+        ensures { IsAnswer PlainRule rule (words_of text.now) result }
     {
-        Rule::parse_bytes(alloc, text.as_bytes())
+        let words = words(alloc, text.as_bytes())?;
+        Rule::read_all(&words)
     }
 
-    // Kept apart, so that the answer is proved once for each way out.
-    fn parse_bytes(alloc: Global, text: &[u8]) -> Result<Rule, TextFault>
-        ensures { Answers result (reading rule (words_of text.now)) }
+    #[tactic(auto, unfolding(crate::specs::Refusals::reading))]
+    fn read_all<'a>(words: Words<'a>) -> Result<Rule, TextFault>
+        ensures { result ≡ reading rule (texts words.now) }
     {
-        let words = words(alloc, text)?;
-        tell(Rule::read_all(&words), words.len())
+        let mut rest = words;
+        let read = Rule::read(&mut rest);
+        tell(read, rest, words.len())
     }
 
     /// Whether all of the rule's tests hold for the packet. It takes no memory.
     pub fn matches(&self, packet: &Packet) -> bool
         ensures { result ≡ matches self.now packet.now }
     {
-        direction_holds(self.direction, packet.direction())
-            && interface_holds(&self.interface, packet.interface())
-            && family_holds(self.family, packet.source())
-            && protocol_holds(self.protocol, packet.protocol())
-            && self.source.holds(packet.source())
-            && self.destination.holds(packet.destination())
+        let rule = &self.0;
+        is_wanted(rule.direction, packet.direction())
+            && is_wanted(rule.interface, *packet.interface())
+            && is_wanted(rule.family, packet.source().family())
+            && is_wanted(rule.protocol, packet.protocol())
+            && rule.source.holds(packet.source())
+            && rule.destination.holds(packet.destination())
     }
 
     /// What the rule does with a packet that it decides.
@@ -190,65 +168,56 @@ impl Rule {
         // what each rule keeps
         ensures kept { IsRule self.now }
     {
-        self.action
+        self.0.action
     }
 
     /// Whether a match with the rule ends the evaluation.
     pub fn is_quick(&self) -> bool
         ensures { result ≡ self.now.quick }
     {
-        self.quick
+        self.0.quick
     }
 
     /// The direction of the packets that the rule matches, where it tests it.
     pub fn direction(&self) -> Option<Direction>
         ensures { result ≡ self.now.direction }
     {
-        self.direction
+        self.0.direction
     }
 
     /// The interface of the packets that the rule matches, where it tests it.
     pub fn interface(&self) -> Option<Interface>
         ensures { result ≡ self.now.interface }
     {
-        self.interface
+        self.0.interface
     }
 
     /// The family of the packets that the rule matches, where it tests it: the one written or that of a host's network.
     pub fn family(&self) -> Option<Family>
         ensures { result ≡ self.now.family }
     {
-        self.family
+        self.0.family
     }
 
     /// The protocol of the packets that the rule matches, where it tests it.
     pub fn protocol(&self) -> Option<Protocol>
         ensures { result ≡ self.now.protocol }
     {
-        self.protocol
+        self.0.protocol
     }
 
     /// The addresses that packets may come from.
     pub fn source(&self) -> Host
         ensures { result ≡ self.now.source }
     {
-        self.source
+        self.0.source
     }
 
     /// The addresses that packets may go to.
     pub fn destination(&self) -> Host
         ensures { result ≡ self.now.destination }
     {
-        self.destination
-    }
-}
-
-pub(crate) fn same_family(first: Family, second: Family) -> bool
-    ensures { result ≡ same_family first second }
-{
-    match (first, second) {
-        (Family::V4, Family::V4) | (Family::V6, Family::V6) => true,
-        _ => false,
+        self.0.destination
     }
 }
 
@@ -258,7 +227,7 @@ fn agreed(first: Option<Family>, second: Option<Family>) -> Option<Option<Family
 {
     match (first, second) {
         (None, family) | (family, None) => Some(family),
-        (Some(f), Some(g)) if same_family(f, g) => Some(first),
+        (Some(f), Some(g)) if f == g => Some(first),
         _ => None,
     }
 }
@@ -281,41 +250,12 @@ fn action_of(passes: bool, keeps_state: bool) -> Action
     }
 }
 
-// A test that is absent holds.
-
-fn direction_holds(wanted: Option<Direction>, direction: Direction) -> bool
-    ensures { result ≡ holds wanted (λ d. same_direction d direction) }
+/// Whether a value is the one that a test wants. A test that is absent holds.
+fn is_wanted<T: Copy + PartialEq>(wanted: Option<T>, value: T) -> bool
+    ensures { result ≡ holds wanted (λ x. T.eq x value) }
 {
     match wanted {
-        Some(wanted) => wanted.is(direction),
-        None => true,
-    }
-}
-
-fn interface_holds(wanted: &Option<Interface>, interface: &Interface) -> bool
-    ensures { result ≡ holds wanted.now (λ name. bytes_eq name interface.now) }
-{
-    match wanted {
-        Some(wanted) => wanted.is(interface),
-        None => true,
-    }
-}
-
-fn family_holds(wanted: Option<Family>, address: Addr) -> bool
-    ensures { result ≡ holds wanted (λ f. same_family f (family_of address)) }
-{
-    match (wanted, address) {
-        (None, _) => true,
-        (Some(Family::V4), Addr::V4(_)) | (Some(Family::V6), Addr::V6(_)) => true,
-        _ => false,
-    }
-}
-
-fn protocol_holds(wanted: Option<Protocol>, protocol: Protocol) -> bool
-    ensures { result ≡ holds wanted (λ n. n == protocol) }
-{
-    match wanted {
-        Some(wanted) => wanted.number() == protocol.number(),
+        Some(wanted) => wanted == value,
         None => true,
     }
 }

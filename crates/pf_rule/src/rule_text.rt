@@ -2,7 +2,7 @@
 ghost use Rattle.std.specs.Prelude.{◌≡◌, ◌≢◌, IfErr};
 ghost use Rattle.std.specs.IoError.{error_kind};
 ghost use Rattle.pf_addr.specs.Writing.{Writes, Continues};
-ghost use Rattle.pf_rule.specs.RuleText.{action_word, direction_words, quick_words, interface_words, family_words, protocol_word, protocol_words, host_word, host_words, state_words, spaced, rule_text};
+ghost use Rattle.pf_rule.specs.RuleText.{action_word, direction_words, quick_words, interface_words, family_words, protocol_words, host_word, host_words, state_words, spaced, rule_text};
 
 use crate::interface::Interface;
 use crate::protocol::Protocol;
@@ -20,53 +20,65 @@ impl Rule {
         ensures text { Writes result (W.contents out.old) (W.contents out.new) (rule_text self.now) }
         ensures retried { IfErr result (λ e. error_kind e ≢ ErrorKind.Interrupted) }
     {
-        let so_far = write_action(out, self.action());
-        let so_far = write_direction(out, so_far, self.direction());
-        let so_far = write_quick(out, so_far, self.is_quick());
+        let so_far = write_text(out, action_text(self.action()));
+        let so_far = write_more(out, so_far, direction_text(self.direction()));
+        let so_far = write_more(out, so_far, quick_text(self.is_quick()));
         let so_far = write_interface(out, so_far, self.interface());
-        let so_far = write_family(out, so_far, self.family());
+        let so_far = write_more(out, so_far, family_text(self.family()));
         let so_far = write_protocol(out, so_far, self.protocol());
         let so_far = write_hosts(out, so_far, self.source(), self.destination());
-        write_state(out, so_far, self.action())
+        write_more(out, so_far, state_text(self.action()))
     }
 }
 
-fn write_action<W: Write>(out: &mut W, action: Action) -> io::Result<()>
-    ensures text { Writes result (W.contents out.old) (W.contents out.new) (action_word action) }
-    ensures retried { IfErr result (λ e. error_kind e ≢ ErrorKind.Interrupted) }
+fn action_text(action: Action) -> &'static [u8]
+    ensures { result.now ≡ action_word action }
 {
     match action {
-        Action::Pass { .. } => write_text(out, b"pass"),
-        Action::Block => write_text(out, b"block"),
+        Action::Pass { .. } => b"pass",
+        Action::Block => b"block",
     }
 }
 
-// Each of these writes its words with a space before each, behind what was written so far.
+// The texts of the parts behind the action, with a space before each word.
 
-fn write_direction<W: Write>(
-    out: &mut W,
-    so_far: io::Result<()>,
-    direction: Option<Direction>,
-) -> io::Result<()>
-    ensures { Continues so_far (W.contents out.old) result (W.contents out.new) (spaced (direction_words direction)) }
+fn direction_text(direction: Option<Direction>) -> &'static [u8]
+    ensures { result.now ≡ spaced (direction_words direction) }
 {
     match direction {
-        Some(Direction::In) => write_more(out, so_far, b" in"),
-        Some(Direction::Out) => write_more(out, so_far, b" out"),
-        None => write_more(out, so_far, b""),
+        Some(Direction::In) => b" in",
+        Some(Direction::Out) => b" out",
+        None => b"",
     }
 }
 
-fn write_quick<W: Write>(out: &mut W, so_far: io::Result<()>, quick: bool) -> io::Result<()>
-    ensures { Continues so_far (W.contents out.old) result (W.contents out.new) (spaced (quick_words quick)) }
+fn quick_text(quick: bool) -> &'static [u8]
+    ensures { result.now ≡ spaced (quick_words quick) }
 {
-    if quick {
-        write_more(out, so_far, b" quick")
-    } else {
-        write_more(out, so_far, b"")
+    if quick { b" quick" } else { b"" }
+}
+
+fn family_text(family: Option<Family>) -> &'static [u8]
+    ensures { result.now ≡ spaced (family_words family) }
+{
+    match family {
+        Some(Family::V4) => b" inet",
+        Some(Family::V6) => b" inet6",
+        None => b"",
     }
 }
 
+fn state_text(action: Action) -> &'static [u8]
+    ensures { result.now ≡ spaced (state_words action) }
+{
+    match action {
+        Action::Pass { keeps_state: true } => b" keep state",
+        Action::Pass { keeps_state: false } => b" no state",
+        Action::Block => b"",
+    }
+}
+
+#[tactic(auto, using(crate::specs::Spacing::continuing))]
 fn write_interface<W: Write>(
     out: &mut W,
     so_far: io::Result<()>,
@@ -83,20 +95,8 @@ fn write_interface<W: Write>(
     }
 }
 
-fn write_family<W: Write>(
-    out: &mut W,
-    so_far: io::Result<()>,
-    family: Option<Family>,
-) -> io::Result<()>
-    ensures { Continues so_far (W.contents out.old) result (W.contents out.new) (spaced (family_words family)) }
-{
-    match family {
-        Some(Family::V4) => write_more(out, so_far, b" inet"),
-        Some(Family::V6) => write_more(out, so_far, b" inet6"),
-        None => write_more(out, so_far, b""),
-    }
-}
-
+/// Writes a protocol's name, where it has one, or its number.
+#[tactic(auto, using(crate::specs::Spacing::continuing))]
 fn write_protocol<W: Write>(
     out: &mut W,
     so_far: io::Result<()>,
@@ -104,23 +104,10 @@ fn write_protocol<W: Write>(
 ) -> io::Result<()>
     ensures { Continues so_far (W.contents out.old) result (W.contents out.new) (spaced (protocol_words protocol)) }
 {
-    match protocol {
-        Some(protocol) => {
-            let so_far = write_more(out, so_far, b" proto ");
-            write_protocol_word(out, so_far, protocol)
-        }
-        None => write_more(out, so_far, b""),
-    }
-}
-
-/// Writes a protocol's name, where it has one, or its number.
-fn write_protocol_word<W: Write>(
-    out: &mut W,
-    so_far: io::Result<()>,
-    protocol: Protocol,
-) -> io::Result<()>
-    ensures { Continues so_far (W.contents out.old) result (W.contents out.new) (protocol_word protocol) }
-{
+    let Some(protocol) = protocol else {
+        return write_more(out, so_far, b"");
+    };
+    let so_far = write_more(out, so_far, b" proto ");
     match protocol.number() {
         Protocol::ICMP => write_more(out, so_far, b"icmp"),
         Protocol::TCP => write_more(out, so_far, b"tcp"),
@@ -153,15 +140,5 @@ fn write_host<W: Write>(out: &mut W, so_far: io::Result<()>, host: Host) -> io::
     match host {
         Host::Any => write_more(out, so_far, b"any"),
         Host::Net(net) => write_more_net(out, so_far, net),
-    }
-}
-
-fn write_state<W: Write>(out: &mut W, so_far: io::Result<()>, action: Action) -> io::Result<()>
-    ensures { Continues so_far (W.contents out.old) result (W.contents out.new) (spaced (state_words action)) }
-{
-    match action {
-        Action::Pass { keeps_state: true } => write_more(out, so_far, b" keep state"),
-        Action::Pass { keeps_state: false } => write_more(out, so_far, b" no state"),
-        Action::Block => write_more(out, so_far, b""),
     }
 }

@@ -3,7 +3,7 @@ ghost use Rattle.std.specs.Prelude.{◌≡◌};
 ghost use Rattle.std.specs.List.{list_all};
 ghost use Rattle.pf_form.specs.Numbers.{number_of};
 ghost use Rattle.pf_rule.specs.Names.{is_name_byte};
-ghost use Rattle.pf_rule.specs.Values.{is_name, interface_of, protocol_of, protocol_numbered, port_of, host_of, address_of};
+ghost use Rattle.pf_rule.specs.Values.{interface_of, protocol_of, port_of, host_of, address_of};
 
 use crate::interface::{INTERFACE_LIMIT, Interface};
 use crate::protocol::Protocol;
@@ -29,12 +29,6 @@ pub fn has_name_bytes(word: &[u8]) -> bool
     word.iter().all(|b| fits_name(*b))
 }
 
-fn is_name(word: &[u8]) -> bool
-    ensures { result ≡ is_name word.now }
-{
-    !word.is_empty() && has_name_bytes(word)
-}
-
 /// An interface's name. Its length is tested before its bytes.
 pub(crate) fn interface_of(word: &[u8]) -> Result<Interface, Kind>
     ensures { result ≡ interface_of word.now }
@@ -42,19 +36,10 @@ pub(crate) fn interface_of(word: &[u8]) -> Result<Interface, Kind>
     if word.len() > INTERFACE_LIMIT {
         return Err(Kind::NameTooLong);
     }
-    if is_name(word) {
+    if !word.is_empty() && has_name_bytes(word) {
         Ok(Interface::new(word))
     } else {
         Err(Kind::BadWord)
-    }
-}
-
-fn protocol_numbered(number: Option<u64>) -> Result<Protocol, Kind>
-    ensures { result ≡ protocol_numbered number }
-{
-    match number {
-        Some(number) if 0 < number && number < 256 => Ok(Protocol::new(number as u8)),
-        _ => Err(Kind::BadProto),
     }
 }
 
@@ -71,7 +56,10 @@ pub(crate) fn protocol_of(word: &[u8]) -> Result<Protocol, Kind>
     } else if word == b"icmp6".as_slice() || word == b"ipv6-icmp".as_slice() {
         Ok(Protocol::new(Protocol::ICMP6))
     } else {
-        protocol_numbered(read_number(word, PROTOCOL_DIGITS))
+        match read_number(word, PROTOCOL_DIGITS) {
+            Some(number) if 0 < number && number < 256 => Ok(Protocol::new(number as u8)),
+            _ => Err(Kind::BadProto),
+        }
     }
 }
 

@@ -1,18 +1,17 @@
 use Rattle.std.proofs.Common.{subst, sym}
 use Rattle.pf_addr.specs.Writing.{Writes, Continues-then}
-use Rattle.pf_rule.specs.RuleText.{action_word}
-use Rattle.pf_rule.proofs.Spacing.{in_order}
+use Rattle.pf_rule.specs.Spacing.{in_order}
 use Rattle.pf_rule.proofs.rule.Rule.write.Goals as goal
 
 pub returns-clause-text : goal.returns-clause-text
 returns-clause-text g c =
     let rest =
-    Continues-then c.write_direction-so_far.ensures
-    (Continues-then c.write_quick-so_far.ensures
+    Continues-then c.write_more-so_far.ensures
+    (Continues-then c.write_more-so_far-2.ensures
     (Continues-then c.write_interface-so_far.ensures
-    (Continues-then c.write_family-so_far.ensures
+    (Continues-then c.write_more-so_far-3.ensures
     (Continues-then c.write_protocol-so_far.ensures
-    (Continues-then c.write_hosts-so_far.ensures c.write_state.ensures))))) in
-    let whole = rest.behind (g.W.Write.contents c.args.out.now) (action_word c.action.result) (c.write_action-so_far.ensures.text, c.write_action-so_far.ensures.retried) in
-    subst (Writes c.write_state.result (g.W.Write.contents c.args.out.now) (g.W.Write.contents c.write_state.new.out)) (sym (in_order c.args.self.now))
-    (rw (c.action.ensures.action, c.direction.ensures, c.is_quick.ensures, c.interface.ensures, c.family.ensures, c.protocol.ensures, c.source.ensures, c.destination.ensures, c.action-2.ensures.action) at whole.0)
+    (Continues-then c.write_hosts-so_far.ensures c.write_more.ensures))))) in
+    let whole = rest.behind (g.W.Write.contents c.args.out.now) c.action_text.result.now (c.write_text-so_far.ensures.text, c.write_text-so_far.ensures.retried) in
+    subst (Writes c.write_more.result (g.W.Write.contents c.args.out.now) (g.W.Write.contents c.write_more.new.out)) (sym (in_order c.args.self.now))
+    (rw (c.action_text.ensures, c.direction_text.ensures, c.quick_text.ensures, c.family_text.ensures, c.state_text.ensures, c.action.ensures.action, c.direction.ensures, c.is_quick.ensures, c.interface.ensures, c.family.ensures, c.protocol.ensures, c.source.ensures, c.destination.ensures, c.action-2.ensures.action) at whole.0)

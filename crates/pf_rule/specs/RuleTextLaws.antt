@@ -1,0 +1,208 @@
+-- The canonical words of a rule spell it, and they are the words of its text.
+use Rattle.std.proofs.Common.{◌≡◌, ℕ, ◌<◌, Bool, true, false, List, [], ◌∷◌, ◌++◌, length, decimal, Option, Some, None, Result, Ok, inl, inr, refl, sym, ap, subst, ◌∙◌, arith}
+use Rattle.std.specs.Prelude.{codes, IfSome, nat_lt}
+use Rattle.std.specs.Str.{bytes_eq}
+use Rattle.std.specs.List.{list_all, slice_index_or, All}
+use Rattle.std.proofs.lemmas.Bool.{and_parts, lt-ltb}
+use Rattle.std.proofs.lemmas.Bool.Decides.{nat_tests}
+use Rattle.std.proofs.lemmas.List.Folds.{list_all-append}
+use Rattle.std.proofs.lemmas.List.Sums.{AllPass-from_list_all, list_all-from_AllPass}
+use Rattle.std.proofs.lemmas.Slice.Eq.{bytes_eq-Decides}
+use Rattle.pf_form.specs.Numbers.{is_digit, number_of}
+use Rattle.pf_form.specs.NumberLaws.{number_only}
+use Rattle.pf_form.specs.declared.fault.Kind.{Kind}
+use Rattle.pf_form.specs.Words.{Word, words_of}
+use Rattle.pf_form.specs.Forms.{Form, pair, Spells, read_all}
+use Rattle.pf_form.specs.TextLaws.{only}
+use Rattle.pf_addr.specs.declared.addr.Family.{Family}
+use Rattle.pf_addr.specs.Spelling.{net_text}
+use Rattle.pf_addr.specs.SpellingLaws.{IsNumber-decimal, IsNetByte, SpellsNet-net_text, IsNetWord-net_text}
+use Rattle.pf_addr.specs.ReadingLaws.{net_only}
+use Rattle.pf_rule.specs.declared.rule.Action.{Action}
+use Rattle.pf_rule.specs.declared.rule.Action.TheVariants.{Pass, Block}
+use Rattle.pf_rule.specs.declared.rule.Direction.{Direction}
+use Rattle.pf_rule.specs.declared.rule.Host.{Host}
+use Rattle.pf_rule.specs.declared.rule.Host.TheVariants.{Any, Net}
+use Rattle.pf_rule.specs.Names.{IsInterfaceName, is_name_byte}
+use Rattle.pf_rule.specs.Values.{interface_of, protocol_names, number_named, protocol_of, host_of}
+use Rattle.pf_rule.specs.Rules.{PlainRule, IsRule, HostFits}
+use Rattle.pf_rule.specs.RuleGrammar.{opening, direction, quick, interface, family, protocol, destination, hosts, state, action_of, host_family, agreed, agreeing, rule, rule_decided}
+use Rattle.pf_rule.specs.RuleText.{action_word, direction_words, quick_words, interface_words, family_words, protocol_word, protocol_words, host_word, from_to_words, host_words, state_words, canonical, rule_text}
+use Rattle.pf_rule.specs.Spacing.{is_word, words_of-join, join_bytes}
+
+-- words that spell a value, each of which is a word of a line
+record Written {A : Type 0} (f : Form A) (x : A) (ws : List Word) : Type 0 where
+  spells : Spells f x ws
+  words : list_all is_word ws ≡ true
+
+all_words : {A B : Type 0} {f : Form A} {g : Form B} {x : A} {y : B} {a b : List Word} → Written f x a → Written g y b → list_all is_word (a ++ b) ≡ true
+all_words p q = rw (list_all-append, p.words, q.words) refl
+
+both : {A B : Type 0} {f : Form A} {g : Form B} {x : A} {y : B} {a b : List Word} → Written f x a → Written g y b → Written (pair f g) (x, y) (a ++ b)
+both {a = a} {b = b} p q = record { spells = (a, b, p.spells, q.spells, refl); words = all_words p q }
+
+-- ---- keywords
+
+abbrev passes : Action → Bool
+passes (Pass k) = true
+passes Block = false
+
+abbrev keeps : Action → Bool
+keeps (Pass k) = k
+keeps Block = false
+
+opening_written : (a : Action) → Written opening (passes a) (action_word a ∷ [])
+unfolding opening
+opening_written (Pass k) = record { spells = inl ([], (refl, refl), refl); words = refl }
+opening_written Block = record { spells = inr ([], inr (refl, refl), refl); words = refl }
+
+direction_written : (d : Option Direction) → Written direction d (direction_words d)
+unfolding direction
+direction_written d = record { spells = grind arith; words = grind arith }
+
+quick_written : (q : Bool) → Written quick q (quick_words q)
+unfolding quick
+quick_written q = record { spells = grind arith; words = grind arith }
+
+family_written : (f : Option Family) → Written family f (family_words f)
+unfolding family
+family_written f = record { spells = grind arith; words = grind arith }
+
+state_written : (a : Action) → Written (state (passes a)) (keeps a) (state_words a)
+unfolding state
+state_written a = record { spells = grind arith; words = grind arith }
+
+-- ---- interfaces
+
+-- a word whose bytes pass a test that each byte fails up to a space
+tested_word : (test : ℕ → Bool) → ((b : ℕ) → test b ≡ true → nat_lt 32 b ≡ true) → (w : Word) → nat_lt 0 (length w) ≡ true → list_all test w ≡ true → is_word w ≡ true
+tested_word test each w some all = rw (some, list_all-from_AllPass (nat_lt 32) w (λ k d lt. each (slice_index_or w k d) (AllPass-from_list_all test w all k d lt))) refl
+
+above_space : (b : ℕ) → is_name_byte b ≡ true → nat_lt 32 b ≡ true
+above_space b e = grind (arith, nat_tests)
+
+name_word : (w : Word) → IsInterfaceName w → is_word w ≡ true
+name_word w is = tested_word is_name_byte above_space w (lt-ltb 0 (length w) is.some) is.bytes
+
+name_read : (w : Word) → IsInterfaceName w → interface_of w ≡ Ok w
+name_read w is = grind (arith, nat_tests)
+
+interface_written : (i : Option Word) → IfSome i IsInterfaceName → Written interface i (interface_words i)
+unfolding interface
+interface_written i is = record { spells = grind (arith, name_read); words = grind (arith, name_word) }
+
+-- ---- protocols
+
+same_bytes : (a b : Word) → bytes_eq a b ≡ true → a ≡ b
+same_bytes a b = (bytes_eq-Decides a b).0
+
+other_bytes : (a b : Word) → (a ≡ b → ⊥) → bytes_eq a b ≡ false
+other_bytes a b differ = grind (arith, same_bytes)
+
+number_read : (n : ℕ) → n < 256 → number_of 3 (decimal n) ≡ Some n
+number_read n lt = number_only 3 (decimal n) n (IsNumber-decimal 255 n (omega arith) (omega arith)).number
+
+-- no name is a number
+unnamed : (w : Word) (n : ℕ) → number_of 3 w ≡ Some n → number_named protocol_names w ≡ None
+unnamed w n is =
+    let not = λ (v : Word) (none : number_of 3 v ≡ None). other_bytes w v (λ e. let bad : Some n ≡ None = sym is ∙ ap (number_of 3) e ∙ none in cc) in
+    rw (not (codes "tcp") refl, not (codes "udp") refl, not (codes "icmp") refl, not (codes "icmp6") refl, not (codes "ipv6-icmp") refl) refl
+
+digit_above_space : (b : ℕ) → is_digit b ≡ true → nat_lt 32 b ≡ true
+digit_above_space b e = grind (arith, nat_tests)
+
+number_word : (w : Word) (n : ℕ) → number_of 3 w ≡ Some n → is_word w ≡ true
+number_word w n is = grind (arith, nat_tests, and_parts, tested_word is_digit digit_above_space w)
+
+protocol_read : (n : ℕ) (number : number_of 3 (decimal n) ≡ Some n) (none : number_named protocol_names (decimal n) ≡ None) → (0 < n) × (n < 256) → protocol_of (protocol_word n) ≡ Ok n
+protocol_read n number none is = grind (arith, nat_tests)
+
+protocol_good : (n : ℕ) → is_word (decimal n) ≡ true → is_word (protocol_word n) ≡ true
+protocol_good n is = grind (arith, nat_tests)
+
+protocol_written : (o : Option ℕ) → IfSome o (λ n. (0 < n) × (n < 256)) → Written protocol o (protocol_words o)
+unfolding protocol
+protocol_written None is = record { spells = inr (refl, refl); words = refl }
+protocol_written (Some n) is =
+    let number = number_read n is.1 in
+    let read = protocol_read n number (unnamed (decimal n) n number) is in
+    record { spells = inl (protocol_word n ∷ [], (n, (protocol_word n, read, refl), refl), refl); words = rw (protocol_good n (number_word (decimal n) n number)) refl }
+
+-- ---- hosts
+
+not_any : (w : Word) → All IsNetByte w → bytes_eq w (codes "any") ≡ false
+not_any w bytes = other_bytes w (codes "any") (λ e. let b : IsNetByte 97 = subst (All IsNetByte) e bytes 0 0 (omega arith) in omega (arith, b.1))
+
+host_read : (f : Option Family) (h : Host) → HostFits f h → host_of (host_word h) ≡ Ok h
+host_read f Any is = refl
+host_read f (Net n) is = rw (not_any (net_text n) (IsNetWord-net_text n is.1).bytes, net_only (net_text n) n (SpellsNet-net_text n is.1)) refl
+
+net_byte : (b : ℕ) → IsNetByte b → nat_lt 32 b ≡ true
+net_byte b is = lt-ltb 32 b (omega (arith, is.0))
+
+host_good : (f : Option Family) (h : Host) → HostFits f h → is_word (host_word h) ≡ true
+host_good f Any is = refl
+host_good f (Net n) is = let w = IsNetWord-net_text n is.1 in rw (lt-ltb 0 (length (net_text n)) w.some, list_all-from_AllPass (nat_lt 32) (net_text n) (λ k d lt. net_byte (slice_index_or (net_text n) k d) (w.bytes k d lt))) refl
+
+from_to : (f : Option Family) (s d : Host) → HostFits f s → HostFits f d → Written hosts (s, d) (from_to_words s d)
+unfolding hosts destination
+from_to f s d p q = record {
+  spells = inr (inl (_, (host_word s ∷ [], codes "to" ∷ host_word d ∷ [], (host_word s, host_read f s p, refl), inl (host_word d ∷ [], (host_word d, host_read f d q, refl), refl), refl), refl));
+  words = rw (host_good f s p, host_good f d q) refl;
+}
+
+hosts_written : (f : Option Family) (s d : Host) → HostFits f s → HostFits f d → Written hosts (s, d) (host_words s d)
+unfolding hosts
+hosts_written f Any Any p q = record { spells = inl ([], (refl, refl), refl); words = refl }
+hosts_written f Any (Net n) p q = from_to f Any (Net n) p q
+hosts_written f (Net n) d p q = from_to f (Net n) d p q
+
+-- ---- a rule
+
+agrees : (f : Option Family) (h : Host) → HostFits f h → agreed f (host_family h) ≡ Some f
+agrees f h is = grind arith
+
+family_again : (r : PlainRule) → IsRule r → agreeing r ≡ Some r
+family_again r is = rw (agrees r.family r.source is.source, agrees r.family r.destination is.destination) refl
+
+action_again : (a : Action) → a ≡ action_of (passes a) (keeps a)
+action_again a = grind arith
+
+rule_written : (r : PlainRule) → IsRule r → Written rule (Some r) (canonical r)
+unfolding rule
+rule_written r is =
+    let first = opening_written r.action in
+    let rest =
+    both (direction_written r.direction)
+    (both (quick_written r.quick)
+    (both (interface_written r.interface is.interface)
+    (both (family_written r.family)
+    (both (protocol_written r.protocol is.protocol)
+    (both (hosts_written r.family r.source r.destination is.source is.destination)
+    (state_written r.action)))))) in
+    let made = ap (λ (a : Action). record r { action = a }) (action_again r.action) in
+    record { spells = (r, (_, (_, _, first.spells, rest.spells, refl), made), sym (family_again r is)); words = all_words first rest }
+
+-- ---- the laws
+
+pub spells_canonical : (r : PlainRule) → IsRule r → Spells rule (Some r) (canonical r)
+spells_canonical r is = (rule_written r is).spells
+
+pub words_are : (r : PlainRule) → IsRule r → words_of (rule_text r) ≡ canonical r
+unfolding rule_text
+words_are r is = words_of-join (canonical r) (rule_written r is).words
+
+-- a rule's text has no byte below a space, and so no newline
+pub rule_text_bytes : (r : PlainRule) → IsRule r → list_all (nat_lt 31) (rule_text r) ≡ true
+unfolding rule_text
+rule_text_bytes r is = join_bytes (canonical r) (rule_written r is).words
+
+pub read_again : (r : PlainRule) → IsRule r → read_all rule (words_of (rule_text r)) ≡ Ok (Some r)
+read_again r is = ap (read_all rule) (words_are r is) ∙ only (Option PlainRule) rule rule_decided (canonical r) (Some r) (spells_canonical r is)
+
+pub same_rule : (r s : PlainRule) → IsRule r → IsRule s → rule_text r ≡ rule_text s → r ≡ s
+same_rule r s p q e =
+    let again = read_again r p in
+    let other = read_again s q in
+    let same : ◌≡◌ {A = Result (Option PlainRule) (Kind × List Word)} (Ok (Some r)) (Ok (Some s)) = sym again ∙ ap (λ (t : List ℕ). read_all rule (words_of t)) e ∙ other in
+    cc
