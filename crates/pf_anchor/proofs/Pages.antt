@@ -1,11 +1,11 @@
 -- A map in pages: what is read and replaced in the page of a key's place is read and replaced in the map.
-use Rattle.std.proofs.Common.{◌≡◌, ℕ, zero, suc, ◌-◌, ◌<◌, ◌≤◌, T, true, false, Bool, ◌&&◌, cond, List, [], ◌∷◌, ◌++◌, length, take, drop, get_or, Option, Some, None, refl, sym, ap, subst, ◌∙◌, append_assoc, append-nil, arith}
+use Rattle.std.proofs.Common.{◌≡◌, ℕ, zero, suc, ◌-◌, ◌<◌, T, true, false, Bool, ◌&&◌, cond, List, [], ◌∷◌, ◌++◌, length, take, drop, get_or, Option, Some, None, refl, sym, ap, subst, ◌∙◌, append_assoc, append-nil, arith}
 use Rattle.std.specs.declared.cmp.Ordering.{Ordering}
 use Rattle.std.specs.declared.cmp.Ordering.TheVariants.{Less, Equal, Greater}
 use Rattle.std.specs.Cmp.{IsTotalOrder}
 use Rattle.std.specs.FinMap.{find, put, is_sorted}
 use Rattle.std.specs.FinMap.Entries.{below_all, by_order}
-use Rattle.std.specs.List.{AllByRecursion, filter}
+use Rattle.std.specs.List.{AllByRecursion}
 use Rattle.std.specs.Ordering.{ordering_reverse, eq_by_cmp, is_eq, is_lt}
 use Rattle.std.proofs.lemmas.List.{take-take}
 use Rattle.std.proofs.lemmas.List.Elements.{filter-append}
@@ -115,9 +115,9 @@ module _ {K X : Type 0} {R : K → K → Ordering} (o : IsTotalOrder R) (k : K) 
   front_before pages (suc (suc i)) at is =
       let here = at.here (omega arith) in
       by_page (get_or pages (suc i) []) here.0 here.1 (subst (λ z. T (is_sorted R z)) (around pages (suc i)) is) where
-    by_page : (page : List (K × X)) → 0 < length page → starts_behind R k page ≡ false → T (is_sorted R (joined (take (suc i) pages) ++ (page ++ joined (drop (suc (suc i)) pages)))) → AllAt Greater (joined (take (suc i) pages))
-    by_page [] some not_behind is = absurd (omega arith)
-    by_page (e ∷ es) some not_behind is = all_before (joined (take (suc i) pages)) e (es ++ joined (drop (suc (suc i)) pages)) is not_behind
+        by_page : (page : List (K × X)) → 0 < length page → starts_behind R k page ≡ false → T (is_sorted R (joined (take (suc i) pages) ++ (page ++ joined (drop (suc (suc i)) pages)))) → AllAt Greater (joined (take (suc i) pages))
+        by_page [] some not_behind is = absurd (omega arith)
+        by_page (e ∷ es) some not_behind is = all_before (joined (take (suc i) pages)) e (es ++ joined (drop (suc (suc i)) pages)) is not_behind
 
   pages_behind : (pages : List (List (K × X))) (n : ℕ) → (n < length pages → starts_behind R k (get_or pages n []) ≡ true) → T (is_sorted R (joined pages)) → AllAt Less (joined (drop n pages))
   pages_behind [] zero next is = tt

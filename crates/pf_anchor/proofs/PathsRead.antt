@@ -1,10 +1,9 @@
 -- A word has no fault exactly where the grammar takes it, and reading and writing a path undo each other.
-use Rattle.std.proofs.Common.{◌≡◌, inl, inr, ℕ, ◌<◌, ◌≤◌, Bool, true, false, List, [], ◌∷◌, length, get_or, Some, None, Option, Ok, refl, sym, ap, subst, ◌∙◌, arith}
+use Rattle.std.proofs.Common.{◌≡◌, inl, inr, ℕ, ◌<◌, Bool, true, false, List, [], ◌∷◌, length, get_or, Some, None, Option, Ok, refl, sym, ap, subst, ◌∙◌, arith}
 use Rattle.std.specs.Prelude.{codes, if◌then◌else◌}
-use Rattle.std.specs.List.{join_with_byte, slice_split, All}
+use Rattle.std.specs.List.{join_with_byte, All}
 use Rattle.std.specs.Option.{is_none, option_or}
 use Rattle.std.specs.Str.{bytes_eq}
-use Rattle.std.proofs.lemmas.Bool.{false_from_ne_true, eqb-true}
 use Rattle.std.proofs.lemmas.Bool.Decides.{nat_tests}
 use Rattle.std.proofs.lemmas.List.Splits.{length-slice_split, slice_split_at, slice_split_none, join_with_byte-slice_split}
 use Rattle.std.proofs.lemmas.List.Sums.{AllPass-from_list_all}
@@ -59,7 +58,7 @@ split_joined (c ∷ d ∷ cs) is some =
 
 -- ---- a word
 
-pub faultless_only : (w : Word) → path_fault w ≡ None → IsPathText w
+faultless_only : (w : Word) → path_fault w ≡ None → IsPathText w
 faultless_only w e =
     let tests : option_or (first_fault (components w)) (depth_fault (length (components w))) ≡ None = grind (arith, nat_tests) in
     let faults = none_parts (first_fault (components w)) (depth_fault (length (components w))) tests in
@@ -72,7 +71,7 @@ faultless_only w e =
       short = grind (arith, nat_tests);
     }
 
-pub faultless_found : (w : Word) → IsPathText w → path_fault w ≡ None
+faultless_found : (w : Word) → IsPathText w → path_fault w ≡ None
 faultless_found w is =
     let cut : components w ≡ is.parts = ap components is.joined ∙ split_joined is.parts is.each is.some in
     let none : first_fault (components w) ≡ None = ap first_fault cut ∙ each_faultless is.parts is.each in

@@ -10,7 +10,7 @@ use Rattle.std.proofs.lemmas.Cmp.{eq_by_cmp_equiv, nat_list_cmp_total}
 use Rattle.std.proofs.lemmas.Map.Text.{is_eq-slice_cmp}
 use Rattle.std.proofs.lemmas.Slice.Eq.{bytes_eq-Decides}
 use Rattle.pf_rule.specs.Rules.{PlainRule}
-use Rattle.pf_anchor.specs.Laws.{ReplacesTheNamed, rules_by, ReplacesExactly, SamePathIsEqual, OneMap}
+use Rattle.pf_anchor.specs.Laws.{rules_by, ReplacesInTurn, StaysMap, SamePathIsEqual, OneMap}
 use Rattle.pf_anchor.specs.Maps.{without}
 use Rattle.pf_anchor.specs.Rulesets.{Ruled, path_order, same_path, unless_empty, rules_in, rules_at, with_rules, IsMap}
 use Rattle.pf_anchor.proofs.Maps.{replaces_the_key, stays_sorted, one_list, with_some, with_grows}
@@ -31,7 +31,7 @@ rules_of_either : (b : Bool) (v w : Option (List PlainRule)) → rules_in (cond 
 rules_of_either true v w = refl
 rules_of_either false v w = refl
 
-pub replaces_the_named : ReplacesTheNamed
+replaces_the_named : (es : List Ruled) (new : Ruled) (q : List ℕ) → rules_at q (with_rules es new) ≡ cond (same_path new.0 q) new.1 (rules_at q es)
 replaces_the_named es new q =
     ap rules_in (replaces_the_key (List PlainRule) nat_list_cmp_total es new.0 (unless_empty new.1) q)
     ∙ rules_of_either (same_path q new.0) (unless_empty new.1) (find path_order q es)
@@ -49,16 +49,13 @@ map_with es new is = record {
   ruled = λ p. subst (λ v. v ≢ Some []) (sym (replaces_the_key (List PlainRule) nat_list_cmp_total es new.0 (unless_empty new.1) p)) (never_empty (same_path p new.0) new.1 (find path_order p es) (is.ruled p));
 }
 
-pub map_all : (items es : List Ruled) → IsMap es → IsMap (fold with_rules es items)
+pub map_all : StaysMap
 map_all [] es is = is
 map_all (i ∷ items) es is = map_all items (with_rules es i) (map_with es i is)
 
-pub replaced_in_turn : (items es : List Ruled) (q : List ℕ) → rules_at q (fold with_rules es items) ≡ rules_by items q (rules_at q es)
+pub replaced_in_turn : ReplacesInTurn
 replaced_in_turn [] es q = refl
 replaced_in_turn (i ∷ is) es q = replaced_in_turn is (with_rules es i) q ∙ ap (λ (old : List PlainRule). rules_by is q old) (replaces_the_named es i q)
-
-pub replaces_exactly : ReplacesExactly
-replaces_exactly es items is = record { map = map_all items es is; rules = replaced_in_turn items es }
 
 -- ---- one map
 

@@ -1,4 +1,4 @@
-use Rattle.std.proofs.Common.{◌≡◌, List, append_assoc, ap, sym, ◌∙◌}
+use Rattle.std.proofs.Common.{List, append_assoc, ap, sym, ◌∙◌}
 use Rattle.std.proofs.lemmas.Cmp.{nat_list_cmp_total}
 use Rattle.std.proofs.lemmas.List.Concat.{flat_map-append}
 use Rattle.pf_anchor.specs.Pages.{joined}

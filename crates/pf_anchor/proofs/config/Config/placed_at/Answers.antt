@@ -1,8 +1,8 @@
-use Rattle.std.proofs.Common.{◌≡◌, List, [], ap, sym, subst, ◌∙◌}
+use Rattle.std.proofs.Common.{◌≡◌, List, [], ap, subst}
 use Rattle.std.specs.Option.{MatchOption}
 use Rattle.std.proofs.lemmas.Cmp.{nat_list_cmp_total}
 use Rattle.pf_rule.specs.Rules.{PlainRule}
-use Rattle.pf_anchor.specs.Rulesets.{Ruled, rules_in, rules_at}
+use Rattle.pf_anchor.specs.Rulesets.{rules_in, rules_at}
 use Rattle.pf_anchor.proofs.Pages.{read_there}
 use Rattle.pf_anchor.proofs.config.Config.placed_at.Goals as goal
 
