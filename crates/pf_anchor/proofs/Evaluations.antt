@@ -1,6 +1,6 @@
 -- Which rule an evaluation finds.
-use Rattle.std.proofs.Common.{◌≡◌, ◌⊎◌, inl, inr, ℕ, suc, ◌+◌, Bool, true, false, not, ◌&&◌, ◌||◌, cond, List, [], ◌∷◌, Option, Some, None, refl, ap, ◌∙◌, arith}
-use Rattle.std.specs.List.{list_all, list_any}
+use Rattle.std.proofs.Common.{◌≡◌, ◌⊎◌, inl, inr, ℕ, suc, ◌+◌, Bool, true, false, not, ◌&&◌, cond, List, [], ◌∷◌, Some, None, refl, ap, ◌∙◌, arith}
+use Rattle.std.specs.List.{list_any}
 use Rattle.pf_rule.specs.Rules.{PlainRule}
 use Rattle.pf_anchor.specs.declared.evaluated.Evaluated.{Evaluated}
 use Rattle.pf_anchor.specs.declared.evaluated.Evaluated.TheVariants.{Open, Ended}
@@ -27,26 +27,24 @@ here test k r rs x m stands last =
     inr (0, (r, (record { before = []; behind = rs; all = refl; numbered = refl; matches = m; not_ended = refl; stands = stands }, last ∙ ap (λ (n : ℕ). Some (decision n r.action)) at)))
 
 -- a rule that decides behind one that doesn't end the evaluation
-further : (test : PlainRule → Bool) (k : ℕ) (x : PlainRule) (xs : List PlainRule) (n : ℕ) (r : PlainRule) (y z : Evaluated Decision) → not (test x && x.quick) ≡ true → IsDeciding test xs n r → last_of y ≡ Some (decision (k + 1 + n) r.action) → last_of z ≡ last_of y → Found test k (x ∷ xs) z
-further test k x xs n r y z passed is last same =
+further : (test : PlainRule → Bool) (k : ℕ) (x : PlainRule) (xs : List PlainRule) (n : ℕ) (r : PlainRule) (y : Evaluated Decision) → not (test x && x.quick) ≡ true → IsDeciding test xs n r → last_of y ≡ Some (decision (k + 1 + n) r.action) → Found test k (x ∷ xs) y
+further test k x xs n r y passed is last =
     let at : k + 1 + n ≡ k + suc n = omega arith in
-    let open_so_far = ap (λ (b : Bool). b && list_all (λ r. not (test r && r.quick)) is.before) passed ∙ is.not_ended in
-    inr (suc n, (r, (record { before = x ∷ is.before; behind = is.behind; all = ap (λ rs. x ∷ rs) is.all; numbered = ap suc is.numbered; matches = is.matches; not_ended = open_so_far; stands = is.stands }, same ∙ last ∙ ap (λ (m : ℕ). Some (decision m r.action)) at)))
+    inr (suc n, (r, (record { before = x ∷ is.before; behind = is.behind; all = ap (λ rs. x ∷ rs) is.all; numbered = ap suc is.numbered; matches = is.matches; not_ended = rw passed is.not_ended; stands = is.stands }, last ∙ ap (λ (m : ℕ). Some (decision m r.action)) at)))
 
--- a match stands where what follows has none
-open_then : (m : Option Decision) (y : Evaluated Decision) (d : Decision) → last_of y ≡ Some d → last_of (and_then (Open m) y) ≡ last_of y
-open_then m (Ended d) e h = refl
-open_then m (Open None) e h = absurd (cc (h))
-open_then m (Open (Some d)) e h = refl
+-- what has a match stands behind another match
+then_stands : (m d : Decision) (y : Evaluated Decision) → last_of y ≡ Some d → last_of (and_then (Open (Some m)) y) ≡ Some d
+then_stands m d (Ended e) h = h
+then_stands m d (Open None) h = absurd (cc (h))
+then_stands m d (Open (Some e)) h = h
 
 step : (test : PlainRule → Bool) (k : ℕ) (x : PlainRule) (xs : List PlainRule) (y : Evaluated Decision) (m q : Bool) → test x ≡ m → x.quick ≡ q → Found test (k + 1) xs y → Found test k (x ∷ xs) (and_then (cond m (settled q (decides k x)) (Open None)) y)
 step test k x xs y true true m q rest = here test k x xs (Ended (decision k x.action)) m (inl q) refl
 step test k x xs y true false m q (inl none) = here test k x xs (and_then (decides k x) y) m (inr none.0) (ap (λ z. last_of (and_then (decides k x) z)) none.1)
 step test k x xs y true false m q (inr is) =
-    further test k x xs is.0 is.1.0 y (and_then (decides k x) y) (ap (λ (b : Bool). not (test x && b)) q ∙ ap (λ (b : Bool). not (b && false)) m) is.1.1.0 is.1.1.1 (open_then (Some (decision k x.action)) y _ is.1.1.1)
-step test k x xs y false q m e (inl none) = inl (ap (λ (b : Bool). b || list_any test xs) m ∙ none.0, none_and_then y ∙ none.1)
-step test k x xs y false q m e (inr is) =
-    further test k x xs is.0 is.1.0 y (and_then (Open None) y) (ap (λ (b : Bool). not (b && x.quick)) m) is.1.1.0 is.1.1.1 (open_then None y _ is.1.1.1)
+    further test k x xs is.0 is.1.0 (and_then (decides k x) y) (rw (m, q) refl) is.1.1.0 (then_stands (decision k x.action) _ y is.1.1.1)
+step test k x xs y false q m e (inl none) = inl (rw m none.0, none_and_then y ∙ none.1)
+step test k x xs y false q m e (inr is) = further test k x xs is.0 is.1.0 (and_then (Open None) y) (rw m refl) is.1.1.0 (ap last_of (none_and_then y) ∙ is.1.1.1)
 
 found : (test : PlainRule → Bool) (k : ℕ) (rules : List PlainRule) → Found test k rules (rules_from decides test k rules)
 found test k [] = inl (refl, refl)

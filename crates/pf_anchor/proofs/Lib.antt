@@ -3,5 +3,4 @@ pub mod PathsRead
 pub mod Maps
 pub mod RulesetMaps
 pub mod Pages
-pub mod Growth
 pub mod Evaluations

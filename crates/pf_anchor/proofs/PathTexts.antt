@@ -2,25 +2,26 @@
 use Rattle.std.proofs.Common.{◌≡◌, ℕ, ◌+◌, ◌-◌, List, length, take, drop, Some, None, Option, refl, sym, ap, ◌∙◌}
 use Rattle.std.specs.Prelude.{count_by}
 use Rattle.std.specs.List.{position}
+use Rattle.std.specs.Option.{option_or}
 use Rattle.std.proofs.lemmas.List.{take_rest}
 use Rattle.std.proofs.lemmas.List.Splits.{length-slice_split}
 use Rattle.pf_form.specs.declared.fault.Kind.{Kind}
 use Rattle.pf_addr.specs.PlaceLaws.{split_some, split_none}
-use Rattle.pf_anchor.specs.Paths.{is_slash, components, component_fault, first_fault, or_else}
+use Rattle.pf_anchor.specs.Paths.{is_slash, components, component_fault, first_fault}
 
 pub count_components : (w : List ℕ) → length (components w) ≡ count_by is_slash w + 1
 count_components w = length-slice_split is_slash w
 
-none_else : (o : Option Kind) → or_else o None ≡ o
+none_else : (o : Option Kind) → option_or o None ≡ o
 none_else (Some k) = refl
 none_else None = refl
 
 -- the fault of a text with a slash: that of its first component, or else that of what follows, as the code takes it
-pub fault_some : (w : List ℕ) (i : ℕ) (o : Option Kind) → position is_slash w ≡ Some i → component_fault (take i w) ≡ o → first_fault (components w) ≡ or_else o (first_fault (components (take (length w - (i + 1)) (drop (i + 1) w))))
+pub fault_some : (w : List ℕ) (i : ℕ) (o : Option Kind) → position is_slash w ≡ Some i → component_fault (take i w) ≡ o → first_fault (components w) ≡ option_or o (first_fault (components (take (length w - (i + 1)) (drop (i + 1) w))))
 fault_some w i o e f =
     ap first_fault (split_some is_slash w i e)
-    ∙ ap (λ (p : Option Kind). or_else p (first_fault (components (drop (i + 1) w)))) f
-    ∙ ap (λ (rest : List ℕ). or_else o (first_fault (components rest))) (sym (take_rest w (i + 1)))
+    ∙ ap (λ (p : Option Kind). option_or p (first_fault (components (drop (i + 1) w)))) f
+    ∙ ap (λ (rest : List ℕ). option_or o (first_fault (components rest))) (sym (take_rest w (i + 1)))
 
 pub fault_none : (w : List ℕ) → position is_slash w ≡ None → first_fault (components w) ≡ component_fault w
 fault_none w e = ap first_fault (split_none is_slash w e) ∙ none_else (component_fault w)

@@ -23,22 +23,17 @@ OneList {K} X R = IsAntisymmetric R → (a b : List (K × X)) → T (is_sorted R
 
 -- ---- the map of rulesets
 
--- the rules at a path that is replaced are the new ones, and all else stays
-abbrev pub ReplacesTheNamed : Type 0
-ReplacesTheNamed = (es : List Ruled) (new : Ruled) (q : List ℕ) → rules_at q (with_rules es new) ≡ cond (same_path new.0 q) new.1 (rules_at q es)
-
 -- the rules at a path once these were replaced in turn: those of the last one that has this path, else the old ones
 abbrev pub rules_by : List Ruled → List ℕ → List PlainRule → List PlainRule
 rules_by [] q old = old
 rules_by (e ∷ es) q old = rules_by es q (cond (same_path e.0 q) e.1 old)
 
--- the rulesets after a commit, whole
-pub record AreReplaced (es items new : List Ruled) : Type 0 where
-  pub map : IsMap new
-  pub rules : (q : List ℕ) → rules_at q new ≡ rules_by items q (rules_at q es)
+-- a commit gives each path its rules, and leaves a map
+abbrev pub ReplacesInTurn : Type 0
+ReplacesInTurn = (items es : List Ruled) (q : List ℕ) → rules_at q (fold with_rules es items) ≡ rules_by items q (rules_at q es)
 
-abbrev pub ReplacesExactly : Type 0
-ReplacesExactly = (es items : List Ruled) → IsMap es → AreReplaced es items (fold with_rules es items)
+abbrev pub StaysMap : Type 0
+StaysMap = (items es : List Ruled) → IsMap es → IsMap (fold with_rules es items)
 
 -- paths that are the same are equal
 abbrev pub SamePathIsEqual : Type 0

@@ -1,6 +1,5 @@
 pub mod Maps
 pub mod Rulesets
-pub mod Shared
 pub mod Pages
 pub mod Laws
 pub mod Paths

@@ -1,6 +1,6 @@
 -- Which words spell a path (pf.conf(5), ANCHORS), by cases.
-use Rattle.std.specs.Prelude.{◌≡◌, ◌≢◌, ◌⊎◌, ℕ, ◌<◌, ◌≤◌, true, List, [], ◌∷◌, length, codes}
-use Rattle.std.specs.List.{list_all, join_with_byte}
+use Rattle.std.specs.Prelude.{◌≡◌, ◌≢◌, ◌⊎◌, ℕ, ◌<◌, ◌≤◌, true, List, length, codes}
+use Rattle.std.specs.List.{AllByRecursion, list_all, join_with_byte}
 use Rattle.pf_rule.specs.Names.{is_name_byte}
 use Rattle.pf_form.specs.Words.{Word}
 use Rattle.pf_anchor.specs.declared.limits.TheConstants.{PATH_LIMIT, COMPONENT_LIMIT, DEPTH_LIMIT}
@@ -15,8 +15,7 @@ pub record IsComponent (c : List ℕ) : Type 0 where
   pub no_dash : c ≢ codes "-"
 
 abbrev pub AreComponents : List (List ℕ) → Type 0
-AreComponents [] = Unit {0}
-AreComponents (c ∷ cs) = IsComponent c × AreComponents cs
+AreComponents cs = AllByRecursion IsComponent cs
 
 -- 1 to 16 components with a slash (47) between each two, and at most 255 bytes in all
 pub record IsPathText (w : Word) : Type 0 where

@@ -1,16 +1,8 @@
 -- What follows from the definitions of paths, as law functions promise it.
-use Rattle.std.specs.Prelude.{◌≡◌, ℕ, true, List, None, Ok}
+use Rattle.std.specs.Prelude.{◌≡◌, ℕ, true, List, Ok}
 use Rattle.pf_form.specs.Words.{Word}
-use Rattle.pf_anchor.specs.Paths.{path_fault, path_of, path_text, is_path}
-use Rattle.pf_anchor.specs.PathGrammar.{IsPathText, SpellsPath}
-
--- a word that is a path by the grammar has no fault
-abbrev pub FaultsNoPath : Type 0
-FaultsNoPath = (w : Word) → IsPathText w → path_fault w ≡ None
-
--- and each other word has one
-abbrev pub FaultsAllElse : Type 0
-FaultsAllElse = (w : Word) → path_fault w ≡ None → IsPathText w
+use Rattle.pf_anchor.specs.Paths.{path_of, path_text, is_path}
+use Rattle.pf_anchor.specs.PathGrammar.{SpellsPath}
 
 -- what is read is what the word spells
 abbrev pub ReadsWhatIsSpelled : Type 0

@@ -1,7 +1,7 @@
 -- The texts of paths (pf.conf(5), ANCHORS): components, with a slash between each two. The limits, and that the main ruleset is written "-", are own.
 use Rattle.std.specs.Prelude.{ℕ, ◌==◌, ◌&&◌, Bool, true, not, if◌then◌else◌, List, [], ◌∷◌, length, codes, Option, Some, None, Result, Ok, Err, nat_lt}
 use Rattle.std.specs.List.{list_all, slice_split}
-use Rattle.std.specs.Option.{is_none}
+use Rattle.std.specs.Option.{is_none, option_or}
 use Rattle.std.specs.Str.{bytes_eq}
 use Rattle.pf_form.specs.declared.fault.Kind.{Kind}
 use Rattle.pf_form.specs.declared.fault.Kind.TheVariants.{BadWord, NameTooLong}
@@ -25,21 +25,17 @@ is_component c = nat_lt 0 (length c) && list_all is_name_byte c && not (bytes_eq
 abbrev pub component_fault : List ℕ → Option Kind
 component_fault c = if not (is_component c) then Some BadWord else (if nat_lt COMPONENT_LIMIT (length c) then Some NameTooLong else None)
 
-abbrev pub or_else : Option Kind → Option Kind → Option Kind
-or_else (Some k) other = Some k
-or_else None other = other
-
 -- the fault of the first component that has one
 abbrev pub first_fault : List (List ℕ) → Option Kind
 first_fault [] = None
-first_fault (c ∷ cs) = or_else (component_fault c) (first_fault cs)
+first_fault (c ∷ cs) = option_or (component_fault c) (first_fault cs)
 
 abbrev pub depth_fault : ℕ → Option Kind
 depth_fault n = if nat_lt DEPTH_LIMIT n then Some NameTooLong else None
 
 -- why a word is no path: its length first, then its components from left to right, then their number
 abbrev pub path_fault : Word → Option Kind
-path_fault w = if nat_lt PATH_LIMIT (length w) then Some NameTooLong else or_else (first_fault (components w)) (depth_fault (length (components w)))
+path_fault w = if nat_lt PATH_LIMIT (length w) then Some NameTooLong else option_or (first_fault (components w)) (depth_fault (length (components w)))
 
 abbrev pub path_unless : Option Kind → Word → Result (List ℕ) Kind
 path_unless None w = Ok w

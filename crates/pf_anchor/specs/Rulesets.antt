@@ -1,5 +1,5 @@
 -- Rulesets at paths (pf.conf(5), ANCHORS): a finite map. That an empty ruleset doesn't exist and that paths are ordered by their bytes is own.
-use Rattle.std.specs.Prelude.{ℕ, ◌<◌, T, length, Bool, List, [], ◌∷◌, Option, Some, None}
+use Rattle.std.specs.Prelude.{◌≢◌, ℕ, T, Bool, List, [], ◌∷◌, Option, Some, None}
 use Rattle.std.specs.declared.cmp.Ordering.{Ordering}
 use Rattle.std.specs.Ordering.{nat_cmp, eq_by_cmp}
 use Rattle.std.specs.Cmp.Lexicographic.{slice_cmp}
@@ -42,11 +42,7 @@ rules_in (Some rs) = rs
 abbrev pub rules_at : List ℕ → List Ruled → List PlainRule
 rules_at p es = rules_in (find path_order p es)
 
-abbrev pub AllHaveRules : List Ruled → Type 0
-AllHaveRules [] = Unit {0}
-AllHaveRules (e ∷ es) = (0 < length e.1) × AllHaveRules es
-
 -- entries in the order of their paths, none of them twice, and each with rules
 pub record IsMap (es : List Ruled) : Type 0 where
   pub sorted : T (is_sorted path_order es)
-  pub ruled : AllHaveRules es
+  pub ruled : (p : List ℕ) → find path_order p es ≢ Some []

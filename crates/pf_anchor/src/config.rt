@@ -1,6 +1,6 @@
 //! The active rulesets.
-ghost use Rattle.std.specs.Prelude.{◌≡◌, ◌≤◌, ◌<◌, T, [], ◌∷◌, ◌++◌, length, take, drop, IfOk, OnOk, IfSome, IfNone, fold, nat_lt};
-ghost use Rattle.std.specs.FinMap.{is_sorted};
+ghost use Rattle.std.specs.Prelude.{◌≡◌, ◌≤◌, ◌<◌, [], ◌++◌, length, IfOk, OnOk, fold, nat_lt};
+ghost use Rattle.std.specs.Option.{MatchOption};
 ghost use Rattle.pf_anchor.specs.Rulesets.{Ruled, path_order, rules_at, with_rules, IsMap};
 ghost use Rattle.pf_anchor.specs.Evaluation.{judged};
 ghost use Rattle.pf_anchor.specs.Pages.{joined, starts_behind, page_before, IsPlace};
@@ -13,7 +13,6 @@ use crate::rule_list::RuleList;
 use crate::verdict::RuleVerdict;
 use pf_rule::Packet;
 use std::alloc::{AllocError, Global};
-use std::cmp::Ordering;
 use std::marker::Model;
 
 /// The active rulesets: those that have rules, in the order of their paths. Contracts see it as the list.
@@ -42,7 +41,7 @@ fn starts_behind(page: &Page, path: &Path) -> bool
     ensures some { 0 < length page.now }
 {
     match page.as_slice() {
-        [first, ..] => first.path().order(path) == Ordering::Greater,
+        [first, ..] => first.is_behind(path),
         [] => false,
     }
 }
@@ -100,7 +99,7 @@ fn push_entries(
 
 // One ruleset replaced: one page is made anew, and those behind it are moved.
 fn replace(alloc: Global, pages: &mut Vec<Page>, new: &Placed) -> Result<(), AllocError>
-    requires { T (is_sorted path_order (joined pages.old.items)) }
+    requires { IsMap (joined pages.old.items) }
     ensures { OnOk result (joined pages.new.items ≡ with_rules (joined pages.old.items) new.now) }
 {
     let place = place_in(pages, new.path());
@@ -112,32 +111,9 @@ fn replace(alloc: Global, pages: &mut Vec<Page>, new: &Placed) -> Result<(), All
     Ok(())
 }
 
-// The rulesets replaced in order.
-fn replace_all(alloc: Global, pages: &mut Vec<Page>, items: &[Placed]) -> Result<(), AllocError>
-    requires { T (is_sorted path_order (joined pages.old.items)) }
-    ensures { OnOk result (joined pages.new.items ≡ fold with_rules (joined pages.old.items) items.now) }
-{
-    for item in items {
-        replace(alloc, pages, item)?;
-    }
-    Ok(())
-}
-
-// The same pages, shared.
-fn all_shared(alloc: Global, pages: &[Page]) -> Result<Vec<Page>, AllocError>
-    ensures { IfOk result (λ v. v.items ≡ pages.now) }
-{
-    let mut shared = Vec::with_capacity(alloc, pages.len())?;
-    for page in pages {
-        shared.push(page.shared()?)?;
-    }
-    Ok(shared)
-}
-
 // The first ruleset at a path.
 fn find<'a>(entries: &'a [Placed], path: &Path) -> Option<&'a Placed>
-    ensures some { IfSome result (λ p. p.now.1 ≡ rules_at path.now entries.now) }
-    ensures none { IfNone result (rules_at path.now entries.now ≡ []) }
+    ensures { MatchOption result (rules_at path.now entries.now ≡ []) (λ p. p.now.1 ≡ rules_at path.now entries.now) }
 {
     for placed in entries {
         if path.same(placed.path()) {
@@ -177,8 +153,10 @@ impl Config {
     pub fn with_rulesets(&self, alloc: Global, items: &[Placed]) -> Result<Config, AllocError>
         ensures { IfOk result (λ c. c ≡ fold with_rules self.now items.now) }
     {
-        let mut pages = all_shared(alloc, &self.pages)?;
-        replace_all(alloc, &mut pages, items)?;
+        let mut pages = self.pages.clone()?;
+        for item in items {
+            replace(alloc, &mut pages, item)?;
+        }
         Ok(Config { pages })
     }
 
@@ -198,11 +176,11 @@ impl Config {
 
     // The ruleset at a path.
     fn placed_at(&self, path: &Path) -> Option<&Placed>
-        ensures some { IfSome result (λ p. p.now.1 ≡ rules_at path.now self.now) }
-        ensures none { IfNone result (rules_at path.now self.now ≡ []) }
+        ensures rules { MatchOption result (rules_at path.now self.now ≡ []) (λ p. p.now.1 ≡ rules_at path.now self.now) }
         ensures map { IsMap self.now }
     {
-        find(page_before(&self.pages, place_in(&self.pages, path)), path)
+        let pages = self.pages.as_slice();
+        find(page_before(pages, place_in(pages, path)), path)
     }
 
     /// The rules at a path: none where it has no ruleset. No rule is copied. `AllocError`: nothing is made.

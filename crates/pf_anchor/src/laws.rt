@@ -1,14 +1,7 @@
 //! What follows from the definitions that contracts cite: functions that do nothing, whose contracts are the laws.
-ghost use Rattle.pf_anchor.specs.Laws.{ReplacesTheKey, StaysSorted, OneList, ReplacesTheNamed, ReplacesExactly, SamePathIsEqual, OneMap};
+ghost use Rattle.pf_anchor.specs.Laws.{ReplacesTheKey, StaysSorted, OneList, ReplacesInTurn, StaysMap, SamePathIsEqual, OneMap};
 ghost use Rattle.pf_anchor.specs.EvaluationLaws.{TellsWhatDecides};
-ghost use Rattle.pf_anchor.specs.PathLaws.{FaultsNoPath, FaultsAllElse, ReadsWhatIsSpelled, ReadsAllThatIsSpelled, WritesWhatWasRead, ReadsWhatIsWritten};
-
-/// A word has no fault exactly where it is a path by the grammar.
-#[tactic(auto, using(crate::proofs::PathsRead::faultless_found, crate::proofs::PathsRead::faultless_only))]
-pub fn paths_have_no_fault()
-    ensures found { FaultsNoPath }
-    ensures only { FaultsAllElse }
-{}
+ghost use Rattle.pf_anchor.specs.PathLaws.{ReadsWhatIsSpelled, ReadsAllThatIsSpelled, WritesWhatWasRead, ReadsWhatIsWritten};
 
 /// A path is read from a word exactly where the word spells it.
 #[tactic(auto, using(crate::proofs::PathsRead::read_is_spelled, crate::proofs::PathsRead::spelled_is_read))]
@@ -33,15 +26,11 @@ pub fn maps_are_replaced<K: Ord, V>()
     ensures one { OneList V K.cmp }
 {}
 
-/// Exactly the named ruleset is replaced, and all else stays.
-#[tactic(auto, using(crate::proofs::RulesetMaps::replaces_the_named))]
-pub fn replaces_the_named()
-    ensures { ReplacesTheNamed }
-{}
-
 /// After a commit each path has the rules that the commit gives it or else its own, and what has no rules isn't there.
+#[tactic(auto, using(crate::proofs::RulesetMaps::replaced_in_turn))]
 pub fn replaces_exactly()
-    ensures { ReplacesExactly }
+    ensures rules { ReplacesInTurn }
+    ensures map { StaysMap }
 {}
 
 /// Two maps of which the same is read at each path are one, and paths that are the same are equal.

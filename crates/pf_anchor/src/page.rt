@@ -1,12 +1,13 @@
 //! Parts of the map of rulesets.
-ghost use Rattle.std.specs.Prelude.{◌≡◌, ◌<◌, ◌++◌, ◌∷◌, [], length, IfOk, OnOk, filter};
-ghost use Rattle.pf_anchor.specs.Maps.{is_on_side, entry};
-ghost use Rattle.pf_anchor.specs.Rulesets.{path_order, unless_empty, with_rules};
+ghost use Rattle.std.specs.Prelude.{◌≡◌, ◌<◌, length, IfOk, IfSome};
+ghost use Rattle.std.specs.List.{position};
+ghost use Rattle.std.specs.Ordering.{is_lt};
+ghost use Rattle.pf_anchor.specs.Maps.{without};
+ghost use Rattle.pf_anchor.specs.Rulesets.{path_order, with_rules};
 
 use crate::path::Path;
 use crate::placed::Placed;
 use std::alloc::{AllocError, Global};
-use std::cmp::Ordering;
 use std::marker::Model;
 use std::sync::Arc;
 
@@ -32,21 +33,25 @@ impl Model for Page {
     ghost invariant = { λ p. 0 < length (arc_value p.entries).items };
 }
 
-// The rulesets on one side of a path, added to `kept`.
-fn share_side(
-    kept: &mut Vec<Placed>,
-    entries: &[Placed],
-    path: &Path,
-    side: Ordering,
-) -> Result<(), AllocError>
-    ensures { OnOk result (kept.new.items ≡ kept.old.items ++ filter (is_on_side path_order side path.now) entries.now) }
+// The rulesets at other paths than this one.
+fn others(alloc: Global, entries: &[Placed], path: &Path) -> Result<Vec<Placed>, AllocError>
+    ensures { IfOk result (λ v. v.items ≡ without path_order entries.now path.now) }
 {
+    let mut kept = Vec::with_capacity(alloc, entries.len().saturating_add(1))?;
     for placed in entries {
-        if placed.path().order(path) == side {
+        if !path.same(placed.path()) {
             kept.push(placed.shared()?)?;
         }
     }
-    Ok(())
+    Ok(kept)
+}
+
+// Where the first ruleset behind a path is.
+fn first_behind(entries: &[Placed], path: &Path) -> Option<usize>
+    ensures place { result ≡ position (λ e. is_lt (path_order path.now e.0)) entries.now }
+    ensures bound { IfSome result (λ i. i < length entries.now) }
+{
+    entries.iter().position(|placed| placed.is_behind(path))
 }
 
 /// The rulesets with one of them replaced, or taken out where the new one has no rules.
@@ -57,12 +62,12 @@ pub(crate) fn replaced(
 ) -> Result<Vec<Placed>, AllocError>
     ensures { IfOk result (λ v. v.items ≡ with_rules entries.now new.now) }
 {
-    let mut kept = Vec::with_capacity(alloc, entries.len().saturating_add(1))?;
-    share_side(&mut kept, entries, new.path(), Ordering::Less)?;
-    if !new.rules().as_slice().is_empty() {
-        kept.push(new.shared()?)?;
+    let mut kept = others(alloc, entries, new.path())?;
+    if new.rules().as_slice().is_empty() {
+        return Ok(kept);
     }
-    share_side(&mut kept, entries, new.path(), Ordering::Greater)?;
+    let place = first_behind(&kept, new.path()).unwrap_or(kept.len());
+    kept.insert(place, new.shared()?)?;
     Ok(kept)
 }
 
@@ -77,20 +82,22 @@ impl Page {
         })
     }
 
-    /// The same page, with one owner more.
-    pub(crate) fn shared(&self) -> Result<Page, AllocError>
-        ensures { IfOk result (λ p. p ≡ self.now) }
-    {
-        Ok(Page {
-            entries: Arc::try_clone(&self.entries)?,
-        })
-    }
-
     /// Its rulesets, in order.
     pub(crate) fn as_slice(&self) -> &[Placed]
         ensures value { result.now ≡ self.now }
         ensures some { 0 < length self.now }
     {
         self.entries.as_slice()
+    }
+}
+
+impl Clone for Page {
+    ghost is_clone = { λ p q. q ≡ p };
+
+    // The same page, with one owner more.
+    fn clone(&self) -> Result<Page, AllocError> {
+        Ok(Page {
+            entries: Arc::try_clone(&self.entries)?,
+        })
     }
 }

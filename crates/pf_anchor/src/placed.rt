@@ -1,6 +1,7 @@
 //! A ruleset at its path.
 ghost use Rattle.std.specs.Prelude.{◌≡◌, IfOk};
-ghost use Rattle.pf_anchor.specs.Rulesets.{ruled};
+ghost use Rattle.std.specs.Ordering.{is_lt};
+ghost use Rattle.pf_anchor.specs.Rulesets.{ruled, path_order};
 
 use crate::path::Path;
 use crate::rule_list::RuleList;
@@ -62,5 +63,12 @@ impl Placed {
         ensures { result.now ≡ self.now.1 }
     {
         &self.entry.rules
+    }
+
+    /// Whether it comes behind a path.
+    pub(crate) fn is_behind(&self, path: &Path) -> bool
+        ensures { result ≡ is_lt (path_order path.now self.now.0) }
+    {
+        path.order(self.path()).is_lt()
     }
 }

@@ -18,16 +18,18 @@ pub struct RuleList {
 }
 
 impl Model for RuleList {
-    ghost use Rattle.std.specs.Prelude.{List, length, ◌≤◌};
+    ghost use Rattle.std.specs.Prelude.{List, [], length, ◌≤◌};
     ghost use Rattle.pf_rule.specs.Rules.{PlainRule};
     ghost use Rattle.pf_anchor.specs.declared.limits.TheConstants.{RULE_LIMIT};
-    ghost use Rattle.pf_anchor.specs.Shared.{shared};
+    ghost use Rattle.std.specs.Arc.{arc_value};
+    ghost use Rattle.std.specs.Option.{option_map, option_map_or};
+    ghost use Rattle.std.specs.Vec.{vec_items};
 
     ghost Value = { List PlainRule };
 
-    ghost view = { λ l. shared l.rules };
+    ghost view = { λ l. option_map_or vec_items (option_map arc_value l.rules) [] };
 
-    ghost invariant = { λ l. length (shared l.rules) ≤ RULE_LIMIT };
+    ghost invariant = { λ l. length (option_map_or vec_items (option_map arc_value l.rules) []) ≤ RULE_LIMIT };
 }
 
 // Appends a rule. What others hold stays as it is: they share the rules so far, which are copied.
@@ -57,12 +59,9 @@ impl RuleList {
     pub fn shared(&self) -> Result<RuleList, AllocError>
         ensures { IfOk result (λ l. l ≡ self.now) }
     {
-        match &self.rules {
-            Some(rules) => Ok(RuleList {
-                rules: Some(Arc::try_clone(rules)?),
-            }),
-            None => Ok(RuleList::none()),
-        }
+        Ok(RuleList {
+            rules: self.rules.clone()?,
+        })
     }
 
     /// What the rules give for a packet: the last that matches, or the first quick one that does (pf.conf(5), Packet

@@ -1,10 +1,7 @@
-use Rattle.std.proofs.Common.{T}
-use Rattle.std.specs.declared.cmp.Ordering.TheVariants.{Less}
-use Rattle.std.specs.FinMap.{is_sorted}
-use Rattle.pf_anchor.specs.Maps.{AllOn}
-use Rattle.pf_anchor.specs.Pages.{joined, front_of}
+use Rattle.std.proofs.Common.{◌≡◌, ◌<◌, length, false}
+use Rattle.pf_anchor.specs.Pages.{page_before, starts_behind}
 use Rattle.pf_anchor.specs.Rulesets.{path_order}
 use Rattle.pf_anchor.proofs.config.place_in.Given as goal
 
 abbrev pub invariant-loop-index : goal.invariant-loop-index
-invariant-loop-index l = T (is_sorted path_order (joined l.pages)) → AllOn path_order Less l.path (joined (front_of l.index l.pages))
+invariant-loop-index l = 1 < l.index → (0 < length (page_before l.index l.pages)) × (starts_behind path_order l.path (page_before l.index l.pages) ≡ false)

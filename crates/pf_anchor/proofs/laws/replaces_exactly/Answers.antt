@@ -1,5 +1,5 @@
-use Rattle.pf_anchor.proofs.RulesetMaps.{replaces_exactly}
+use Rattle.pf_anchor.proofs.RulesetMaps.{map_all}
 use Rattle.pf_anchor.proofs.laws.replaces_exactly.Goals as goal
 
-pub returns : goal.returns
-returns c = replaces_exactly
+pub returns-clause-map : goal.returns-clause-map
+returns-clause-map c = map_all
