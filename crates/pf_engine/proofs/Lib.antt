@@ -1,5 +1,2 @@
-pub mod Splitting
+pub mod Cutting
 pub mod Answering
-pub mod Moving
-pub mod Reading
-pub mod Sessions

@@ -1,13 +1,9 @@
 -- What holds of the lines of a text.
-use Rattle.std.specs.Prelude.{◌≡◌, ◌≢◌, ℕ, List, [], ◌++◌, All}
-use Rattle.pf_engine.specs.Lines.{newline, cut_from, whole_lines, rest_of, ended}
+use Rattle.std.specs.Prelude.{◌≡◌, ℕ, List}
+use Rattle.pf_engine.specs.Lines.{IsCut}
 
-abbrev pub JoinsAgain : Type 0
-JoinsAgain = (text : List ℕ) → ended (whole_lines text) ++ rest_of text ≡ text
-
--- a line without a newline in it
-abbrev pub IsLine : List ℕ → Type 0
-IsLine line = All (λ b. b ≢ newline) line
+abbrev pub IsAlwaysCut : Type 0
+IsAlwaysCut = (text : List ℕ) → (lines : List (List ℕ)) × (rest : List ℕ) × IsCut text lines rest
 
 abbrev pub CutsOneWay : Type 0
-CutsOneWay = (lines : List (List ℕ)) (rest : List ℕ) → All IsLine lines → IsLine rest → cut_from [] (ended lines ++ rest) ≡ (lines, rest)
+CutsOneWay = (text : List ℕ) (lines others : List (List ℕ)) (rest more : List ℕ) → IsCut text lines rest → IsCut text others more → (lines ≡ others) × (rest ≡ more)

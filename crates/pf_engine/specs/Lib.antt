@@ -2,4 +2,3 @@ pub mod Lines
 pub mod Laws
 pub mod Sessions
 pub mod Pieces
-pub mod Bytes

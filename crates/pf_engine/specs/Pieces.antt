@@ -1,26 +1,24 @@
--- What the parts of the engine do: they read behind bytes that are kept, and answer some lines.
-use Rattle.std.specs.Prelude.{◌≡◌, ℕ, ◌+◌, ◌≤◌, List, ◌++◌, length, take, Option, Result, Ok, Err}
-use Rattle.std.specs.Io.KnownBytes.{Consumes, Keeps, IsAtEnd}
-use Rattle.pf_engine.specs.declared.fault.EngineFault.{EngineFault}
-use Rattle.pf_engine.specs.declared.fault.EngineFault.TheVariants as fault
+-- What the parts of the engine do, wherever a session has come to.
+use Rattle.std.specs.Prelude.{◌≡◌, ℕ, List, Option, Result, Ok, Err}
+use Rattle.pf_engine.specs.Lines.{IsCut, seen}
 use Rattle.pf_engine.specs.Sessions.{Answered, CutOff}
 
--- these lines were answered, or a failed write cut them off
-abbrev pub Answers : {S A : Type 0} → (S → S → List (List ℕ) → List ℕ → Type 0) → Result A EngineFault → List (List ℕ) → S → S → Option (List ℕ) → Option (List ℕ) → Type 0
+-- the lines were answered, or a failed write cut them off
+abbrev pub Answers : {S A E : Type 0} → (S → S → List (List ℕ) → List ℕ → Type 0) → Result A E → List (List ℕ) → S → S → Option (List ℕ) → Option (List ℕ) → Type 0
 Answers Serves (Ok x) lines old new held held' = Answered Serves lines old new held held'
-Answers Serves (Err fault.Write) lines old new held held' = CutOff Serves lines old new held held'
-Answers Serves (Err fault.Read) lines old new held held' = ⊥
-Answers Serves (Err fault.Memory) lines old new held held' = ⊥
+Answers Serves (Err e) lines old new held held' = CutOff Serves lines old new held held'
 
--- n bytes came behind those that are kept, and were the reader's next; none came only at its end
-pub record ReadsBehind (kept n : ℕ) (old new : List ℕ) (unread unread' : Option (List ℕ)) : Type 0 where
-  pub piece : List ℕ
-  pub read : Consumes unread unread' piece
-  pub count : length piece ≡ n
-  pub filled : take (kept + n) new ≡ take kept old ++ piece
-  pub within : kept + n ≤ length new
-  pub end : n ≡ 0 → IsAtEnd unread'
+-- the whole lines of the input were answered, and as much as is looked at is kept of the rest
+pub record SoFar {S : Type 0} (Serves : S → S → List (List ℕ) → List ℕ → Type 0) (input kept : List ℕ) (old new : S) (held held' : Option (List ℕ)) : Type 0 where
+  pub lines : List (List ℕ)
+  pub rest : List ℕ
+  pub cut : IsCut input lines rest
+  pub kept_is : kept ≡ seen rest
+  pub answered : Answered Serves lines old new held held'
 
--- nothing came, and the bytes that are kept stay
-abbrev pub ReadsNothing : ℕ → List ℕ → List ℕ → Option (List ℕ) → Option (List ℕ) → Type 0
-ReadsNothing kept old new unread unread' = Keeps unread unread' × (take kept new ≡ take kept old)
+-- a failed write cut off the whole lines of the input
+pub record Failed {S : Type 0} (Serves : S → S → List (List ℕ) → List ℕ → Type 0) (input : List ℕ) (old new : S) (held held' : Option (List ℕ)) : Type 0 where
+  pub lines : List (List ℕ)
+  pub rest : List ℕ
+  pub cut : IsCut input lines rest
+  pub cut_off : CutOff Serves lines old new held held'

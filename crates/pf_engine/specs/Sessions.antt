@@ -5,7 +5,7 @@ use Rattle.std.specs.Io.KnownBytes.{Appends, Consumes, Keeps, IsAtEnd}
 use Rattle.pf_addr.specs.Writing.{WritesFront}
 use Rattle.pf_engine.specs.declared.fault.EngineFault.{EngineFault}
 use Rattle.pf_engine.specs.declared.fault.EngineFault.TheVariants as fault
-use Rattle.pf_engine.specs.Lines.{whole_lines, lines_of}
+use Rattle.pf_engine.specs.Lines.{IsCut, last_line}
 
 -- These lines were answered, and every reply was written.
 pub record Answered {S : Type 0} (Serves : S → S → List (List ℕ) → List ℕ → Type 0) (lines : List (List ℕ)) (old new : S) (held held' : Option (List ℕ)) : Type 0 where
@@ -28,16 +28,21 @@ pub record CutOff {S : Type 0} (Serves : S → S → List (List ℕ) → List �
   pub served : Serves before new last text
   pub front : WritesFront mid held' text
 
--- What was done for an input. At its end all its lines are answered, and where no more could be read all its whole
--- lines. Where a write failed, some lines from the front on are, and what no newline ends is one only at the input's
--- end. Where the line buffer was refused, nothing is.
-abbrev pub Ends : {S : Type 0} → (S → S → List (List ℕ) → List ℕ → Type 0) → Result (Unit {0}) EngineFault → List ℕ → Option (List ℕ) → S → S → Option (List ℕ) → Option (List ℕ) → Type 0
-Ends Serves (Ok u) input unread old new held held' = Answered Serves (lines_of input) old new held held' × IsAtEnd unread
-Ends Serves (Err fault.Read) input unread old new held held' = Answered Serves (whole_lines input) old new held held'
-Ends Serves (Err fault.Write) input unread old new held held' =
-    CutOff Serves (whole_lines input) old new held held' ⊎ (CutOff Serves (lines_of input) old new held held' × IsAtEnd unread)
-Ends Serves (Err fault.Memory) input unread old new held held' = (input ≡ []) × (new ≡ old) × Keeps held held'
+-- What was done for an input that is cut into these whole lines and this rest. At its end all its lines are answered,
+-- and where no more could be read all its whole lines. Where a write failed, some lines from the front on are, and the
+-- rest is one only at the input's end. Where the line buffer was refused, nothing is.
+abbrev pub Ends : {S : Type 0} → (S → S → List (List ℕ) → List ℕ → Type 0) → Result (Unit {0}) EngineFault → List ℕ → List (List ℕ) → List ℕ → Option (List ℕ) → S → S → Option (List ℕ) → Option (List ℕ) → Type 0
+Ends Serves (Ok u) input lines rest unread old new held held' = Answered Serves (lines ++ last_line rest) old new held held' × IsAtEnd unread
+Ends Serves (Err fault.Read) input lines rest unread old new held held' = Answered Serves lines old new held held'
+Ends Serves (Err fault.Write) input lines rest unread old new held held' =
+    CutOff Serves lines old new held held' ⊎ (CutOff Serves (lines ++ last_line rest) old new held held' × IsAtEnd unread)
+Ends Serves (Err fault.Memory) input lines rest unread old new held held' = (input ≡ []) × (new ≡ old) × Keeps held held'
 
 -- What was read, and what was done for it.
-abbrev pub IsSession : {S : Type 0} → (S → S → List (List ℕ) → List ℕ → Type 0) → Result (Unit {0}) EngineFault → Option (List ℕ) → Option (List ℕ) → S → S → Option (List ℕ) → Option (List ℕ) → Type 0
-IsSession Serves result unread unread' old new held held' = (input : List ℕ) × Consumes unread unread' input × Ends Serves result input unread' old new held held'
+pub record IsSession {S : Type 0} (Serves : S → S → List (List ℕ) → List ℕ → Type 0) (result : Result (Unit {0}) EngineFault) (unread unread' : Option (List ℕ)) (old new : S) (held held' : Option (List ℕ)) : Type 0 where
+  pub input : List ℕ
+  pub lines : List (List ℕ)
+  pub rest : List ℕ
+  pub read : Consumes unread unread' input
+  pub cut : IsCut input lines rest
+  pub ends : Ends Serves result input lines rest unread' old new held held'

@@ -1,5 +1,5 @@
 //! What answers lines.
-ghost use Rattle.std.specs.Prelude.{List, ℕ, [], ◌∷◌, ◌++◌, map};
+ghost use Rattle.std.specs.Prelude.{List, ℕ, [], ◌∷◌, ◌++◌};
 ghost use Rattle.pf_addr.specs.Writing.{Writes};
 ghost use Rattle.pf_engine.specs.Lines.{seen};
 
@@ -32,7 +32,6 @@ pub trait AnswerLine {
     ghost serves_then: { (old mid new : Self) (lines others : List (List ℕ)) (text more : List ℕ) →
         Serves old mid lines text → Serves mid new others more → Serves old new (lines ++ others) (text ++ more) };
 
-    // What isn't looked at makes no difference.
-    ghost serves_seen: { (old new : Self) (lines : List (List ℕ)) (text : List ℕ) →
-        Serves old new (map seen lines) text → Serves old new lines text };
+    // What isn't looked at of a line makes no difference.
+    ghost serves_seen: { (old new : Self) (line text : List ℕ) → Serves old new (seen line ∷ []) text → Serves old new (line ∷ []) text };
 }

@@ -1,68 +1,49 @@
 //! A session: lines from a reader, replies to a writer.
-ghost use Rattle.std.specs.Prelude.{◌<◌, length, map, IfOk, OnErr};
-ghost use Rattle.pf_engine.specs.Lines.{last_line, seen};
-ghost use Rattle.pf_engine.specs.Pieces.{Answers, ReadsBehind, ReadsNothing};
+ghost use Rattle.std.specs.Prelude.{◌≡◌, ◌<◌, length};
 ghost use Rattle.pf_engine.specs.Sessions.{IsSession};
 
 use crate::answer_line::{AnswerLine, LOOKED_AT};
-use crate::cutting::{answer_read, answer_rest};
 use crate::fault::EngineFault;
+use crate::pieces::{answer_piece, answer_rest};
 use std::alloc::Global;
-use std::io::{self, ErrorKind, Read, Write};
+use std::io::{ErrorKind, Read, Write};
 
-// The line buffer, in bytes: more than is looked at of a line.
+// The line buffer, in bytes: what is looked at of a line, and behind it what one read gives.
 const BUFFER_LEN: usize = 65_536;
 
 // So many reads are never made.
 const MOST_READS: u64 = 1 << 62;
 
-// The end of the input: what no newline ends is answered, and all is flushed.
-fn finish<A: AnswerLine, W: Write>(
-    alloc: Global,
-    rest: &[u8],
-    writer: &mut W,
-    answerer: &mut A,
-) -> Result<(), EngineFault>
-    ensures { Answers A.Serves result (map seen (last_line rest.now)) answerer.old answerer.new (W.contents writer.old) (W.contents writer.new) }
-{
-    answer_rest(alloc, rest, writer, answerer)?;
-    match writer.flush() {
-        Ok(()) => Ok(()),
-        Err(_) => Err(EngineFault::Write),
-    }
-}
-
-// Reads once, behind the bytes that are kept. It gives how many bytes came; none come only at the end.
-fn read_behind<R: Read>(reader: &mut R, buffer: &mut [u8], kept: usize) -> io::Result<usize>
-    requires { kept < length buffer.old }
-    ensures ok { IfOk result (λ n. ReadsBehind kept n buffer.old buffer.new (R.remaining reader.old) (R.remaining reader.new)) }
-    ensures err { OnErr result (ReadsNothing kept buffer.old buffer.new (R.remaining reader.old) (R.remaining reader.new)) }
-{
-    reader.read(&mut buffer[kept..])
-}
-
-// Reads to the end, and answers every line as it comes.
+// Reads to the end, and answers every line as it comes. `line` has what is looked at of a line, `piece` what a read gave.
 fn serve_lines<A: AnswerLine, R: Read, W: Write>(
     alloc: Global,
-    buffer: &mut [u8],
+    line: &mut [u8],
+    piece: &mut [u8],
     reader: &mut R,
     writer: &mut W,
     answerer: &mut A,
 ) -> Result<(), EngineFault>
-    requires { LOOKED_AT < length buffer.old }
+    requires line { length line.old ≡ LOOKED_AT }
+    requires piece { 0 < length piece.old }
     ensures { IsSession A.Serves result (R.remaining reader.old) (R.remaining reader.new) answerer.old answerer.new (W.contents writer.old) (W.contents writer.new) }
 {
-    let mut rest = 0;
+    let mut kept = 0;
     for _ in 1..MOST_READS {
         if writer.flush().is_err() {
             return Err(EngineFault::Write);
         }
-        match read_behind(reader, buffer, rest) {
+        match reader.read(piece) {
             Ok(n) => {
                 if n == 0 {
-                    return finish(alloc, &buffer[..rest], writer, answerer);
+                    return match answer_rest(alloc, &line[..kept], writer, answerer) {
+                        Ok(()) => Ok(()),
+                        Err(_) => Err(EngineFault::Write),
+                    };
                 }
-                rest = answer_read(alloc, buffer, rest + n, writer, answerer)?;
+                match answer_piece(alloc, &piece[..n], line, kept, writer, answerer) {
+                    Ok(len) => kept = len,
+                    Err(_) => return Err(EngineFault::Write),
+                }
             }
             Err(error) => {
                 if error.kind() != ErrorKind::Interrupted {
@@ -94,5 +75,6 @@ pub fn serve<A: AnswerLine, R: Read, W: Write>(
     let Ok(mut buffer) = Vec::from_elem(alloc, 0, BUFFER_LEN) else {
         return Err(EngineFault::Memory);
     };
-    serve_lines(alloc, buffer.as_mut_slice(), reader, writer, answerer)
+    let (line, piece) = buffer.as_mut_slice().split_at_mut(LOOKED_AT);
+    serve_lines(alloc, line, piece, reader, writer, answerer)
 }

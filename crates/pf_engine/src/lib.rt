@@ -3,10 +3,10 @@
 #![tactic(auto)]
 
 mod answer_line;
-mod cutting;
 mod engine;
 mod fault;
 pub mod laws;
+mod pieces;
 
 pub use answer_line::{AnswerLine, LOOKED_AT};
 pub use engine::serve;

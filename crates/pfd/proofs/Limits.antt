@@ -9,9 +9,9 @@ use Rattle.pfd.specs.Serving.{Serves}
 cut-limit : {lines : List (List ℕ)} {old new : Page} {held held' : Option (List ℕ)} → CutOff Serves lines old new held held' → new.limit ≡ old.limit
 cut-limit cut = cut.served.book.limit ∙ cut.answered.served.book.limit
 
-pub ends-limit : (result : Result (Unit {0}) EngineFault) (input : List ℕ) (unread : Option (List ℕ)) (old new : Page) (held held' : Option (List ℕ)) → Ends Serves result input unread old new held held' → new.limit ≡ old.limit
-ends-limit (Ok u) input unread old new held held' (answered, end) = answered.served.book.limit
-ends-limit (Err fault.Read) input unread old new held held' answered = answered.served.book.limit
-ends-limit (Err fault.Write) input unread old new held held' (inl cut) = cut-limit cut
-ends-limit (Err fault.Write) input unread old new held held' (inr (cut, end)) = cut-limit cut
-ends-limit (Err fault.Memory) input unread old new held held' (none, same, written) = ap (λ (page : Page). page.limit) same
+pub ends-limit : (result : Result (Unit {0}) EngineFault) (input : List ℕ) (lines : List (List ℕ)) (rest : List ℕ) (unread : Option (List ℕ)) (old new : Page) (held held' : Option (List ℕ)) → Ends Serves result input lines rest unread old new held held' → new.limit ≡ old.limit
+ends-limit (Ok u) input lines rest unread old new held held' (answered, end) = answered.served.book.limit
+ends-limit (Err fault.Read) input lines rest unread old new held held' answered = answered.served.book.limit
+ends-limit (Err fault.Write) input lines rest unread old new held held' (inl cut) = cut-limit cut
+ends-limit (Err fault.Write) input lines rest unread old new held held' (inr (cut, end)) = cut-limit cut
+ends-limit (Err fault.Memory) input lines rest unread old new held held' (none, same, written) = ap (λ (page : Page). page.limit) same

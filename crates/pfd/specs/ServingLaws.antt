@@ -1,5 +1,5 @@
 -- Lines that were served one list after another, and what is looked at of a line.
-use Rattle.std.proofs.Common.{◌≡◌, ℕ, ◌<◌, ◌≤◌, List, [], ◌∷◌, ◌++◌, length, take, map, Option, Result, inl, inr, refl, sym, ap, ◌∙◌, subst, append_assoc, arith}
+use Rattle.std.proofs.Common.{◌≡◌, ℕ, List, [], ◌∷◌, ◌++◌, length, Option, Result, inl, inr, refl, sym, ap, ◌∙◌, subst, append_assoc, arith}
 use Rattle.std.proofs.lemmas.List.{append-nil, length-take, take_all}
 use Rattle.std.proofs.lemmas.Bool.{cases_lt}
 use Rattle.pf_core.specs.declared.command.Command.{Command}
@@ -45,11 +45,6 @@ seen-says line = elim (cases_lt 4097 (length line)) [
   | inr h ↦ ap line_at (take_all 4097 line h)
 ]
 
-served-seen : (lines : List (List ℕ)) (events : List Event) (text : List ℕ) → Served (map seen lines) events text → Served lines events text
-served-seen [] events text p = p
-served-seen (line ∷ lines) events text (first, rest, reply, replies, says, more, c, t) =
-    (first, rest, reply, replies, subst (λ (said : Result (Option Command) Refusal). Says said first reply) (seen-says line) says, served-seen lines rest replies more, c, t)
-
 pub serves-none : (page : Page) → Serves page page [] []
 serves-none page = record { events = []; served = (refl, refl); book = continues-still page }
 
@@ -60,5 +55,7 @@ serves-then old mid new lines others text more p q = record {
   book = continues-then old mid new p.events q.events p.book q.book;
 }
 
-pub serves-seen : (old new : Page) (lines : List (List ℕ)) (text : List ℕ) → Serves old new (map seen lines) text → Serves old new lines text
-serves-seen old new lines text p = record { events = p.events; served = served-seen lines p.events text p.served; book = p.book }
+pub serves-seen : (old new : Page) (line text : List ℕ) → Serves old new (seen line ∷ []) text → Serves old new (line ∷ []) text
+serves-seen old new line text p =
+    let (first, rest, reply, replies, says, more, c, t) = p.served in
+    record { events = p.events; served = (first, rest, reply, replies, subst (λ (said : Result (Option Command) Refusal). Says said first reply) (seen-says line) says, more, c, t); book = p.book }

@@ -8,4 +8,4 @@ mod program;
 pub use book::Book;
 pub use engine::serve_alone;
 pub use pf_engine::EngineFault;
-pub use program::{HISTORY_LIMIT, start, without_words};
+pub use program::{HISTORY_LIMIT, run_process, start, without_words};

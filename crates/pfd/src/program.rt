@@ -1,5 +1,5 @@
 //! The program's words, and the status with which it ends.
-ghost use Rattle.std.specs.Prelude.{◌≡◌, ◌≤◌, IfErr, map, string_bytes};
+ghost use Rattle.std.specs.Prelude.{◌≡◌, ◌≤◌, ◌⊎◌, IfErr, IfOk, map, string_bytes};
 ghost use Rattle.std.specs.Io.KnownBytes.{Keeps};
 ghost use Rattle.clap.specs.Words.{kind_of};
 ghost use Rattle.std.specs.IoError.{error_kind};
@@ -11,7 +11,8 @@ use clap::error::ErrorKind;
 use clap::{Command, Error};
 use pf_engine::EngineFault;
 use std::alloc::Global;
-use std::io::{self, Read, Write};
+use std::env;
+use std::io::{self, BufWriter, Read, Write};
 
 /// How many changes the history of a session may have. Definitions cite it.
 pub const HISTORY_LIMIT: usize = 65_536;
@@ -85,7 +86,8 @@ fn explain<W: Write, F: Write>(error: &Error, writer: &mut W, faults: &mut F) ->
 /// written. Where the faults can't be written, the status alone tells. Words that aren't text don't come here but to
 /// `without_words`.
 ///
-/// What the texts are, and which other words are help and which are refused, is only tested.
+/// Whatever the words are, it is such a session, or nothing is read. What the texts are, and which other words are help
+/// and which are refused, is only tested.
 pub fn start<R: Read, W: Write, F: Write>(
     alloc: Global,
     words: &[String],
@@ -95,6 +97,7 @@ pub fn start<R: Read, W: Write, F: Write>(
 ) -> u8
     ensures status { result ≤ 2 }
     ensures run { IsRun (map string_bytes words.now) → RanWith result (R.remaining reader.old) (R.remaining reader.new) (W.contents writer.old) (W.contents writer.new) }
+    ensures others { RanWith result (R.remaining reader.old) (R.remaining reader.new) (W.contents writer.old) (W.contents writer.new) ⊎ Keeps (R.remaining reader.old) (R.remaining reader.new) }
     ensures refused { result ≡ 2 → Keeps (R.remaining reader.old) (R.remaining reader.new) × Keeps (W.contents writer.old) (W.contents writer.new) }
 {
     match check_words(alloc, words) {
@@ -117,5 +120,29 @@ pub fn without_words<F: Write>(error: &io::Error, faults: &mut F) -> u8
             let _ = faults.write_all(b"pfd: a word isn't text\n");
             2
         }
+    }
+}
+
+// The same with the process's words and streams; an error where its words can't be had. Standard input is read as it is:
+// the engine's own buffer takes all that is there in one read.
+fn start_on<F: Write>(rt: &HostRuntime, faults: &mut F) -> io::Result<u8>
+    ensures { IfOk result (λ status. status ≤ 2) }
+{
+    let alloc = rt.alloc();
+    let words: Vec<String> = env::args(rt)?.collect(alloc)?;
+    let mut reader = rt.stdin();
+    let mut writer = BufWriter::new(alloc, rt.stdout())?;
+    Ok(start(alloc, words.as_slice(), &mut reader, &mut writer, faults))
+}
+
+/// The program over this process: its words, standard input, output and error. It gives the status to end with, as
+/// `start` and `without_words` say.
+pub fn run_process(rt: &HostRuntime) -> u8
+    ensures { result ≤ 2 }
+{
+    let mut faults = rt.stderr();
+    match start_on(rt, &mut faults) {
+        Ok(status) => status,
+        Err(error) => without_words(&error, &mut faults),
     }
 }

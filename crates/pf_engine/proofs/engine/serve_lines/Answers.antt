@@ -1,33 +1,48 @@
-use Rattle.std.proofs.Common.{ℕ, take}
-use Rattle.std.proofs.lemmas.Result.{err_from_is_err_and}
-use Rattle.pf_engine.proofs.Sessions.{session-flushed, session-again, session-more, session-unflushed, session-end, session-failed}
-use Rattle.pf_engine.proofs.engine.serve_lines.Goals.{in-Ok+else-n-eq0+in_ok-rest-in-Ok, in-Err+else-ne}
+use Rattle.std.proofs.Common.{ℕ, [], take, ◌++◌, Result, Err, inl, arith}
+use Rattle.std.proofs.KnownBytes.{Consumes-nil, Consumes-trans, Consumes-kept}
+use Rattle.pf_engine.proofs.Answering.{flushed, nothing-yet, still-so_far}
+use Rattle.pf_engine.proofs.engine.serve_lines.Goals.{in-Ok+else-n-eq0+in-Ok-answer_piece, in-Err+else-ne}
 use Rattle.pf_engine.proofs.engine.serve_lines.Goals as goal
 
+pub loop-init : goal.loop-init
+loop-init g c = record {
+  few = omega arith;
+  session = ([], Consumes-nil (g.R.Read.remaining c.args.reader.now), nothing-yet g.met.A.AnswerLine.serves_none c.args.answerer.now (g.W.Write.contents c.args.writer.now));
+}
+
 pub returns-then-is_err : goal.returns-then-is_err
-returns-then-is_err g c = session-unflushed g.met.A.AnswerLine.serves_none g.met.A.AnswerLine.serves_seen (g.W.Write.contents c.flush.new.self) c.loop.invariant.session c.flush.ensures.bytes
+returns-then-is_err g c =
+    let (input, read, s) = c.loop.invariant.session in
+    let failed : Result ℕ ℕ = Err 0 in
+    record { input = input; lines = s.lines; rest = s.rest; read = read; cut = s.cut; ends = inl (flushed g.met.A.AnswerLine.serves_none failed (g.W.Write.contents c.flush.new.self) s.answered c.flush.ensures.bytes) }
 
-pub returns-then-n-eq0 : goal.returns-then-n-eq0
-returns-then-n-eq0 g c =
-    session-end g.met.A.AnswerLine.serves_then g.met.A.AnswerLine.serves_seen c.finish.result c.finish.new.answerer (g.W.Write.contents c.finish.new.writer)
-    (session-flushed (g.W.Write.contents c.flush.new.self) c.loop.invariant.session c.flush.ensures.bytes) c.in-Ok.ensures.ok c.if-n-eq0.true c.finish.ensures
-
-pub returns-in_err-rest-in-Ok : goal.returns-in_err-rest-in-Ok
-returns-in_err-rest-in-Ok g c =
-    let (e, is, same) = err_from_is_err_and c.from_residual.result c.from_residual.ensures.1 in
-    rw (is, same) (session-failed ℕ g.met.A.AnswerLine.serves_then g.met.A.AnswerLine.serves_seen c.in_err-rest-in-Ok.field-0.0 c.answer_read.new.answerer (g.W.Write.contents c.answer_read.new.writer)
-    (session-flushed (g.W.Write.contents c.flush.new.self) c.loop.invariant.session c.flush.ensures.bytes) c.in-Ok.ensures.ok c.in_err-rest-in-Ok.ensures.lines)
+pub returns-in-Err-answer_piece : goal.returns-in-Err-answer_piece
+returns-in-Err-answer_piece g c =
+    let (input, read, s) = c.loop.invariant.session in
+    let failed = c.in-Err-answer_piece.ensures.session input c.args.answerer.now (g.W.Write.contents c.args.writer.now) (still-so_far g.met.A.AnswerLine.serves_none (g.W.Write.contents c.flush.new.self) c.flush.ensures.bytes s) in
+    record {
+      input = input ++ take c.in-Ok.n c.read.new.buf;
+      lines = failed.lines;
+      rest = failed.rest;
+      read = Consumes-trans (g.R.Read.remaining c.args.reader.now) (g.R.Read.remaining c.loop.reader) (g.R.Read.remaining c.read.new.self) input (take c.in-Ok.n c.read.new.buf) read c.in-Ok.ensures.bytes.0;
+      cut = failed.cut;
+      ends = inl failed.cut_off;
+    }
 
 pub loop-preserved : goal.loop-preserved
 loop-preserved g c =
-    let session = session-flushed (g.W.Write.contents c.flush.new.self) c.loop.invariant.session c.flush.ensures.bytes in
-    elim c.match-read_behind.branch [
-      | in-Ok+else-n-eq0+in_ok-rest-in-Ok w ↦ rw (w.rest-is, w.writer-is, w.buffer-is, w.answerer-is) (record {
-        session = session-more g.met.A.AnswerLine.serves_then (take w.in_ok-rest-in-Ok.rest w.answer_read.new.buffer) session w.in-Ok.ensures.ok w.in_ok-rest-in-Ok.ensures.lines w.in_ok-rest-in-Ok.ensures.rest.1;
-        short = w.in_ok-rest-in-Ok.ensures.rest.0;
+    let (input, read, s) = c.loop.invariant.session in
+    elim c.match-read.branch [
+      | in-Ok+else-n-eq0+in-Ok-answer_piece w ↦ rw (w.kept-is, w.line-is, w.answerer-is, w.writer-is) (record {
+        few = w.in-Ok-answer_piece.ensures.few;
+        session = (
+          input ++ take w.in-Ok.n c.read.new.buf,
+          Consumes-trans (g.R.Read.remaining c.args.reader.now) (g.R.Read.remaining c.loop.reader) (g.R.Read.remaining c.read.new.self) input (take w.in-Ok.n c.read.new.buf) read w.in-Ok.ensures.bytes.0,
+          w.in-Ok-answer_piece.ensures.session input c.args.answerer.now (g.W.Write.contents c.args.writer.now) (still-so_far g.met.A.AnswerLine.serves_none (g.W.Write.contents c.flush.new.self) c.flush.ensures.bytes s),
+        );
       })
-      | in-Err+else-ne w ↦ rw (w.rest-is, w.writer-is, w.buffer-is, w.answerer-is) (record {
-        session = session-again c.loop.rest c.loop.buffer c.read_behind.new.buffer (g.R.Read.remaining c.read_behind.new.reader) session w.in-Err.ensures.err;
-        short = c.loop.invariant.short;
+      | in-Err+else-ne w ↦ rw (w.kept-is, w.line-is, w.answerer-is, w.writer-is) (record {
+        few = c.loop.invariant.few;
+        session = (input, Consumes-kept (g.R.Read.remaining c.args.reader.now) (g.R.Read.remaining c.loop.reader) (g.R.Read.remaining c.read.new.self) input read w.in-Err.ensures.bytes, still-so_far g.met.A.AnswerLine.serves_none (g.W.Write.contents c.flush.new.self) c.flush.ensures.bytes s);
       })
     ]

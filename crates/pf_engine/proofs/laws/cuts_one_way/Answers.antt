@@ -1,4 +1,4 @@
-use Rattle.pf_engine.proofs.Splitting.{cuts-one-way}
+use Rattle.pf_engine.proofs.Cutting.{cuts-one-way}
 use Rattle.pf_engine.proofs.laws.cuts_one_way.Goals as goal
 
 pub returns : goal.returns
