@@ -1,7 +1,5 @@
 pub mod Switching
-pub mod Voiding
-pub mod Others
+pub mod Leaving
 pub mod LegalCalls
 pub mod LongerWorlds
 pub mod Limits
-pub mod Telling

@@ -6,11 +6,12 @@ use Rattle.pf_core.specs.declared.reply.Refusal.{Refusal}
 use Rattle.pf_core.specs.declared.reply.Refusal.TheVariants.{Memory}
 use Rattle.pf_core.specs.declared.reply.Reply.{Reply}
 use Rattle.pf_core.specs.declared.reply.Reply.TheVariants.{Refused}
-use Rattle.pf_core.specs.Calls.{Call, call, AgreesWith}
+use Rattle.pf_ticket.specs.Tickets.{Open}
+use Rattle.pf_ticket.specs.Mentions.{after}
+use Rattle.pf_core.specs.Calls.{Call, call, mentions_of}
 use Rattle.pf_core.specs.Edits.{Kept, Edit}
 use Rattle.pf_core.specs.Pages.{Page, IsAt, StandsFor, Leads}
 use Rattle.pf_core.specs.Wholes.{Whole}
-use Rattle.pf_core.specs.WorldLaws.{agrees-refused}
 use Rattle.pf_core.specs.Worlds.{Setting, Held, State, up, down, begun, raised, flat, group_in, Upshot, upshot, Event, called, opened, acked_by, shown_by, heard, next, LegalReply, last_epoch, IsLegal, state_after, IsLegalFrom, IsWorld}
 
 -- a group of one change more
@@ -40,17 +41,24 @@ pub stands-opened : (first : Kept) (new : Page) (setting : Setting) → first.ep
 stands-opened first new setting low at = stands-by first new [] (opened setting) (down first) (begun setting (raised first)) tt refl low refl at
 
 -- a reply that keeps nothing leads to another core at most
-pub nothing-leads : (h : Held) (b : Page) (w : Whole) (c : Command) (r : Reply) → LegalReply h c r false → acked_by r (group_in h c) ≡ [] → shown_by r h.shown ≡ h.shown → AgreesWith w.tickets (h.calls ++ call c r ∷ []) →
-    w.tickets.epoch ≡ b.whole.tickets.epoch → IsAt h b → Leads h (record b { whole = w }) (call c r) (upshot b.shown false)
-nothing-leads h b w c r legal none still agrees epoch at = record {
+pub nothing-leads : (h : Held) (b : Page) (w : Whole) (c : Command) (r : Reply) → LegalReply h c r false → acked_by r (group_in h c) ≡ [] → shown_by r h.shown ≡ h.shown → w.tickets ≡ after b.whole.tickets (mentions_of (call c r)) →
+    IsAt h b → Leads h (record b { whole = w }) (call c r) (upshot b.shown false)
+nothing-leads h b w c r legal none still moved at = record {
   legal = record { reply = legal; shown = at.shown ∙ sym still };
-  at = record { base = at.base; calls = agrees; epoch = epoch ∙ at.epoch; acked = at.acked ∙ sym (append-nil h.acked) ∙ ap (λ (gs : List (List Edit)). h.acked ++ gs) (sym none); pending = at.pending; shown = refl; limit = at.limit };
+  at = record {
+    base = at.base;
+    tickets = moved ∙ ap (λ (t : Open). after t (mentions_of (call c r))) at.tickets;
+    acked = at.acked ∙ sym (append-nil h.acked) ∙ ap (λ (gs : List (List Edit)). h.acked ++ gs) (sym none);
+    pending = at.pending;
+    shown = refl;
+    limit = at.limit;
+  };
 }
 
 -- a refusal leads to nothing else
 pub refused-leads : (h : Held) (b new : Page) (c : Command) (e : Refusal) → LegalReply h c (Refused e) false → new ≡ b → IsAt h b → Leads h new (call c (Refused e)) (upshot new.shown false)
 refused-leads h b new c e legal same at =
-    subst (λ (p : Page). Leads h p (call c (Refused e)) (upshot p.shown false)) (sym same) (nothing-leads h b b.whole c (Refused e) legal refl refl (agrees-refused b.whole.tickets h.calls c e at.calls) refl at)
+    subst (λ (p : Page). Leads h p (call c (Refused e)) (upshot p.shown false)) (sym same) (nothing-leads h b b.whole c (Refused e) legal refl refl refl at)
 
 -- each world may go on with a call refused for memory
 pub stands-refused : (first : Kept) (b : Page) (world : List Event) (c : Command) → StandsFor first b world → StandsFor first b (world ++ called (call c (Refused Memory)) (upshot b.shown false) ∷ [])

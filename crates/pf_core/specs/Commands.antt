@@ -1,15 +1,15 @@
 -- What a command means: the step that it is due, what it mentions, and whether it takes memory. One line each, by family. The limits and the order of refusals are own.
-use Rattle.std.specs.Prelude.{◌≡◌, ℕ, Bool, true, false, cond, if◌then◌else◌, List, [], ◌∷◌, length, map, Result, Ok, Err, nat_lt}
+use Rattle.std.specs.Prelude.{ℕ, Bool, true, false, if◌then◌else◌, List, [], ◌∷◌, length, map, Result, Ok, Err, nat_lt}
 use Rattle.pf_anchor.specs.declared.limits.TheConstants.{RULESET_LIMIT}
-use Rattle.pf_anchor.specs.Rulesets.{Ruled, ruled, rules_at}
+use Rattle.pf_anchor.specs.Rulesets.{ruled, rules_at}
 use Rattle.pf_ticket.specs.declared.entry.Entry.{Entry}
 use Rattle.pf_ticket.specs.declared.name.RulesetName.{RulesetName}
 use Rattle.pf_ticket.specs.declared.offered.Offered.{Offered}
 use Rattle.pf_ticket.specs.declared.offered.Offered.TheVariants as offered
 use Rattle.pf_ticket.specs.declared.refusal.TicketRefusal.{TicketRefusal}
-use Rattle.pf_ticket.specs.declared.ticket.Ticket.{Ticket}
-use Rattle.pf_ticket.specs.Names.{filter_at, names_of, tickets_of}
-use Rattle.pf_ticket.specs.Mentions.{Mention, added, gives, switches, drops, Facts}
+use Rattle.pf_ticket.specs.Names.{filter_at, names_of}
+use Rattle.pf_ticket.specs.Mentions.{Mention, added, named_in, gives, switches, drops}
+use Rattle.pf_ticket.specs.Tickets.{Open, content}
 use Rattle.pf_ticket.specs.Replies.{begin_reply, add_reply, list_check, commit_check}
 use Rattle.pf_core.specs.declared.change.Item.{Item}
 use Rattle.pf_core.specs.declared.change.Item.TheVariants as item
@@ -28,13 +28,13 @@ use Rattle.pf_core.specs.declared.reply.Reply.{Reply}
 use Rattle.pf_core.specs.declared.reply.Reply.TheVariants.{Answer as Answered, Applied, Refused}
 use Rattle.pf_core.specs.declared.step.Step.{Step}
 use Rattle.pf_core.specs.declared.step.Step.TheVariants.{Done, Wants}
-use Rattle.pf_core.specs.Edits.{Kept, verdict, commits, applied}
+use Rattle.pf_core.specs.Edits.{Kept, Edit, verdict, commits, applied}
 use Rattle.pf_core.specs.Refusals.{refusal_of}
 
 -- ---- steps
 
 -- what the tickets refuse is refused
-abbrev pub unless_refused : {A : Type 0} → Result A TicketRefusal → (A → Result Step Refusal) → Result Step Refusal
+abbrev pub unless_refused : {A B : Type 0} → Result A TicketRefusal → (A → Result B Refusal) → Result B Refusal
 unless_refused (Ok x) f = f x
 unless_refused (Err e) f = Err (refusal_of e)
 
@@ -50,71 +50,58 @@ items content entries = map (λ e. item_of e.name (content e.name)) entries
 abbrev pub rulesets_after : Kept → List Item → ℕ
 rulesets_after d replaced = length (applied d (commits replaced)).rulesets
 
-abbrev pub commit_step : Facts → Kept → List Entry → Result Step Refusal
-commit_step f d entries = unless_refused (commit_check f.valid entries) (λ _.
-    if nat_lt RULESET_LIMIT (rulesets_after d (items f.offered entries)) then Err TooManyRulesets else
-    Ok (Wants (commits (items f.offered entries)) Committed))
+-- the change that a commit wants
+abbrev pub commit_change : Open → Kept → List Entry → Result Edit Refusal
+commit_change t d entries = unless_refused (commit_check t entries) (λ _.
+    if nat_lt RULESET_LIMIT (rulesets_after d (items (content t) entries)) then Err TooManyRulesets else
+    Ok (commits (items (content t) entries)))
+
+abbrev pub wanting : Result Edit Refusal → Result Step Refusal
+wanting (Ok change) = Ok (Wants change Committed)
+wanting (Err e) = Err e
 
 -- a rollback is refused for its list alone
 abbrev pub rollback_step : List Entry → Result Step Refusal
 rollback_step entries = unless_refused (list_check entries) (λ _. Ok (Done answer.Done))
 
-abbrev pub transact_step : Facts → Kept → Transaction → Result Step Refusal
-transact_step f d (Begin names) = unless_refused (begin_reply f names) (λ range. Ok (Done (answer.Given range)))
-transact_step f d (Add p t rule) = unless_refused (add_reply f (filter_at p) t) (λ _. Ok (Done answer.Done))
-transact_step f d (Commit entries) = commit_step f d entries
-transact_step f d (Rollback entries) = rollback_step entries
+abbrev pub transact_step : Open → Kept → Transaction → Result Step Refusal
+transact_step t d (Begin names) = unless_refused (begin_reply t names) (λ range. Ok (Done (answer.Given range)))
+transact_step t d (Add p u rule) = unless_refused (add_reply t (filter_at p) u) (λ _. Ok (Done answer.Done))
+transact_step t d (Commit entries) = wanting (commit_change t d entries)
+transact_step t d (Rollback entries) = rollback_step entries
 
 -- what a question is answered, of what is kept
 abbrev pub answer_of : Kept → Question → Answer
 answer_of d (Judge packet) = answer.Judged (verdict d packet)
 answer_of d (ShowRules p) = answer.Rules (rules_at p d.rulesets)
 
--- by what the mentions say, and what is kept. A question is never refused, and changes nothing
-abbrev pub step_by : Facts → Kept → Command → Result Step Refusal
-step_by f d (Transact t) = transact_step f d t
-step_by f d (Ask q) = Ok (Done (answer_of d q))
+-- by the open transactions, and what is kept. A question is never refused, and changes nothing
+abbrev pub step_by : Open → Kept → Command → Result Step Refusal
+step_by t d (Transact transaction) = transact_step t d transaction
+step_by t d (Ask q) = Ok (Done (answer_of d q))
 
 -- ---- mentions
 
-abbrev pub given_in : Answer → List Ticket
-given_in (answer.Given range) = tickets_of range
-given_in answer.Done = []
-given_in (answer.Judged v) = []
-given_in (answer.Rules rules) = []
+-- of a step that is accepted
+abbrev pub transacted : Transaction → List Mention
+transacted (Begin names) = gives names
+transacted (Add p t rule) = added (filter_at p) t rule ∷ []
+transacted (Commit entries) = switches (names_of entries)
+transacted (Rollback entries) = drops entries
 
-abbrev pub tickets_in : Reply → List Ticket
-tickets_in (Answered a) = given_in a
-tickets_in (Applied n o) = []
-tickets_in (Refused e) = []
+-- a question mentions nothing
+abbrev pub mentioned : Command → List Mention
+mentioned (Transact t) = transacted t
+mentioned (Ask q) = []
+
+-- the rulesets whose tickets a command speaks of
+abbrev pub names_in : Command → List RulesetName
+names_in c = map named_in (mentioned c)
 
 abbrev pub is_accepted : Reply → Bool
 is_accepted (Answered a) = true
 is_accepted (Applied n o) = true
 is_accepted (Refused e) = false
-
--- of an accepted step, where these are the tickets that it was given
-abbrev pub transacted : Transaction → List Ticket → List Mention
-transacted (Begin names) given = gives names given
-transacted (Add p t rule) given = added (filter_at p) t rule ∷ []
-transacted (Commit entries) given = switches (names_of entries)
-transacted (Rollback entries) given = drops entries
-
--- a refused command mentions nothing, and no more does a question
-abbrev pub mentioned : Command → Reply → List Mention
-mentioned (Transact t) r = cond (is_accepted r) (transacted t (tickets_in r)) []
-mentioned (Ask q) r = []
-
--- the rulesets whose tickets a command speaks of
-abbrev pub named_by : Transaction → List RulesetName
-named_by (Begin names) = names
-named_by (Add p t rule) = filter_at p ∷ []
-named_by (Commit entries) = names_of entries
-named_by (Rollback entries) = names_of entries
-
-abbrev pub names_in : Command → List RulesetName
-names_in (Transact t) = named_by t
-names_in (Ask q) = []
 
 -- ---- memory
 

@@ -1,11 +1,11 @@
 -- What follows from the definitions, as law functions promise it.
-use Rattle.std.specs.Prelude.{◌≡◌, ℕ, true, false, List, [], ◌∷◌, ◌++◌, None, Ok}
-use Rattle.pf_rule.specs.Rules.{PlainRule}
+use Rattle.std.specs.Prelude.{◌≡◌, ℕ, true, false, List, [], None, Ok}
 use Rattle.pf_anchor.specs.Laws.{rules_by}
 use Rattle.pf_anchor.specs.Rulesets.{rules_at, IsMap}
 use Rattle.pf_ticket.specs.declared.entry.Entry.{Entry}
 use Rattle.pf_ticket.specs.declared.name.RulesetName.{RulesetName}
-use Rattle.pf_ticket.specs.Mentions.{switches, valid_ticket, rules_in, content}
+use Rattle.pf_ticket.specs.Tickets.{rules_in, offer_at, Open, valid_ticket, content}
+use Rattle.pf_ticket.specs.Mentions.{after, switches}
 use Rattle.pf_ticket.specs.Names.{is_named, names_of, filter_at}
 use Rattle.pf_core.specs.declared.change.Item.{Item}
 use Rattle.pf_core.specs.declared.command.Command.{Command}
@@ -15,7 +15,8 @@ use Rattle.pf_core.specs.declared.reply.Outcome.{Outcome}
 use Rattle.pf_core.specs.declared.reply.Refusal.{Refusal}
 use Rattle.pf_core.specs.declared.reply.Reply.TheVariants.{Applied, Refused}
 use Rattle.pf_core.specs.declared.step.Step.TheVariants.{Wants}
-use Rattle.pf_core.specs.Calls.{Call, call, mentions, mentions_of, legal_step}
+use Rattle.pf_core.specs.Calls.{Call, call, mentions_of}
+use Rattle.pf_core.specs.Commands.{step_by, mentioned, names_in}
 use Rattle.pf_core.specs.Edits.{Kept, Edit, commits, rulesets_in, applied, voided_by}
 
 -- what is kept after a commit, whole
@@ -27,26 +28,26 @@ pub record IsReplaced (d : Kept) (items : List Item) (new : Kept) : Type 0 where
 abbrev pub ReplacesExactly : Type 0
 ReplacesExactly = (d : Kept) (items : List Item) → IsMap d.rulesets → IsReplaced d items (applied d (commits items))
 
-abbrev pub Each : (Entry → Type 0) → List Entry → Type 0
-Each holds [] = Unit {0}
-Each holds (e ∷ es) = holds e × Each holds es
-
 -- each ruleset that is named has what was offered for it, and all others have what they had
-pub record AreSwitched (calls : List Call) (entries : List Entry) (old new : Kept) : Type 0 where
-  pub named : Each (λ e. rules_at e.name.path new.rulesets ≡ rules_in (content (mentions calls) e.name)) entries
+pub record AreSwitched (t : Open) (entries : List Entry) (old new : Kept) : Type 0 where
+  pub named : (name : RulesetName) → is_named (names_of entries) name ≡ true → rules_at name.path new.rulesets ≡ rules_in (content t name)
   pub others : (q : List ℕ) → is_named (names_of entries) (filter_at q) ≡ false → rules_at q new.rulesets ≡ rules_at q old.rulesets
 
 -- a commit that isn't refused switches all rulesets that it names, and no other
 abbrev pub SwitchesAll : Type 0
-SwitchesAll = (epoch : ℕ) (calls : List Call) (d : Kept) (entries : List Entry) (e : Edit) (o : Outcome) → legal_step epoch calls d (Transact (Commit entries)) ≡ Ok (Wants e o) → AreSwitched calls entries d (applied d e)
+SwitchesAll = (t : Open) (d : Kept) (entries : List Entry) (e : Edit) (o : Outcome) → step_by t d (Transact (Commit entries)) ≡ Ok (Wants e o) → AreSwitched t entries d (applied d e)
 
 -- a command that wants a change mentions, once it is applied, exactly what the change voids
 abbrev pub VoidsTheNamed : Type 0
-VoidsTheNamed = (epoch : ℕ) (calls : List Call) (d : Kept) (c : Command) (e : Edit) (o : Outcome) (n : ℕ) → legal_step epoch calls d c ≡ Ok (Wants e o) → mentions_of (call c (Applied n o)) ≡ switches (voided_by e)
+VoidsTheNamed = (t : Open) (d : Kept) (c : Command) (e : Edit) (o : Outcome) → step_by t d c ≡ Ok (Wants e o) → mentioned c ≡ switches (voided_by e)
 
 -- after a commit no ruleset that it names has a valid ticket
 abbrev pub KeepsNoneValid : Type 0
-KeepsNoneValid = (calls : List Call) (entries : List Entry) (n : ℕ) (o : Outcome) (name : RulesetName) → is_named (names_of entries) name ≡ true → valid_ticket (mentions (calls ++ call (Transact (Commit entries)) (Applied n o) ∷ [])) name ≡ None
+KeepsNoneValid = (t : Open) (entries : List Entry) (n : ℕ) (o : Outcome) (name : RulesetName) → is_named (names_of entries) name ≡ true → valid_ticket (after t (mentions_of (call (Transact (Commit entries)) (Applied n o)))) name ≡ None
+
+-- a call leaves each ruleset that it doesn't name its valid ticket, and what is offered with it
+abbrev pub LeavesTheOthers : Type 0
+LeavesTheOthers = (t : Open) (c : Call) (name : RulesetName) → is_named (names_in c.command) name ≡ false → offer_at (after t (mentions_of c)).offers name ≡ offer_at t.offers name
 
 -- a refused command mentions nothing
 abbrev pub RefusedMentionNothing : Type 0

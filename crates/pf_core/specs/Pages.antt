@@ -1,6 +1,6 @@
 -- What contracts see of a Book, and when it stands for a world. Own.
 use Rattle.std.specs.Prelude.{◌≡◌, ℕ, ◌≤◌, List, length, take}
-use Rattle.pf_core.specs.Calls.{Call, AgreesWith}
+use Rattle.pf_core.specs.Calls.{Call}
 use Rattle.pf_core.specs.Edits.{Kept, Edit, after}
 use Rattle.pf_core.specs.Wholes.{Whole}
 use Rattle.pf_core.specs.Worlds.{Held, up, down, Upshot, Event, flat, LegalCall, heard, state_after, IsWorld}
@@ -25,8 +25,7 @@ pub record IsFolded (b : Page) : Type 0 where
 -- the page is this opening, as it has come so far
 pub record IsAt (h : Held) (b : Page) : Type 0 where
   pub base : b.base ≡ h.base
-  pub calls : AgreesWith b.whole.tickets h.calls
-  pub epoch : b.whole.tickets.epoch ≡ h.base.epoch
+  pub tickets : b.whole.tickets ≡ h.tickets
   pub acked : b.acked ≡ h.acked
   pub pending : b.pending ≡ h.pending
   pub shown : b.shown ≡ h.shown

@@ -1,4 +1,5 @@
--- What is told where the tickets refuse.
+-- What is told where the tickets refuse, and where memory was refused.
+use Rattle.std.specs.Prelude.{◌≡◌, Result, Err}
 use Rattle.pf_core.specs.declared.reply.Refusal.{Refusal}
 use Rattle.pf_core.specs.declared.reply.Refusal.TheVariants as told
 use Rattle.pf_ticket.specs.declared.refusal.TicketRefusal.{TicketRefusal}
@@ -12,3 +13,7 @@ refusal_of RulesetFull = told.RulesetFull
 refusal_of TooManyRulesets = told.TooManyRulesets
 refusal_of TicketsExhausted = told.TicketsExhausted
 refusal_of Memory = told.Memory
+
+-- this, or memory was refused
+abbrev pub OrMemory : {A : Type 0} → Result A Refusal → Result A Refusal → Type 0
+OrMemory r due = (r ≡ Err told.Memory → ⊥) → r ≡ due

@@ -1,45 +1,58 @@
--- What one call leaves alone, and what holds after every world.
-use Rattle.std.specs.Prelude.{◌≡◌, ℕ, ◌≤◌, false, List, [], ◌∷◌, ◌++◌, length}
+-- What holds after every world.
+use Rattle.std.specs.Prelude.{◌≡◌, ℕ, ◌≤◌, List, [], ◌++◌, length, fold}
 use Rattle.pf_anchor.specs.declared.limits.TheConstants.{RULE_LIMIT, RULESET_LIMIT}
 use Rattle.pf_anchor.specs.Rulesets.{rules_at}
-use Rattle.pf_ticket.specs.declared.limits.TheConstants.{LAST_COUNT}
-use Rattle.pf_ticket.specs.declared.name.RulesetName.{RulesetName}
+use Rattle.pf_ticket.specs.declared.ticket.Ticket.{Ticket}
 use Rattle.pf_ticket.specs.Laws.{AreOnce}
-use Rattle.pf_ticket.specs.Mentions.{Mention, rules_in, content, open_rulesets, tickets_given, AreNumbered}
-use Rattle.pf_ticket.specs.Names.{is_named}
-use Rattle.pf_ticket.specs.Standing.{IsLeftAlone}
-use Rattle.pf_core.specs.Calls.{Call, mentions}
-use Rattle.pf_core.specs.Commands.{names_in}
+use Rattle.pf_ticket.specs.Laws.{IsWithin as AreTicketsWithin}
+use Rattle.pf_ticket.specs.Names.{tickets_from, tickets_of}
+use Rattle.pf_core.specs.declared.reply.Answer.{Answer}
+use Rattle.pf_core.specs.declared.reply.Answer.TheVariants as answer
+use Rattle.pf_core.specs.declared.reply.Reply.{Reply}
+use Rattle.pf_core.specs.declared.reply.Reply.TheVariants.{Answer as Answered, Applied, Refused}
 use Rattle.pf_core.specs.Edits.{Kept}
-use Rattle.pf_core.specs.Worlds.{Held, up, down, Event, flat, log_of, durable_of, state_after, IsWorld}
+use Rattle.pf_core.specs.Worlds.{Held, up, down, Event, called, opened, flat, log_of, durable_of, state_after, IsWorld}
 
--- ---- what one call leaves alone
+-- ---- tickets
 
--- each ruleset that it doesn't name
-abbrev pub LeavesTheOthers : Type 0
-LeavesTheOthers = (calls : List Call) (c : Call) (name : RulesetName) → is_named (names_in c.command) name ≡ false → IsLeftAlone (mentions calls) (mentions (calls ++ c ∷ [])) name
+abbrev pub given_in : Answer → List Ticket
+given_in (answer.Given range) = tickets_of range
+given_in answer.Done = []
+given_in (answer.Judged v) = []
+given_in (answer.Rules rules) = []
 
--- ---- what holds after every world
+abbrev pub tickets_in : Reply → List Ticket
+tickets_in (Answered a) = given_in a
+tickets_in (Applied n o) = []
+tickets_in (Refused e) = []
 
--- the tickets given are numbered from 1 on, and so none is given twice
-pub record AreGivenOnce (epoch : ℕ) (ms : List Mention) : Type 0 where
-  pub numbered : AreNumbered epoch ms
-  pub once : AreOnce (tickets_given ms)
+abbrev pub given_by : List Ticket → Event → List Ticket
+given_by ts (called c t) = ts ++ tickets_in c.reply
+given_by ts (opened setting) = []
+
+-- the tickets that replies gave since the opening, in order
+abbrev pub tickets_given : List Event → List Ticket
+tickets_given world = fold given_by [] world
+
+-- they are numbered from 1 on, and so none is given twice
+pub record AreGivenOnce (epoch : ℕ) (ts : List Ticket) : Type 0 where
+  pub numbered : ts ≡ tickets_from epoch 1 (length ts)
+  pub once : AreOnce ts
 
 -- of each opening that a world comes to
 abbrev pub GivesEachOnce : Type 0
-GivesEachOnce = (first : Kept) (world : List Event) (h : Held) → IsWorld first world → state_after (down first) world ≡ up h → AreGivenOnce h.base.epoch (mentions h.calls)
+GivesEachOnce = (first : Kept) (world : List Event) (h : Held) → IsWorld first world → state_after (down first) world ≡ up h → AreGivenOnce h.base.epoch (tickets_given world)
+
+-- ---- limits
 
 -- what is kept is within the limits
 pub record IsWithin (d : Kept) : Type 0 where
   pub rulesets : length d.rulesets ≤ RULESET_LIMIT
   pub rules : (p : List ℕ) → length (rules_at p d.rulesets) ≤ RULE_LIMIT
 
--- what the calls of an opening say is within the limits, and so is what they kept
+-- an opening's transactions are within the limits, and so is what it kept
 pub record AreWithin (h : Held) : Type 0 where
-  pub given : length (tickets_given (mentions h.calls)) ≤ LAST_COUNT
-  pub opened : length (open_rulesets (mentions h.calls)) ≤ RULESET_LIMIT
-  pub offered : (name : RulesetName) → length (rules_in (content (mentions h.calls) name)) ≤ RULE_LIMIT
+  pub tickets : AreTicketsWithin h.tickets
   pub log : length (log_of h) ≤ h.setting.limit
   pub kept : IsWithin (durable_of h)
 

@@ -7,7 +7,10 @@ use Rattle.pf_core.specs.declared.reply.Reply.{Reply}
 use Rattle.pf_core.specs.declared.reply.Reply.TheVariants.{Answer, Applied, Refused}
 use Rattle.pf_core.specs.declared.step.Step.{Step}
 use Rattle.pf_core.specs.declared.step.Step.TheVariants.{Done, Wants}
-use Rattle.pf_core.specs.Calls.{Call, legal_step}
+use Rattle.pf_ticket.specs.Tickets.{Open, fresh}
+use Rattle.pf_ticket.specs.Mentions.{after as moved_by}
+use Rattle.pf_core.specs.Calls.{Call, mentions_of}
+use Rattle.pf_core.specs.Commands.{step_by}
 use Rattle.pf_core.specs.Edits.{Kept, Edit, after}
 
 -- ---- states
@@ -24,8 +27,8 @@ pub record Held : Type 0 where
   pub setting : Setting
   -- what the opening gave
   pub base : Kept
-  -- the calls since, with their replies
-  pub calls : List Call
+  -- the transactions, as the calls since have left them
+  pub tickets : Open
   -- the groups of changes that were acknowledged
   pub acked : List (List Edit)
   -- the group that was not acknowledged, if there is one; no event leaves one yet
@@ -38,9 +41,9 @@ pub data State : Type 0 where
   up : Held → State
   down : Kept → State
 
--- an opening has begun: no calls, no changes
+-- an opening has begun: no tickets, no changes
 abbrev pub begun : Setting → Kept → Held
-begun setting base = record { setting = setting; base = base; calls = []; acked = []; pending = []; shown = 0 }
+begun setting base = record { setting = setting; base = base; tickets = fresh base.epoch; acked = []; pending = []; shown = 0 }
 
 -- the same, one epoch later
 abbrev pub raised : Kept → Kept
@@ -63,7 +66,7 @@ durable_of h = after h.base (flat h.acked)
 
 -- the one step that a command may get
 abbrev pub step_in : Held → Command → Result Step Refusal
-step_in h c = legal_step h.base.epoch h.calls (durable_of h) c
+step_in h c = step_by h.tickets (durable_of h) c
 
 -- the reply to a step, where there is room
 abbrev pub reply_to : Held → Result Step Refusal → Reply
@@ -131,7 +134,7 @@ acked_by (Applied n o) g = g
 acked_by (Refused e) g = []
 
 abbrev pub heard : Held → Call → Upshot → Held
-heard h c t = record h { calls = h.calls ++ c ∷ []; acked = h.acked ++ acked_by c.reply (group_in h c.command); shown = t.shown }
+heard h c t = record h { tickets = moved_by h.tickets (mentions_of c); acked = h.acked ++ acked_by c.reply (group_in h c.command); shown = t.shown }
 
 abbrev pub next : State → Event → State
 next (up h) (called c t) = up (heard h c t)

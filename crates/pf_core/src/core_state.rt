@@ -1,21 +1,19 @@
 //! One command after the other.
-ghost use Rattle.std.specs.Prelude.{◌≡◌, ℕ, List, [], ◌∷◌, ◌++◌, IfOk, OnErr, length, map, nat_lt, true};
+ghost use Rattle.std.specs.Prelude.{◌≡◌, List, IfOk, OnErr, map, nat_lt, true};
 ghost use Rattle.std.specs.Arc.{arc_value};
 ghost use Rattle.pf_anchor.specs.declared.limits.TheConstants.{RULESET_LIMIT};
 ghost use Rattle.pf_rule.specs.Packets.{PlainPacket};
 ghost use Rattle.pf_ticket.specs.declared.entry.Entry.{Entry};
-ghost use Rattle.pf_ticket.specs.Mentions.{switches};
-ghost use Rattle.pf_ticket.specs.Tickets.{offered_at, facts_in};
+ghost use Rattle.pf_ticket.specs.Mentions.{after, switches};
+ghost use Rattle.pf_ticket.specs.Tickets.{fresh, content};
 ghost use Rattle.pf_core.specs.declared.command.Command.{Command};
 ghost use Rattle.pf_core.specs.declared.command.Question.{Question};
 ghost use Rattle.pf_core.specs.declared.command.Transaction.{Transaction};
 ghost use Rattle.pf_core.specs.declared.reply.Answer.TheVariants as answer;
-ghost use Rattle.pf_core.specs.declared.reply.Outcome.{Outcome};
-ghost use Rattle.pf_core.specs.declared.reply.Reply.TheVariants as reply;
-ghost use Rattle.pf_core.specs.Calls.{Call, call, mentions_of, AgreesWith, legal_step, IsLegalStep};
-ghost use Rattle.pf_core.specs.Commands.{item_of, items, rulesets_after, commit_step, rollback_step, transact_step, answer_of, transacts_in_memory, asks_for_memory, takes_memory};
+ghost use Rattle.pf_core.specs.Commands.{item_of, items, rulesets_after, commit_change, rollback_step, transact_step, answer_of, step_by, transacts_in_memory, asks_for_memory, takes_memory};
 ghost use Rattle.pf_core.specs.Edits.{applied, voided_by, name_of, verdict};
-ghost use Rattle.pf_core.specs.Wholes.{ready, StaysUnlessDone, AgreesAfter, IsNeverDone};
+ghost use Rattle.pf_core.specs.Refusals.{OrMemory};
+ghost use Rattle.pf_core.specs.Wholes.{whole, ready, answered, stepped};
 
 use crate::change::{Change, Item, Kind};
 use crate::command::{Command, Question, Transaction};
@@ -92,7 +90,7 @@ fn item_of(alloc: Global, name: &RulesetName, offered: Offered) -> Result<Item, 
 
 // What a commit of these entries replaces.
 fn take_items(alloc: Global, tickets: &Tickets, entries: &[Entry]) -> Result<Vec<Item>, AllocError>
-    ensures { IfOk result (λ v. v.items ≡ items (offered_at tickets.now.offers) entries.now) }
+    ensures { IfOk result (λ v. v.items ≡ items (content tickets.now) entries.now) }
 {
     let mut taken = Vec::with_capacity(alloc, entries.len())?;
     for entry in entries {
@@ -112,22 +110,21 @@ fn are_too_many(alloc: Global, durable: &Durable, items: &[Item]) -> Result<bool
         .would_be_too_many(alloc, rulesets.as_slice())
 }
 
-// What a commit wants, or why it is refused.
+// The change that a commit wants, or why it is refused.
 fn commit(
     alloc: Global,
     durable: &Durable,
     tickets: &Tickets,
     entries: &[Entry],
-) -> Result<Step, Refusal>
-    ensures never { IsNeverDone result }
-    ensures reply { IsLegalStep result (commit_step (facts_in tickets.now) durable.now entries.now) }
+) -> Result<Change, Refusal>
+    ensures { OrMemory result (commit_change tickets.now durable.now entries.now) }
 {
     tickets.check_all(entries)?;
     let items = take_items(alloc, tickets, entries)?;
     if are_too_many(alloc, durable, items.as_slice())? {
         return Err(Refusal::TooManyRulesets);
     }
-    Ok(Step::Wants(Change::commit(items), Outcome::Committed))
+    Ok(Change::commit(items))
 }
 
 // A step of a transaction. Where it wants a change, or is refused, the tickets are as before.
@@ -137,10 +134,8 @@ fn transact(
     tickets: &mut Tickets,
     transaction: &Transaction,
 ) -> Result<Step, Refusal>
-    ensures reply { IsLegalStep result (transact_step (facts_in tickets.old) durable.now transaction.now) }
-    ensures agrees { (calls : List Call) → AgreesWith tickets.old calls → AgreesAfter tickets.new calls (Command.Transact transaction.now) result }
-    ensures stays { StaysUnlessDone result tickets.old tickets.new }
-    ensures epoch { tickets.new.epoch ≡ tickets.old.epoch }
+    ensures reply { OrMemory result (transact_step tickets.old durable.now transaction.now) }
+    ensures tickets { tickets.new ≡ answered tickets.old (Command.Transact transaction.now) result }
     ensures rolled_back { (entries : List Entry) → transaction.now ≡ Transaction.Rollback entries → result ≡ rollback_step entries }
     ensures memory { result ≡ Err Refusal.Memory → transacts_in_memory transaction.now ≡ true }
 {
@@ -153,7 +148,10 @@ fn transact(
             tickets.add_rule(path, *ticket, *rule)?;
             Ok(Step::Done(Answer::Done))
         }
-        Transaction::Commit(entries) => commit(alloc, durable, tickets, entries.as_slice()),
+        Transaction::Commit(entries) => {
+            let change = commit(alloc, durable, tickets, entries.as_slice())?;
+            Ok(Step::Wants(change, Outcome::Committed))
+        }
         Transaction::Rollback(entries) => {
             tickets.rollback(entries.as_slice())?;
             Ok(Step::Done(Answer::Done))
@@ -185,9 +183,7 @@ impl Next {
 impl Core {
     /// What is kept, with no ticket given. It takes no memory.
     pub fn new(alloc: Global, durable: Arc<Durable>) -> Core
-        ensures durable { result.durable ≡ arc_value durable }
-        ensures epoch { result.tickets.epoch ≡ (arc_value durable).epoch }
-        ensures agrees { AgreesWith result.tickets [] }
+        ensures { result ≡ whole (arc_value durable) (fresh (arc_value durable).epoch) }
     {
         let tickets = Tickets::new(alloc, durable.epoch());
         Core {
@@ -212,11 +208,8 @@ impl Core {
     /// The history's limit isn't the core's: whoever keeps the history answers `HistoryFull` to a change that is wanted,
     /// and doesn't accept it.
     pub fn step(&mut self, command: &Command) -> Result<Step, Refusal>
-        ensures reply { (calls : List Call) → AgreesWith self.old.tickets calls → IsLegalStep result (legal_step self.old.tickets.epoch calls self.old.durable command.now) }
-        ensures agrees { (calls : List Call) → AgreesWith self.old.tickets calls → AgreesAfter self.new.tickets calls command.now result }
-        ensures durable { self.new.durable ≡ self.old.durable }
-        ensures stays { StaysUnlessDone result self.old self.new }
-        ensures epoch { self.new.tickets.epoch ≡ self.old.tickets.epoch }
+        ensures reply { OrMemory result (step_by self.old.tickets self.old.durable command.now) }
+        ensures left { self.new ≡ stepped self.old command.now result }
         ensures judged { (packet : PlainPacket) → command.now ≡ Command.Ask (Question.Judge packet) → result ≡ Ok (Step.Done (answer.Judged (verdict self.old.durable packet))) }
         ensures memory { result ≡ Err Refusal.Memory → takes_memory command.now ≡ true }
         ensures rolled_back { (entries : List Entry) → command.now ≡ Command.Transact (Transaction.Rollback entries) → result ≡ rollback_step entries }
@@ -245,9 +238,7 @@ impl Core {
 
     /// Puts in place what was prepared, which has to be of this core as it is. It takes no memory.
     pub fn accept(&mut self, next: Next)
-        ensures durable { self.new.durable ≡ next.durable }
-        ensures agrees { (calls : List Call) (c : Command) (n : ℕ) (o : Outcome) → mentions_of (call c (reply.Applied n o)) ≡ switches next.voided → AgreesWith self.old.tickets calls → AgreesWith self.new.tickets (calls ++ call c (reply.Applied n o) ∷ []) }
-        ensures epoch { self.new.tickets.epoch ≡ self.old.tickets.epoch }
+        ensures { self.new ≡ whole next.durable (after self.old.tickets (switches next.voided)) }
     {
         let Next { durable, voided } = next;
         self.durable = durable;

@@ -1,6 +1,6 @@
 //! What follows from the definitions that contracts cite: functions that do nothing, whose contracts are the laws.
-ghost use Rattle.pf_core.specs.Laws.{ReplacesExactly, SwitchesAll, VoidsTheNamed, KeepsNoneValid, RefusedMentionNothing};
-ghost use Rattle.pf_core.specs.WorldFacts.{LeavesTheOthers, GivesEachOnce, KeepsTheLimits, ShowsAll};
+ghost use Rattle.pf_core.specs.Laws.{ReplacesExactly, SwitchesAll, VoidsTheNamed, KeepsNoneValid, LeavesTheOthers, RefusedMentionNothing};
+ghost use Rattle.pf_core.specs.WorldFacts.{GivesEachOnce, KeepsTheLimits, ShowsAll};
 
 /// After a commit's change the epoch stays, each path has the rules that the change gives it or else its own, and what has no rules isn't there.
 pub fn replaces_exactly()

@@ -1,12 +1,5 @@
-pub mod Once
-pub mod Mentions
-pub mod Agreement
+pub mod Offers
+pub mod Moves
 pub mod Latest
+pub mod Keeping
 pub mod Twice
-pub mod Counting
-pub mod Beginning
-pub mod Standing
-pub mod Silence
-pub mod Told
-pub mod Adding
-pub mod Again

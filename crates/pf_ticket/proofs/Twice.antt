@@ -1,25 +1,84 @@
--- One entry more: whether it names a ruleset that was named before.
-use Rattle.std.proofs.Common.{◌≡◌, ℕ, suc, ◌+◌, ◌<◌, Bool, cond, ◌||◌, List, [], ◌∷◌, ◌++◌, length, refl, sym, ap, ◌∙◌, Some, arith, get_or, take, drop}
+-- The entry that is found is the first of a ruleset named before it; and tickets that are numbered are given once.
+use Rattle.std.proofs.Common.{◌≡◌, ℕ, suc, zero, ◌+◌, ◌<◌, ◌==◌, ◌&&◌, Bool, true, false, cond, ◌||◌, List, [], ◌∷◌, ◌++◌, length, refl, sym, ap, subst, ◌∙◌, append-nil, append_assoc, Some, None, arith, get_or, take, drop}
 use Rattle.std.specs.List.{list_any}
 use Rattle.std.proofs.Math.Seq.{take-suc, drop-cons}
-use Rattle.std.proofs.lemmas.List.{map-append}
+use Rattle.std.proofs.lemmas.Bool.{eqb-true}
+use Rattle.std.proofs.lemmas.List.{map-append, length-map, length-take-le}
+use Rattle.std.proofs.lemmas.List.Folds.{list_any-append}
 use Rattle.pf_ticket.specs.declared.entry.Entry.{Entry}
 use Rattle.pf_ticket.specs.declared.name.RulesetName.{RulesetName}
-use Rattle.pf_ticket.specs.Names.{same_name, is_named, names_of}
-use Rattle.pf_ticket.specs.Replies.{twice_from}
+use Rattle.pf_ticket.specs.declared.ticket.Ticket.{Ticket}
+use Rattle.pf_ticket.specs.Laws.{IsFirstAgain, TwiceIsFirstAgain, OtherwiseOnce, GivesEachOnce}
+use Rattle.pf_ticket.specs.Names.{same_name, is_named, names_of, ticket, same_ticket, tickets_from, IsDistinct}
+use Rattle.pf_ticket.specs.NameLaws.{names_alike}
+use Rattle.pf_ticket.specs.Replies.{twice_behind}
+use Rattle.pf_ticket.proofs.Offers.{neither, any-of}
 
-any-names : (q : RulesetName) (es : List Entry) → is_named (names_of es) q ≡ list_any (λ e. same_name e.name q) es
-any-names q [] = refl
-any-names q (e ∷ es) = ap (λ (b : Bool). same_name e.name q || b) (any-names q es)
+-- ---- one entry more
 
 pub twice-at : (es : List Entry) (p : ℕ) (e : Entry) (b : Bool) → p < length es → e ≡ get_or es p e → list_any (λ x. same_name x.name e.name) (take p es) ≡ b →
-    twice_from (names_of (take p es)) p (drop p es) ≡ cond b (Some p) (twice_from (names_of (take (p + 1) es)) (p + 1) (drop (p + 1) es))
+    twice_behind (names_of (take p es)) (names_of (drop p es)) ≡ cond b (Some p) (twice_behind (names_of (take (p + 1) es)) (names_of (drop (p + 1) es)))
 twice-at es p e b l h k =
     let next : suc p ≡ p + 1 = omega arith in
+    let front : List RulesetName = names_of (take p es) in
     let here : drop p es ≡ e ∷ drop (p + 1) es = drop-cons es p e l ∙ ap (λ (x : Entry). x ∷ drop (suc p) es) (sym h) ∙ ap (λ (n : ℕ). e ∷ drop n es) next in
-    let any : is_named (names_of (take p es)) e.name ≡ b = any-names e.name (take p es) ∙ k in
-    let front : names_of (take p es) ++ e.name ∷ [] ≡ names_of (take (p + 1) es) =
+    let more : front ++ e.name ∷ [] ≡ names_of (take (p + 1) es) =
     sym (map-append (λ (x : Entry). x.name) (take p es) (e ∷ [])) ∙ ap (λ (x : Entry). names_of (take p es ++ x ∷ [])) h ∙ ap (λ (xs : List Entry). names_of xs) (sym (take-suc es p e l)) ∙ ap (λ (n : ℕ). names_of (take n es)) next in
-    ap (λ (xs : List Entry). twice_from (names_of (take p es)) p xs) here
-    ∙ ap (λ (x : Bool). cond x (Some p) (twice_from (names_of (take p es) ++ e.name ∷ []) (p + 1) (drop (p + 1) es))) any
-    ∙ ap (λ (ns : List RulesetName). cond b (Some p) (twice_from ns (p + 1) (drop (p + 1) es))) front
+    let long : length front ≡ p = length-map (take p es) (λ (x : Entry). x.name) ∙ length-take-le p es (omega (arith, l)) in
+    ap (λ (xs : List Entry). twice_behind front (names_of xs)) here
+    ∙ ap (λ (x : Bool). cond x (Some (length front)) (twice_behind (front ++ e.name ∷ []) (names_of (drop (p + 1) es)))) (any-of (λ (x : Entry). x.name) (take p es) e.name ∙ k)
+    ∙ ap (λ (n : ℕ). cond b (Some n) (twice_behind (front ++ e.name ∷ []) (names_of (drop (p + 1) es)))) long
+    ∙ ap (λ (ns : List RulesetName). cond b (Some p) (twice_behind ns (names_of (drop (p + 1) es)))) more
+
+-- ---- what is found
+
+-- one name behind
+named-behind : (ns : List RulesetName) (p q : RulesetName) → is_named ns q ≡ false → same_name p q ≡ false → is_named (ns ++ p ∷ []) q ≡ false
+named-behind ns p q h k = list_any-append (λ n. same_name n q) ns (p ∷ []) ∙ ap (λ (b : Bool). b || is_named (p ∷ []) q) h ∙ ap (λ (b : Bool). b || false) k
+
+distinct-behind : (ns : List RulesetName) (p : RulesetName) → IsDistinct ns → is_named ns p ≡ false → IsDistinct (ns ++ p ∷ [])
+distinct-behind [] p d h = (refl, tt)
+distinct-behind (n ∷ ns) p d h =
+    let other : (same_name n p ≡ false) × (is_named ns p ≡ false) = neither (same_name n p) (is_named ns p) h in
+    (named-behind ns p n d.0 (names_alike.symm p n ∙ other.0), distinct-behind ns p d.1 other.1)
+
+found_by : (front : List RulesetName) (n : RulesetName) (ns : List RulesetName) (place : ℕ) (b : Bool) → is_named front n ≡ b → IsDistinct front → cond b (Some (length front)) (twice_behind (front ++ n ∷ []) ns) ≡ Some place
+    → (IsDistinct (front ++ n ∷ []) → twice_behind (front ++ n ∷ []) ns ≡ Some place → IsFirstAgain ((front ++ n ∷ []) ++ ns) place) → IsFirstAgain (front ++ n ∷ ns) place
+found_by front n ns place true k d h later = record { before = front; name = n; behind = ns; all = refl; placed = cc (h); again = k; once = d }
+found_by front n ns place false k d h later = subst (λ (l : List RulesetName). IsFirstAgain l place) (append_assoc front (n ∷ []) ns) (later (distinct-behind front n d k) h)
+
+found : (front ns : List RulesetName) (place : ℕ) → IsDistinct front → twice_behind front ns ≡ Some place → IsFirstAgain (front ++ ns) place
+found front [] place d h = absurd (cc (h))
+found front (n ∷ ns) place d h = found_by front n ns place (is_named front n) refl d h (λ d' h'. found (front ++ n ∷ []) ns place d' h')
+
+not_found_by : (front : List RulesetName) (n : RulesetName) (ns : List RulesetName) (b : Bool) → is_named front n ≡ b → IsDistinct front → cond b (Some (length front)) (twice_behind (front ++ n ∷ []) ns) ≡ None
+    → (IsDistinct (front ++ n ∷ []) → twice_behind (front ++ n ∷ []) ns ≡ None → IsDistinct ((front ++ n ∷ []) ++ ns)) → IsDistinct (front ++ n ∷ ns)
+not_found_by front n ns true k d h later = absurd (cc (h))
+not_found_by front n ns false k d h later = subst IsDistinct (append_assoc front (n ∷ []) ns) (later (distinct-behind front n d k) h)
+
+not_found : (front ns : List RulesetName) → IsDistinct front → twice_behind front ns ≡ None → IsDistinct (front ++ ns)
+not_found front [] d h = subst IsDistinct (sym (append-nil front)) d
+not_found front (n ∷ ns) d h = not_found_by front n ns (is_named front n) refl d h (λ d' h'. not_found (front ++ n ∷ []) ns d' h')
+
+pub twice_is_first_again : TwiceIsFirstAgain
+twice_is_first_again entries place h = found [] (names_of entries) place tt h
+
+pub otherwise_once : OtherwiseOnce
+otherwise_once entries h = not_found [] (names_of entries) tt h
+
+-- ---- numbered tickets are given once
+
+other-count : (a b : Bool) → (b ≡ true → ⊥) → (a && b) ≡ false
+other-count true true h = absurd (h refl)
+other-count true false h = refl
+other-count false b h = refl
+
+later-are-others : (epoch count n : ℕ) (t : Ticket) → t.count < count → list_any (λ u. same_ticket u t) (tickets_from epoch count n) ≡ false
+later-are-others epoch count zero t h = refl
+later-are-others epoch count (suc n) t h =
+    let other : same_ticket (ticket epoch count) t ≡ false = other-count (epoch == t.epoch) (count == t.count) (λ e. let same : count ≡ t.count = eqb-true count t.count e in omega (arith, same, h)) in
+    ap (λ (b : Bool). b || list_any (λ u. same_ticket u t) (tickets_from epoch (count + 1) n)) other ∙ later-are-others epoch (count + 1) n t (omega (arith, h))
+
+pub gives_each_once : GivesEachOnce
+gives_each_once epoch count zero = tt
+gives_each_once epoch count (suc n) = (later-are-others epoch (count + 1) n (ticket epoch count) (omega arith), gives_each_once epoch (count + 1) n)

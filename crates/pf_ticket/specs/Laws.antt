@@ -1,51 +1,80 @@
 -- What follows from the definitions, as law functions promise it.
-use Rattle.std.specs.Prelude.{◌≡◌, ℕ, ◌&&◌, true, false, cond, List, [], ◌∷◌, ◌++◌, length, flat_map, Some, None}
+use Rattle.std.specs.Prelude.{◌≡◌, ℕ, ◌+◌, ◌≤◌, ◌&&◌, Bool, true, false, cond, List, [], ◌∷◌, ◌++◌, length, map, flat_map, is_some, Some, None, Ok}
+use Rattle.std.specs.List.{list_any}
 use Rattle.pf_rule.specs.Rules.{PlainRule}
+use Rattle.pf_anchor.specs.declared.limits.TheConstants.{RULE_LIMIT, RULESET_LIMIT}
 use Rattle.pf_ticket.specs.declared.entry.Entry.{Entry}
+use Rattle.pf_ticket.specs.declared.limits.TheConstants.{LAST_COUNT}
 use Rattle.pf_ticket.specs.declared.name.RulesetName.{RulesetName}
 use Rattle.pf_ticket.specs.declared.ticket.Ticket.{Ticket}
-use Rattle.std.specs.List.{list_any}
-use Rattle.pf_ticket.specs.Names.{filter_at, same_name, same_ticket, is_named, names_of, tickets_from}
-use Rattle.pf_ticket.specs.Mentions.{Mention, gave, added, switched, dropped, gives, rules_in, offered_with, touches, valid_ticket, nothing_for, content, tickets_given, next_count, AreNumbered, AddsAreKnown, open_rulesets, opened_with, facts}
-use Rattle.pf_ticket.specs.Tickets.{Open, Agrees, IsDistinct, facts_in}
-use Rattle.pf_ticket.specs.Replies.{twice_in}
+use Rattle.pf_ticket.specs.declared.ticket.TicketRange.{TicketRange}
+use Rattle.pf_ticket.specs.Names.{filter_at, same_name, same_ticket, is_named, names_of, tickets_from, tickets_of, IsDistinct}
+use Rattle.pf_ticket.specs.Tickets.{nothing_for, rules_in, offer_at, Open, fresh, next_ticket, open_rulesets, valid_ticket, content}
+use Rattle.pf_ticket.specs.Mentions.{Mention, gave, added, switched, dropped, named_in, moved, after, opened, gives, switches, drops}
+use Rattle.pf_ticket.specs.Replies.{twice_in, begin_reply, add_reply}
 
--- nothing here touches a ruleset whose valid ticket is this one
+-- ---- which ticket is valid, and what is offered with it
+
+-- whether a mention touches a ruleset whose valid ticket is this one
+abbrev pub touches : RulesetName → Ticket → Mention → Bool
+touches name t (gave n) = same_name n name
+touches name t (added n u r) = false
+touches name t (switched n) = same_name n name
+touches name t (dropped n u) = same_name n name && same_ticket t u
+
 abbrev pub AreQuiet : RulesetName → Ticket → List Mention → Type 0
 AreQuiet name t [] = Unit {0}
-AreQuiet name t (m ∷ ms) = (touches name (Some t) m ≡ false) × AreQuiet name t ms
+AreQuiet name t (m ∷ ms) = (touches name t m ≡ false) × AreQuiet name t ms
 
--- the latest mention that touched a ruleset is a begin's, which gave it this ticket
-pub record IsGivenLast (ms : List Mention) (name : RulesetName) (t : Ticket) : Type 0 where
+-- of the mentions since this, the latest that touched a ruleset is a begin's, which gave it this ticket
+pub record IsGivenLast (first : Open) (ms : List Mention) (name : RulesetName) (t : Ticket) : Type 0 where
   pub before : List Mention
   pub given : RulesetName
   pub behind : List Mention
-  pub all : ms ≡ before ++ gave given t ∷ behind
+  pub all : ms ≡ before ++ gave given ∷ behind
   pub same : same_name given name ≡ true
+  pub ticket : t ≡ next_ticket (after first before)
   pub quiet : AreQuiet name t behind
 
 -- that ticket is the valid one, and no other
 abbrev pub ValidIsGivenLast : Type 0
-ValidIsGivenLast = (ms : List Mention) (name : RulesetName) (t : Ticket) → valid_ticket ms name ≡ Some t → IsGivenLast ms name t
+ValidIsGivenLast = (epoch : ℕ) (ms : List Mention) (name : RulesetName) (t : Ticket) → valid_ticket (opened epoch ms) name ≡ Some t → IsGivenLast (fresh epoch) ms name t
 
 abbrev pub GivenLastIsValid : Type 0
-GivenLastIsValid = (ms : List Mention) (name : RulesetName) (t : Ticket) → IsGivenLast ms name t → valid_ticket ms name ≡ Some t
-
--- a begin with the next tickets
-abbrev pub begun : ℕ → List Mention → List RulesetName → List Mention
-begun epoch ms names = ms ++ gives names (tickets_from epoch (next_count ms) (length names))
+GivenLastIsValid = (epoch : ℕ) (ms : List Mention) (name : RulesetName) (t : Ticket) → IsGivenLast (fresh epoch) ms name t → valid_ticket (opened epoch ms) name ≡ Some t
 
 -- with a new ticket nothing is offered yet
 abbrev pub StartsWithNothing : Type 0
-StartsWithNothing = (epoch : ℕ) (ms : List Mention) (names : List RulesetName) (name : RulesetName) → AreNumbered epoch ms → AddsAreKnown ms → is_named names name ≡ true → content (begun epoch ms names) name ≡ nothing_for name.kind
+StartsWithNothing = (t : Open) (names : List RulesetName) (name : RulesetName) → is_named names name ≡ true → content (after t (gives names)) name ≡ nothing_for name.kind
 
--- how many rulesets would have a valid ticket is how many have one after that begin
+-- the rule that a mention adds for a ruleset with a ticket
+abbrev pub rules_added : RulesetName → Ticket → Mention → List PlainRule
+rules_added name t (gave n) = []
+rules_added name t (added n u r) = cond (same_name n name && same_ticket t u) (r ∷ []) []
+rules_added name t (switched n) = []
+rules_added name t (dropped n u) = []
+
+-- the rules of the accepted adds with the valid ticket are offered, in order
+abbrev pub OffersTheAdded : Type 0
+OffersTheAdded = (epoch : ℕ) (ms : List Mention) (name : RulesetName) (t : Ticket) → (given : IsGivenLast (fresh epoch) ms name t) → rules_in (content (opened epoch ms) name) ≡ flat_map (rules_added name t) given.behind
+
+-- a mention leaves the offers of the rulesets that it doesn't name
+abbrev pub LeavesTheOthers : Type 0
+LeavesTheOthers = (t : Open) (ms : List Mention) (name : RulesetName) → is_named (map named_in ms) name ≡ false → offer_at (after t ms).offers name ≡ offer_at t.offers name
+
+-- a commit takes out what is offered for the rulesets that it names, and nothing else
+abbrev pub CommitTakesOut : Type 0
+CommitTakesOut = (t : Open) (names : List RulesetName) (name : RulesetName) → offer_at (after t (switches names)).offers name ≡ cond (is_named names name) None (offer_at t.offers name)
+
+-- ---- how many tickets and rulesets
+
+-- each ruleset with a valid ticket stands once among the open ones, and no other does
+pub record AreCounted (t : Open) : Type 0 where
+  pub once : IsDistinct (open_rulesets t)
+  pub valid : (name : RulesetName) → is_named (open_rulesets t) name ≡ is_some (valid_ticket t name)
+
 abbrev pub CountsTheOpen : Type 0
-CountsTheOpen = (epoch : ℕ) (ms : List Mention) (names : List RulesetName) → opened_with ms names ≡ length (open_rulesets (begun epoch ms names))
-
--- replies read the same off the open transactions and off the mentions that they agree with
-abbrev pub AgreeingIsTold : Type 0
-AgreeingIsTold = (t : Open) (ms : List Mention) → Agrees t ms → facts_in t ≡ facts t.epoch ms
+CountsTheOpen = (epoch : ℕ) (ms : List Mention) → AreCounted (opened epoch ms)
 
 -- no ticket stands twice
 abbrev pub AreOnce : List Ticket → Type 0
@@ -54,32 +83,51 @@ AreOnce (t ∷ ts) = (list_any (λ u. same_ticket u t) ts ≡ false) × AreOnce 
 
 -- tickets that are numbered are given once
 abbrev pub GivesEachOnce : Type 0
-GivesEachOnce = (epoch : ℕ) (ms : List Mention) → AreNumbered epoch ms → AreOnce (tickets_given ms)
+GivesEachOnce = (epoch count number : ℕ) → AreOnce (tickets_from epoch count number)
 
--- the rule that a mention adds for a ruleset with a ticket
-abbrev pub rules_added : RulesetName → Ticket → Mention → List PlainRule
-rules_added name t (gave n u) = []
-rules_added name t (added n u r) = cond (same_name n name && same_ticket u t) (r ∷ []) []
-rules_added name t (switched n) = []
-rules_added name t (dropped n u) = []
+-- so many tickets were given
+pub record AreGiven (number : ℕ) (t new : Open) : Type 0 where
+  pub epoch : new.epoch ≡ t.epoch
+  pub next : new.next ≡ t.next + number
 
--- for a filter ruleset the rules of the accepted adds with a ticket are offered, in order
-abbrev pub OffersTheAdded : Type 0
-OffersTheAdded = (ms : List Mention) (p : List ℕ) (t : Ticket) → rules_in (offered_with ms (filter_at p) t) ≡ flat_map (rules_added (filter_at p) t) ms
+-- a begin gives as many as it names rulesets, and tells them; no other step gives one
+pub record BeginsGive : Type 0 where
+  pub told : (t : Open) (names : List RulesetName) (range : TicketRange) → begin_reply t names ≡ Ok range → tickets_of range ≡ tickets_from t.epoch t.next (length names)
+  pub begin : (t : Open) (names : List RulesetName) → AreGiven (length names) t (after t (gives names))
+  pub add : (t : Open) (n : RulesetName) (u : Ticket) (r : PlainRule) → AreGiven 0 t (moved t (added n u r))
+  pub commit : (t : Open) (names : List RulesetName) → AreGiven 0 t (after t (switches names))
+  pub rollback : (t : Open) (entries : List Entry) → AreGiven 0 t (after t (drops entries))
 
--- the entry at this place names a ruleset that one before it names, and those before it name each ruleset once
-pub record IsFirstAgain (entries : List Entry) (place : ℕ) : Type 0 where
-  pub before : List Entry
-  pub entry : Entry
-  pub behind : List Entry
-  pub all : entries ≡ before ++ entry ∷ behind
+-- ---- the limits
+
+pub record IsWithin (t : Open) : Type 0 where
+  pub given : t.next ≤ LAST_COUNT + 1
+  pub opened : length t.offers ≤ RULESET_LIMIT
+  pub offered : (name : RulesetName) → length (rules_in (content t name)) ≤ RULE_LIMIT
+
+-- they hold at first, and after each step that isn't refused
+pub record KeepsTheLimits : Type 0 where
+  pub first : (epoch : ℕ) → IsWithin (fresh epoch)
+  pub begin : (t : Open) (names : List RulesetName) (range : TicketRange) → begin_reply t names ≡ Ok range → IsWithin t → IsWithin (after t (gives names))
+  pub add : (t : Open) (p : List ℕ) (u : Ticket) (r : PlainRule) → add_reply t (filter_at p) u ≡ Ok tt → IsWithin t → IsWithin (moved t (added (filter_at p) u r))
+  pub commit : (t : Open) (names : List RulesetName) → IsWithin t → IsWithin (after t (switches names))
+  pub rollback : (t : Open) (entries : List Entry) → IsWithin t → IsWithin (after t (drops entries))
+
+-- ---- entries
+
+-- the ruleset at this place is named before it, and those before it are named once each
+pub record IsFirstAgain (names : List RulesetName) (place : ℕ) : Type 0 where
+  pub before : List RulesetName
+  pub name : RulesetName
+  pub behind : List RulesetName
+  pub all : names ≡ before ++ name ∷ behind
   pub placed : length before ≡ place
-  pub again : is_named (names_of before) entry.name ≡ true
-  pub once : IsDistinct (names_of before)
+  pub again : is_named before name ≡ true
+  pub once : IsDistinct before
 
 -- where a ruleset is named twice, that place is the first at which one is named again
 abbrev pub TwiceIsFirstAgain : Type 0
-TwiceIsFirstAgain = (entries : List Entry) (place : ℕ) → twice_in entries ≡ Some place → IsFirstAgain entries place
+TwiceIsFirstAgain = (entries : List Entry) (place : ℕ) → twice_in entries ≡ Some place → IsFirstAgain (names_of entries) place
 
 -- and otherwise each ruleset is named once
 abbrev pub OtherwiseOnce : Type 0

@@ -1,5 +1,5 @@
 -- Names of rulesets, and tickets (pf(4), DIOCXBEGIN). That a ticket is an epoch and a count, with one counter for all rulesets, is own.
-use Rattle.std.specs.Prelude.{ℕ, zero, suc, ◌+◌, ◌==◌, ◌&&◌, Bool, true, false, cond, List, [], ◌∷◌, ◌++◌, map, Option, Some, None}
+use Rattle.std.specs.Prelude.{◌≡◌, ℕ, zero, suc, ◌+◌, ◌==◌, ◌&&◌, Bool, true, false, List, [], ◌∷◌, map, Option, Some, None}
 use Rattle.std.specs.List.{list_any}
 use Rattle.pf_anchor.specs.Rulesets.{same_path}
 use Rattle.pf_ticket.specs.declared.entry.Entry.{Entry}
@@ -22,10 +22,6 @@ same_name a b = same_kind a.kind b.kind && same_path a.path b.path
 abbrev pub is_named : List RulesetName → RulesetName → Bool
 is_named names name = list_any (λ n. same_name n name) names
 
--- one more name, unless it is among them
-abbrev pub with_name : List RulesetName → RulesetName → List RulesetName
-with_name names n = cond (is_named names n) names (names ++ n ∷ [])
-
 abbrev pub names_of : List Entry → List RulesetName
 names_of entries = map (λ e. e.name) entries
 
@@ -47,3 +43,8 @@ tickets_from epoch count (suc n) = ticket epoch count ∷ tickets_from epoch (co
 
 abbrev pub tickets_of : TicketRange → List Ticket
 tickets_of r = tickets_from r.first.epoch r.first.count r.number
+
+-- no ruleset is named twice
+abbrev pub IsDistinct : List RulesetName → Type 0
+IsDistinct [] = Unit {0}
+IsDistinct (n ∷ ns) = (is_named ns n ≡ false) × IsDistinct ns

@@ -9,8 +9,9 @@ use Rattle.pf_ticket.specs.declared.refusal.TicketRefusal.{TicketRefusal}
 use Rattle.pf_ticket.specs.declared.refusal.TicketRefusal.TheVariants.{BadCount, Twice, Busy, RulesetFull, TooManyRulesets, TicketsExhausted, Memory}
 use Rattle.pf_ticket.specs.declared.ticket.Ticket.{Ticket}
 use Rattle.pf_ticket.specs.declared.ticket.TicketRange.{TicketRange}
-use Rattle.pf_ticket.specs.Names.{is_named, ticket, is_ticket}
-use Rattle.pf_ticket.specs.Mentions.{rules_in, Facts}
+use Rattle.pf_ticket.specs.Names.{is_named, names_of}
+use Rattle.pf_ticket.specs.Tickets.{rules_in, Open, next_ticket, content, is_valid}
+use Rattle.pf_ticket.specs.Mentions.{gives, after}
 
 -- ---- conditions
 
@@ -18,21 +19,18 @@ use Rattle.pf_ticket.specs.Mentions.{rules_in, Facts}
 abbrev pub bad_count : ℕ → Bool
 bad_count n = (n == 0) || nat_lt ENTRY_LIMIT n
 
--- the first entry, from this place on, that names a ruleset named before it
-abbrev pub twice_from : List RulesetName → ℕ → List Entry → Option ℕ
-twice_from before n [] = None
-twice_from before n (e ∷ es) = cond (is_named before e.name) (Some n) (twice_from (before ++ e.name ∷ []) (n + 1) es)
+-- the first of these rulesets, behind those, that is named before it
+abbrev pub twice_behind : List RulesetName → List RulesetName → Option ℕ
+twice_behind before [] = None
+twice_behind before (n ∷ ns) = cond (is_named before n) (Some (length before)) (twice_behind (before ++ n ∷ []) ns)
 
+-- the first entry that names a ruleset named before it
 abbrev pub twice_in : List Entry → Option ℕ
-twice_in entries = twice_from [] 0 entries
-
--- a ticket is valid for a ruleset where it is the ruleset's valid one
-abbrev pub is_valid : (RulesetName → Option Ticket) → RulesetName → Ticket → Bool
-is_valid valid name t = is_ticket (valid name) t
+twice_in entries = twice_behind [] (names_of entries)
 
 -- the first entry whose ticket isn't valid
-abbrev pub busy_in : (RulesetName → Option Ticket) → List Entry → Option ℕ
-busy_in valid entries = position (λ e. not (is_valid valid e.name e.ticket)) entries
+abbrev pub busy_in : Open → List Entry → Option ℕ
+busy_in t entries = position (λ e. not (is_valid t e.name e.ticket)) entries
 
 -- a refusal at a place, where there is one
 abbrev pub refused_at : (ℕ → TicketRefusal) → Option ℕ → Result (Unit {0}) TicketRefusal
@@ -47,20 +45,20 @@ and_then (Err e) next = Err e
 -- ---- one small reply for each step. Each line is one refusal with its condition, in their order
 
 -- the next tickets, so many
-abbrev pub range : Facts → ℕ → TicketRange
-range f n = record { first = ticket f.epoch f.next; number = n }
+abbrev pub range : Open → ℕ → TicketRange
+range t n = record { first = next_ticket t; number = n }
 
-abbrev pub begin_reply : Facts → List RulesetName → Result TicketRange TicketRefusal
-begin_reply f names =
+abbrev pub begin_reply : Open → List RulesetName → Result TicketRange TicketRefusal
+begin_reply t names =
     if bad_count (length names) then Err BadCount else
-    (if nat_lt RULESET_LIMIT (f.opened names) then Err TooManyRulesets else
-    (if nat_lt LAST_COUNT (f.next + length names - 1) then Err TicketsExhausted else
-    Ok (range f (length names))))
+    (if nat_lt RULESET_LIMIT (length (after t (gives names)).offers) then Err TooManyRulesets else
+    (if nat_lt LAST_COUNT (t.next + length names - 1) then Err TicketsExhausted else
+    Ok (range t (length names))))
 
-abbrev pub add_reply : Facts → RulesetName → Ticket → Result (Unit {0}) TicketRefusal
-add_reply f name t =
-    if not (is_valid f.valid name t) then Err (Busy 0) else
-    (if nat_le RULE_LIMIT (length (rules_in (f.offered name))) then Err RulesetFull else
+abbrev pub add_reply : Open → RulesetName → Ticket → Result (Unit {0}) TicketRefusal
+add_reply t name u =
+    if not (is_valid t name u) then Err (Busy 0) else
+    (if nat_le RULE_LIMIT (length (rules_in (content t name))) then Err RulesetFull else
     Ok tt)
 
 -- the entries of a commit or a rollback by themselves, which is all that a rollback is refused for
@@ -68,8 +66,8 @@ abbrev pub list_check : List Entry → Result (Unit {0}) TicketRefusal
 list_check entries = if bad_count (length entries) then Err BadCount else refused_at (λ i. Twice i) (twice_in entries)
 
 -- and then with their tickets
-abbrev pub commit_check : (RulesetName → Option Ticket) → List Entry → Result (Unit {0}) TicketRefusal
-commit_check valid entries = and_then (list_check entries) (refused_at (λ i. Busy i) (busy_in valid entries))
+abbrev pub commit_check : Open → List Entry → Result (Unit {0}) TicketRefusal
+commit_check t entries = and_then (list_check entries) (refused_at (λ i. Busy i) (busy_in t entries))
 
 -- ---- memory
 

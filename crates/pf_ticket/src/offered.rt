@@ -1,7 +1,7 @@
 //! What is offered for a ruleset.
 ghost use Rattle.std.specs.Prelude.{◌≡◌, ◌<◌, length, IfOk, OnOk, OnErr};
 ghost use Rattle.pf_anchor.specs.declared.limits.TheConstants.{RULE_LIMIT};
-ghost use Rattle.pf_ticket.specs.Mentions.{nothing_for, rules_in, with_rule};
+ghost use Rattle.pf_ticket.specs.Tickets.{nothing_for, rules_in, with_rule};
 
 use crate::name::RulesetKind;
 use pf_anchor::RuleList;

@@ -1,12 +1,11 @@
 //! The tickets that are valid, and what is offered with them.
-ghost use Rattle.std.specs.Prelude.{◌≡◌, ◌<◌, ◌≤◌, List, [], ◌∷◌, ◌++◌, IfOk, OnOk, OnErr, IfSome, IfNone, length, filter, fold, get_or, vec_len, vec_capacity};
+ghost use Rattle.std.specs.Prelude.{◌≡◌, ◌<◌, ◌≤◌, ◌+◌, ◌||◌, not, [], ◌∷◌, IfOk, OnOk, OnErr, IfSome, IfNone, None, length, get_or, vec_len, vec_capacity};
 ghost use Rattle.std.specs.List.{list_any};
 ghost use Rattle.pf_anchor.specs.declared.limits.TheConstants.{RULE_LIMIT};
-ghost use Rattle.pf_ticket.specs.Mentions.{Mention, gives, switches, drops, added, rules_in};
-ghost use Rattle.pf_ticket.specs.Names.{filter_at, is_named, same_name, tickets_of};
-ghost use Rattle.pf_ticket.specs.Offers.{without, take_out, add_to, IsPlace, IsNowhere};
-ghost use Rattle.pf_ticket.specs.Replies.{bad_count, twice_in, is_valid, busy_in, list_check, commit_check, begin_reply, add_reply, IsReply};
-ghost use Rattle.pf_ticket.specs.Tickets.{Offer, Agrees, ticket_at, offered_at, facts_in};
+ghost use Rattle.pf_ticket.specs.Mentions.{added, moved, take_out, after, gives, switches, drops};
+ghost use Rattle.pf_ticket.specs.Names.{filter_at, is_named, same_name, names_of};
+ghost use Rattle.pf_ticket.specs.Replies.{bad_count, twice_in, busy_in, list_check, commit_check, begin_reply, add_reply, IsReply};
+ghost use Rattle.pf_ticket.specs.Tickets.{Offer, offer_at, rules_in, put, without, IsPlace, fresh, content, is_valid};
 
 use crate::entry::Entry;
 use crate::limits::{ENTRY_LIMIT, LAST_COUNT};
@@ -102,20 +101,51 @@ fn check_list(entries: &[Entry]) -> Result<(), TicketRefusal>
     }
 }
 
-// Takes a ruleset's slot out.
-fn leave_out(slots: &mut Vec<Slot>, name: &RulesetName)
-    ensures items { slots.new.items ≡ without name.now slots.old.items }
-    ensures len { vec_len slots.new ≤ vec_len slots.old }
+// The place of a ruleset's slot.
+fn place_of(slots: &[Slot], name: &RulesetName) -> Option<usize>
+    ensures within { IfSome result (λ i. i < length slots.now) }
+    ensures some { IfSome result (λ i. (o : Offer) → o ≡ get_or slots.now i o → IsPlace name.now slots.now i o) }
+    ensures none { IfNone result (offer_at slots.now name.now ≡ None) }
+{
+    for (place, slot) in slots.iter().enumerate() {
+        if slot.name.same(name) {
+            return Some(place);
+        }
+    }
+    None
+}
+
+fn has_slot(slots: &[Slot], name: &RulesetName) -> bool
+    ensures { result ≡ list_any (λ o. same_name o.name name.now) slots.now }
+{
+    slots.iter().any(|slot| slot.name.same(name))
+}
+
+// Whether a ruleset has no slot, and isn't among those named before it.
+fn is_new(slots: &[Slot], before: &[RulesetName], name: &RulesetName) -> bool
+    ensures { result ≡ not (list_any (λ o. same_name o.name name.now) slots.now || is_named before.now name.now) }
+{
+    !has_slot(slots, name) && !is_named(before, name)
+}
+
+// Puts a slot in place of the one that its ruleset had, or else behind the others.
+#[tactic(auto, using(crate::proofs::Offers::put_end))]
+fn put(slots: &mut Vec<Slot>, slot: Slot)
+    requires { vec_len slots.old < vec_capacity slots.old }
+    ensures items { slots.new.items ≡ put slot slots.old.items }
+    ensures len { vec_len slots.new ≤ vec_len slots.old + 1 }
     ensures capacity { vec_capacity slots.new ≡ vec_capacity slots.old }
 {
-    slots.retain(|slot| !slot.name.same(name));
+    match place_of(slots, &slot.name) {
+        Some(place) => slots[place] = slot,
+        None => slots.push_reserved(slot),
+    }
 }
 
 impl Tickets {
     /// An opening's tickets: none yet. It takes no memory.
     pub fn new(alloc: Global, epoch: u32) -> Tickets
-        ensures epoch { result.epoch ≡ epoch }
-        ensures agrees { Agrees result [] }
+        ensures { result ≡ fresh epoch }
     {
         Tickets {
             alloc,
@@ -125,32 +155,18 @@ impl Tickets {
         }
     }
 
-    // The place of a ruleset's slot.
-    fn place(&self, name: &RulesetName) -> Option<usize>
-        ensures within { IfSome result (λ i. i < length self.now.offers) }
-        ensures some { IfSome result (λ i. (o : Offer) → o ≡ get_or self.now.offers i o → IsPlace name.now self.now.offers i o) }
-        ensures none { IfNone result (IsNowhere name.now self.now.offers) }
-    {
-        for (place, slot) in self.slots.iter().enumerate() {
-            if slot.name.same(name) {
-                return Some(place);
-            }
-        }
-        None
-    }
-
     // Whether a ticket is the ruleset's valid one.
     fn is_valid(&self, name: &RulesetName, ticket: Ticket) -> bool
-        ensures { result ≡ is_valid (ticket_at self.now.offers) name.now ticket }
+        ensures { result ≡ is_valid self.now name.now ticket }
     {
-        match self.place(name) {
+        match place_of(&self.slots, name) {
             Some(place) => self.slots[place].ticket == ticket,
             None => false,
         }
     }
 
     fn first_busy(&self, entries: &[Entry]) -> Option<usize>
-        ensures { result ≡ busy_in (ticket_at self.now.offers) entries.now }
+        ensures { result ≡ busy_in self.now entries.now }
     {
         entries
             .iter()
@@ -159,30 +175,28 @@ impl Tickets {
 
     // How many rulesets have a valid ticket once these are given one too.
     fn opened_with(&self, names: &[RulesetName]) -> usize
-        ensures { result ≡ (facts_in self.now).opened names.now }
+        ensures { result ≡ length (after self.now (gives names.now)).offers }
     {
         let mut count = self.slots.len();
         for (place, name) in names.iter().enumerate() {
-            if self.place(name).is_none() && !is_named(&names[..place], name) {
-                count += 1;
-            }
+            count += usize::from(is_new(&self.slots, &names[..place], name));
         }
         count
     }
 
     // Voids a ruleset's ticket.
-    fn take_out(&mut self, out: &RulesetName)
-        ensures { self.new ≡ take_out self.old out.now }
+    fn take_out(&mut self, name: &RulesetName)
+        ensures { self.new ≡ take_out self.old name.now }
     {
-        leave_out(&mut self.slots, out);
+        self.slots.retain(|slot| !slot.name.same(name));
     }
 
     // Appends a rule to the ruleset's offer, which stands at this place.
     fn grow(&mut self, name: &RulesetName, place: usize, rule: Rule) -> Result<(), AllocError>
         requires within { place < length self.old.offers }
         requires stands { (o : Offer) → o ≡ get_or self.old.offers place o → IsPlace name.now self.old.offers place o }
-        requires room { length (rules_in (offered_at self.old.offers name.now)) < RULE_LIMIT }
-        ensures ok { OnOk result (self.new ≡ add_to self.old name.now rule) }
+        requires room { length (rules_in (content self.old name.now)) < RULE_LIMIT }
+        ensures ok { OnOk result ((o : Offer) → o ≡ get_or self.old.offers place o → self.new ≡ moved self.old (added name.now o.ticket rule)) }
         ensures err { OnErr result (self.new ≡ self.old) }
     {
         self.slots[place].offered.add(self.alloc, rule)
@@ -190,10 +204,9 @@ impl Tickets {
 
     /// Gives a new ticket for each ruleset in turn, with nothing offered yet. After a refusal all is as before.
     pub fn begin(&mut self, names: &[RulesetName]) -> Result<TicketRange, TicketRefusal>
-        ensures reply { IsReply result (begin_reply (facts_in self.old) names.now) }
-        ensures agrees { (ms : List Mention) → Agrees self.old ms → IfOk result (λ g. Agrees self.new (ms ++ gives names.now (tickets_of g))) }
+        ensures reply { IsReply result (begin_reply self.old names.now) }
+        ensures ok { OnOk result (self.new ≡ after self.old (gives names.now)) }
         ensures err { OnErr result (self.new ≡ self.old) }
-        ensures epoch { self.new.epoch ≡ self.old.epoch }
     {
         if is_bad_count(names.len()) {
             return Err(TicketRefusal::BadCount);
@@ -211,15 +224,15 @@ impl Tickets {
             count: self.next as u32,
         };
         for name in names {
-            leave_out(&mut self.slots, name);
-            self.slots.push_reserved(Slot {
+            let slot = Slot {
                 name: name.copied(),
                 ticket: Ticket {
                     epoch: self.epoch,
                     count: self.next as u32,
                 },
                 offered: Offered::nothing(name.kind),
-            });
+            };
+            put(&mut self.slots, slot);
             self.next += 1;
         }
         Ok(TicketRange { first, number })
@@ -227,13 +240,12 @@ impl Tickets {
 
     /// Appends a rule to the filter ruleset that is offered with a valid ticket. After a refusal all is as before.
     pub fn add_rule(&mut self, path: &Path, ticket: Ticket, rule: Rule) -> Result<(), TicketRefusal>
-        ensures reply { IsReply result (add_reply (facts_in self.old) (filter_at path.now) ticket) }
-        ensures agrees { (ms : List Mention) → Agrees self.old ms → OnOk result (Agrees self.new (ms ++ added (filter_at path.now) ticket rule ∷ [])) }
+        ensures reply { IsReply result (add_reply self.old (filter_at path.now) ticket) }
+        ensures ok { OnOk result (self.new ≡ moved self.old (added (filter_at path.now) ticket rule)) }
         ensures err { OnErr result (self.new ≡ self.old) }
-        ensures epoch { self.new.epoch ≡ self.old.epoch }
     {
         let name = RulesetName::filter(path);
-        let Some(place) = self.place(&name) else {
+        let Some(place) = place_of(&self.slots, &name) else {
             return Err(TicketRefusal::Busy { at: 0 });
         };
         if self.slots[place].ticket != ticket {
@@ -248,7 +260,7 @@ impl Tickets {
 
     /// Whether a commit of these entries may go on. It takes no memory.
     pub fn check_all(&self, entries: &[Entry]) -> Result<(), TicketRefusal>
-        ensures { result ≡ commit_check (ticket_at self.now.offers) entries.now }
+        ensures { result ≡ commit_check self.now entries.now }
     {
         check_list(entries)?;
         match self.first_busy(entries) {
@@ -259,9 +271,9 @@ impl Tickets {
 
     /// What is offered for a ruleset with its valid ticket, shared.
     pub fn contents(&self, name: &RulesetName) -> Result<Offered, AllocError>
-        ensures { IfOk result (λ o. o ≡ offered_at self.now.offers name.now) }
+        ensures { IfOk result (λ o. o ≡ content self.now name.now) }
     {
-        match self.place(name) {
+        match place_of(&self.slots, name) {
             Some(place) => self.slots[place].offered.shared(),
             None => Ok(Offered::nothing(name.kind)),
         }
@@ -270,9 +282,8 @@ impl Tickets {
     /// Drops each of these rulesets whose ticket is valid. After a refusal all is as before. It takes no memory.
     pub fn rollback(&mut self, entries: &[Entry]) -> Result<(), TicketRefusal>
         ensures reply { result ≡ list_check entries.now }
-        ensures agrees { (ms : List Mention) → Agrees self.old ms → OnOk result (Agrees self.new (ms ++ drops entries.now)) }
+        ensures ok { OnOk result (self.new ≡ after self.old (drops entries.now)) }
         ensures err { OnErr result (self.new ≡ self.old) }
-        ensures epoch { self.new.epoch ≡ self.old.epoch }
     {
         check_list(entries)?;
         for entry in entries {
@@ -285,8 +296,7 @@ impl Tickets {
 
     /// Voids the tickets of these rulesets, as a commit does. It takes no memory.
     pub fn take_all(&mut self, names: &[RulesetName])
-        ensures agrees { (ms : List Mention) → Agrees self.old ms → Agrees self.new (ms ++ switches names.now) }
-        ensures epoch { self.new.epoch ≡ self.old.epoch }
+        ensures { self.new ≡ after self.old (switches names.now) }
     {
         for name in names {
             self.take_out(name);

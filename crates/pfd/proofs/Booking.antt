@@ -12,11 +12,15 @@ use Rattle.pf_core.specs.declared.reply.Refusal.TheVariants.{HistoryFull, Memory
 use Rattle.pf_core.specs.declared.reply.Reply.TheVariants.{Answer as Answered, Applied, Refused}
 use Rattle.pf_core.specs.declared.step.Step.{Step}
 use Rattle.pf_core.specs.declared.step.Step.TheVariants.{Done, Wants}
-use Rattle.pf_core.specs.Calls.{Call, call, AgreesWith, legal_step, IsLegalStep}
-use Rattle.pf_core.specs.Edits.{Kept, Edit, applied, after}
+use Rattle.pf_ticket.specs.Tickets.{Open}
+use Rattle.pf_ticket.specs.Mentions.{after as moved_by, switches}
+use Rattle.pf_core.specs.Calls.{call}
+use Rattle.pf_core.specs.Commands.{step_by}
+use Rattle.pf_core.specs.Edits.{Kept, Edit, applied, after, voided_by}
+use Rattle.pf_core.specs.Refusals.{OrMemory}
 use Rattle.pf_core.specs.Pages.{Page, IsFolded, IsAt, Leads}
 use Rattle.pf_core.specs.Wholes.{Whole}
-use Rattle.pf_core.specs.WorldLaws.{wants-mentions}
+use Rattle.pf_core.specs.WorldLaws.{wants_mentions}
 use Rattle.pf_core.specs.Worlds.{Held, upshot, flat, log_of, durable_of, step_in, if_ok, or_refused, due_at, grouped, group_at, due, group_in, LegalReply}
 use Rattle.pf_core.proofs.LongerWorlds.{flat-push, refused-leads}
 use Rattle.pfd.specs.Books.{singles, IsMore, IsUnkept}
@@ -29,15 +33,15 @@ flat-singles (e ∷ es) = ap (λ (l : List Edit). e ∷ l) (flat-singles es)
 abbrev pub with_core : Page → Whole → Page
 with_core b w = record b { whole = w }
 
--- what a step says of a core: it is legal wherever the calls have led
+-- what a step says of a core
 abbrev pub Steps : Page → Command → Result Step Refusal → Type 0
-Steps b c r = (calls : List Call) → AgreesWith b.whole.tickets calls → IsLegalStep r (legal_step b.whole.tickets.epoch calls b.whole.durable c)
+Steps b c r = OrMemory r (step_by b.whole.tickets b.whole.durable c)
 
 -- the step that is taken is the world's
-step-is : (h : Held) (b : Page) (c : Command) (r : Result Step Refusal) → IsAt h b → IsFolded b → Steps b c r → IsLegalStep r (step_in h c)
+step-is : (h : Held) (b : Page) (c : Command) (r : Result Step Refusal) → IsAt h b → IsFolded b → Steps b c r → OrMemory r (step_in h c)
 step-is h b c r at folded steps other =
     let durable : b.whole.durable ≡ durable_of h = folded.durable ∙ ap (λ (k : Kept). after k (flat b.acked)) at.base ∙ ap (λ (l : List (List Edit)). after h.base (flat l)) at.acked in
-    steps h.calls at.calls other ∙ ap (λ (k : ℕ). legal_step k h.calls b.whole.durable c) at.epoch ∙ ap (λ (k : Kept). legal_step h.base.epoch h.calls k c) durable
+    steps other ∙ ap (λ (t : Open). step_by t b.whole.durable c) at.tickets ∙ ap (λ (k : Kept). step_by h.tickets k c) durable
 
 -- ---- nothing is kept
 
@@ -88,8 +92,7 @@ kept-leads h b new c e n o folded none steps more at =
       legal = record { reply = inl kept.reply; shown = more.shown };
       at = record {
         base = more.base ∙ at.base;
-        calls = more.agrees h.calls c n o (wants-mentions h.base.epoch h.calls (durable_of h) c e o n (sym is)) at.calls;
-        epoch = more.epoch ∙ at.epoch;
+        tickets = more.tickets ∙ ap (λ (t : Open). moved_by t (switches (voided_by e))) at.tickets ∙ ap (moved_by h.tickets) (sym (wants_mentions h.tickets (durable_of h) c e o (sym is)));
         acked = more.acked ∙ ap (λ (l : List (List Edit)). l ++ (e ∷ []) ∷ []) at.acked ∙ ap (λ (l : List (List Edit)). h.acked ++ l) (sym kept.group);
         pending = more.pending ∙ at.pending;
         shown = refl;

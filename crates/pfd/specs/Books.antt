@@ -2,19 +2,17 @@
 use Rattle.std.specs.Prelude.{◌≡◌, ℕ, ◌+◌, ◌<◌, ◌≤◌, List, [], ◌∷◌, ◌++◌, length, map, ⊤, Result, Ok, Err}
 use Rattle.std.specs.Arc.{arc_value}
 use Rattle.pf_ticket.specs.declared.refusal.TicketRefusal.{TicketRefusal}
-use Rattle.pf_ticket.specs.Mentions.{switches}
+use Rattle.pf_ticket.specs.Mentions.{after, switches}
 use Rattle.pf_ticket.specs.Replies.{list_check}
 use Rattle.pf_core.specs.declared.command.Command.{Command}
 use Rattle.pf_core.specs.declared.command.Command.TheVariants.{Transact, Ask}
 use Rattle.pf_core.specs.declared.command.Question.TheVariants.{Judge}
 use Rattle.pf_core.specs.declared.command.Transaction.TheVariants.{Rollback}
 use Rattle.pf_core.specs.declared.reply.Answer.TheVariants as answer
-use Rattle.pf_core.specs.declared.reply.Outcome.{Outcome}
 use Rattle.pf_core.specs.declared.reply.Refusal.{Refusal}
 use Rattle.pf_core.specs.declared.reply.Refusal.TheVariants.{HistoryFull, Memory}
 use Rattle.pf_core.specs.declared.reply.Reply.{Reply}
 use Rattle.pf_core.specs.declared.reply.Reply.TheVariants.{Answer, Applied, Refused}
-use Rattle.pf_core.specs.Calls.{Call, call, mentions_of, AgreesWith}
 use Rattle.pf_core.specs.Edits.{Kept, Edit, voided_by, verdict}
 use Rattle.pf_core.specs.Pages.{Page}
 use Rattle.pf_core.specs.Refusals.{refusal_of}
@@ -65,8 +63,7 @@ pub record IsMore (old new : Page) (e : Edit) (seq : ℕ) : Type 0 where
   pub number : seq ≡ length (flat old.acked) + 1
   pub acked : new.acked ≡ old.acked ++ (e ∷ []) ∷ []
   pub shown : new.shown ≡ seq
-  pub agrees : (calls : List Call) (c : Command) (n : ℕ) (o : Outcome) → mentions_of (call c (Applied n o)) ≡ switches (voided_by e) → AgreesWith old.whole.tickets calls → AgreesWith new.whole.tickets (calls ++ call c (Applied n o) ∷ [])
-  pub epoch : new.whole.tickets.epoch ≡ old.whole.tickets.epoch
+  pub tickets : new.whole.tickets ≡ after old.whole.tickets (switches (voided_by e))
   pub base : new.base ≡ old.base
   pub pending : new.pending ≡ old.pending
   pub limit : new.limit ≡ old.limit

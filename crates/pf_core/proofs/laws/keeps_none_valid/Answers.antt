@@ -1,5 +1,5 @@
-use Rattle.pf_core.proofs.Voiding.{keeps-none-valid}
+use Rattle.pf_core.proofs.Leaving.{keeps_none_valid}
 use Rattle.pf_core.proofs.laws.keeps_none_valid.Goals as goal
 
 pub returns : goal.returns
-returns c = keeps-none-valid
+returns c = keeps_none_valid

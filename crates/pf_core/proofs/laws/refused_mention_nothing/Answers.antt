@@ -1,5 +1,5 @@
-use Rattle.pf_core.specs.WorldLaws.{refused-mentions}
+use Rattle.std.proofs.Common.{refl}
 use Rattle.pf_core.proofs.laws.refused_mention_nothing.Goals as goal
 
 pub returns : goal.returns
-returns c = refused-mentions
+returns c = λ command e. refl

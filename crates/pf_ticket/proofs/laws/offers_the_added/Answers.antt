@@ -1,5 +1,5 @@
-use Rattle.pf_ticket.proofs.Adding.{offers-the-added}
+use Rattle.pf_ticket.proofs.Latest.{offers_the_added}
 use Rattle.pf_ticket.proofs.laws.offers_the_added.Goals as goal
 
 pub returns : goal.returns
-returns c = offers-the-added
+returns c = offers_the_added

@@ -1,4 +1,4 @@
-use Rattle.pf_ticket.proofs.Again.{twice_is_first_again, otherwise_once}
+use Rattle.pf_ticket.proofs.Twice.{twice_is_first_again, otherwise_once}
 use Rattle.pf_ticket.proofs.laws.twice_is_the_first_named_again.Goals as goal
 
 pub returns-clause-found : goal.returns-clause-found

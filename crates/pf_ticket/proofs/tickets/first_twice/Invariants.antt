@@ -1,8 +1,8 @@
 use Rattle.std.proofs.Common.{◌≡◌, take, drop}
 use Rattle.pf_ticket.specs.Names.{names_of}
-use Rattle.pf_ticket.specs.Replies.{twice_in, twice_from}
+use Rattle.pf_ticket.specs.Replies.{twice_in, twice_behind}
 use Rattle.pf_ticket.proofs.tickets.first_twice.Given as goal
 
 -- no entry so far names a ruleset named before it
 abbrev pub invariant-loop-place : goal.invariant-loop-place
-invariant-loop-place l = twice_in l.entries ≡ twice_from (names_of (take l.place l.entries)) l.place (drop l.place l.entries)
+invariant-loop-place l = twice_in l.entries ≡ twice_behind (names_of (take l.place l.entries)) (names_of (drop l.place l.entries))

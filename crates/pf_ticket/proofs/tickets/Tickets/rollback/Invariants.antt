@@ -1,9 +1,6 @@
 use Rattle.std.proofs.Common.{◌≡◌, drop}
-use Rattle.pf_ticket.specs.Offers.{all_dropped}
+use Rattle.pf_ticket.specs.Mentions.{after, drops}
 use Rattle.pf_ticket.proofs.tickets.Tickets.rollback.Given as goal
 
 abbrev pub invariant-loop-entry : goal.invariant-loop-entry
-invariant-loop-entry l = record {
-  rest : all_dropped l.self (drop l.entry-index l.entries) ≡ all_dropped l.fn.self l.entries;
-  epoch : l.self.epoch ≡ l.fn.self.epoch;
-}
+invariant-loop-entry l = after l.self (drops (drop l.entry-index l.entries)) ≡ after l.fn.self (drops l.entries)

@@ -1,6 +1,7 @@
 use Rattle.std.proofs.Common.{◌≡◌, sym, ap, ◌∙◌, subst, refl}
 use Rattle.pf_core.specs.declared.reply.Reply.TheVariants.{Answer}
 use Rattle.pf_core.specs.Pages.{Page, IsAt}
+use Rattle.pf_core.specs.Wholes.{Whole}
 use Rattle.pf_core.proofs.LongerWorlds.{nothing-leads, refused-leads}
 use Rattle.pfd.specs.Books.{page_in, IsMore, IsUnkept}
 use Rattle.pfd.proofs.Booking.{with_core, answer-is-legal, refusal-is-legal, kept-leads, number-is, unkept-leads}
@@ -11,13 +12,13 @@ returns-in-Ok-Done-clause-leads c = λ h now.
     let e = rw c.in-Ok-Done.field-0-is at c.in-Ok-Done.ensures in
     let at : IsAt h (page_in c.self.inside) = subst (IsAt h) (sym c.self.view_is) now in
     nothing-leads h (page_in c.self.inside) c.step.new.self c.args.command.now (Answer c.in-Ok-Done.answer) (answer-is-legal h (page_in c.self.inside) c.args.command.now c.in-Ok-Done.answer at c.self.invariant e.reply)
-    refl refl (e.agrees h.calls at.calls) e.epoch at
+    refl refl (ap (λ (w : Whole). w.tickets) e.left) at
 
 pub returns-in-Ok-clause-leads : goal.returns-in-Ok-clause-leads
 returns-in-Ok-clause-leads c = λ h now.
     let e = rw c.in-Ok-Wants.field-0-is at c.in-Ok-Wants.ensures in
     let b : Page = page_in c.self.inside in
-    let more : IsMore b c.keep.new.self c.in-Ok-Wants.change c.in-Ok.seq = subst (λ (p : Page). IsMore p c.keep.new.self c.in-Ok-Wants.change c.in-Ok.seq) (ap (with_core b) e.stays) c.in-Ok.ensures.ok in
+    let more : IsMore b c.keep.new.self c.in-Ok-Wants.change c.in-Ok.seq = subst (λ (p : Page). IsMore p c.keep.new.self c.in-Ok-Wants.change c.in-Ok.seq) (ap (with_core b) e.left) c.in-Ok.ensures.ok in
     kept-leads h b c.keep.new.self c.args.command.now c.in-Ok-Wants.change c.in-Ok.seq c.in-Ok-Wants.outcome c.self.invariant refl e.reply more (subst (IsAt h) (sym c.self.view_is) now)
 
 pub returns-in-Ok-clause-numbered : goal.returns-in-Ok-clause-numbered
@@ -27,7 +28,7 @@ pub returns-in-Err-keep-clause-leads : goal.returns-in-Err-keep-clause-leads
 returns-in-Err-keep-clause-leads c = λ h now.
     let e = rw c.in-Ok-Wants.field-0-is at c.in-Ok-Wants.ensures in
     let b : Page = page_in c.self.inside in
-    let same : with_core b c.step.new.self ≡ b = ap (with_core b) e.stays in
+    let same : with_core b c.step.new.self ≡ b = ap (with_core b) e.left in
     unkept-leads h b c.keep.new.self c.args.command.now c.in-Ok-Wants.change c.in-Ok-Wants.outcome c.in-Err-keep.refusal c.self.invariant refl e.reply
     (subst (λ (p : Page). IsUnkept p c.in-Err-keep.refusal) same c.in-Err-keep.ensures.err.0) (c.in-Err-keep.ensures.err.1 ∙ same) (subst (IsAt h) (sym c.self.view_is) now)
 
@@ -35,4 +36,4 @@ pub returns-in-Err-clause-leads : goal.returns-in-Err-clause-leads
 returns-in-Err-clause-leads c = λ h now.
     let b : Page = page_in c.self.inside in
     let at : IsAt h b = subst (IsAt h) (sym c.self.view_is) now in
-    refused-leads h b _ c.args.command.now c.in-Err.refusal (refusal-is-legal h b c.args.command.now c.in-Err.refusal at c.self.invariant c.in-Err.ensures.reply) (ap (with_core b) c.in-Err.ensures.stays) at
+    refused-leads h b _ c.args.command.now c.in-Err.refusal (refusal-is-legal h b c.args.command.now c.in-Err.refusal at c.self.invariant c.in-Err.ensures.reply) (ap (with_core b) c.in-Err.ensures.left) at

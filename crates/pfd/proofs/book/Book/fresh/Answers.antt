@@ -2,6 +2,8 @@ use Rattle.std.proofs.Common.{refl, ap, ◌∙◌, arith, []}
 use Rattle.std.specs.Prelude.{map}
 use Rattle.std.specs.Arc.{arc_value}
 use Rattle.pf_core.specs.Edits.{Kept, kept}
+use Rattle.pf_ticket.specs.Tickets.{fresh}
+use Rattle.pf_core.specs.Wholes.{Whole}
 use Rattle.pf_core.specs.Worlds.{setting_with}
 use Rattle.pf_core.proofs.LongerWorlds.{stands-opened}
 use Rattle.pfd.specs.Books.{singles}
@@ -12,8 +14,7 @@ returns-clause-stands c =
     stands-opened (kept 0 []) _ (setting_with c.args.history_limit) (omega arith)
     (record {
       base = c.in_ok-base.ensures.ok ∙ c.empty.ensures;
-      calls = c.new-2.ensures.agrees;
-      epoch = c.new-2.ensures.epoch ∙ ap (λ (k : Kept). k.epoch) (c.in_ok-durable.ensures ∙ c.in_ok-base.ensures.ok ∙ c.empty.ensures);
+      tickets = ap (λ (w : Whole). w.tickets) c.new-2.ensures ∙ ap (λ (k : Kept). fresh k.epoch) (c.in_ok-durable.ensures ∙ c.in_ok-base.ensures.ok ∙ c.empty.ensures);
       acked = ap (λ xs. singles (map arc_value xs)) c.new-3.ensures.items;
       pending = refl;
       shown = refl;

@@ -3,10 +3,10 @@ use Rattle.std.proofs.lemmas.Grind.{common_steps}
 use Rattle.std.proofs.lemmas.List.{map-append}
 use Rattle.std.specs.Prelude.{map}
 use Rattle.std.specs.Arc.{arc_value}
-use Rattle.pf_ticket.specs.Mentions.{switches}
+use Rattle.pf_ticket.specs.Mentions.{after, switches}
 use Rattle.pf_core.specs.Edits.{Edit}
 use Rattle.pf_core.specs.Pages.{Page}
-use Rattle.pf_core.specs.Wholes.{Ready}
+use Rattle.pf_core.specs.Wholes.{Whole, Ready}
 use Rattle.pf_core.specs.Worlds.{flat}
 use Rattle.pfd.specs.Books.{page_in, singles}
 use Rattle.pfd.proofs.Booking.{flat-singles, more-from, folded-more}
@@ -24,7 +24,7 @@ invariant_of-self-2 c =
     let logged : log' ≡ log ++ c.args.change ∷ [] = grind (arith, common_steps, c.push_reserved.ensures.items, c.reserve.ensures.items, c.in-Ok.ensures.ok) in
     let counted : c.len-self-inside.result ≡ length log' = grind (arith, common_steps, c.len-self-inside.ensures) in
     folded-more (page_in c.self.inside) _ c.args.change c.self.invariant refl (ap singles logged ∙ map-append (λ (e : Edit). e ∷ []) log (c.args.change ∷ []))
-    (c.accept.ensures.durable ∙ ap (λ (r : Ready). r.durable) c.in_ok-next.ensures) (c.in_ok-shown.ensures ∙ sym c.accept.ensures.durable) (counted ∙ ap length (sym (flat-singles log')))
+    (ap (λ (w : Whole). w.durable) c.accept.ensures ∙ ap (λ (r : Ready). r.durable) c.in_ok-next.ensures) (c.in_ok-shown.ensures ∙ sym (ap (λ (w : Whole). w.durable) c.accept.ensures)) (counted ∙ ap length (sym (flat-singles log')))
 
 pub returns-clause-ok : goal.returns-clause-ok
 returns-clause-ok c =
@@ -38,8 +38,7 @@ returns-clause-ok c =
       number = rw (flat-singles log) counted;
       acked = ap singles logged ∙ map-append (λ (e : Edit). e ∷ []) log (c.args.change ∷ []);
       shown = refl;
-      agrees = λ calls command n o names. c.accept.ensures.agrees calls command n o (names ∙ ap (λ (r : Ready). switches r.voided) (sym c.in_ok-next.ensures));
-      epoch = c.accept.ensures.epoch;
+      tickets = ap (λ (w : Whole). w.tickets) c.accept.ensures ∙ ap (λ (r : Ready). after c.self.inside.core.tickets (switches r.voided)) c.in_ok-next.ensures;
       base = refl;
       pending = refl;
       limit = refl;

@@ -1,8 +1,8 @@
 use Rattle.std.proofs.Common.{◌≡◌, ℕ, ◌<◌, false, get_or}
 use Rattle.pf_ticket.specs.Names.{same_name}
 use Rattle.pf_ticket.specs.Tickets.{Offer}
-use Rattle.pf_ticket.proofs.tickets.Tickets.place.Given as goal
+use Rattle.pf_ticket.proofs.tickets.place_of.Given as goal
 
 -- no slot so far is the ruleset's
 abbrev pub invariant-loop-place : goal.invariant-loop-place
-invariant-loop-place l = (k : ℕ) (x : Offer) → k < l.place → x ≡ get_or l.self.offers k x → same_name x.name l.name ≡ false
+invariant-loop-place l = (k : ℕ) (x : Offer) → k < l.place → x ≡ get_or l.slots k x → same_name x.name l.name ≡ false
