@@ -10,7 +10,7 @@ use Rattle.pf_form.specs.declared.fault.Unread.TheVariants.{Stopped}
 use Rattle.pf_form.specs.Words.{Word, texts}
 use Rattle.pf_form.specs.Forms.{Reader, Read, ◌>>=◌, any_by, onto, one_or_more_by}
 use Rattle.pf_form.specs.Readers.{Fails, GivesAll, Shrinks, each_by}
-use Rattle.pf_form.specs.Laws.{good}
+use Rattle.pf_form.specs.Laws.{leaves}
 use Rattle.pf_form.specs.ListLaws.{in_front, one_more, one_failed}
 
 -- these, and then what the others gave
@@ -55,7 +55,7 @@ module _ (A : Type 0) (read : Reader A) (shrinks : Shrinks read) where
     by_others (Err d) = refl
 
   after_all : (x : A) (xs : List A) (r : Read (List A)) → after xs (r >>= in_front x) ≡ after (xs ++ x ∷ []) r
-  after_all x xs (Ok y) = ap (λ (zs : List A). good zs y.1) (sym (append_assoc xs (x ∷ []) y.0))
+  after_all x xs (Ok y) = ap (λ (zs : List A). leaves (Ok zs) y.1) (sym (append_assoc xs (x ∷ []) y.0))
   after_all x xs (Err d) = refl
 
   pub one_further : (all : List Word) (xs ys : List A) (x : A) (ws vs : List Word) → one_or_more_by read all ≡ after xs (any_by read ws) → read ws ≡ Ok (x, vs) → ys ≡ xs ++ x ∷ [] → one_or_more_by read all ≡ after ys (any_by read vs)
@@ -80,5 +80,5 @@ module _ (A : Type 0) (read : Reader A) (shrinks : Shrinks read) where
       told view r s (each_by read all) h (failed all s d.0 (so_far ∙ ap (after xs) one) d.2)
 
   pub all_read : (all : List Word) (xs : List A) (ws : List (Bor Word)) → one_or_more_by read all ≡ after xs (any_by read (texts ws)) → (length ws == 0) ≡ true → each_by read all ≡ Ok xs
-  all_read all xs [] so_far none = rw (so_far ∙ ap (λ (zs : List A). good zs []) (append-nil xs)) refl
+  all_read all xs [] so_far none = rw (so_far ∙ ap (λ (zs : List A). leaves (Ok zs) []) (append-nil xs)) refl
   all_read all xs (w ∷ ws) so_far none = absurd (grind (arith, nat_tests))

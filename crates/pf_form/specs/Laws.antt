@@ -1,13 +1,14 @@
 -- What holds of a form: its grammar and its reader belong together.
-use Rattle.std.proofs.Common.{◌≡◌, Bool, true, false, List, [], ◌∷◌, ◌++◌, length, Result, Ok, Err, ◌⊎◌, inl, inr, refl, ap, arith}
+use Rattle.std.proofs.Common.{◌≡◌, ◌<◌, Bool, true, false, List, [], ◌∷◌, ◌++◌, length, Result, Ok, Err, ◌⊎◌, inl, inr, refl, sym, ap, ◌∙◌, append_assoc, arith}
 use Rattle.std.specs.Prelude.{◌&&◌, ◌||◌, not}
 use Rattle.std.specs.Str.{bytes_eq}
-use Rattle.std.proofs.lemmas.List.{nil_from_length, length-append, append_cancel_right}
+use Rattle.std.proofs.lemmas.List.{length-append, append_cancel_right}
 use Rattle.std.proofs.lemmas.Slice.Eq.{bytes_eq-Decides}
 use Rattle.pf_form.specs.declared.fault.Kind.{Kind}
 use Rattle.pf_form.specs.declared.fault.Kind.TheVariants.{BadWord}
 use Rattle.pf_form.specs.Words.{Word}
-use Rattle.pf_form.specs.Forms.{Grammar, Begins, Read, Reader, ◌>>=◌, Follow, but, the_end, plus, none_of, may_follow}
+use Rattle.pf_form.specs.Forms.{Form, Grammar, Spells, Faults, Begins, Read, Reader, ◌>>=◌, reads, misplaced, empties, begins, Follow, but, the_end, follow, plus, none_of, may_follow}
+use Rattle.pf_form.specs.Readers.{Shrinks}
 
 -- ---- what may follow
 
@@ -24,25 +25,11 @@ not_in_both : (w : Word) (a b : List Word) → NotIn w (a ++ b) → NotIn w a ×
 not_in_both w [] b h = (tt, h)
 not_in_both w (v ∷ a) b h = let r = not_in_both w a b h.1 in ((h.0, r.0), r.1)
 
-not_in_join : (w : Word) (a b : List Word) → NotIn w a → NotIn w b → NotIn w (a ++ b)
-not_in_join w [] b h k = k
-not_in_join w (v ∷ a) b h k = (h.0, not_in_join w a b h.1 k)
-
 pub clear_both : (f g : Follow) (ws : List Word) → Clear (plus f g) ws → Clear f ws × Clear g ws
 clear_both f g [] h = (tt, tt)
 clear_both (but a) (but b) (w ∷ ws) h = not_in_both w a b h
 clear_both (but a) the_end (w ∷ ws) h = absurd h
 clear_both the_end g (w ∷ ws) h = absurd h
-
-pub clear_join : (f g : Follow) (ws : List Word) → Clear f ws → Clear g ws → Clear (plus f g) ws
-clear_join f g [] h k = tt
-clear_join (but a) (but b) (w ∷ ws) h k = not_in_join w a b h k
-clear_join (but a) the_end (w ∷ ws) h k = k
-clear_join the_end g (w ∷ ws) h k = h
-
-pub nothing_clears : (ws : List Word) → Clear (but []) ws
-nothing_clears [] = tt
-nothing_clears (w ∷ ws) = tt
 
 -- ---- tests
 
@@ -105,57 +92,81 @@ pub bind_err : {A B E : Type 0} (r : Result A E) (f : A → Result B E) (d : E) 
 bind_err (Ok x) f d e = inr (x, refl, e)
 bind_err (Err c) f d e = inl cc
 
-abbrev pub good : {A : Type 0} → A → List Word → Read A
-good x ws = Ok (x, ws)
+-- an answer, and the words that are left
+abbrev pub leaves : {A : Type 0} → Result A Kind → List Word → Read A
+leaves (Ok x) ws = Ok (x, ws)
+leaves (Err kind) ws = Err (kind, ws)
 
-abbrev pub bad : {A : Type 0} → Kind → List Word → Read A
-bad k ws = Err (k, ws)
+pub ok_is : {A : Type 0} (x y : A) (a b : List Word) → leaves (Ok x) a ≡ leaves (Ok y) b → (x ≡ y) × (a ≡ b)
+ok_is x y a b e = let p : (x, a) ≡ (y, b) = cc in (ap (λ (q : _ × List Word). q.0) p, ap (λ (q : _ × List Word). q.1) p)
 
-pub good_is : {A : Type 0} (x y : A) (a b : List Word) → good x a ≡ good y b → (x ≡ y) × (a ≡ b)
-good_is x y a b e = let p : (x, a) ≡ (y, b) = cc in (ap (λ (q : _ × List Word). q.0) p, ap (λ (q : _ × List Word). q.1) p)
+pub err_is : {A : Type 0} (j k : Kind) (a b : List Word) → ◌≡◌ {A = Result A (Kind × List Word)} (Err (j, a)) (Err (k, b)) → (j ≡ k) × (a ≡ b)
+err_is j k a b e = let p : ◌≡◌ {A = Kind × List Word} (j, a) (k, b) = cc in (ap (λ (q : Kind × List Word). q.0) p, ap (λ (q : Kind × List Word). q.1) p)
 
-pub bad_is : {A : Type 0} (j k : Kind) (a b : List Word) → bad {A = A} j a ≡ bad k b → (j ≡ k) × (a ≡ b)
-bad_is j k a b e = let p : (j, a) ≡ (k, b) = cc in (ap (λ (q : Kind × List Word). q.0) p, ap (λ (q : Kind × List Word). q.1) p)
+pub leaves_is : {A : Type 0} (o t : Result A Kind) (a b : List Word) → leaves o a ≡ leaves t b → (o ≡ t) × (a ≡ b)
+leaves_is {A = A} (Ok x) (Ok y) a b e = let g = ok_is x y a b e in (ap (λ (z : A). Ok z) g.0, g.1)
+leaves_is (Ok x) (Err k) a b e = absurd cc
+leaves_is (Err j) (Ok y) a b e = absurd cc
+leaves_is {A = A} (Err j) (Err k) a b e = let g = err_is {A = A × List Word} j k a b e in (ap (λ (i : Kind). Err i) g.0, g.1)
+
+-- the same answer as another value
+abbrev pub see : {A B : Type 0} → (A → B) → A × List Word → Read B
+see make x = Ok (make x.0, x.1)
+
+pub seen_ahead : {A B : Type 0} (make : A → B) (r : Read A) (o : Result B Kind) (ws vs : List Word) (after : Read B) → (r >>= see make) ≡ leaves o ws → ((t : Result A Kind) → r ≡ leaves t ws → after ≡ (leaves t vs >>= see make)) → after ≡ leaves o vs
+seen_ahead {B = B} make (Ok (x, n)) o ws vs after e same =
+    let g = leaves_is (Ok (make x)) o n ws e in
+    same (Ok x) (ap (λ (m : List Word). leaves (Ok x) m) g.1) ∙ ap (λ (t : Result B Kind). leaves t vs) g.0
+seen_ahead {A = A} {B = B} make (Err (k, n)) o ws vs after e same =
+    let g = leaves_is (Err k) o n ws e in
+    same (Err k) (ap (λ (m : List Word). leaves {A = A} (Err k) m) g.1) ∙ ap (λ (t : Result B Kind). leaves t vs) g.0
+
+pub seen_ok : {A B : Type 0} (make : A → B) (r : Read A) (y : B) (ws : List Word) → (r >>= see make) ≡ Ok (y, ws) → (x : A) × (r ≡ Ok (x, ws)) × (make x ≡ y)
+seen_ok make (Ok (x, n)) y ws e = let g = ok_is (make x) y n ws e in (x, ap (λ (m : List Word). leaves (Ok x) m) g.1, g.0)
+seen_ok make (Err d) y ws e = absurd cc
+
+pub seen_err : {A B : Type 0} (make : A → B) (r : Read A) (d : Kind × List Word) → (r >>= see make) ≡ Err d → r ≡ Err d
+seen_err make (Ok x) d e = absurd cc
+seen_err make (Err c) d e = cc
 
 pub not_both : {A E : Type 0} (r : Result A E) (x : A) (e : E) → r ≡ Ok x → r ≡ Err e → ⊥
 not_both r x e a b = cc
 
-pub no_front : (part rest : List Word) → part ++ rest ≡ rest → part ≡ []
-no_front part rest e = nil_from_length part (omega (arith, length-append part rest, ap length e))
-
-pub same_front : (a b rest : List Word) → a ++ rest ≡ b ++ rest → a ≡ b
-same_front a b rest e = append_cancel_right a b rest e
-
-pub no_rest : (v : Word) (tail : List Word) {B : Type 0} → [] ≡ v ∷ tail → B
-no_rest v tail e = absurd cc
-
-pub head_is : (v w : Word) (a b : List Word) → v ∷ a ≡ w ∷ b → v ≡ w
-head_is v w a b e = cc
+-- the same answer, with other words behind one that is left
+pub still : {A : Type 0} (t o : Result A Kind) (a b : List Word) (v : Word) (r s : List Word) → leaves t (a ++ v ∷ r) ≡ leaves o (b ++ v ∷ r) → leaves t (a ++ v ∷ s) ≡ leaves o (b ++ v ∷ s)
+still t o a b v r s e =
+    let g = leaves_is t o (a ++ v ∷ r) (b ++ v ∷ r) e in
+    rw (append_cancel_right a b (v ∷ r) g.1, g.0) refl
 
 -- ---- the laws
 
 abbrev pub Faulting : Type 1
 Faulting = List Word → Word → Kind → Type 0
 
--- Reading stopped before these words. What stands before is nothing or begins some text; whatever follows the
--- first of them it stops there; a test that may stand there faults that word so, or the word is bad.
-pub record Stopped (A : Type 0) (spells : Grammar A) (faults : Faulting) (read : Reader A) (ws : List Word) (k : Kind) (rest : List Word) : Type 0 where
+-- Reading stopped before these words. What stands before begins some text; a test that may stand there faults the
+-- first of them so, or it is bad or missing.
+pub record Stopped (A : Type 0) (spells : Grammar A) (faults : Faulting) (ws : List Word) (k : Kind) (rest : List Word) : Type 0 where
   pub front : List Word
   pub parts : ws ≡ front ++ rest
-  pub starts : (front ≡ []) ⊎ Begins spells front
-  pub same : (v : Word) (tail other : List Word) → rest ≡ v ∷ tail → read (front ++ v ∷ other) ≡ Err (k, v ∷ other)
+  pub starts : Begins spells front
   pub kind : (k ≡ BadWord) ⊎ ((v : Word) × (tail : List Word) × faults front v k × (rest ≡ v ∷ tail))
 
+-- There is a text. What a text, or a word that is faulted, begins with; what is read is a text, and a text is read where
+-- what follows may; what is faulted is refused so; where reading stops; and behind the first word that is left nothing counts.
 pub record Laws (A : Type 0) (spells : Grammar A) (faults : Faulting) (empty : Bool) (begin : Word → Bool) (follow : Follow) (read : Reader A) : Type 0 where
+  pub some : Begins spells []
   pub heads : (x : A) (ws : List Word) → spells x ws → Heads empty begin ws
   pub fault_heads : (front : List Word) (w : Word) (k : Kind) → faults front w k → Heads false begin (front ++ w ∷ [])
   pub takes : (ws : List Word) (x : A) (rest : List Word) → read ws ≡ Ok (x, rest) → (part : List Word) × spells x part × (ws ≡ part ++ rest)
   pub again : (x : A) (part rest : List Word) → spells x part → Clear follow rest → read (part ++ rest) ≡ Ok (x, rest)
   pub faulty : (front : List Word) (w : Word) (k : Kind) (tail : List Word) → faults front w k → read (front ++ w ∷ tail) ≡ Err (k, w ∷ tail)
-  pub stops : (ws : List Word) (k : Kind) (rest : List Word) → read ws ≡ Err (k, rest) → Stopped A spells faults read ws k rest
-  pub ahead : (part : List Word) (x : A) (v : Word) (r s : List Word) → read (part ++ v ∷ r) ≡ Ok (x, v ∷ r) → read (part ++ v ∷ s) ≡ Ok (x, v ∷ s)
+  pub stops : (ws : List Word) (k : Kind) (rest : List Word) → read ws ≡ Err (k, rest) → Stopped A spells faults ws k rest
+  pub ahead : (o : Result A Kind) (part left : List Word) (v : Word) (r s : List Word) → read (part ++ v ∷ r) ≡ leaves o (left ++ v ∷ r) → read (part ++ v ∷ s) ≡ leaves o (left ++ v ∷ s)
 
-heads_more : (e e' : Bool) (b b' : Word → Bool) → (e ≡ true → e' ≡ true) → ((w : Word) → b w ≡ true → b' w ≡ true) → (ws : List Word) → Heads e b ws → Heads e' b' ws
+abbrev pub Lawful : {A : Type 0} → Form A → Type 0
+Lawful {A = A} f = Laws A (Spells f) (Faults f) (empties f) (begins f) (follow f) (reads f)
+
+pub heads_more : (e e' : Bool) (b b' : Word → Bool) → (e ≡ true → e' ≡ true) → ((w : Word) → b w ≡ true → b' w ≡ true) → (ws : List Word) → Heads e b ws → Heads e' b' ws
 heads_more e e' b b' m n [] h = m h
 heads_more e e' b b' m n (w ∷ ws) h = n w h
 
@@ -163,6 +174,7 @@ heads_more e e' b b' m n (w ∷ ws) h = n w h
 pub weaken : (A : Type 0) (spells : Grammar A) (faults : Faulting) (e e' : Bool) (b b' : Word → Bool) (f f' : Follow) (read : Reader A) → (e ≡ true → e' ≡ true) → ((w : Word) → b w ≡ true → b' w ≡ true) → ((ws : List Word) → Clear f' ws → Clear f ws)
     → Laws A spells faults e b f read → Laws A spells faults e' b' f' read
 weaken A spells faults e e' b b' f f' read m n less p = record {
+  some = p.some;
   heads = λ x ws h. heads_more e e' b b' m n ws (p.heads x ws h);
   fault_heads = λ front w k h. heads_more false false b b' (λ x. x) n (front ++ w ∷ []) (p.fault_heads front w k h);
   takes = p.takes;
@@ -172,26 +184,34 @@ weaken A spells faults e e' b b' f f' read m n less p = record {
   ahead = p.ahead;
 }
 
--- The same of a grammar that is said in other words.
-module _ (A : Type 0) (spells spells' : Grammar A) (faults faults' : Faulting) (e : Bool) (b : Word → Bool) (f : Follow) (read : Reader A) (to : (x : A) (ws : List Word) → spells x ws → spells' x ws) (from : (x : A) (ws : List Word) → spells' x ws → spells x ws)
-    (faults_to : (front : List Word) (w : Word) (k : Kind) → faults front w k → faults' front w k) (faults_from : (front : List Word) (w : Word) (k : Kind) → faults' front w k → faults front w k) where
-  starts_to : (front : List Word) → (front ≡ []) ⊎ Begins spells front → (front ≡ []) ⊎ Begins spells' front
-  starts_to front (inl h) = inl h
-  starts_to front (inr h) = inr (h.0, h.1, to h.0 (front ++ h.1) h.2)
+-- what is read stands before what is left
+pub splits : {A : Type 0} {spells : Grammar A} {faults : Faulting} {e : Bool} {b : Word → Bool} {f : Follow} {read : Reader A} → Laws A spells faults e b f read → (o : Result A Kind) (ws rest : List Word) → read ws ≡ leaves o rest → (part : List Word) × (ws ≡ part ++ rest)
+splits p (Ok x) ws rest e = let t = p.takes ws x rest e in (t.0, t.2)
+splits p (Err k) ws rest e = let s = p.stops ws k rest e in (s.front, s.parts)
 
-  kind_to : (front rest : List Word) (k : Kind) → (k ≡ BadWord) ⊎ ((v : Word) × (tail : List Word) × faults front v k × (rest ≡ v ∷ tail)) → (k ≡ BadWord) ⊎ ((v : Word) × (tail : List Word) × faults' front v k × (rest ≡ v ∷ tail))
-  kind_to front rest k (inl h) = inl h
-  kind_to front rest k (inr h) = inr (h.0, h.1, faults_to front h.0 k h.2, h.3)
+-- What is never empty takes a word or more.
+pub takes_some : {A : Type 0} {spells : Grammar A} {faults : Faulting} {e : Bool} {b : Word → Bool} {f : Follow} {read : Reader A} → Laws A spells faults e b f read → e ≡ false → Shrinks read
+takes_some {e = e} {b = b} p some ws x rest is =
+    let t = p.takes ws x rest is in
+    omega (arith, by t.0 (p.heads x t.0 t.1), ap length t.2, length-append t.0 rest) where
+      by : (ws : List Word) → Heads e b ws → 0 < length ws
+      by [] h = absurd cc
+      by (w ∷ ws) h = omega arith
 
-  pub restate : Laws A spells faults e b f read → Laws A spells' faults' e b f read
-  restate p = record {
-    heads = λ x ws h. p.heads x ws (from x ws h);
-    fault_heads = λ front w k h. p.fault_heads front w k (faults_from front w k h);
-    takes = λ ws x rest h. let t = p.takes ws x rest h in (t.0, to x t.0 t.1, t.2);
-    again = λ x part rest h c. p.again x part rest (from x part h) c;
-    faulty = λ front w k tail h. p.faulty front w k tail (faults_from front w k h);
-    stops = λ ws k rest h.
-        let s = p.stops ws k rest h in
-        record { front = s.front; parts = s.parts; starts = starts_to s.front s.starts; same = s.same; kind = kind_to s.front rest k s.kind };
-    ahead = p.ahead;
-  }
+-- ---- where reading stops
+
+-- a word that no text can begin with, or none
+pub misplaced_here : {A : Type 0} (spells : Grammar A) (faults : Faulting) (ws : List Word) (k : Kind) (rest : List Word) → Begins spells [] → misplaced {A = A} ws ≡ Err (k, rest) → Stopped A spells faults ws k rest
+misplaced_here {A = A} spells faults ws k rest some e =
+    let g = err_is {A = A × List Word} BadWord k ws rest e in
+    record { front = []; parts = g.1; starts = some; kind = inl (sym g.0) }
+
+-- Where a part stops the whole stops, with what stands before the part.
+pub stopped_behind : {A B : Type 0} {spells : Grammar A} {spells' : Grammar B} {faults faults' : Faulting} {k : Kind} {rest : List Word} (before part ws : List Word) → Stopped A spells faults part k rest → ws ≡ before ++ part
+    → ((front : List Word) → Begins spells front → Begins spells' (before ++ front)) → ((front : List Word) (v : Word) → faults front v k → faults' (before ++ front) v k) → Stopped B spells' faults' ws k rest
+stopped_behind {rest = rest} before part ws s is starts kinds = record {
+  front = before ++ s.front;
+  parts = is ∙ ap (λ (m : List Word). before ++ m) s.parts ∙ sym (append_assoc before s.front rest);
+  starts = starts s.front s.starts;
+  kind = elim s.kind [ inl e ↦ inl e | inr h ↦ inr (h.0, h.1, kinds s.front h.0 h.2, h.3) ];
+}

@@ -1,15 +1,14 @@
 -- Lists that are read part after part, up to the last word of a text.
-use Rattle.std.proofs.Common.{◌≡◌, ◌<◌, true, false, List, [], ◌∷◌, length, Result, Ok, Err, ap, sym, subst, arith}
+use Rattle.std.proofs.Common.{◌≡◌, true, false, List, [], ◌∷◌, Result, Ok, Err, ap, sym, subst}
 use Rattle.std.specs.Prelude.{IsErrAnd}
-use Rattle.std.proofs.lemmas.List.{length-append}
 use Rattle.pf_form.specs.declared.fault.Kind.{Kind}
 use Rattle.pf_form.specs.declared.fault.Stop.{Stop}
 use Rattle.pf_form.specs.declared.fault.Unread.{Unread}
 use Rattle.pf_form.specs.declared.fault.Unread.TheVariants as unread
 use Rattle.pf_form.specs.Words.{Word}
-use Rattle.pf_form.specs.Forms.{Form, making, Read, reads, ended, ◌>>=◌, read_all, is_decided, empties, begins, one_or_more}
+use Rattle.pf_form.specs.Forms.{Form, making, Read, reads, ended, ◌>>=◌, read_all, is_decided, empties, one_or_more}
 use Rattle.pf_form.specs.Readers.{Fails, GivesAll, Shrinks, each_by}
-use Rattle.pf_form.specs.Laws.{Heads}
+use Rattle.pf_form.specs.Laws.{takes_some}
 use Rattle.pf_form.specs.FormLaws.{lawful}
 
 made_ok : {A B : Type 0} (make : A → B) (f : Form A) (ws : List Word) (x : A) → read_all f ws ≡ Ok x → read_all (making make f) ws ≡ Ok (make x)
@@ -28,12 +27,7 @@ made_err make f ws s h = by (reads f ws) h where
 
 -- A form that is never empty takes a word or more.
 pub shrinks : (A : Type 0) (f : Form A) → is_decided f ≡ true → empties f ≡ false → Shrinks (reads f)
-shrinks A f decided some ws x rest e =
-    let t = (lawful f decided).takes ws x rest e in
-    omega (arith, by t.0 ((lawful f decided).heads x t.0 t.1), ap length t.2, length-append t.0 rest) where
-      by : (ws : List Word) → Heads (empties f) (begins f) ws → 0 < length ws
-      by [] h = absurd cc
-      by (w ∷ ws) h = omega arith
+shrinks A f decided some = takes_some (lawful f decided) some
 
 -- A list that each read, as another value.
 pub listed : {X A B : Type 0} (view : X → List A) (r : Result X Unread) (make : List A → B) (f : Form A) (ws : List Word) → GivesAll view r (each_by (reads f) ws) → GivesAll (λ x. make (view x)) r (read_all (making make (one_or_more f)) ws)

@@ -5,8 +5,8 @@ use Rattle.pf_form.specs.declared.fault.Kind.{Kind}
 use Rattle.pf_form.specs.declared.fault.Kind.TheVariants.{BadWord}
 use Rattle.pf_form.specs.Words.{Word}
 use Rattle.pf_form.specs.Forms.{Form, Spells, Faults, Grammar, Begins, StopsAt, StandsAt, RefusedAt, reads, ended, read_all, is_decided}
-use Rattle.pf_form.specs.Laws.{bind_ok, bind_err, not_both, head_is}
-use Rattle.pf_form.specs.FormLaws.{filled, lawful, Lawful}
+use Rattle.pf_form.specs.Laws.{bind_ok, bind_err, leaves, err_is, not_both, Stopped, Lawful}
+use Rattle.pf_form.specs.FormLaws.{lawful}
 
 -- ---- a text is refused at one place, and in one way
 
@@ -44,23 +44,16 @@ ended_ok : (A : Type 0) (x : A) (m : List Word) (y : A) → ended (x, m) ≡ Ok 
 ended_ok A x [] y e = (cc, refl)
 ended_ok A x (w ∷ m) y e = absurd cc
 
-err_pair : (A : Type 0) (x : A) (w : Word) (m : List Word) (k : Kind) (rest : List Word) → ended (x, w ∷ m) ≡ Err (k, rest) → ◌≡◌ {A = Kind × List Word} (BadWord, w ∷ m) (k, rest)
-err_pair A x w m k rest e = cc
+abbrev ended_at : {A : Type 0} → Kind → List Word → Result A (Kind × List Word)
+ended_at k ws = Err (k, ws)
 
-same_kind : (A : Type 0) (r : Result A (Kind × List Word)) (j k : Kind) (a b : List Word) → r ≡ Err (j, a) → r ≡ Err (k, b) → j ≡ k
-same_kind A r j k a b e h = let p : (j, a) ≡ (k, b) = cc in ap (λ (q : Kind × List Word). q.0) p
+ended_err : (A : Type 0) (x : A) (m : List Word) (k : Kind) (rest : List Word) → ended (x, m) ≡ Err (k, rest) → (BadWord ≡ k) × (m ≡ rest)
+ended_err A x [] k rest e = absurd cc
+ended_err A x (w ∷ m) k rest e = err_is {A = A} BadWord k (w ∷ m) rest e
 
 module _ (A : Type 0) (f : Form A) (decided : is_decided f ≡ true) where
   p : Lawful f
   p = lawful f decided
-
-  -- where reading a whole text stops
-  record WholeStops (ws : List Word) (k : Kind) (rest : List Word) : Type 0 where
-    front : List Word
-    parts : ws ≡ front ++ rest
-    starts : Begins (Spells f) front
-    same : (v : Word) (tail other : List Word) → rest ≡ v ∷ tail → read_all f (front ++ v ∷ other) ≡ Err (k, v ∷ other)
-    kind : (k ≡ BadWord) ⊎ ((v : Word) × (tail : List Word) × Faults f front v k × (rest ≡ v ∷ tail))
 
   pub found : (ws : List Word) (x : A) → read_all f ws ≡ Ok x → Spells f x ws
   found ws x e =
@@ -75,67 +68,50 @@ module _ (A : Type 0) (f : Form A) (decided : is_decided f ≡ true) where
       let one : reads f ws ≡ Ok (x, []) = subst (λ (m : List Word). reads f m ≡ Ok (x, [])) (append-nil ws) (p.again x ws [] h tt) in
       rw one refl
 
-  begun : (front : List Word) → (front ≡ []) ⊎ Begins (Spells f) front → Begins (Spells f) front
-  begun front (inl e) = rw e (filled f)
-  begun front (inr b) = b
-
-  ended_stops : (ws : List Word) (k : Kind) (rest : List Word) (x : A) (m : List Word) → reads f ws ≡ Ok (x, m) → ended (x, m) ≡ Err (k, rest) → WholeStops ws k rest
-  ended_stops ws k rest x [] h e = absurd cc
-  ended_stops ws k rest x (w ∷ m) h e =
-      let pair = err_pair A x w m k rest e in
-      let kind : BadWord ≡ k = ap (λ (p : Kind × List Word). p.0) pair in
-      let is : w ∷ m ≡ rest = ap (λ (p : Kind × List Word). p.1) pair in
-      let t = p.takes ws x (w ∷ m) h in
-      let at_part : reads f (t.0 ++ w ∷ m) ≡ Ok (x, w ∷ m) = subst (λ (z : List Word). reads f z ≡ Ok (x, w ∷ m)) t.2 h in
-      record {
-        front = t.0;
-        parts = t.2 ∙ ap (λ (z : List Word). t.0 ++ z) is;
-        starts = (x, [], rw append-nil t.1);
-        same = λ v tail other r.
-            let w_is : w ≡ v = head_is w v m tail (is ∙ r) in
-            let after : reads f (t.0 ++ v ∷ other) ≡ Ok (x, v ∷ other) = rw (← w_is) (p.ahead t.0 x w m other at_part) in
-            rw (after, kind) refl;
-        kind = inl (sym kind);
-      }
-
-  whole_stops : (ws : List Word) (k : Kind) (rest : List Word) → read_all f ws ≡ Err (k, rest) → WholeStops ws k rest
+  -- where reading a whole text stops
+  whole_stops : (ws : List Word) (k : Kind) (rest : List Word) → read_all f ws ≡ Err (k, rest) → Stopped A (Spells f) (Faults f) ws k rest
   whole_stops ws k rest e = elim (bind_err (reads f ws) ended (k, rest) e) [
-    | inl h ↦
-        let s = p.stops ws k rest h in
-        record { front = s.front; parts = s.parts; starts = begun s.front s.starts; same = λ v tail other r. rw (s.same v tail other r) refl; kind = s.kind }
-    | inr h ↦ ended_stops ws k rest h.0.0 h.0.1 h.1 h.2
+    | inl h ↦ p.stops ws k rest h
+    | inr (x, h, g) ↦
+        let end = ended_err A x.0 x.1 k rest g in
+        let t = p.takes ws x.0 x.1 h in
+        record { front = t.0; parts = t.2 ∙ ap (λ (m : List Word). t.0 ++ m) end.1; starts = (x.0, [], rw append-nil t.1); kind = inl (sym end.0) }
   ]
 
-  no_more : (front rest : List Word) (k : Kind) → ((v : Word) (tail other : List Word) → rest ≡ v ∷ tail → read_all f (front ++ v ∷ other) ≡ Err (k, v ∷ other))
-      → length front < length (front ++ rest) → Begins (Spells f) (take (length front + 1) (front ++ rest)) → ⊥
-  no_more front [] k same lt b = absurd (omega (arith, length-append front []))
-  no_more front (v ∷ tail) k same lt b =
+  -- whatever stands behind the word at which it stops
+  stops_so : (front : List Word) (k : Kind) (v : Word) (r s : List Word) → read_all f (front ++ v ∷ r) ≡ Err (k, v ∷ r) → read_all f (front ++ v ∷ s) ≡ Err (k, v ∷ s)
+  stops_so front k v r s e = elim (bind_err (reads f (front ++ v ∷ r)) ended (k, v ∷ r) e) [
+    | inl h ↦ rw (p.ahead (Err k) front [] v r s h) refl
+    | inr (x, h, g) ↦
+        let end = ended_err A x.0 x.1 k (v ∷ r) g in
+        rw (p.ahead (Ok x.0) front [] v r s (h ∙ ap (λ (m : List Word). leaves (Ok x.0) m) end.1)) (ap (λ (j : Kind). ended_at j (v ∷ s)) end.0)
+  ]
+
+  no_more : (front rest : List Word) (k : Kind) → read_all f (front ++ rest) ≡ Err (k, rest) → length front < length (front ++ rest) → Begins (Spells f) (take (length front + 1) (front ++ rest)) → ⊥
+  no_more front [] k e lt b = absurd (omega (arith, length-append front []))
+  no_more front (v ∷ tail) k e lt b =
       let regrouped : (front ++ v ∷ []) ++ tail ≡ front ++ v ∷ tail = append_assoc front (v ∷ []) tail in
       let len : length (front ++ v ∷ []) ≡ length front + 1 = length-append front (v ∷ []) in
       let taken : take (length front + 1) (front ++ v ∷ tail) ≡ front ++ v ∷ [] = ap (take (length front + 1)) (sym regrouped) ∙ take_at (front ++ v ∷ []) tail (length front + 1) len in
       let c : Begins (Spells f) (front ++ v ∷ []) = subst (λ (m : List Word). Begins (Spells f) m) taken b in
       let text : Spells f c.0 (front ++ v ∷ c.1) = subst (λ (m : List Word). Spells f c.0 m) (append_assoc front (v ∷ []) c.1) c.2 in
-      not_both (read_all f (front ++ v ∷ c.1)) c.0 (k, v ∷ c.1) (only (front ++ v ∷ c.1) c.0 text) (same v tail c.1 refl)
+      not_both (read_all f (front ++ v ∷ c.1)) c.0 (k, v ∷ c.1) (only (front ++ v ∷ c.1) c.0 text) (stops_so front k v tail c.1 e)
 
-  faulty_all : (front : List Word) (w : Word) (k : Kind) (tail : List Word) → Faults f front w k → read_all f (front ++ w ∷ tail) ≡ Err (k, w ∷ tail)
-  faulty_all front w k tail h = rw (p.faulty front w k tail h) refl
-
-  refused_here : (front rest : List Word) (k : Kind) → Begins (Spells f) front → ((v : Word) (tail other : List Word) → rest ≡ v ∷ tail → read_all f (front ++ v ∷ other) ≡ Err (k, v ∷ other))
-      → (k ≡ BadWord) ⊎ ((v : Word) × (tail : List Word) × Faults f front v k × (rest ≡ v ∷ tail)) → read_all f (front ++ rest) ≡ Err (k, rest) → RefusedAt A f (front ++ rest) (length front) k
-  refused_here front rest k starts same kind e =
+  refused_here : (front rest : List Word) (k : Kind) → Begins (Spells f) front → (k ≡ BadWord) ⊎ ((v : Word) × (tail : List Word) × Faults f front v k × (rest ≡ v ∷ tail)) → read_all f (front ++ rest) ≡ Err (k, rest) → RefusedAt A f (front ++ rest) (length front) k
+  refused_here front rest k starts kind e =
       let taken : take (length front) (front ++ rest) ≡ front = take_at front rest (length front) refl in
       let dropped : drop (length front) (front ++ rest) ≡ rest = drop_at front rest (length front) refl in
       record {
         place = record {
           within = omega (arith, length-append front rest);
           before = rw taken starts;
-          word_at = λ lt b. no_more front rest k same lt b;
+          word_at = λ lt b. no_more front rest k e lt b;
           missing = λ here x h. not_both (read_all f (front ++ rest)) x (k, rest) (only (front ++ rest) x h) e;
         };
         tested = λ w j at h.
             let is : rest ≡ w ∷ at.0 = sym dropped ∙ at.1 in
-            let behind : Faults f front w j = subst (λ (m : List Word). Faults f m w j) taken h in
-            same_kind A (read_all f (front ++ rest)) k j rest (w ∷ at.0) e (rw is (faulty_all front w j at.0 behind));
+            let faulted : read_all f (front ++ w ∷ at.0) ≡ Err (j, w ∷ at.0) = rw (p.faulty front w j at.0 (subst (λ (m : List Word). Faults f m w j) taken h)) refl in
+            (err_is {A = A} k j rest (w ∷ at.0) (sym e ∙ ap (λ (m : List Word). read_all f (front ++ m)) is ∙ faulted)).0;
         other = elim kind [ inl h ↦ inl h | inr h ↦ inr (h.0, (h.1, dropped ∙ h.3), subst (λ (m : List Word). Faults f m h.0 k) (sym taken) h.2) ];
       }
 
@@ -143,9 +119,5 @@ module _ (A : Type 0) (f : Form A) (decided : is_decided f ≡ true) where
   refused ws k rest e =
       let s = whole_stops ws k rest e in
       let at : length s.front ≡ length ws - length rest = omega (arith, ap length s.parts, length-append s.front rest) in
-      let here : RefusedAt A f (s.front ++ rest) (length s.front) k = refused_here s.front rest k s.starts s.same s.kind (subst (λ (m : List Word). read_all f m ≡ Err (k, rest)) s.parts e) in
+      let here : RefusedAt A f (s.front ++ rest) (length s.front) k = refused_here s.front rest k s.starts s.kind (subst (λ (m : List Word). read_all f m ≡ Err (k, rest)) s.parts e) in
       subst (λ (n : ℕ). RefusedAt A f ws n k) at (subst (λ (m : List Word). RefusedAt A f m (length s.front) k) (sym s.parts) here)
-
-  -- no more words are left than there were
-  pub left : (ws : List Word) (k : Kind) (rest : List Word) → read_all f ws ≡ Err (k, rest) → length rest ≤ length ws
-  left ws k rest e = let s = whole_stops ws k rest e in omega (arith, ap length s.parts, length-append s.front rest)

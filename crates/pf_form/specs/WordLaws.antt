@@ -1,79 +1,59 @@
--- The laws of no word, one word, and a word that chooses.
+-- The laws of no word, one word, a word that has to stand, and a word that chooses.
 use Rattle.std.proofs.Common.{◌≡◌, Bool, true, false, List, [], ◌∷◌, ◌++◌, length, Result, Ok, Err, ◌⊎◌, inl, inr, refl, sym, ap, ◌∙◌, arith}
-use Rattle.std.specs.Prelude.{◌||◌}
 use Rattle.std.specs.Str.{bytes_eq}
 use Rattle.std.proofs.lemmas.List.{length-append}
 use Rattle.pf_form.specs.declared.fault.Kind.{Kind}
 use Rattle.pf_form.specs.declared.fault.Kind.TheVariants.{BadWord}
 use Rattle.pf_form.specs.Words.{Word}
-use Rattle.pf_form.specs.Forms.{Grammar, Begins, Reader, tested, one_word, if_first, misplaced, Follow, but, plus, where_empty}
-use Rattle.pf_form.specs.Laws.{Clear, Heads, clear_both, differs, or_right, word_is, word_same, good_is, bad_is, no_front, no_rest, head_is, Faulting, Stopped, Laws}
+use Rattle.pf_form.specs.Forms.{Form, nothing, word, key, or, Test, Spells, Faults, reads, empties, begins, follow, tested, but, plus, where_empty}
+use Rattle.pf_form.specs.Laws.{Clear, Heads, clear_both, differs, or_left, or_right, word_is, word_same, leaves, leaves_is, ok_is, still, Stopped, Lawful, heads_more, splits, misplaced_here, stopped_behind}
 
 -- ---- no word
 
-pub nothing_laws : (A : Type 0) (none : A) → Laws A (λ x ws. (x ≡ none) × (ws ≡ [])) (λ front w k. ⊥) true (λ w. false) (but []) (λ ws. Ok (none, ws))
-nothing_laws A none = record {
+pub nothing_laws : {A : Type 0} (none : A) → Lawful (nothing none)
+nothing_laws {A = A} none = record {
+  some = (none, [], (refl, refl));
   heads = λ x ws h. rw h.1 refl;
   fault_heads = λ front w k h. absurd h;
-  takes = λ ws x rest e. let g = good_is none x ws rest e in ([], (sym g.0, refl), g.1);
+  takes = λ ws x rest e. let g = ok_is none x ws rest e in ([], (sym g.0, refl), g.1);
   again = λ x part rest h c. rw (h.0, h.1) refl;
   faulty = λ front w k tail h. absurd h;
   stops = λ ws k rest e. absurd cc;
-  ahead = λ part x v r s e. let g = good_is none x (part ++ v ∷ r) (v ∷ r) e in rw (no_front part (v ∷ r) g.1, g.0) refl;
-}
-
-pub never_laws : (A : Type 0) → Laws A (λ x ws. ⊥) (λ front w k. ⊥) false (λ w. false) (but []) misplaced
-never_laws A = record {
-  heads = λ x ws h. absurd h;
-  fault_heads = λ front w k h. absurd h;
-  takes = λ ws x rest e. absurd cc;
-  again = λ x part rest h c. absurd h;
-  faulty = λ front w k tail h. absurd h;
-  stops = λ ws k rest e. let g = bad_is {A = A} BadWord k ws rest e in record { front = []; parts = g.1; starts = inl refl; same = λ v tail other r. rw g.0 refl; kind = inl (sym g.0) };
-  ahead = λ part x v r s e. absurd cc;
+  ahead = λ o part left v r s e. still (Ok none) o part left v r s e;
 }
 
 -- ---- one word
 
-tested_ok : {A : Type 0} (t : Result A Kind) (w : Word) (ws : List Word) (x : A) (rest : List Word) → tested t w ws ≡ Ok (x, rest) → (t ≡ Ok x) × (ws ≡ rest)
-tested_ok (Ok y) w ws x rest e = let g = good_is y x ws rest e in (ap (λ z. Ok z) g.0, g.1)
-tested_ok (Err k) w ws x rest e = absurd cc
-
-tested_err : {A : Type 0} (t : Result A Kind) (w : Word) (ws : List Word) (k : Kind) (rest : List Word) → tested t w ws ≡ Err (k, rest) → (t ≡ Err k) × (w ∷ ws ≡ rest)
-tested_err (Ok y) w ws k rest e = absurd cc
-tested_err {A = A} (Err j) w ws k rest e = let g = bad_is {A = A} j k (w ∷ ws) rest e in (ap (λ z. Err z) g.0, g.1)
-
-module _ (A : Type 0) (test : Word → Result A Kind) where
-  abbrev Takes : Grammar A
-  Takes x ws = (w : Word) × (test w ≡ Ok x) × (ws ≡ w ∷ [])
-
-  abbrev FaultsIt : Faulting
-  FaultsIt front w k = (test w ≡ Err k) × (front ≡ [])
-
-  word_takes : (ws : List Word) (x : A) (rest : List Word) → one_word test ws ≡ Ok (x, rest) → (part : List Word) × Takes x part × (ws ≡ part ++ rest)
+module _ {A : Type 0} (t : Test A) where
+  word_takes : (ws : List Word) (x : A) (rest : List Word) → reads (word t) ws ≡ Ok (x, rest) → (part : List Word) × Spells (word t) x part × (ws ≡ part ++ rest)
   word_takes [] x rest e = absurd cc
-  word_takes (w ∷ ws) x rest e = let t = tested_ok (test w) w ws x rest e in (w ∷ [], (w, t.0, refl), ap (λ (z : List Word). w ∷ z) t.1)
+  word_takes (w ∷ ws) x rest e = by (t.of w) refl e where
+    by : (r : Result A Kind) → t.of w ≡ r → tested r w ws ≡ Ok (x, rest) → (part : List Word) × Spells (word t) x part × (w ∷ ws ≡ part ++ rest)
+    by (Ok y) h e = let g = leaves_is (Ok y) (Ok x) ws rest e in (w ∷ [], (w, h ∙ g.0, refl), ap (λ (m : List Word). w ∷ m) g.1)
+    by (Err k) h e = absurd cc
 
-  word_stops : (ws : List Word) (k : Kind) (rest : List Word) → one_word test ws ≡ Err (k, rest) → Stopped A Takes FaultsIt (one_word test) ws k rest
-  word_stops [] k rest e =
-      let g = bad_is {A = A} BadWord k [] rest e in
-      record { front = []; parts = g.1; starts = inl refl; same = λ v tail other r. no_rest v tail (g.1 ∙ r); kind = inl (sym g.0) }
-  word_stops (w ∷ ws) k rest e =
-      let t = tested_err (test w) w ws k rest e in
-      record {
-        front = [];
-        parts = t.1;
-        starts = inl refl;
-        same = λ v tail other r. let at_v : test v ≡ Err k = rw (← head_is w v ws tail (t.1 ∙ r)) t.0 in rw at_v refl;
-        kind = inr (w, ws, (t.0, refl), sym t.1);
-      }
+  word_stops : (ws : List Word) (k : Kind) (rest : List Word) → reads (word t) ws ≡ Err (k, rest) → Stopped A (Spells (word t)) (Faults (word t)) ws k rest
+  word_stops [] k rest e = misplaced_here (Spells (word t)) (Faults (word t)) [] k rest (t.value, t.sample ∷ [], (t.sample, t.takes, refl)) e
+  word_stops (w ∷ ws) k rest e = by (t.of w) refl e where
+    by : (r : Result A Kind) → t.of w ≡ r → tested r w ws ≡ Err (k, rest) → Stopped A (Spells (word t)) (Faults (word t)) (w ∷ ws) k rest
+    by (Ok y) h e = absurd cc
+    by (Err j) h e =
+        let g = leaves_is {A = A} (Err j) (Err k) (w ∷ ws) rest e in
+        record { front = []; parts = g.1; starts = (t.value, t.sample ∷ [], (t.sample, t.takes, refl)); kind = inr (w, ws, (h ∙ g.0, refl), sym g.1) }
 
-  word_ahead : (part : List Word) (x : A) (v : Word) (r s : List Word) → one_word test (part ++ v ∷ r) ≡ Ok (x, v ∷ r) → one_word test (part ++ v ∷ s) ≡ Ok (x, v ∷ s)
-  word_ahead [] x v r s e = let t = tested_ok (test v) v r x (v ∷ r) e in absurd (omega (arith, ap length t.1))
-  word_ahead (w ∷ part) x v r s e = let t = tested_ok (test w) w (part ++ v ∷ r) x (v ∷ r) e in rw (no_front part (v ∷ r) t.1, t.0) refl
+  word_ahead : (o : Result A Kind) (part left : List Word) (v : Word) (r s : List Word) → reads (word t) (part ++ v ∷ r) ≡ leaves o (left ++ v ∷ r) → reads (word t) (part ++ v ∷ s) ≡ leaves o (left ++ v ∷ s)
+  word_ahead o [] left v r s e = by (t.of v) e where
+    by : (a : Result A Kind) → tested a v r ≡ leaves o (left ++ v ∷ r) → tested a v s ≡ leaves o (left ++ v ∷ s)
+    by (Ok x) e = let g = leaves_is (Ok x) o r (left ++ v ∷ r) e in absurd (omega (arith, ap length g.1, length-append left (v ∷ r)))
+    by (Err k) e = still (Err k) o [] left v r s e
+  word_ahead o (w ∷ part) left v r s e = by (t.of w) e where
+    by : (a : Result A Kind) → tested a w (part ++ v ∷ r) ≡ leaves o (left ++ v ∷ r) → tested a w (part ++ v ∷ s) ≡ leaves o (left ++ v ∷ s)
+    by (Ok x) e = still (Ok x) o part left v r s e
+    by (Err k) e = still (Err k) o (w ∷ part) left v r s e
 
-  pub word_laws : Laws A Takes FaultsIt false (λ w. true) (but []) (one_word test)
+  pub word_laws : Lawful (word t)
   word_laws = record {
+    some = (t.value, t.sample ∷ [], (t.sample, t.takes, refl));
     heads = λ x ws h. rw h.2 refl;
     fault_heads = λ front w k h. rw h.1 refl;
     takes = word_takes;
@@ -83,155 +63,131 @@ module _ (A : Type 0) (test : Word → Result A Kind) where
     ahead = word_ahead;
   }
 
--- ---- a word that chooses
+-- ---- a word that has to stand
 
-module _ (A : Type 0) (k : Word) (here there : Grammar A) (here_faults there_faults : Faulting) (he oe : Bool) (hb ob : Word → Bool) (hf of : Follow) (reads other : Reader A)
-    (p : Laws A here here_faults he hb hf reads) (q : Laws A there there_faults oe ob of other) (clear : ob k ≡ false) where
-  abbrev Behind : Grammar A
-  Behind x ws = (rest : List Word) × here x rest × (ws ≡ k ∷ rest)
-
-  abbrev BehindFaults : Faulting
-  BehindFaults front w kind = (rest : List Word) × here_faults rest w kind × (front ≡ k ∷ rest)
-
-  abbrev First : Grammar A
-  First x ws = Behind x ws ⊎ there x ws
-
-  abbrev FirstFaults : Faulting
-  FirstFaults front w kind = BehindFaults front w kind ⊎ there_faults front w kind
-
-  abbrev begin : Word → Bool
-  begin w = bytes_eq w k || ob w
-
-  abbrev fol : Follow
-  fol = plus hf (plus of (where_empty oe (but (k ∷ []))))
-
-  abbrev read : Reader A
-  read = if_first k reads other
-
-  at_key : (ws : List Word) → read (k ∷ ws) ≡ reads ws
+module _ {A : Type 0} (k : Word) (f : Form A) (p : Lawful f) where
+  -- at the word as the form, else nowhere
+  at_key : (ws : List Word) → reads (key k f) (k ∷ ws) ≡ reads f ws
   at_key ws = rw (word_same k) refl
 
-  -- at a word that the other may begin with
-  at_other : (w : Word) (ws : List Word) → ob w ≡ true → read (w ∷ ws) ≡ other (w ∷ ws)
-  at_other w ws h = rw (differs ob w k h clear (bytes_eq w k) refl) refl
+  key_some : (x : A) × (ws : List Word) × Spells (key k f) x ws
+  key_some = (p.some.0, k ∷ p.some.1, (p.some.1, p.some.2, refl))
 
-  first_heads : (x : A) (ws : List Word) → First x ws → Heads oe begin ws
-  first_heads x ws (inl (rest, h, e)) = rw (e, word_same k) refl
-  first_heads x ws (inr h) = by ws (q.heads x ws h) where
-    by : (ws : List Word) → Heads oe ob ws → Heads oe begin ws
-    by [] h = h
-    by (w ∷ ws) h = or_right (bytes_eq w k) (ob w) h
+  key_takes : (ws : List Word) (x : A) (rest : List Word) → reads (key k f) ws ≡ Ok (x, rest) → (part : List Word) × Spells (key k f) x part × (ws ≡ part ++ rest)
+  key_takes [] x rest e = absurd cc
+  key_takes (w ∷ ws) x rest e = by (bytes_eq w k) refl where
+    by : (b : Bool) → bytes_eq w k ≡ b → (part : List Word) × Spells (key k f) x part × (w ∷ ws ≡ part ++ rest)
+    by true t = let g = p.takes ws x rest (rw t at e) in (k ∷ g.0, (g.0, g.1, refl {a = k ∷ g.0}), cc (word_is w k t, g.2))
+    by false t = let none = rw t at e in absurd cc
 
-  first_fault_heads : (front : List Word) (w : Word) (kind : Kind) → FirstFaults front w kind → Heads false begin (front ++ w ∷ [])
-  first_fault_heads front w kind (inl (rest, h, e)) = rw (e, word_same k) refl
-  first_fault_heads front w kind (inr h) = by front (q.fault_heads front w kind h) where
-    by : (front : List Word) → Heads false ob (front ++ w ∷ []) → Heads false begin (front ++ w ∷ [])
-    by [] h = or_right (bytes_eq w k) (ob w) h
-    by (u ∷ front) h = or_right (bytes_eq u k) (ob u) h
+  key_stops : (ws : List Word) (kind : Kind) (rest : List Word) → reads (key k f) ws ≡ Err (kind, rest) → Stopped A (Spells (key k f)) (Faults (key k f)) ws kind rest
+  key_stops [] kind rest e = misplaced_here (Spells (key k f)) (Faults (key k f)) [] kind rest key_some e
+  key_stops (w ∷ ws) kind rest e = by (bytes_eq w k) refl where
+    by : (b : Bool) → bytes_eq w k ≡ b → Stopped A (Spells (key k f)) (Faults (key k f)) (w ∷ ws) kind rest
+    by true t = stopped_behind (k ∷ []) ws (w ∷ ws) (p.stops ws kind rest (rw t at e)) (ap (λ (u : Word). u ∷ ws) (word_is w k t)) (λ front b. (b.0, b.1, (front ++ b.1, b.2, refl))) (λ front v g. (front, g, refl))
+    by false t = misplaced_here (Spells (key k f)) (Faults (key k f)) (w ∷ ws) kind rest key_some (rw t at e)
 
-  takes_by : (b : Bool) (w : Word) (ws : List Word) (x : A) (rest : List Word) → bytes_eq w k ≡ b → read (w ∷ ws) ≡ Ok (x, rest) → (part : List Word) × First x part × (w ∷ ws ≡ part ++ rest)
-  takes_by true w ws x rest t e =
-      let g = p.takes ws x rest (rw t at e) in
-      (k ∷ g.0, inl (g.0, g.1, refl), cc (word_is w k t, g.2))
-  takes_by false w ws x rest t e = let g = q.takes (w ∷ ws) x rest (rw t at e) in (g.0, inr g.1, g.2)
+  key_ahead : (o : Result A Kind) (part left : List Word) (v : Word) (r s : List Word) → reads (key k f) (part ++ v ∷ r) ≡ leaves o (left ++ v ∷ r) → reads (key k f) (part ++ v ∷ s) ≡ leaves o (left ++ v ∷ s)
+  key_ahead o [] left v r s e = by (bytes_eq v k) refl where
+    by : (b : Bool) → bytes_eq v k ≡ b → reads (key k f) (v ∷ s) ≡ leaves o (left ++ v ∷ s)
+    by true t = let g = splits p o r (left ++ v ∷ r) (rw t at e) in absurd (omega (arith, ap (λ (m : List Word). length m) g.1, length-append g.0 (left ++ v ∷ r), length-append left (v ∷ r)))
+    by false t = rw t (still (Err BadWord) o [] left v r s (rw t at e))
+  key_ahead o (w ∷ part) left v r s e = by (bytes_eq w k) refl where
+    by : (b : Bool) → bytes_eq w k ≡ b → reads (key k f) (w ∷ (part ++ v ∷ s)) ≡ leaves o (left ++ v ∷ s)
+    by true t = rw t (p.ahead o part left v r s (rw t at e))
+    by false t = rw t (still (Err BadWord) o (w ∷ part) left v r s (rw t at e))
 
-  first_takes : (ws : List Word) (x : A) (rest : List Word) → read ws ≡ Ok (x, rest) → (part : List Word) × First x part × (ws ≡ part ++ rest)
-  first_takes [] x rest e = let g = q.takes [] x rest e in (g.0, inr g.1, g.2)
-  first_takes (w ∷ ws) x rest e = takes_by (bytes_eq w k) w ws x rest refl e
+  pub key_laws : Lawful (key k f)
+  key_laws = record {
+    some = key_some;
+    heads = λ x ws h. rw h.2 (word_same k);
+    fault_heads = λ front w kind h. rw h.2 (word_same k);
+    takes = key_takes;
+    again = λ x part rest h c. rw h.2 (at_key (h.0 ++ rest) ∙ p.again x h.0 rest h.1 c);
+    faulty = λ front w kind tail h. rw h.2 (at_key (h.0 ++ w ∷ tail) ∙ p.faulty h.0 w kind tail h.1);
+    stops = key_stops;
+    ahead = key_ahead;
+  }
 
-  there_again : (x : A) (part rest : List Word) → there x part → Heads oe ob part → Clear of rest → Clear (where_empty oe (but (k ∷ []))) rest → read (part ++ rest) ≡ Ok (x, rest)
-  there_again x [] [] h s c d = q.again x [] [] h c
-  there_again x [] (w ∷ rest) h s c d =
-      let is : bytes_eq w k ≡ false = (rw s at d).0 in
-      rw is (q.again x [] (w ∷ rest) h c)
-  there_again x (w ∷ part) rest h s c d = at_other w (part ++ rest) s ∙ q.again x (w ∷ part) rest h c
+-- ---- a word that chooses
 
-  first_again : (x : A) (part rest : List Word) → First x part → Clear fol rest → read (part ++ rest) ≡ Ok (x, rest)
-  first_again x part rest (inl (more, h, e)) c = rw e (at_key (more ++ rest) ∙ p.again x more rest h (clear_both hf (plus of (where_empty oe (but (k ∷ [])))) rest c).0)
-  first_again x part rest (inr h) c =
-      let d = clear_both of (where_empty oe (but (k ∷ []))) rest (clear_both hf (plus of (where_empty oe (but (k ∷ [])))) rest c).1 in
-      there_again x part rest h (q.heads x part h) d.0 d.1
+module _ {A : Type 0} (k : Word) (f g : Form A) (p : Lawful (key k f)) (q : Lawful g) (clear : begins g k ≡ false) where
+  -- At each word it reads as the one with the word, or as the other.
+  at_word : (w : Word) → ((ws : List Word) → reads (or k f g) (w ∷ ws) ≡ reads (key k f) (w ∷ ws)) ⊎ ((ws : List Word) → reads (or k f g) (w ∷ ws) ≡ reads g (w ∷ ws))
+  at_word w = by (bytes_eq w k) refl where
+    by : (b : Bool) → bytes_eq w k ≡ b → ((ws : List Word) → reads (or k f g) (w ∷ ws) ≡ reads (key k f) (w ∷ ws)) ⊎ ((ws : List Word) → reads (or k f g) (w ∷ ws) ≡ reads g (w ∷ ws))
+    by true t = inl (λ ws. rw t refl)
+    by false t = inr (λ ws. rw t refl)
 
-  there_faulty : (front : List Word) (w : Word) (kind : Kind) (tail : List Word) → there_faults front w kind → Heads false ob (front ++ w ∷ []) → read (front ++ w ∷ tail) ≡ Err (kind, w ∷ tail)
-  there_faulty [] w kind tail h s = at_other w tail s ∙ q.faulty [] w kind tail h
-  there_faulty (u ∷ front) w kind tail h s = at_other u (front ++ w ∷ tail) s ∙ q.faulty (u ∷ front) w kind tail h
+  -- where the other may begin so
+  at_other : (w : Word) (ws : List Word) → begins g w ≡ true → reads (or k f g) (w ∷ ws) ≡ reads g (w ∷ ws)
+  at_other w ws h = rw (differs (begins g) w k h clear (bytes_eq w k) refl) refl
 
-  first_faulty : (front : List Word) (w : Word) (kind : Kind) (tail : List Word) → FirstFaults front w kind → read (front ++ w ∷ tail) ≡ Err (kind, w ∷ tail)
-  first_faulty front w kind tail (inl (rest, h, e)) = rw e (at_key (rest ++ w ∷ tail) ∙ p.faulty rest w kind tail h)
-  first_faulty front w kind tail (inr h) = there_faulty front w kind tail h (q.fault_heads front w kind h)
+  or_takes : (ws : List Word) (x : A) (rest : List Word) → reads (or k f g) ws ≡ Ok (x, rest) → (part : List Word) × Spells (or k f g) x part × (ws ≡ part ++ rest)
+  or_takes [] x rest e = let t = q.takes [] x rest e in (t.0, inr t.1, t.2)
+  or_takes (w ∷ ws) x rest e = elim (at_word w) [
+    | inl same ↦ let t = p.takes (w ∷ ws) x rest (sym (same ws) ∙ e) in (t.0, inl t.1, t.2)
+    | inr same ↦ let t = q.takes (w ∷ ws) x rest (sym (same ws) ∙ e) in (t.0, inr t.1, t.2)
+  ]
 
-  -- the first word stays the first
-  same_first : (front : List Word) (v w : Word) (tail rest ws : List Word) → bytes_eq w k ≡ false → w ∷ ws ≡ front ++ v ∷ tail → read (front ++ v ∷ rest) ≡ other (front ++ v ∷ rest)
-  same_first [] v w tail rest ws t e = let is : bytes_eq v k ≡ false = rw (← head_is w v ws tail e) t in rw is refl
-  same_first (u ∷ front) v w tail rest ws t e = let is : bytes_eq u k ≡ false = rw (← head_is w u ws (front ++ v ∷ tail) e) t in rw is refl
+  or_again : (x : A) (part rest : List Word) → Spells (or k f g) x part → Clear (follow (or k f g)) rest → reads (or k f g) (part ++ rest) ≡ Ok (x, rest)
+  or_again x part rest (inl (more, h, e)) c =
+      let here = p.again x (k ∷ more) rest (more, h, refl) (clear_both (follow f) (plus (follow g) (where_empty (empties g) (but (k ∷ [])))) rest c).0 in
+      rw (e, word_same k) (rw (word_same k) at here)
+  or_again x part rest (inr h) c =
+      let d = clear_both (follow g) (where_empty (empties g) (but (k ∷ []))) rest (clear_both (follow f) (plus (follow g) (where_empty (empties g) (but (k ∷ [])))) rest c).1 in
+      by part rest h (q.heads x part h) d.0 d.1 where
+        by : (part rest : List Word) → Spells g x part → Heads (empties g) (begins g) part → Clear (follow g) rest → Clear (where_empty (empties g) (but (k ∷ []))) rest → reads (or k f g) (part ++ rest) ≡ Ok (x, rest)
+        by [] [] h s c d = q.again x [] [] h c
+        by [] (w ∷ rest) h s c d = let is : bytes_eq w k ≡ false = (rw s at d).0 in rw is (q.again x [] (w ∷ rest) h c)
+        by (w ∷ part) rest h s c d = at_other w (part ++ rest) s ∙ q.again x (w ∷ part) rest h c
 
-  there_starts : (front : List Word) → (front ≡ []) ⊎ Begins there front → (front ≡ []) ⊎ Begins First front
-  there_starts front (inl e) = inl e
-  there_starts front (inr b) = inr (b.0, b.1, inr b.2)
+  or_faulty : (front : List Word) (w : Word) (kind : Kind) (tail : List Word) → Faults (or k f g) front w kind → reads (or k f g) (front ++ w ∷ tail) ≡ Err (kind, w ∷ tail)
+  or_faulty front w kind tail (inl (more, h, e)) =
+      let here = p.faulty (k ∷ more) w kind tail (more, h, refl) in
+      rw (e, word_same k) (rw (word_same k) at here)
+  or_faulty front w kind tail (inr h) = by front h (q.fault_heads front w kind h) where
+    by : (front : List Word) → Faults g front w kind → Heads false (begins g) (front ++ w ∷ []) → reads (or k f g) (front ++ w ∷ tail) ≡ Err (kind, w ∷ tail)
+    by [] h s = at_other w tail s ∙ q.faulty [] w kind tail h
+    by (u ∷ front) h s = at_other u (front ++ w ∷ tail) s ∙ q.faulty (u ∷ front) w kind tail h
 
-  there_kind : (front rest : List Word) (kind : Kind) → (kind ≡ BadWord) ⊎ ((v : Word) × (tail : List Word) × there_faults front v kind × (rest ≡ v ∷ tail)) → (kind ≡ BadWord) ⊎ ((v : Word) × (tail : List Word) × FirstFaults front v kind × (rest ≡ v ∷ tail))
-  there_kind front rest kind (inl e) = inl e
-  there_kind front rest kind (inr h) = inr (h.0, h.1, inr h.2, h.3)
+  as_here : (ws : List Word) (kind : Kind) (rest : List Word) → Stopped A (Spells (key k f)) (Faults (key k f)) ws kind rest → Stopped A (Spells (or k f g)) (Faults (or k f g)) ws kind rest
+  as_here ws kind rest s = stopped_behind [] ws ws s refl (λ front b. (b.0, b.1, inl b.2)) (λ front v h. inl h)
 
-  here_starts : (filled : (x : A) × (ws : List Word) × here x ws) (front : List Word) → (front ≡ []) ⊎ Begins here front → Begins First (k ∷ front)
-  here_starts filled front (inl e) = rw e (filled.0, filled.1, inl (filled.1, filled.2, refl))
-  here_starts filled front (inr b) = (b.0, b.1, inl (front ++ b.1, b.2, refl))
+  as_there : (ws : List Word) (kind : Kind) (rest : List Word) → Stopped A (Spells g) (Faults g) ws kind rest → Stopped A (Spells (or k f g)) (Faults (or k f g)) ws kind rest
+  as_there ws kind rest s = stopped_behind [] ws ws s refl (λ front b. (b.0, b.1, inr b.2)) (λ front v h. inr h)
 
-  here_kind : (front rest : List Word) (kind : Kind) → (kind ≡ BadWord) ⊎ ((v : Word) × (tail : List Word) × here_faults front v kind × (rest ≡ v ∷ tail)) → (kind ≡ BadWord) ⊎ ((v : Word) × (tail : List Word) × FirstFaults (k ∷ front) v kind × (rest ≡ v ∷ tail))
-  here_kind front rest kind (inl e) = inl e
-  here_kind front rest kind (inr h) = inr (h.0, h.1, inl (front, h.2, refl), h.3)
+  or_stops : (ws : List Word) (kind : Kind) (rest : List Word) → reads (or k f g) ws ≡ Err (kind, rest) → Stopped A (Spells (or k f g)) (Faults (or k f g)) ws kind rest
+  or_stops [] kind rest e = as_there [] kind rest (q.stops [] kind rest e)
+  or_stops (w ∷ ws) kind rest e = elim (at_word w) [
+    | inl same ↦ as_here (w ∷ ws) kind rest (p.stops (w ∷ ws) kind rest (sym (same ws) ∙ e))
+    | inr same ↦ as_there (w ∷ ws) kind rest (q.stops (w ∷ ws) kind rest (sym (same ws) ∙ e))
+  ]
 
-  stops_by : (filled : (x : A) × (ws : List Word) × here x ws) (b : Bool) (w : Word) (ws : List Word) (kind : Kind) (rest : List Word) → bytes_eq w k ≡ b → read (w ∷ ws) ≡ Err (kind, rest) → Stopped A First FirstFaults read (w ∷ ws) kind rest
-  stops_by filled true w ws kind rest t e =
-      let s = p.stops ws kind rest (rw t at e) in
-      record {
-        front = k ∷ s.front;
-        parts = cc (word_is w k t, s.parts);
-        starts = inr (here_starts filled s.front s.starts);
-        same = λ v tail more r. at_key (s.front ++ v ∷ more) ∙ s.same v tail more r;
-        kind = here_kind s.front rest kind s.kind;
-      }
-  stops_by filled false w ws kind rest t e =
-      let s = q.stops (w ∷ ws) kind rest (rw t at e) in
-      record {
-        front = s.front;
-        parts = s.parts;
-        starts = there_starts s.front s.starts;
-        same = λ v tail more r. same_first s.front v w tail more ws t (s.parts ∙ ap (λ (m : List Word). s.front ++ m) r) ∙ s.same v tail more r;
-        kind = there_kind s.front rest kind s.kind;
-      }
+  or_ahead : (o : Result A Kind) (part left : List Word) (v : Word) (r s : List Word) → reads (or k f g) (part ++ v ∷ r) ≡ leaves o (left ++ v ∷ r) → reads (or k f g) (part ++ v ∷ s) ≡ leaves o (left ++ v ∷ s)
+  or_ahead o [] left v r s e = elim (at_word v) [
+    | inl same ↦ same s ∙ p.ahead o [] left v r s (sym (same r) ∙ e)
+    | inr same ↦ same s ∙ q.ahead o [] left v r s (sym (same r) ∙ e)
+  ]
+  or_ahead o (w ∷ part) left v r s e = elim (at_word w) [
+    | inl same ↦ same (part ++ v ∷ s) ∙ p.ahead o (w ∷ part) left v r s (sym (same (part ++ v ∷ r)) ∙ e)
+    | inr same ↦ same (part ++ v ∷ s) ∙ q.ahead o (w ∷ part) left v r s (sym (same (part ++ v ∷ r)) ∙ e)
+  ]
 
-  first_stops : (filled : (x : A) × (ws : List Word) × here x ws) (ws : List Word) (kind : Kind) (rest : List Word) → read ws ≡ Err (kind, rest) → Stopped A First FirstFaults read ws kind rest
-  first_stops filled [] kind rest e =
-      let s = q.stops [] kind rest e in
-      record {
-        front = s.front;
-        parts = s.parts;
-        starts = there_starts s.front s.starts;
-        same = λ v tail more r. absurd (omega (arith, ap length s.parts, length-append s.front rest, ap length r));
-        kind = there_kind s.front rest kind s.kind;
-      }
-  first_stops filled (w ∷ ws) kind rest e = stops_by filled (bytes_eq w k) w ws kind rest refl e
-
-  ahead_at : (b : Bool) (x : A) (v : Word) (r s : List Word) → bytes_eq v k ≡ b → read (v ∷ r) ≡ Ok (x, v ∷ r) → read (v ∷ s) ≡ Ok (x, v ∷ s)
-  ahead_at true x v r s t e = let g = p.takes r x (v ∷ r) (rw t at e) in absurd (omega (arith, ap length g.2, length-append g.0 (v ∷ r)))
-  ahead_at false x v r s t e = rw t (q.ahead [] x v r s (rw t at e))
-
-  ahead_behind : (b : Bool) (w : Word) (part : List Word) (x : A) (v : Word) (r s : List Word) → bytes_eq w k ≡ b → read (w ∷ (part ++ v ∷ r)) ≡ Ok (x, v ∷ r) → read (w ∷ (part ++ v ∷ s)) ≡ Ok (x, v ∷ s)
-  ahead_behind true w part x v r s t e = rw t (p.ahead part x v r s (rw t at e))
-  ahead_behind false w part x v r s t e = rw t (q.ahead (w ∷ part) x v r s (rw t at e))
-
-  first_ahead : (part : List Word) (x : A) (v : Word) (r s : List Word) → read (part ++ v ∷ r) ≡ Ok (x, v ∷ r) → read (part ++ v ∷ s) ≡ Ok (x, v ∷ s)
-  first_ahead [] x v r s e = ahead_at (bytes_eq v k) x v r s refl e
-  first_ahead (w ∷ part) x v r s e = ahead_behind (bytes_eq w k) w part x v r s refl e
-
-  pub first_laws : (x : A) × (ws : List Word) × here x ws → Laws A First FirstFaults oe begin fol read
-  first_laws filled = record {
-    heads = first_heads;
-    fault_heads = first_fault_heads;
-    takes = first_takes;
-    again = first_again;
-    faulty = first_faulty;
-    stops = first_stops filled;
-    ahead = first_ahead;
+  pub or_laws : Lawful (or k f g)
+  or_laws = record {
+    some = (p.some.0, p.some.1, inl p.some.2);
+    heads = λ x ws. elim [
+      | inl h ↦ heads_more false (empties g) (begins (key k f)) (begins (or k f g)) (λ e. absurd cc) (λ w e. or_left (bytes_eq w k) (begins g w) e) ws (p.heads x ws h)
+      | inr h ↦ heads_more (empties g) (empties g) (begins g) (begins (or k f g)) (λ e. e) (λ w e. or_right (bytes_eq w k) (begins g w) e) ws (q.heads x ws h)
+    ];
+    fault_heads = λ front w kind. elim [
+      | inl h ↦ heads_more false false (begins (key k f)) (begins (or k f g)) (λ e. e) (λ u e. or_left (bytes_eq u k) (begins g u) e) (front ++ w ∷ []) (p.fault_heads front w kind h)
+      | inr h ↦ heads_more false false (begins g) (begins (or k f g)) (λ e. e) (λ u e. or_right (bytes_eq u k) (begins g u) e) (front ++ w ∷ []) (q.fault_heads front w kind h)
+    ];
+    takes = or_takes;
+    again = or_again;
+    faulty = or_faulty;
+    stops = or_stops;
+    ahead = or_ahead;
   }

@@ -3,4 +3,4 @@ pub mod Writers
 pub mod Lines
 pub mod SpelledTickets
 pub mod WrittenTickets
-pub mod ReplyLines
+pub mod Newlines

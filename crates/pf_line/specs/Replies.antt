@@ -1,9 +1,10 @@
 -- The text of each reply: one line, before which a shown ruleset has a line for each rule. Own; rules as pfctl(8) shows them.
-use Rattle.std.specs.Prelude.{◌≡◌, ℕ, ◌+◌, ◌==◌, not, true, List, [], ◌∷◌, ◌++◌, length, codes, decimal, if◌then◌else◌}
-use Rattle.std.specs.List.{list_all}
+use Rattle.std.specs.Prelude.{◌≡◌, ℕ, suc, ◌+◌, ◌==◌, List, [], ◌∷◌, ◌++◌, length, codes, decimal, if◌then◌else◌, Option, Result}
+use Rattle.std.specs.declared.io.Error.{Error}
+use Rattle.pf_addr.specs.Writing.{Continues}
 use Rattle.pf_rule.specs.declared.rule.Action.{Action}
 use Rattle.pf_rule.specs.declared.rule.Action.TheVariants.{Pass, Block}
-use Rattle.pf_rule.specs.Rules.{PlainRule, IsRule}
+use Rattle.pf_rule.specs.Rules.{PlainRule}
 use Rattle.pf_rule.specs.RuleText.{rule_text}
 use Rattle.pf_ticket.specs.declared.ticket.Ticket.{Ticket}
 use Rattle.pf_core.specs.declared.reply.Answer.{Answer}
@@ -33,7 +34,7 @@ action_text (Pass keeps) = codes "pass"
 action_text Block = codes "block"
 
 abbrev pub rule_verdict_text : RuleVerdict → List ℕ
-rule_verdict_text (Rule path number action) = action_text action ++ codes " rule " ++ decimal number ++ place_text path
+rule_verdict_text (Rule path number action) = action_text action ++ (codes " rule " ++ decimal number ++ place_text path)
 rule_verdict_text Default = codes "pass default"
 
 abbrev pub verdict_text : Verdict → List ℕ
@@ -97,38 +98,22 @@ reply_text r = lines_text (rule_lines 0 (shown_in r)) ++ (last_line r ++ 10 ∷ 
 
 -- ---- each line is one line
 
-abbrev pub HasNoNewline : List ℕ → Type 0
-HasNoNewline text = list_all (λ b. not (b == 10)) text ≡ true
+-- how many newlines (10) a text has
+abbrev pub newlines : List ℕ → ℕ
+newlines [] = 0
+newlines (b ∷ bs) = if b == 10 then suc (newlines bs) else newlines bs
 
-abbrev pub NoneHasNewline : List (List ℕ) → Type 0
-NoneHasNewline [] = Unit {0}
-NoneHasNewline (text ∷ texts) = HasNoNewline text × NoneHasNewline texts
-
--- A text of so many lines: each ends in a newline and has no other.
-abbrev pub HasLines : ℕ → List ℕ → Type 0
-HasLines n text = (lines : List (List ℕ)) × (text ≡ lines_text lines) × NoneHasNewline lines × (length lines ≡ n)
+-- A text of so many lines: it ends in a newline, and has so many.
+pub record HasLines (n : ℕ) (text : List ℕ) : Type 0 where
+  pub front : List ℕ
+  pub ends : text ≡ front ++ 10 ∷ []
+  pub count : newlines text ≡ n
 
 -- A shown ruleset has a line for each rule more than the others.
 abbrev pub line_count : Reply → ℕ
 line_count r = length (shown_in r) + 1
 
-abbrev pub rule_path : RuleVerdict → List ℕ
-rule_path (Rule path number action) = path
-rule_path Default = []
-
-abbrev pub verdict_path : Verdict → List ℕ
-verdict_path (Rules v) = rule_path v
-
-abbrev pub answer_path : Answer → List ℕ
-answer_path (answers.Judged v) = verdict_path v
-answer_path _ = []
-
--- the path that a reply names
-abbrev pub path_in : Reply → List ℕ
-path_in (replies.Answer a) = answer_path a
-path_in _ = []
-
--- what the type of a rule keeps, of each
-abbrev pub AreRules : List PlainRule → Type 0
-AreRules [] = Unit {0}
-AreRules (r ∷ rs) = IsRule r × AreRules rs
+-- Behind what was written so far this text is written, which has no newline.
+pub record GoesOn {A B : Type 0} (so_far : Result A Error) (mid : Option (List ℕ)) (r : Result B Error) (new : Option (List ℕ)) (text : List ℕ) : Type 0 where
+  pub written : Continues so_far mid r new text
+  pub one_line : newlines text ≡ 0

@@ -1,5 +1,5 @@
-use Rattle.pf_addr.specs.Writing.{Continues-then}
+use Rattle.pf_line.proofs.Writers.{goes_on}
 use Rattle.pf_line.proofs.reply.write_numbered.Goals as goal
 
 pub returns : goal.returns
-returns g c = Continues-then c.write_more-so_far.ensures c.write_more_number.ensures
+returns g c = goes_on c.write_part-so_far.ensures c.write_number.ensures
