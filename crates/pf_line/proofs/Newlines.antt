@@ -1,6 +1,6 @@
 -- What has no newline: digits, names, networks, and so paths and the texts of rules.
 use Rattle.std.proofs.Common.{◌≡◌, ℕ, suc, ◌+◌, ◌^◌, ◌<◌, ◌≤◌, ◌==◌, Bool, true, false, cond, List, [], ◌∷◌, ◌++◌, length, decimal, refl, sym, ap, subst, ◌∙◌, arith}
-use Rattle.std.specs.Prelude.{Option, Some, None, IfSome, codes, All}
+use Rattle.std.specs.Prelude.{Option, Some, None, All, nat_lt}
 use Rattle.std.specs.List.{list_all, join_with_byte}
 use Rattle.std.specs.Option.{is_none}
 use Rattle.std.specs.Char.{digit_value}
@@ -10,20 +10,11 @@ use Rattle.std.proofs.lemmas.Bool.Decides.{nat_tests}
 use Rattle.std.proofs.lemmas.Fmt.{decimal_is_IsNumeral}
 use Rattle.std.proofs.lemmas.List.Elements.{All-head, All-tail}
 use Rattle.std.proofs.lemmas.List.Sums.{AllPass-from_list_all}
-use Rattle.pf_addr.specs.declared.addr.Family.{Family}
-use Rattle.pf_addr.specs.declared.addr.Family.TheVariants.{V4, V6}
-use Rattle.pf_addr.specs.Address.{width}
-use Rattle.pf_addr.specs.SpellingLaws.{IsNetByte, IsNetWord-net_text}
 use Rattle.pf_form.specs.declared.fault.Kind.{Kind}
-use Rattle.pf_rule.specs.declared.rule.Action.{Action}
-use Rattle.pf_rule.specs.declared.rule.Action.TheVariants.{Pass, Block}
-use Rattle.pf_rule.specs.declared.rule.Direction.{Direction}
-use Rattle.pf_rule.specs.declared.rule.Direction.TheVariants.{In, Out}
-use Rattle.pf_rule.specs.declared.rule.Host.{Host}
-use Rattle.pf_rule.specs.declared.rule.Host.TheVariants.{Any, Net}
-use Rattle.pf_rule.specs.Names.{is_name_byte, IsInterfaceName}
-use Rattle.pf_rule.specs.Rules.{PlainRule, IsRule, HostFits}
-use Rattle.pf_rule.specs.RuleText.{action_word, direction_words, quick_words, interface_words, family_words, protocol_word, protocol_words, host_word, host_words, state_words, canonical, rule_text}
+use Rattle.pf_rule.specs.Names.{is_name_byte}
+use Rattle.pf_rule.specs.Rules.{PlainRule, IsRule}
+use Rattle.pf_rule.specs.RuleText.{rule_text}
+use Rattle.pf_rule.specs.RuleTextLaws.{rule_text_bytes}
 use Rattle.pf_anchor.specs.Paths.{path_fault, is_path}
 use Rattle.pf_anchor.specs.PathGrammar.{AreComponents, IsPathText}
 use Rattle.pf_anchor.specs.PathLaws.{FaultsAllElse}
@@ -89,56 +80,5 @@ path_plain law (b ∷ bs) e =
 
 -- ---- rules
 
-host_plain : (f : Option Family) (h : Host) → HostFits f h → newlines (host_word h) ≡ 0
-host_plain f Any is = refl
-host_plain f (Net n) is =
-    let within : length n.front ≤ 32 = (let le = is.2 in subst (λ (g : Family). length n.front ≤ width g) is.1 le) in
-    no_newline IsNetByte (λ h. omega (arith, h.0)) (host_word (Net n)) (IsNetWord-net_text n (record { family = is.1; within = within })).bytes
-
-hosts_plain : (f : Option Family) (s d : Host) → HostFits f s → HostFits f d → all_newlines (host_words s d) ≡ 0
-hosts_plain f Any Any p q = refl
-hosts_plain f Any (Net n) p q = omega (arith, host_plain f (Net n) q)
-hosts_plain f (Net n) d p q = omega (arith, host_plain f (Net n) p, host_plain f d q)
-
-protocol_plain : (p : Option ℕ) → IfSome p (λ n. (0 < n) × (n < 256)) → all_newlines (protocol_words p) ≡ 0
-protocol_plain None h = refl
-protocol_plain (Some n) h = by (n == 1) (n == 6) (n == 17) (n == 58) where
-  by : (a b c d : Bool) → all_newlines (codes "proto" ∷ cond a (codes "icmp") (cond b (codes "tcp") (cond c (codes "udp") (cond d (codes "icmp6") (decimal n)))) ∷ []) ≡ 0
-  by true b c d = refl
-  by false true c d = refl
-  by false false true d = refl
-  by false false false true = refl
-  by false false false false = omega (arith, number_plain n (omega (arith, h.1)))
-
-interface_plain : (i : Option (List ℕ)) → IfSome i IsInterfaceName → all_newlines (interface_words i) ≡ 0
-interface_plain None h = refl
-interface_plain (Some name) h = omega (arith, name_plain name h.bytes)
-
--- the words that are the same in each rule that has them
-flags_plain : (a : Action) (d : Option Direction) (q : Bool) (f : Option Family) → newlines (action_word a) + all_newlines (direction_words d) + all_newlines (quick_words q) + all_newlines (family_words f) + all_newlines (state_words a) ≡ 0
-flags_plain a d q f = omega (arith, actions a, directions d, quicks q, families f) where
-  actions : (a : Action) → newlines (action_word a) + all_newlines (state_words a) ≡ 0
-  actions (Pass true) = refl
-  actions (Pass false) = refl
-  actions Block = refl
-
-  directions : (d : Option Direction) → all_newlines (direction_words d) ≡ 0
-  directions None = refl
-  directions (Some In) = refl
-  directions (Some Out) = refl
-
-  quicks : (q : Bool) → all_newlines (quick_words q) ≡ 0
-  quicks true = refl
-  quicks false = refl
-
-  families : (f : Option Family) → all_newlines (family_words f) ≡ 0
-  families None = refl
-  families (Some V4) = refl
-  families (Some V6) = refl
-
-canonical_plain : (r : PlainRule) → IsRule r → all_newlines (canonical r) ≡ 0
-canonical_plain r h = simp all_newlines-append (omega (arith, flags_plain r.action r.direction r.quick r.family, interface_plain r.interface h.interface, protocol_plain r.protocol h.protocol, hosts_plain r.family r.source r.destination h.source h.destination))
-
 pub rule_plain : (r : PlainRule) → IsRule r → newlines (rule_text r) ≡ 0
-unfolding rule_text
-rule_plain r h = join_plain 32 refl (canonical r) ∙ canonical_plain r h
+rule_plain r h = no_newline (λ b. nat_lt 31 b ≡ true) (λ e. cc) (rule_text r) (AllPass-from_list_all (nat_lt 31) (rule_text r) (rule_text_bytes r h))
