@@ -1,8 +1,7 @@
 -- Each line of a reply is one line.
-use Rattle.std.proofs.Common.{◌≡◌, ℕ, zero, suc, ◌+◌, ◌/◌, ◌%◌, ◌<◌, ◌==◌, not, Bool, true, false, cond, List, [], ◌∷◌, ◌++◌, length, take, get_or, decimal, refl, sym, ap, subst, ◌∙◌, append_assoc, ◌≤◌, arith}
+use Rattle.std.proofs.Common.{◌≡◌, inl, inr, ℕ, zero, suc, ◌+◌, ◌/◌, ◌%◌, ◌<◌, ◌==◌, not, Bool, true, false, cond, List, [], ◌∷◌, ◌++◌, length, take, get_or, decimal, refl, sym, ap, subst, ◌∙◌, append_assoc, ◌≤◌, arith}
 use Rattle.std.specs.Prelude.{Option, Some, None, IfSome, codes, All}
 use Rattle.std.specs.List.{list_all, join_with_byte}
-use Rattle.std.specs.Option.{is_none}
 use Rattle.std.proofs.lemmas.Bool.{and_from, and_parts, ne_eqb}
 use Rattle.std.proofs.lemmas.List.{length-append, take_all}
 use Rattle.std.specs.Fmt.{digits, digits_onto, digit_glyph}
@@ -12,7 +11,6 @@ use Rattle.pf_addr.specs.declared.addr.Family.TheVariants.{V4, V6}
 use Rattle.pf_addr.specs.Address.{Network, width}
 use Rattle.pf_addr.specs.Spelling.{net_text}
 use Rattle.pf_addr.specs.SpellingLaws.{IsV4Network, IsNetByte, IsNetWord-net_text}
-use Rattle.pf_form.specs.declared.fault.Kind.{Kind}
 use Rattle.pf_rule.specs.declared.rule.Action.{Action}
 use Rattle.pf_rule.specs.declared.rule.Action.TheVariants.{Pass, Block}
 use Rattle.pf_rule.specs.declared.rule.Direction.{Direction}
@@ -21,9 +19,9 @@ use Rattle.pf_rule.specs.declared.rule.Host.{Host}
 use Rattle.pf_rule.specs.declared.rule.Host.TheVariants.{Any, Net}
 use Rattle.pf_rule.specs.Names.{is_name_byte, IsInterfaceName}
 use Rattle.pf_rule.specs.Rules.{PlainRule, IsRule, HostFits}
-use Rattle.pf_anchor.specs.Paths.{path_fault, is_path}
+use Rattle.pf_anchor.specs.Paths.{is_path}
 use Rattle.pf_anchor.specs.PathGrammar.{AreComponents, IsPathText}
-use Rattle.pf_anchor.specs.PathLaws.{FaultsAllElse}
+use Rattle.pf_anchor.specs.PathLaws.{ReadsWhatIsSpelled, ReadsWhatIsWritten}
 use Rattle.pf_rule.specs.RuleText.{action_word, direction_words, quick_words, interface_words, family_words, protocol_word, protocol_words, host_word, from_to_words, host_words, state_words, canonical, rule_text}
 use Rattle.pf_ticket.specs.declared.ticket.Ticket.{Ticket}
 use Rattle.pf_core.specs.declared.reply.Answer.{Answer}
@@ -251,14 +249,12 @@ components_clear [] all = tt
 components_clear (c ∷ cs) all = (name_clear c all.0.bytes, components_clear cs all.1)
 
 -- a path's text has none, as the law of paths says
-pub path_clear : FaultsAllElse → (p : List ℕ) → is_path p ≡ true → HasNoNewline p
-path_clear law [] e = refl
-path_clear law (b ∷ bs) e =
-    let is : IsPathText (b ∷ bs) = law (b ∷ bs) (none (path_fault (b ∷ bs)) e) in
-    subst HasNoNewline (sym is.joined) (join_clear 47 refl is.parts (components_clear is.parts is.each)) where
-      none : (o : Option Kind) → is_none o ≡ true → o ≡ None
-      none None h = refl
-      none (Some k) h = absurd cc
+pub path_clear : ReadsWhatIsSpelled → ReadsWhatIsWritten → (p : List ℕ) → is_path p ≡ true → HasNoNewline p
+path_clear spelled again [] e = refl
+path_clear spelled again (b ∷ bs) e = elim (spelled (b ∷ bs) (b ∷ bs) (again (b ∷ bs) e)) [
+  | inl main ↦ absurd (cc (main.1))
+  | inr path ↦ let is : IsPathText (b ∷ bs) = path.0 in subst HasNoNewline (sym is.joined) (join_clear 47 refl is.parts (components_clear is.parts is.each))
+]
 
 pub one_more : (rs : List PlainRule) (i : ℕ) (other : PlainRule) → i < length rs → AreRules (take i rs) → IsRule (get_or rs i other) → AreRules (take (i + 1) rs)
 one_more [] i other lt all is = absurd (omega arith)

@@ -15,7 +15,7 @@ ghost use Rattle.pf_line.specs.TicketGrammar.{SpellsTicket};
 
 use crate::reply::shown;
 use pf_anchor::RuleVerdict;
-use pf_anchor::laws::paths_have_no_fault;
+use pf_anchor::laws::{paths_are_read_again, paths_are_read_as_spelled};
 use pf_core::{Answer, Reply, Verdict};
 use pf_rule::Rule;
 
@@ -62,7 +62,8 @@ fn path_is_plain(reply: &Reply)
 fn place_is_plain(verdict: &RuleVerdict)
     ensures { HasNoNewline (rule_path verdict.now) }
 {
-    paths_have_no_fault();
+    paths_are_read_as_spelled();
+    paths_are_read_again();
     if let RuleVerdict::Rule { path, .. } = verdict {
         let _bytes = path.as_bytes();
     }
