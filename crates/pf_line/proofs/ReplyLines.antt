@@ -1,7 +1,7 @@
 -- Each line of a reply is one line.
 use Rattle.std.proofs.Common.{◌≡◌, inl, inr, ℕ, zero, suc, ◌+◌, ◌/◌, ◌%◌, ◌<◌, ◌==◌, not, Bool, true, false, cond, List, [], ◌∷◌, ◌++◌, length, take, get_or, decimal, refl, sym, ap, subst, ◌∙◌, append_assoc, ◌≤◌, arith}
 use Rattle.std.specs.Prelude.{Option, Some, None, IfSome, codes, All}
-use Rattle.std.specs.List.{list_all, join_with_byte}
+use Rattle.std.specs.List.{AllByRecursion, list_all, join_with_byte}
 use Rattle.std.proofs.lemmas.Bool.{and_from, and_parts, ne_eqb}
 use Rattle.std.proofs.lemmas.List.{length-append, take_all}
 use Rattle.std.specs.Fmt.{digits, digits_onto, digit_glyph}
@@ -20,7 +20,7 @@ use Rattle.pf_rule.specs.declared.rule.Host.TheVariants.{Any, Net}
 use Rattle.pf_rule.specs.Names.{is_name_byte, IsInterfaceName}
 use Rattle.pf_rule.specs.Rules.{PlainRule, IsRule, HostFits}
 use Rattle.pf_anchor.specs.Paths.{is_path}
-use Rattle.pf_anchor.specs.PathGrammar.{AreComponents, IsPathText}
+use Rattle.pf_anchor.specs.PathGrammar.{IsComponent, IsPathText}
 use Rattle.pf_anchor.specs.PathLaws.{ReadsWhatIsSpelled, ReadsWhatIsWritten}
 use Rattle.pf_rule.specs.RuleText.{action_word, direction_words, quick_words, interface_words, family_words, protocol_word, protocol_words, host_word, from_to_words, host_words, state_words, canonical, rule_text}
 use Rattle.pf_ticket.specs.declared.ticket.Ticket.{Ticket}
@@ -244,7 +244,7 @@ reply_lined r path kept =
 
 -- ---- what the types keep
 
-components_clear : (parts : List (List ℕ)) → AreComponents parts → NoneHasNewline parts
+components_clear : (parts : List (List ℕ)) → AllByRecursion IsComponent parts → NoneHasNewline parts
 components_clear [] all = tt
 components_clear (c ∷ cs) all = (name_clear c all.0.bytes, components_clear cs all.1)
 
