@@ -4,7 +4,7 @@ use Rattle.std.specs.declared.cmp.Ordering.{Ordering}
 use Rattle.std.specs.declared.cmp.Ordering.TheVariants.{Less, Equal, Greater}
 use Rattle.std.specs.Cmp.{IsTotalOrder}
 use Rattle.std.specs.FinMap.{find, put}
-use Rattle.std.specs.FinMap.Entries.{by_order, find-put, find-where_key, is_sorted-put, is_sorted-where_key, same_entries}
+use Rattle.std.specs.FinMap.Entries.{by_order, find-put, find-where_key, is_sorted-put, is_sorted-where_key}
 use Rattle.std.specs.List.{AllByRecursion, insert, position, position_or_len}
 use Rattle.std.specs.Option.{unwrap_or}
 use Rattle.std.specs.Ordering.{eq_by_cmp, is_eq, is_lt}
@@ -12,7 +12,7 @@ use Rattle.std.proofs.lemmas.Cmp.{alike_right, eq_by_cmp_equiv}
 use Rattle.std.proofs.lemmas.Bool.Decides.{nat_tests}
 use Rattle.std.proofs.lemmas.List.Elements.{filter_passes, recursion_from_All}
 use Rattle.std.proofs.lemmas.List.Sums.{length-filter, count_by-le-length, prefix_len-le-length}
-use Rattle.pf_anchor.specs.Laws.{ReplacesTheKey, StaysSorted, OneList}
+use Rattle.pf_anchor.specs.Laws.{ReplacesTheKey, StaysSorted}
 use Rattle.pf_anchor.specs.Maps.{without, with_value}
 
 unless : {X : Type 0} (b : Bool) (x : Option X) → cond (not b) x None ≡ cond b None x
@@ -36,9 +36,6 @@ replaces_the_key X {R = R} o es k (Some v) q =
 pub stays_sorted : {K : Type 0} (X : Type 0) {R : K → K → Ordering} → IsTotalOrder R → StaysSorted X R
 stays_sorted X {R = R} o es k None is = is_sorted-where_key R (λ x. not (eq_by_cmp R k x)) es is
 stays_sorted X {R = R} o es k (Some v) is = is_sorted-put R o k v (without R es k) (is_sorted-where_key R (λ x. not (eq_by_cmp R k x)) es is)
-
-pub one_list : {K : Type 0} (X : Type 0) {R : K → K → Ordering} → IsTotalOrder R → OneList X R
-one_list X {R = R} o same a b left right alike = same_entries R o same a b left right alike
 
 put_grows : {K X : Type 0} (R : K → K → Ordering) (k : K) (v : X) (es : List (K × X)) → length (put R k v es) ≤ length es + 1
 put_grows R k v [] = omega arith

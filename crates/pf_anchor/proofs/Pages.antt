@@ -93,10 +93,12 @@ module _ {K X : Type 0} {R : K → K → Ordering} (o : IsTotalOrder R) (k : K) 
   below_at x [] e es is = less _ (both _ _ is).0
   below_at x (f ∷ a) e es is = below_at x a e es (both _ _ is).1
 
-  -- before an entry that isn't behind a key all are before it
-  all_before : (a : List (K × X)) (e : K × X) (es : List (K × X)) → T (is_sorted R (a ++ e ∷ es)) → is_lt (R k e.0) ≡ false → AllAt Greater a
-  all_before [] e es is not_less = tt
-  all_before (x ∷ a) e es is not_less = let parts = both _ _ is in (past o k x.0 e.0 (below_at x.0 a e es parts.0) not_less, all_before a e es parts.1 not_less)
+  -- before a page that doesn't start behind a key all are before it
+  all_before : (a page es : List (K × X)) → 0 < length page → starts_behind R k page ≡ false → T (is_sorted R (a ++ (page ++ es))) → AllAt Greater a
+  all_before a [] es some starts is = absurd (omega arith)
+  all_before [] (e ∷ page) es some starts is = tt
+  all_before (x ∷ a) (e ∷ page) es some starts is =
+      let parts = both _ _ is in (past o k x.0 e.0 (below_at x.0 a e (page ++ es) parts.0) starts, all_before a (e ∷ page) es some starts parts.1)
 
   -- behind an entry that is behind a key all are behind it
   all_behind : (x : K) (es : List (K × X)) → R k x ≡ Less → T (below_all R x es) → AllAt Less es
@@ -114,10 +116,7 @@ module _ {K X : Type 0} {R : K → K → Ordering} (o : IsTotalOrder R) (k : K) 
   front_before pages (suc zero) at is = tt
   front_before pages (suc (suc i)) at is =
       let here = at.here (omega arith) in
-      by_page (get_or pages (suc i) []) here.0 here.1 (subst (λ z. T (is_sorted R z)) (around pages (suc i)) is) where
-        by_page : (page : List (K × X)) → 0 < length page → starts_behind R k page ≡ false → T (is_sorted R (joined (take (suc i) pages) ++ (page ++ joined (drop (suc (suc i)) pages)))) → AllAt Greater (joined (take (suc i) pages))
-        by_page [] some not_behind is = absurd (omega arith)
-        by_page (e ∷ es) some not_behind is = all_before (joined (take (suc i) pages)) e (es ++ joined (drop (suc (suc i)) pages)) is not_behind
+      all_before (joined (take (suc i) pages)) (get_or pages (suc i) []) (joined (drop (suc (suc i)) pages)) here.0 here.1 (subst (λ z. T (is_sorted R z)) (around pages (suc i)) is)
 
   pages_behind : (pages : List (List (K × X))) (n : ℕ) → (n < length pages → starts_behind R k (get_or pages n []) ≡ true) → T (is_sorted R (joined pages)) → AllAt Less (joined (drop n pages))
   pages_behind [] zero next is = tt

@@ -1,8 +1,8 @@
 -- A word has no fault exactly where the grammar takes it, and reading and writing a path undo each other.
-use Rattle.std.proofs.Common.{◌≡◌, inl, inr, ℕ, ◌<◌, Bool, true, false, List, [], ◌∷◌, length, get_or, Some, None, Option, Ok, refl, sym, ap, subst, ◌∙◌, arith}
+use Rattle.std.proofs.Common.{◌≡◌, inl, inr, ℕ, ◌<◌, Bool, true, false, List, [], ◌∷◌, length, get_or, Some, None, Option, Ok, Err, refl, sym, ap, subst, ◌∙◌, arith}
 use Rattle.std.specs.Prelude.{codes, if◌then◌else◌}
-use Rattle.std.specs.List.{join_with_byte, All}
-use Rattle.std.specs.Option.{is_none, option_or}
+use Rattle.std.specs.List.{AllByRecursion, join_with_byte, All}
+use Rattle.std.specs.Option.{is_none, option_map_or, option_or}
 use Rattle.std.specs.Str.{bytes_eq}
 use Rattle.std.proofs.lemmas.Bool.Decides.{nat_tests}
 use Rattle.std.proofs.lemmas.List.Splits.{length-slice_split, slice_split_at, slice_split_none, join_with_byte-slice_split}
@@ -11,8 +11,8 @@ use Rattle.std.proofs.lemmas.Slice.Eq.{bytes_eq-Decides}
 use Rattle.pf_form.specs.declared.fault.Kind.{Kind}
 use Rattle.pf_rule.specs.Names.{is_name_byte}
 use Rattle.pf_form.specs.Words.{Word}
-use Rattle.pf_anchor.specs.Paths.{is_slash, components, component_fault, first_fault, depth_fault, path_fault, path_unless, path_of, path_text, is_path}
-use Rattle.pf_anchor.specs.PathGrammar.{IsComponent, AreComponents, IsPathText, SpellsPath}
+use Rattle.pf_anchor.specs.Paths.{is_slash, components, component_fault, first_fault, depth_fault, path_fault, path_of, path_text, is_path}
+use Rattle.pf_anchor.specs.PathGrammar.{IsComponent, IsPathText, SpellsPath}
 use Rattle.pf_anchor.specs.Rulesets.{main}
 
 -- ---- components
@@ -36,21 +36,18 @@ none_parts : (o p : Option Kind) → option_or o p ≡ None → (o ≡ None) × 
 none_parts (Some k) p e = absurd (cc)
 none_parts None p e = (refl, e)
 
-each_is : (cs : List (List ℕ)) → first_fault cs ≡ None → AreComponents cs
+each_is : (cs : List (List ℕ)) → first_fault cs ≡ None → AllByRecursion IsComponent cs
 each_is [] e = tt
 each_is (c ∷ cs) e = let parts = none_parts (component_fault c) (first_fault cs) e in (component_is c parts.0, each_is cs parts.1)
 
-each_faultless : (cs : List (List ℕ)) → AreComponents cs → first_fault cs ≡ None
+each_faultless : (cs : List (List ℕ)) → AllByRecursion IsComponent cs → first_fault cs ≡ None
 each_faultless [] is = refl
 each_faultless (c ∷ cs) is = rw (component_faultless c is.0) (each_faultless cs is.1)
 
-name_is_no_slash : (b : ℕ) → is_name_byte b ≡ true → is_slash b ≡ false
-name_is_no_slash b is = grind (arith, nat_tests)
-
 no_slash : (c : List ℕ) → IsComponent c → All (λ b. is_slash b ≡ false) c
-no_slash c is = λ k d lt. name_is_no_slash (get_or c k d) (AllPass-from_list_all is_name_byte c is.bytes k d lt)
+no_slash c is k d lt = let name = AllPass-from_list_all is_name_byte c is.bytes k d lt in grind (arith, nat_tests)
 
-split_joined : (cs : List (List ℕ)) → AreComponents cs → 0 < length cs → components (join_with_byte 47 cs) ≡ cs
+split_joined : (cs : List (List ℕ)) → AllByRecursion IsComponent cs → 0 < length cs → components (join_with_byte 47 cs) ≡ cs
 split_joined [] is some = absurd (omega arith)
 split_joined (c ∷ []) is some = slice_split_none is_slash c (no_slash c is.0)
 split_joined (c ∷ d ∷ cs) is some =
@@ -88,7 +85,7 @@ read_faultless w e = by (bytes_eq w (codes "-")) refl where
 
 pub read_is_spelled : (w : Word) (p : List ℕ) → path_of w ≡ Ok p → SpellsPath w p
 read_is_spelled w p e = by (bytes_eq w (codes "-")) (path_fault w) refl refl e where
-  by : (dash : Bool) (fault : Option Kind) → bytes_eq w (codes "-") ≡ dash → path_fault w ≡ fault → (if dash then Ok main else path_unless fault w) ≡ Ok p → SpellsPath w p
+  by : (dash : Bool) (fault : Option Kind) → bytes_eq w (codes "-") ≡ dash → path_fault w ≡ fault → (if dash then Ok main else option_map_or (λ k. Err k) fault (Ok w)) ≡ Ok p → SpellsPath w p
   by true fault is none e = let same : p ≡ main = cc in inl ((bytes_eq-Decides w (codes "-")).0 is, same)
   by false None is none e = let same : p ≡ w = cc in inr (faultless_only w none, same)
   by false (Some k) is none e = absurd (cc)

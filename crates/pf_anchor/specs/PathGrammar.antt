@@ -14,13 +14,10 @@ pub record IsComponent (c : List ℕ) : Type 0 where
   pub no_dots : c ≢ codes ".."
   pub no_dash : c ≢ codes "-"
 
-abbrev pub AreComponents : List (List ℕ) → Type 0
-AreComponents cs = AllByRecursion IsComponent cs
-
 -- 1 to 16 components with a slash (47) between each two, and at most 255 bytes in all
 pub record IsPathText (w : Word) : Type 0 where
   pub parts : List (List ℕ)
-  pub each : AreComponents parts
+  pub each : AllByRecursion IsComponent parts
   pub some : 0 < length parts
   pub few : length parts ≤ DEPTH_LIMIT
   pub joined : w ≡ join_with_byte 47 parts

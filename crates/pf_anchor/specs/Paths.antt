@@ -1,7 +1,7 @@
 -- The texts of paths (pf.conf(5), ANCHORS): components, with a slash between each two. The limits, and that the main ruleset is written "-", are own.
 use Rattle.std.specs.Prelude.{ℕ, ◌==◌, ◌&&◌, Bool, true, not, if◌then◌else◌, List, [], ◌∷◌, length, codes, Option, Some, None, Result, Ok, Err, nat_lt}
 use Rattle.std.specs.List.{list_all, slice_split}
-use Rattle.std.specs.Option.{is_none, option_or}
+use Rattle.std.specs.Option.{is_none, option_map_or, option_or}
 use Rattle.std.specs.Str.{bytes_eq}
 use Rattle.pf_form.specs.declared.fault.Kind.{Kind}
 use Rattle.pf_form.specs.declared.fault.Kind.TheVariants.{BadWord, NameTooLong}
@@ -37,13 +37,9 @@ depth_fault n = if nat_lt DEPTH_LIMIT n then Some NameTooLong else None
 abbrev pub path_fault : Word → Option Kind
 path_fault w = if nat_lt PATH_LIMIT (length w) then Some NameTooLong else option_or (first_fault (components w)) (depth_fault (length (components w)))
 
-abbrev pub path_unless : Option Kind → Word → Result (List ℕ) Kind
-path_unless None w = Ok w
-path_unless (Some k) w = Err k
-
 -- PATH: "-" for the main ruleset, else the path itself
 abbrev pub path_of : Word → Result (List ℕ) Kind
-path_of w = if bytes_eq w (codes "-") then Ok main else path_unless (path_fault w) w
+path_of w = if bytes_eq w (codes "-") then Ok main else option_map_or (λ k. Err k) (path_fault w) (Ok w)
 
 -- a path is the main ruleset's, or a word that has no fault
 abbrev pub is_path : List ℕ → Bool

@@ -6,7 +6,7 @@ ghost use Rattle.pf_anchor.specs.Evaluation.{judged};
 ghost use Rattle.pf_anchor.specs.Pages.{joined, starts_behind, page_before, IsPlace};
 
 use crate::limits::RULESET_LIMIT;
-use crate::page::{PAGE_LIMIT, Page, replaced};
+use crate::page::{PAGE_LIMIT, Page, push_page, replaced};
 use crate::path::Path;
 use crate::placed::Placed;
 use crate::rule_list::RuleList;
@@ -40,10 +40,7 @@ fn starts_behind(page: &Page, path: &Path) -> bool
     ensures value { result ≡ starts_behind path_order path.now page.now }
     ensures some { 0 < length page.now }
 {
-    match page.as_slice() {
-        [first, ..] => first.is_behind(path),
-        [] => false,
-    }
+    page.as_slice().first().is_some_and(|first| first.is_behind(path))
 }
 
 // How many pages there are up to the one where a path's ruleset is, or would be: the last that doesn't start behind the path,
@@ -68,16 +65,6 @@ fn page_before(pages: &[Page], place: usize) -> &[Placed]
         Some(index) => pages[index].as_slice(),
         None => &[],
     }
-}
-
-// Adds a page behind those that are there, unless it would have no rulesets.
-fn push_page(alloc: Global, pages: &mut Vec<Page>, entries: Vec<Placed>) -> Result<(), AllocError>
-    ensures { OnOk result (joined pages.new.items ≡ joined pages.old.items ++ entries.items) }
-{
-    if !entries.is_empty() {
-        pages.push(Page::of(alloc, entries)?)?;
-    }
-    Ok(())
 }
 
 // Adds rulesets behind those that are there, in one page or two.

@@ -1,8 +1,9 @@
 //! Parts of the map of rulesets.
-ghost use Rattle.std.specs.Prelude.{◌≡◌, ◌<◌, length, IfOk, IfSome};
+ghost use Rattle.std.specs.Prelude.{◌≡◌, ◌<◌, ◌++◌, length, IfOk, OnOk, IfSome};
 ghost use Rattle.std.specs.List.{position};
 ghost use Rattle.std.specs.Ordering.{is_lt};
 ghost use Rattle.pf_anchor.specs.Maps.{without};
+ghost use Rattle.pf_anchor.specs.Pages.{joined};
 ghost use Rattle.pf_anchor.specs.Rulesets.{path_order, with_rules};
 
 use crate::path::Path;
@@ -71,17 +72,22 @@ pub(crate) fn replaced(
     Ok(kept)
 }
 
-impl Page {
-    /// A page of these rulesets.
-    pub(crate) fn of(alloc: Global, entries: Vec<Placed>) -> Result<Page, AllocError>
-        requires { 0 < length entries.items }
-        ensures { IfOk result (λ p. p ≡ entries.items) }
-    {
-        Ok(Page {
-            entries: Arc::new(alloc, entries)?,
-        })
+/// Adds a page behind those that are there, unless it would have no rulesets.
+pub(crate) fn push_page(
+    alloc: Global,
+    pages: &mut Vec<Page>,
+    entries: Vec<Placed>,
+) -> Result<(), AllocError>
+    ensures { OnOk result (joined pages.new.items ≡ joined pages.old.items ++ entries.items) }
+{
+    if !entries.is_empty() {
+        let entries = Arc::new(alloc, entries)?;
+        pages.push(Page { entries })?;
     }
+    Ok(())
+}
 
+impl Page {
     /// Its rulesets, in order.
     pub(crate) fn as_slice(&self) -> &[Placed]
         ensures value { result.now ≡ self.now }

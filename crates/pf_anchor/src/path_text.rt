@@ -44,17 +44,12 @@ fn first_slash(text: &[u8]) -> Option<usize>
 fn depth_fault_in(text: &[u8]) -> Option<Kind>
     ensures { result ≡ depth_fault (length (components text.now)) }
 {
-    if slashes(text) < DEPTH_LIMIT {
+    let slashes = text.iter().filter(|b| **b == b'/').count();
+    if slashes < DEPTH_LIMIT {
         None
     } else {
         Some(Kind::NameTooLong)
     }
-}
-
-fn slashes(text: &[u8]) -> usize
-    ensures { result ≡ count_by is_slash text.now }
-{
-    text.iter().filter(|b| **b == b'/').count()
 }
 
 // Its bytes are tested before its length.

@@ -5,31 +5,24 @@ ghost use Rattle.pf_anchor.specs.Rulesets.{ruled, path_order};
 
 use crate::path::Path;
 use crate::rule_list::RuleList;
-use pf_rule::Rule;
 use std::alloc::{AllocError, Global};
 use std::marker::Model;
 use std::sync::Arc;
 
-// A path and the rules there.
-#[derive(Drop)]
-struct Entry {
-    path: Path,
-    rules: RuleList,
-}
-
 /// A ruleset at its path, shared by all that hold it: path and rules stand once. Contracts see it as a `Ruled`.
 #[derive(Drop)]
 pub struct Placed {
-    entry: Arc<Entry>,
+    // The path, and the rules there.
+    entry: Arc<(Path, RuleList)>,
 }
 
 impl Model for Placed {
     ghost use Rattle.std.specs.Arc.{arc_value};
-    ghost use Rattle.pf_anchor.specs.Rulesets.{Ruled, ruled};
+    ghost use Rattle.pf_anchor.specs.Rulesets.{Ruled};
 
     ghost Value = { Ruled };
 
-    ghost view = { λ p. ruled (arc_value p.entry).path (arc_value p.entry).rules };
+    ghost view = { λ p. arc_value p.entry };
 }
 
 impl Placed {
@@ -38,7 +31,7 @@ impl Placed {
         ensures { IfOk result (λ p. p ≡ ruled path rules) }
     {
         Ok(Placed {
-            entry: Arc::new(alloc, Entry { path, rules })?,
+            entry: Arc::new(alloc, (path, rules))?,
         })
     }
 
@@ -55,14 +48,14 @@ impl Placed {
     pub fn path(&self) -> &Path
         ensures { result.now ≡ self.now.0 }
     {
-        &self.entry.path
+        &self.entry.0
     }
 
     /// Its rules.
     pub fn rules(&self) -> &RuleList
         ensures { result.now ≡ self.now.1 }
     {
-        &self.entry.rules
+        &self.entry.1
     }
 
     /// Whether it comes behind a path.

@@ -1,4 +1,5 @@
-use Rattle.pf_anchor.proofs.Maps.{replaces_the_key, stays_sorted, one_list}
+use Rattle.std.specs.FinMap.Entries.{same_entries}
+use Rattle.pf_anchor.proofs.Maps.{replaces_the_key, stays_sorted}
 use Rattle.pf_anchor.proofs.laws.maps_are_replaced.Goals as goal
 
 pub returns-clause-key : goal.returns-clause-key
@@ -8,4 +9,4 @@ pub returns-clause-sorted : goal.returns-clause-sorted
 returns-clause-sorted g c = stays_sorted _ g.met.K.Ord.total
 
 pub returns-clause-one : goal.returns-clause-one
-returns-clause-one g c = one_list _ g.met.K.Ord.total
+returns-clause-one g c = same_entries _ g.met.K.Ord.total
