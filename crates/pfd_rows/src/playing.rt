@@ -34,11 +34,6 @@ fn written_instead(alloc: Global, book: &mut Book, input: &[u8], wanted: &[u8]) 
     }
 }
 
-// The line of a row and its reply, which is empty where there is none.
-fn cut(row: &str) -> (&str, &str) {
-    row.split_once(" -> ").unwrap_or((row, ""))
-}
-
 // Plays a line, and tells where the reply differs.
 fn play_line(
     alloc: Global,
@@ -61,13 +56,35 @@ fn play_line(
     Ok(())
 }
 
+// Plays rows in turn, with the fields in their places.
+fn play_rows(
+    alloc: Global,
+    table: &Table,
+    book: &mut Book,
+    rows: &[&str],
+    fields: &[String],
+    differing: &mut String,
+) -> Result<(), AllocError> {
+    for row in rows {
+        let (line, reply) = row.split_once(" -> ").unwrap_or((row, ""));
+        let line = fill(alloc, line, fields)?;
+        let reply = fill(alloc, reply, fields)?;
+        play_line(alloc, table, book, line.as_str(), reply.as_str(), differing)?;
+    }
+    Ok(())
+}
+
 // A Book of a table, after what comes before its rows.
 fn begun(alloc: Global, table: &Table, differing: &mut String) -> Result<Book, AllocError> {
     let mut book = Book::fresh(alloc, table.history.clamp(1, MOST_HISTORY))?;
-    for row in &table.before {
-        let (line, reply) = cut(row);
-        play_line(alloc, table, &mut book, line, reply, differing)?;
-    }
+    play_rows(
+        alloc,
+        table,
+        &mut book,
+        table.before.as_slice(),
+        &[],
+        differing,
+    )?;
     Ok(book)
 }
 
@@ -82,23 +99,6 @@ fn fields_of(alloc: Global, row: &str, way: usize) -> Result<Option<Vec<String>>
         fields.push(chosen)?;
     }
     Ok(Some(fields))
-}
-
-// Plays a row in one way.
-fn play_way(
-    alloc: Global,
-    table: &Table,
-    book: &mut Book,
-    fields: &[String],
-    differing: &mut String,
-) -> Result<(), AllocError> {
-    for shape in &table.shapes {
-        let (line, reply) = cut(shape);
-        let line = fill(alloc, line, fields)?;
-        let reply = fill(alloc, reply, fields)?;
-        play_line(alloc, table, book, line.as_str(), reply.as_str(), differing)?;
-    }
-    Ok(())
 }
 
 // Plays a row in each way, and counts them.
@@ -116,7 +116,15 @@ fn play_row(
         if !table.in_turn {
             *book = begun(alloc, table, &mut tally.differing)?;
         }
-        play_way(alloc, table, book, fields.as_slice(), &mut tally.differing)?;
+        let shapes = table.shapes.as_slice();
+        play_rows(
+            alloc,
+            table,
+            book,
+            shapes,
+            fields.as_slice(),
+            &mut tally.differing,
+        )?;
         tally.rows = tally.rows.saturating_add(1);
     }
     Ok(())

@@ -1,6 +1,4 @@
 //! How rows are spelled: choices, shapes, repeats and bytes. `stdin` says in its head what each of them means.
-ghost use Rattle.std.specs.Prelude.{◌<◌};
-
 use std::alloc::{AllocError, Global};
 
 /// The text with its choices taken as the number says, and what is left of the number: 0 where there are so many ways.
@@ -42,25 +40,15 @@ pub(crate) fn fill(alloc: Global, shape: &str, fields: &[String]) -> Result<Stri
     Ok(filled)
 }
 
-fn hex_digit(digit: u8) -> u8
-    ensures { result < 16 }
-{
-    match digit {
-        b'0'..=b'9' => digit - b'0',
-        b'a'..=b'f' => digit - b'a' + 10,
-        _ => 0,
-    }
-}
-
-// A text in which `\` and two digits stand for a byte.
+// A text in which `\` and two hexadecimal digits stand for a byte.
 fn push_bytes(bytes: &mut Vec<u8>, text: &str) -> Result<(), AllocError> {
     for (place, piece) in text.split('\\').enumerate() {
-        match piece.as_bytes() {
-            [high, low, rest @ ..] if place > 0 => {
-                bytes.push(16 * hex_digit(*high) + hex_digit(*low))?;
-                bytes.extend_from_slice(rest)?;
+        match piece.get(..2) {
+            Some(digits) if place > 0 => {
+                bytes.push(u8::from_str_radix(digits, 16).unwrap_or(0))?;
+                bytes.extend_from_slice(piece.get(2..).unwrap_or("").as_bytes())?;
             }
-            all => bytes.extend_from_slice(all)?,
+            _ => bytes.extend_from_slice(piece.as_bytes())?,
         }
     }
     Ok(())

@@ -5,7 +5,7 @@ use std::process::Abort;
 use std::test::*;
 
 /// Lines of every kind, in turn, and their replies.
-const LINES: [(&str, &str); 18] = [
+const LINES: &[(&str, &str)] = &[
     ("begin filter - filter web filter a/b", "ok 1.1 1.2 1.3\n"),
     ("add - 1.1 block in all", "ok\n"),
     ("add - 1.1 pass in quick on em0 proto udp from 10/8", "ok\n"),
@@ -46,19 +46,15 @@ fn ask_each(rt: &impl Abort, alloc: Global, again: bool) -> Result<(), Fail> {
     };
     let mut written = Vec::new(alloc);
     written.reserve(100)?;
-    for (line, reply) in LINES.iter() {
+    for (line, reply) in LINES {
         let mut end = answer(alloc, &mut book, line, &mut written);
         let refused = end == Err(EngineFault::Memory)
             || written.as_slice() == b"err memory\n".as_slice();
         if refused && again {
             end = answer(alloc, &mut book, line, &mut written);
         }
-        assert_eq!(rt; end, Ok(()), "at {line}");
-        assert_eq!(rt;
-            std::str::from_utf8(written.as_slice()),
-            Ok(*reply),
-            "at {line}"
-        );
+        assert!(rt; end.is_ok(), "at {line}");
+        assert!(rt; written.as_slice() == reply.as_bytes(), "at {line}");
     }
     Ok(())
 }

@@ -1,23 +1,48 @@
 //! Sessions over readers and writers that fail, or do little at a time.
-use crate::streams::{Script, Tight, Turn};
+use crate::streams::{Script, Tight};
+use pfd::EngineFault::{Read, Write};
 use pfd::{Book, EngineFault, HISTORY_LIMIT, serve_alone};
 use std::alloc::Global;
 use std::cell::Cell;
-use std::io::ErrorKind;
 use std::process::Abort;
 use std::test::*;
 
-// Serves what these turns give to a writer with so much room, and so many interruptions and flushes.
-fn check(
-    rt: &impl Abort,
-    alloc: Global,
-    turns: &[Turn],
-    (room, interruptions, flushes): (usize, u32, u32),
-    end: Result<(), EngineFault>,
-    replies: &str,
-) -> Result<(), Fail> {
+/// What reads give; the writer's room, interruptions and flushes; how the session ends; how many bytes of the replies
+/// are written.
+type Case<'a> = (&'a str, usize, u32, u32, Result<(), EngineFault>, usize);
+
+const WHOLE: &str = "begin filter -\nfrob\nbegin filter -\n";
+
+const INTERRUPTED: &str = "~|begin filter -\nfr|~|~|~|~|~|~|~|~|~|~|ob\n|~";
+
+const BROKEN: &str = "begin filter -\nfrob\nbegin filter -|!|\nfrob\n";
+
+const REPLIES: &str = "ok 1.1\nerr word 0\nok 1.2\n";
+
+const CASES: &[Case] = &[
+    // A write that is interrupted isn't given up.
+    (WHOLE, 100, 10, 9, Ok(()), 25),
+    // All is written for which there is room.
+    (WHOLE, 25, 0, 9, Ok(()), 25),
+    (WHOLE, 24, 0, 9, Err(Write), 24),
+    (WHOLE, 18, 0, 9, Err(Write), 18),
+    (WHOLE, 7, 0, 9, Err(Write), 7),
+    (WHOLE, 0, 0, 9, Err(Write), 0),
+    // A flush that fails is a fault, the first as well as the last.
+    (WHOLE, 100, 0, 0, Err(Write), 0),
+    (WHOLE, 100, 0, 2, Err(Write), 25),
+    (WHOLE, 100, 0, 3, Ok(()), 25),
+    ("", 100, 0, 1, Err(Write), 0),
+    // A read that is interrupted is made again, and one that fails ends the session.
+    (INTERRUPTED, 100, 0, 20, Ok(()), 18),
+    (BROKEN, 100, 0, 9, Err(Read), 18),
+];
+
+fn check(rt: &impl Abort, alloc: Global, case: &Case) -> Result<(), Fail> {
+    let (reads, room, interruptions, flushes, end, written) = *case;
     let waiting = &Cell::new(false);
-    let mut reader = Script { turns, waiting };
+    let pieces = reads.split('|');
+    let mut reader = Script { pieces, waiting };
     let mut writer = Tight {
         text: Vec::new(alloc),
         room,
@@ -26,80 +51,33 @@ fn check(
         waiting,
     };
     let mut book = Book::fresh(alloc, HISTORY_LIMIT)?;
-    let result = serve_alone(alloc, &mut reader, &mut writer, &mut book);
-    let written = std::str::from_utf8(writer.text.as_slice());
-    assert_eq!(rt; result, end, "with room for {room}");
-    assert_eq!(rt; written, Ok(replies), "with room for {room}");
+    let got = serve_alone(alloc, &mut reader, &mut writer, &mut book);
+    assert!(rt; got == end, "with room for {room}");
+    assert!(rt; writer.text.len() == written, "with room for {room}");
+    assert!(rt; REPLIES.as_bytes().starts_with(writer.text.as_slice()));
     assert!(rt; !waiting.get() || end.is_err());
     Ok(())
 }
 
-/// A writer's room, interruptions and flushes, whether the session comes to its end, and what is written.
-const WRITERS: [(usize, u32, u32, bool, &str); 9] = [
-    // A write that is interrupted isn't given up.
-    (100, 10, 9, true, "ok 1.1\nerr word 0\nok 1.2\n"),
-    // All is written for which there is room.
-    (25, 0, 9, true, "ok 1.1\nerr word 0\nok 1.2\n"),
-    (24, 0, 9, false, "ok 1.1\nerr word 0\nok 1.2"),
-    (18, 0, 9, false, "ok 1.1\nerr word 0\n"),
-    (7, 0, 9, false, "ok 1.1\n"),
-    (0, 0, 9, false, ""),
-    // A flush that fails is a fault, the first as well as the last.
-    (100, 0, 0, false, ""),
-    (100, 0, 2, false, "ok 1.1\nerr word 0\nok 1.2\n"),
-    (100, 0, 3, true, "ok 1.1\nerr word 0\nok 1.2\n"),
-];
-
 #[test]
-fn writers_that_fail(rt: HostRuntime) -> Result<(), Fail> {
-    let failed = Err(EngineFault::Write);
-    let turns = [Turn::Gives(b"begin filter -\nfrob\nbegin filter -\n")];
-    for (room, interruptions, flushes, is_whole, replies) in WRITERS {
-        let end = if is_whole { Ok(()) } else { failed };
-        let writer = (room, interruptions, flushes);
-        check(&rt, rt.alloc(), &turns, writer, end, replies)?;
+fn readers_and_writers_that_fail(rt: HostRuntime) -> Result<(), Fail> {
+    for case in CASES {
+        check(&rt, rt.alloc(), case)?;
     }
-    check(&rt, rt.alloc(), &[], (100, 0, 1), failed, "")
-}
-
-#[test]
-fn readers_that_fail(rt: HostRuntime) -> Result<(), Fail> {
-    let mut interrupted = Vec::new(rt.alloc());
-    interrupted.push(Turn::Fails(ErrorKind::Interrupted))?;
-    interrupted.push(Turn::Gives(b"begin filter -\nfr"))?;
-    for _ in 0..10 {
-        interrupted.push(Turn::Fails(ErrorKind::Interrupted))?;
-    }
-    interrupted.push(Turn::Gives(b"ob\n"))?;
-    interrupted.push(Turn::Fails(ErrorKind::Interrupted))?;
-    let broken = [
-        Turn::Gives(b"begin filter -\nfrob\nbegin filter -"),
-        Turn::Fails(ErrorKind::Other),
-        Turn::Gives(b"\nfrob\n"),
-    ];
-    let told = "ok 1.1\nerr word 0\n";
-    let interrupted = interrupted.as_slice();
-    check(&rt, rt.alloc(), interrupted, (100, 0, 20), Ok(()), told)?;
-    let failed = Err(EngineFault::Read);
-    check(&rt, rt.alloc(), &broken, (100, 0, 9), failed, told)
+    Ok(())
 }
 
 // A session has no end of its own after 65,536 reads.
 #[test]
 fn many_reads(rt: HostRuntime) -> Result<(), Fail> {
-    let mut turns = Vec::new(rt.alloc());
+    let mut reads = String::new(rt.alloc());
     for _ in 0..33_000 {
-        turns.push(Turn::Gives(b"#"))?;
-        turns.push(Turn::Gives(b"\n"))?;
+        reads.push_str("#|\n|")?;
     }
-    turns.push(Turn::Gives(b"frob"))?;
-    let turns = turns.as_slice();
+    reads.push_str("begin filter -")?;
     check(
         &rt,
         rt.alloc(),
-        turns,
-        (100, 0, 99_999),
-        Ok(()),
-        "err word 0\n",
+        &(reads.as_str(), 100, 0, 99_999, Ok(()), 7),
     )
 }

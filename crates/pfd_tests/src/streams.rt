@@ -1,46 +1,26 @@
 //! Readers and writers that do what they are told.
-ghost use Rattle.std.specs.Io.{ReadsAtMost};
-
 use std::cell::Cell;
 use std::io::{self, ErrorKind, Read, Write};
+use std::str::Split;
 
-/// What one read does.
-#[derive(Debug, Drop)]
-pub(crate) enum Turn<'a> {
-    Gives(&'a [u8]),
-    Fails(ErrorKind),
-}
-
-/// A reader whose reads do these turns, and then are at the end. It fails where replies wait to be flushed.
+/// A reader whose reads each give the next piece, and then are at the end. A piece `~` is an interruption, and `!` a
+/// fault. It fails where replies wait to be flushed.
 #[derive(Drop)]
 pub(crate) struct Script<'a> {
-    pub(crate) turns: &'a [Turn<'a>],
+    pub(crate) pieces: Split<'a, char>,
     pub(crate) waiting: &'a Cell<bool>,
-}
-
-fn give(bytes: &[u8], buf: &mut [u8]) -> io::Result<usize>
-    ensures { ReadsAtMost result buf.new }
-{
-    let mut rest = bytes;
-    rest.read(buf)
 }
 
 impl Read for Script<'_> {
     fn read(&mut self, buf: &mut [u8]) -> io::Result<usize> {
-        if self.waiting.get() {
+        let mut piece = self.pieces.next().unwrap_or("").as_bytes();
+        if self.waiting.get() || piece == b"!".as_slice() {
             return Err(io::Error::from(ErrorKind::Other));
         }
-        let turns = self.turns;
-        match turns {
-            [] => Ok(0),
-            [turn, rest @ ..] => {
-                self.turns = rest;
-                match turn {
-                    Turn::Gives(bytes) => give(bytes, buf),
-                    Turn::Fails(kind) => Err(io::Error::from(*kind)),
-                }
-            }
+        if piece == b"~".as_slice() {
+            return Err(io::Error::from(ErrorKind::Interrupted));
         }
+        piece.read(buf)
     }
 }
 
