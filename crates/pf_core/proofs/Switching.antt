@@ -1,5 +1,6 @@
 -- What a commit leaves of each ruleset.
 use Rattle.std.proofs.Common.{◌≡◌, ℕ, Bool, true, false, cond, ◌&&◌, ◌||◌, List, [], ◌∷◌, length, refl, sym, ap, ◌∙◌, Option, Some, None, Result, Ok, Err, subst}
+use Rattle.std.proofs.lemmas.Bool.{or_parts}
 use Rattle.pf_rule.specs.Rules.{PlainRule}
 use Rattle.pf_anchor.specs.Laws.{rules_by}
 use Rattle.pf_anchor.specs.Rulesets.{Ruled, ruled, same_path, rules_at}
@@ -16,7 +17,6 @@ use Rattle.pf_ticket.specs.NameLaws.{paths_alike, name_is, filter_is}
 use Rattle.pf_ticket.specs.Names.{same_kind, same_name, is_named, names_of, filter_at, IsDistinct}
 use Rattle.pf_ticket.specs.Replies.{bad_count, twice_in, busy_in, refused_at, and_then, list_check, commit_check}
 use Rattle.pf_ticket.specs.Tickets.{rules_in, content}
-use Rattle.pf_ticket.proofs.Offers.{neither}
 use Rattle.pf_ticket.proofs.Twice.{otherwise_once}
 use Rattle.pf_core.specs.declared.change.Item.{Item}
 use Rattle.pf_core.specs.declared.command.Command.TheVariants.{Transact}
@@ -53,7 +53,7 @@ other-path a b h = ap (λ (k : Bool). k && same_path a.path b.path) (sym (kinds-
 unnamed : (f : RulesetName → Offered) (p : List ℕ) (es : List Entry) (old : List PlainRule) → is_named (names_of es) (filter_at p) ≡ false → rules_by (taken f es) p old ≡ old
 unnamed f p [] old h = refl
 unnamed f p (x ∷ es) old h =
-    let both : (same_name x.name (filter_at p) ≡ false) × (is_named (names_of es) (filter_at p) ≡ false) = neither (same_name x.name (filter_at p)) (is_named (names_of es) (filter_at p)) h in
+    let both : (same_name x.name (filter_at p) ≡ false) × (is_named (names_of es) (filter_at p) ≡ false) = or_parts (same_name x.name (filter_at p)) (is_named (names_of es) (filter_at p)) h in
     ap (λ (b : Bool). rules_by (taken f es) p (cond b (rules_in (f x.name)) old)) (other-path x.name (filter_at p) both.0) ∙ unnamed f p es old both.1
 
 -- and one that is named has what was offered for it

@@ -8,16 +8,19 @@ pub fn replaces_exactly()
 {}
 
 /// A commit that isn't refused switches all rulesets that it names, each to what was offered for it, and no other.
+#[tactic(auto, using(crate::proofs::Switching::switches_all))]
 pub fn switches_all()
     ensures { SwitchesAll }
 {}
 
 /// A command that wants a change voids, once it is applied, exactly the tickets that its change voids.
+#[tactic(auto, using(crate::specs::WorldLaws::wants_mentions))]
 pub fn voids_the_named()
     ensures { VoidsTheNamed }
 {}
 
 /// What is refused mentions no ruleset, and so changes neither the valid tickets nor what is offered.
+#[tactic(auto, using(crate::proofs::Leaving::refused_mention_nothing))]
 pub fn refused_mention_nothing()
     ensures { RefusedMentionNothing }
 {}
@@ -28,6 +31,7 @@ pub fn keeps_none_valid()
 {}
 
 /// A call leaves the valid tickets of the rulesets that it doesn't name, and what is offered with them.
+#[tactic(auto, using(crate::proofs::Leaving::leaves_the_others))]
 pub fn leaves_the_others()
     ensures { LeavesTheOthers }
 {}

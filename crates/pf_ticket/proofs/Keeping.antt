@@ -1,6 +1,7 @@
--- The limits hold after each step that isn't refused.
-use Rattle.std.proofs.Common.{◌≡◌, ◌+◌, ◌<◌, ◌≤◌, Bool, true, false, not, cond, List, [], ◌∷◌, length, refl, sym, ap, ◌∙◌, subst, Option, Some, None, is_some, Result, Ok, Err, arith, length-append}
-use Rattle.std.specs.Prelude.{nat_le}
+-- How many tickets a step gives, and that the limits hold after each step that isn't refused.
+use Rattle.std.proofs.Common.{◌≡◌, ◌+◌, ◌-◌, ◌<◌, ◌≤◌, Bool, true, false, not, cond, List, [], ◌∷◌, length, refl, sym, ap, ◌∙◌, subst, Option, Some, None, is_some, Result, Ok, Err, arith, length-append}
+use Rattle.std.specs.Prelude.{nat_lt, nat_le}
+use Rattle.std.proofs.lemmas.Bool.{cond_both}
 use Rattle.std.proofs.lemmas.Bool.Decides.{nat_tests}
 use Rattle.pf_rule.specs.Rules.{PlainRule}
 use Rattle.pf_anchor.specs.declared.limits.TheConstants.{RULE_LIMIT, RULESET_LIMIT}
@@ -12,19 +13,63 @@ use Rattle.pf_ticket.specs.declared.name.RulesetName.{RulesetName}
 use Rattle.pf_ticket.specs.declared.offered.Offered.{Offered}
 use Rattle.pf_ticket.specs.declared.offered.Offered.TheVariants.{Rules}
 use Rattle.pf_ticket.specs.declared.refusal.TicketRefusal.{TicketRefusal}
-use Rattle.pf_ticket.specs.declared.refusal.TicketRefusal.TheVariants.{Busy, RulesetFull}
+use Rattle.pf_ticket.specs.declared.refusal.TicketRefusal.TheVariants.{BadCount, Busy, RulesetFull, TooManyRulesets, TicketsExhausted}
 use Rattle.pf_ticket.specs.declared.ticket.Ticket.{Ticket}
 use Rattle.pf_ticket.specs.declared.ticket.TicketRange.{TicketRange}
-use Rattle.pf_ticket.specs.Laws.{IsWithin, KeepsTheLimits}
-use Rattle.pf_ticket.specs.Mentions.{Mention, gave, added, switched, dropped, named_in, take_out, moved, after, gives, switches, drops}
-use Rattle.pf_ticket.specs.Names.{filter_at, same_name, is_ticket}
-use Rattle.pf_ticket.specs.NameLaws.{name_is}
-use Rattle.pf_ticket.specs.Replies.{begin_reply}
-use Rattle.pf_ticket.specs.Tickets.{nothing_for, rules_in, with_rule, Offer, offer, offer_at, put, Open, ticket_in, offered_in, content, is_valid}
-use Rattle.pf_ticket.proofs.Moves.{made_by, reads, IsBegun, begun, begins_give}
-use Rattle.pf_ticket.proofs.Offers.{length-put, length-without}
+use Rattle.pf_ticket.specs.Laws.{AreGiven, BeginsGive, IsWithin, KeepsTheLimits}
+use Rattle.pf_ticket.specs.Mentions.{gave, added, dropped, with_offers, take_out, moved, after, gives, switches, drops}
+use Rattle.pf_ticket.specs.Names.{filter_at, same_name, is_ticket, tickets_of}
+use Rattle.pf_ticket.specs.Replies.{bad_count, range, begin_reply}
+use Rattle.pf_ticket.specs.Tickets.{nothing_for, rules_in, with_rule, Offer, offer, offer_at, put, Open, next_ticket, ticket_in, offered_in, content, is_valid}
+use Rattle.pf_ticket.proofs.Offers.{read-put, read-without, length-put, length-without}
 
--- ---- what is offered
+-- ---- what is kept where offers are taken out
+
+switches-keep : (P : Open → Type 0) → ((t : Open) (n : RulesetName) → P t → P (take_out t n)) → (t : Open) (names : List RulesetName) → P t → P (after t (switches names))
+switches-keep P out t [] p = p
+switches-keep P out t (n ∷ ns) p = switches-keep P out (take_out t n) ns (out t n p)
+
+drops-keep : (P : Open → Type 0) → ((t : Open) (n : RulesetName) → P t → P (take_out t n)) → (t : Open) (entries : List Entry) → P t → P (after t (drops entries))
+drops-keep P out t [] p = p
+drops-keep P out t (e ∷ es) p = drops-keep P out (moved t (dropped e.name e.ticket)) es (cond_both (is_valid t e.name e.ticket) (take_out t e.name) t P (λ b. out t e.name p) (λ b. p))
+
+-- ---- how many tickets are given
+
+none-given : (t : Open) (os : List Offer) → AreGiven 0 t (with_offers t os)
+none-given t os = record { epoch = refl; next = omega arith }
+
+begin-gives : (t : Open) (names : List RulesetName) → AreGiven (length names) t (after t (gives names))
+begin-gives t [] = none-given t t.offers
+begin-gives t (n ∷ ns) =
+    let rest : AreGiven (length ns) (moved t (gave n)) (after (moved t (gave n)) (gives ns)) = begin-gives (moved t (gave n)) ns in
+    record { epoch = rest.epoch; next = (let k = rest.next in omega (arith, k)) }
+
+-- a begin that isn't refused
+record IsBegun (t : Open) (names : List RulesetName) (given : TicketRange) : Type 0 where
+  few : nat_lt RULESET_LIMIT (length (after t (gives names)).offers) ≡ false
+  left : nat_lt LAST_COUNT (t.next + length names - 1) ≡ false
+  range : range t (length names) ≡ given
+
+begun-by : (t : Open) (names : List RulesetName) (given : TicketRange) (bad many last : Bool) → nat_lt RULESET_LIMIT (length (after t (gives names)).offers) ≡ many → nat_lt LAST_COUNT (t.next + length names - 1) ≡ last
+    → cond bad (Err BadCount) (cond many (Err TooManyRulesets) (cond last (Err TicketsExhausted) (Ok (range t (length names))))) ≡ Ok given → IsBegun t names given
+begun-by t names given true many last few left h = absurd (cc (h))
+begun-by t names given false true last few left h = absurd (cc (h))
+begun-by t names given false false true few left h = absurd (cc (h))
+begun-by t names given false false false few left h = record { few = few; left = left; range = cc (h) }
+
+begun : (t : Open) (names : List RulesetName) (given : TicketRange) → begin_reply t names ≡ Ok given → IsBegun t names given
+begun t names given h = begun-by t names given (bad_count (length names)) (nat_lt RULESET_LIMIT (length (after t (gives names)).offers)) (nat_lt LAST_COUNT (t.next + length names - 1)) refl refl h
+
+pub begins_give : BeginsGive
+begins_give = record {
+  told = λ t names given h. ap (λ (g : TicketRange). tickets_of g) (sym (begun t names given h).range);
+  begin = begin-gives;
+  add = λ t n u r. (let os : List Offer = put (offer n u (with_rule (content t n) r)) t.offers in cond_both (is_valid t n u) (with_offers t os) t (AreGiven 0 t) (λ b. none-given t os) (λ b. none-given t t.offers));
+  commit = λ t names. switches-keep (AreGiven 0 t) (λ s n g. record { epoch = g.epoch; next = g.next }) t names (none-given t t.offers);
+  rollback = λ t entries. drops-keep (AreGiven 0 t) (λ s n g. record { epoch = g.epoch; next = g.next }) t entries (none-given t t.offers);
+}
+
+-- ---- how much is offered
 
 kind-short : (k : RulesetKind) → length (rules_in (nothing_for k)) ≤ RULE_LIMIT
 kind-short Filter = omega arith
@@ -32,81 +77,61 @@ kind-short Filter = omega arith
 one-more : (o : Offered) (r : PlainRule) → length (rules_in o) < RULE_LIMIT → length (rules_in (with_rule o r)) ≤ RULE_LIMIT
 one-more (Rules rs) r room = let k = length-append rs (r ∷ []) in omega (arith, k, room)
 
-abbrev AreShort : Open → Type 0
-AreShort t = (name : RulesetName) → length (rules_in (content t name)) ≤ RULE_LIMIT
+abbrev IsShort : RulesetKind → Option Offer → Type 0
+IsShort k v = length (rules_in (offered_in k v)) ≤ RULE_LIMIT
 
-short-by : (t : Open) (m : Mention) (q : RulesetName) (b : Bool) → same_name (named_in m) q ≡ b → length (rules_in (offered_in (named_in m).kind (made_by t m))) ≤ RULE_LIMIT → AreShort t → length (rules_in (offered_in q.kind (cond b (made_by t m) (offer_at t.offers q)))) ≤ RULE_LIMIT
-short-by t m q true e new all = subst (λ (p : RulesetName). length (rules_in (offered_in p.kind (made_by t m))) ≤ RULE_LIMIT) (name_is (named_in m) q e) new
-short-by t m q false e new all = all q
+abbrev AreShort : List Offer → Type 0
+AreShort os = (name : RulesetName) → IsShort name.kind (offer_at os name)
 
-short-on : (t : Open) (m : Mention) → length (rules_in (offered_in (named_in m).kind (made_by t m))) ≤ RULE_LIMIT → AreShort t → AreShort (moved t m)
-short-on t m new all q = subst (λ (v : Option Offer). length (rules_in (offered_in q.kind v)) ≤ RULE_LIMIT) (sym (reads t m q)) (short-by t m q (same_name (named_in m) q) refl new all)
+short-put : (new : Offer) (os : List Offer) → length (rules_in new.offered) ≤ RULE_LIMIT → AreShort os → AreShort (put new os)
+short-put new os short all q = subst (IsShort q.kind) (sym (read-put new os q)) (cond_both (same_name new.name q) (Some new) (offer_at os q) (IsShort q.kind) (λ b. short) (λ b. all q))
 
-short-begun : (t : Open) (names : List RulesetName) → AreShort t → AreShort (after t (gives names))
+short-begun : (t : Open) (names : List RulesetName) → AreShort t.offers → AreShort (after t (gives names)).offers
 short-begun t [] all = all
-short-begun t (n ∷ ns) all = short-begun (moved t (gave n)) ns (short-on t (gave n) (kind-short n.kind) all)
+short-begun t (n ∷ ns) all = short-begun (moved t (gave n)) ns (short-put (offer n (next_ticket t) (nothing_for n.kind)) t.offers (kind-short n.kind) all)
 
--- ---- what isn't refused
+-- ---- the limits
 
-not-refused : {A : Type 0} (b : Bool) (x : TicketRefusal) (r : Result A TicketRefusal) (a : A) → cond b (Err x) r ≡ Ok a → (b ≡ false) × (r ≡ Ok a)
-not-refused true x r a h = absurd (cc (h))
-not-refused false x r a h = (refl, h)
-
-holds : (b : Bool) → not b ≡ false → b ≡ true
-holds true h = refl
-holds false h = absurd (cc (h))
+within-out : (t : Open) (n : RulesetName) → IsWithin t → IsWithin (take_out t n)
+within-out t n w = record {
+  given = w.given;
+  opened = let most = w.opened in omega (arith, length-without n t.offers, most);
+  offered = λ q. subst (IsShort q.kind) (sym (read-without n t.offers q)) (cond_both (same_name n q) None (offer_at t.offers q) (IsShort q.kind) (λ b. kind-short q.kind) (λ b. w.offered q));
+}
 
 has-offer : (v : Option Offer) (u : Ticket) → is_ticket (ticket_in v) u ≡ true → is_some v ≡ true
 has-offer None u h = absurd (cc (h))
 has-offer (Some o) u h = refl
 
-within-begun : (t : Open) (names : List RulesetName) (given : TicketRange) → begin_reply t names ≡ Ok given → IsWithin t → IsWithin (after t (gives names))
-within-begun t names given h w =
-    let is : IsBegun t names given = begun t names given h in
-    let next : (after t (gives names)).next ≡ t.next + length names = (begins_give.begin t names).next in
-    let few = is.few in
-    let left = is.left in
-    record { given = grind (arith, nat_tests, next, left); opened = grind (arith, nat_tests, few); offered = short-begun t names w.offered }
-
--- an add with the valid ticket
-within-added : (t : Open) (n : RulesetName) (u : Ticket) (r : PlainRule) → is_valid t n u ≡ true → length (rules_in (content t n)) < RULE_LIMIT → IsWithin t → IsWithin (moved t (added n u r))
-within-added t n u r valid room w =
+within-added : (t : Open) (n : RulesetName) (u : Ticket) (r : PlainRule) → length (rules_in (content t n)) < RULE_LIMIT → IsWithin t → IsWithin (moved t (added n u r))
+within-added t n u r room w =
     let new : Offer = offer n u (with_rule (content t n) r) in
-    let is : moved t (added n u r) ≡ record t { offers = put new t.offers } = ap (λ (b : Bool). cond b (record t { offers = put new t.offers }) t) valid in
-    let short : length (rules_in (offered_in n.kind (made_by t (added n u r)))) ≤ RULE_LIMIT = subst (λ (b : Bool). length (rules_in (offered_in n.kind (cond b (Some new) (offer_at t.offers n)))) ≤ RULE_LIMIT) (sym valid) (one-more (content t n) r room) in
-    let as-many : length (put new t.offers) ≡ length t.offers + 0 = length-put new t.offers ∙ ap (λ (b : Bool). length t.offers + cond b 0 1) (has-offer (offer_at t.offers n) u valid) in
-    record {
-      given = subst (λ (s : Open). s.next ≤ LAST_COUNT + 1) (sym is) w.given;
-      opened = subst (λ (s : Open). length s.offers ≤ RULESET_LIMIT) (sym is) (let most = w.opened in omega (arith, as-many, most));
-      offered = short-on t (added n u r) short w.offered;
-    }
+    cond_both (is_valid t n u) (with_offers t (put new t.offers)) t IsWithin
+    (λ valid.
+      let as-many : length (put new t.offers) ≡ length t.offers + 0 = length-put new t.offers ∙ ap (λ (b : Bool). length t.offers + cond b 0 1) (has-offer (offer_at t.offers n) u valid) in
+      let most = w.opened in
+      record { given = w.given; opened = omega (arith, as-many, most); offered = short-put new t.offers (one-more (content t n) r room) w.offered })
+    (λ b. w)
 
-within-out : (t : Open) (n : RulesetName) → IsWithin t → IsWithin (take_out t n)
-within-out t n w = record { given = w.given; opened = (let most = w.opened in omega (arith, length-without n t.offers, most)); offered = short-on t (switched n) (kind-short n.kind) w.offered }
-
-within-either : (t : Open) (n : RulesetName) (b : Bool) → IsWithin t → IsWithin (cond b (take_out t n) t)
-within-either t n true w = within-out t n w
-within-either t n false w = w
-
-within-switched : (t : Open) (names : List RulesetName) → IsWithin t → IsWithin (after t (switches names))
-within-switched t [] w = w
-within-switched t (n ∷ ns) w = within-switched (take_out t n) ns (within-out t n w)
-
-within-dropped : (t : Open) (entries : List Entry) → IsWithin t → IsWithin (after t (drops entries))
-within-dropped t [] w = w
-within-dropped t (e ∷ es) w = within-dropped (moved t (dropped e.name e.ticket)) es (within-either t e.name (is_valid t e.name e.ticket) w)
+not-refused : {A : Type 0} (b : Bool) (x : TicketRefusal) (r : Result A TicketRefusal) (a : A) → cond b (Err x) r ≡ Ok a → (b ≡ false) × (r ≡ Ok a)
+not-refused true x r a h = absurd (cc (h))
+not-refused false x r a h = (refl, h)
 
 pub keeps_the_limits : KeepsTheLimits
 keeps_the_limits = record {
   first = λ epoch. record { given = omega arith; opened = omega arith; offered = λ q. kind-short q.kind };
-  begin = within-begun;
+  begin = λ t names given h w.
+      let is : IsBegun t names given = begun t names given h in
+      let next = (begin-gives t names).next in
+      let few = is.few in
+      let left = is.left in
+      record { given = grind (arith, nat_tests, next, left); opened = grind (arith, nat_tests, few); offered = short-begun t names w.offered };
   add = λ t p u r h w.
       let n : RulesetName = filter_at p in
       let full : Bool = nat_le RULE_LIMIT (length (rules_in (content t n))) in
       let done : Result (Unit {0}) TicketRefusal = Ok tt in
-      let valid : (not (is_valid t n u) ≡ false) × (cond full (Err RulesetFull) done ≡ done) = not-refused (not (is_valid t n u)) (Busy 0) (cond full (Err RulesetFull) done) tt h in
-      let low : full ≡ false = (not-refused full RulesetFull done tt valid.1).0 in
-      within-added t n u r (holds (is_valid t n u) valid.0) (grind (arith, nat_tests, low)) w;
-  commit = within-switched;
-  rollback = within-dropped;
+      let low : full ≡ false = (not-refused full RulesetFull done tt (not-refused (not (is_valid t n u)) (Busy 0) (cond full (Err RulesetFull) done) tt h).1).0 in
+      within-added t n u r (grind (arith, nat_tests, low)) w;
+  commit = switches-keep IsWithin within-out;
+  rollback = drops-keep IsWithin within-out;
 }

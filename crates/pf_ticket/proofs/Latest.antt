@@ -1,7 +1,7 @@
 -- The valid ticket of a ruleset is the one that the latest mention that touched it gave, and the rules added since are offered with it.
 use Rattle.std.proofs.Common.{◌≡◌, ℕ, Bool, true, false, cond, ◌&&◌, ◌==◌, List, [], ◌∷◌, ◌++◌, refl, sym, ap, ◌∙◌, subst, Option, Some, None, ◌⊎◌, inl, inr, append_assoc}
 use Rattle.std.specs.Prelude.{flat_map}
-use Rattle.std.proofs.lemmas.Bool.{eqb-true}
+use Rattle.std.proofs.lemmas.Bool.{eqb-true, and_parts}
 use Rattle.std.proofs.lemmas.List.{append-nil}
 use Rattle.std.proofs.lemmas.List.Sums.{fold-append}
 use Rattle.pf_rule.specs.Rules.{PlainRule}
@@ -18,14 +18,10 @@ use Rattle.pf_ticket.specs.NameLaws.{names_alike, name_is}
 use Rattle.pf_ticket.specs.Tickets.{nothing_for, rules_in, with_rule, Offer, offer, offer_at, Open, fresh, next_ticket, ticket_in, offered_in, valid_ticket, content, is_valid}
 use Rattle.pf_ticket.proofs.Moves.{made_by, reads}
 
-both-true : (a b : Bool) → (a && b) ≡ true → (a ≡ true) × (b ≡ true)
-both-true true b h = (refl, h)
-both-true false b h = absurd (cc (h))
-
 -- two tickets that are the same are one
 ticket_is : (u w : Ticket) → same_ticket u w ≡ true → u ≡ w
 ticket_is u w h =
-    let both : (u.epoch == w.epoch ≡ true) × (u.count == w.count ≡ true) = both-true (u.epoch == w.epoch) (u.count == w.count) h in
+    let both : (u.epoch == w.epoch ≡ true) × (u.count == w.count ≡ true) = and_parts (u.epoch == w.epoch) (u.count == w.count) h in
     ap (λ (k : ℕ). ticket k u.count) (eqb-true u.epoch w.epoch both.0) ∙ ap (λ (k : ℕ). ticket w.epoch k) (eqb-true u.count w.count both.1)
 
 valid-is : (v : Option Ticket) (t : Ticket) → is_ticket v t ≡ true → v ≡ Some t

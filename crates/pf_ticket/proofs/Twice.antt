@@ -1,8 +1,8 @@
 -- The entry that is found is the first of a ruleset named before it; and tickets that are numbered are given once.
-use Rattle.std.proofs.Common.{◌≡◌, ℕ, suc, zero, ◌+◌, ◌<◌, ◌==◌, ◌&&◌, Bool, true, false, cond, ◌||◌, List, [], ◌∷◌, ◌++◌, length, refl, sym, ap, subst, ◌∙◌, append-nil, append_assoc, Some, None, arith, get_or, take, drop}
+use Rattle.std.proofs.Common.{◌≡◌, ℕ, suc, zero, ◌+◌, ◌<◌, ◌==◌, ◌&&◌, Bool, true, false, cond, ◌||◌, List, [], ◌∷◌, ◌++◌, length, refl, sym, ap, subst, ◌∙◌, append-nil, append_assoc, Option, Some, None, arith, get_or, take, drop}
 use Rattle.std.specs.List.{list_any}
 use Rattle.std.proofs.Math.Seq.{take-suc, drop-cons}
-use Rattle.std.proofs.lemmas.Bool.{eqb-true}
+use Rattle.std.proofs.lemmas.Bool.{eqb-true, or_parts, and_right, false_from_ne_true, cond_both}
 use Rattle.std.proofs.lemmas.List.{map-append, length-map, length-take-le}
 use Rattle.std.proofs.lemmas.List.Folds.{list_any-append}
 use Rattle.pf_ticket.specs.declared.entry.Entry.{Entry}
@@ -12,7 +12,7 @@ use Rattle.pf_ticket.specs.Laws.{IsFirstAgain, TwiceIsFirstAgain, OtherwiseOnce,
 use Rattle.pf_ticket.specs.Names.{same_name, is_named, names_of, ticket, same_ticket, tickets_from, IsDistinct}
 use Rattle.pf_ticket.specs.NameLaws.{names_alike}
 use Rattle.pf_ticket.specs.Replies.{twice_behind}
-use Rattle.pf_ticket.proofs.Offers.{neither, any-of}
+use Rattle.pf_ticket.proofs.Offers.{any-of}
 
 -- ---- one entry more
 
@@ -39,44 +39,33 @@ named-behind ns p q h k = list_any-append (λ n. same_name n q) ns (p ∷ []) �
 distinct-behind : (ns : List RulesetName) (p : RulesetName) → IsDistinct ns → is_named ns p ≡ false → IsDistinct (ns ++ p ∷ [])
 distinct-behind [] p d h = (refl, tt)
 distinct-behind (n ∷ ns) p d h =
-    let other : (same_name n p ≡ false) × (is_named ns p ≡ false) = neither (same_name n p) (is_named ns p) h in
+    let other : (same_name n p ≡ false) × (is_named ns p ≡ false) = or_parts (same_name n p) (is_named ns p) h in
     (named-behind ns p n d.0 (names_alike.symm p n ∙ other.0), distinct-behind ns p d.1 other.1)
 
-found_by : (front : List RulesetName) (n : RulesetName) (ns : List RulesetName) (place : ℕ) (b : Bool) → is_named front n ≡ b → IsDistinct front → cond b (Some (length front)) (twice_behind (front ++ n ∷ []) ns) ≡ Some place
-    → (IsDistinct (front ++ n ∷ []) → twice_behind (front ++ n ∷ []) ns ≡ Some place → IsFirstAgain ((front ++ n ∷ []) ++ ns) place) → IsFirstAgain (front ++ n ∷ ns) place
-found_by front n ns place true k d h later = record { before = front; name = n; behind = ns; all = refl; placed = cc (h); again = k; once = d }
-found_by front n ns place false k d h later = subst (λ (l : List RulesetName). IsFirstAgain l place) (append_assoc front (n ∷ []) ns) (later (distinct-behind front n d k) h)
+-- the first that is named again, or none is
+abbrev Found : List RulesetName → Option ℕ → Type 0
+Found names None = IsDistinct names
+Found names (Some place) = IsFirstAgain names place
 
-found : (front ns : List RulesetName) (place : ℕ) → IsDistinct front → twice_behind front ns ≡ Some place → IsFirstAgain (front ++ ns) place
-found front [] place d h = absurd (cc (h))
-found front (n ∷ ns) place d h = found_by front n ns place (is_named front n) refl d h (λ d' h'. found (front ++ n ∷ []) ns place d' h')
-
-not_found_by : (front : List RulesetName) (n : RulesetName) (ns : List RulesetName) (b : Bool) → is_named front n ≡ b → IsDistinct front → cond b (Some (length front)) (twice_behind (front ++ n ∷ []) ns) ≡ None
-    → (IsDistinct (front ++ n ∷ []) → twice_behind (front ++ n ∷ []) ns ≡ None → IsDistinct ((front ++ n ∷ []) ++ ns)) → IsDistinct (front ++ n ∷ ns)
-not_found_by front n ns true k d h later = absurd (cc (h))
-not_found_by front n ns false k d h later = subst IsDistinct (append_assoc front (n ∷ []) ns) (later (distinct-behind front n d k) h)
-
-not_found : (front ns : List RulesetName) → IsDistinct front → twice_behind front ns ≡ None → IsDistinct (front ++ ns)
-not_found front [] d h = subst IsDistinct (sym (append-nil front)) d
-not_found front (n ∷ ns) d h = not_found_by front n ns (is_named front n) refl d h (λ d' h'. not_found (front ++ n ∷ []) ns d' h')
+found : (front ns : List RulesetName) → IsDistinct front → Found (front ++ ns) (twice_behind front ns)
+found front [] d = subst IsDistinct (sym (append-nil front)) d
+found front (n ∷ ns) d =
+    cond_both (is_named front n) (Some (length front)) (twice_behind (front ++ n ∷ []) ns) (Found (front ++ n ∷ ns))
+    (λ again. record { before = front; name = n; behind = ns; all = refl; placed = refl; again = again; once = d })
+    (λ new. subst (λ (l : List RulesetName). Found l (twice_behind (front ++ n ∷ []) ns)) (append_assoc front (n ∷ []) ns) (found (front ++ n ∷ []) ns (distinct-behind front n d new)))
 
 pub twice_is_first_again : TwiceIsFirstAgain
-twice_is_first_again entries place h = found [] (names_of entries) place tt h
+twice_is_first_again entries place h = subst (Found (names_of entries)) h (found [] (names_of entries) tt)
 
 pub otherwise_once : OtherwiseOnce
-otherwise_once entries h = not_found [] (names_of entries) tt h
+otherwise_once entries h = subst (Found (names_of entries)) h (found [] (names_of entries) tt)
 
 -- ---- numbered tickets are given once
-
-other-count : (a b : Bool) → (b ≡ true → ⊥) → (a && b) ≡ false
-other-count true true h = absurd (h refl)
-other-count true false h = refl
-other-count false b h = refl
 
 later-are-others : (epoch count n : ℕ) (t : Ticket) → t.count < count → list_any (λ u. same_ticket u t) (tickets_from epoch count n) ≡ false
 later-are-others epoch count zero t h = refl
 later-are-others epoch count (suc n) t h =
-    let other : same_ticket (ticket epoch count) t ≡ false = other-count (epoch == t.epoch) (count == t.count) (λ e. let same : count ≡ t.count = eqb-true count t.count e in omega (arith, same, h)) in
+    let other : same_ticket (ticket epoch count) t ≡ false = and_right (epoch == t.epoch) (count == t.count) (false_from_ne_true (count == t.count) (λ e. let same : count ≡ t.count = eqb-true count t.count e in omega (arith, same, h))) in
     ap (λ (b : Bool). b || list_any (λ u. same_ticket u t) (tickets_from epoch (count + 1) n)) other ∙ later-are-others epoch (count + 1) n t (omega (arith, h))
 
 pub gives_each_once : GivesEachOnce

@@ -2,14 +2,14 @@
 use Rattle.std.specs.Prelude.{◌≡◌, ℕ, ◌&&◌, Bool, true, false, List}
 use Rattle.std.proofs.Common.{refl, sym, ap, ◌∙◌}
 use Rattle.std.proofs.lemmas.Cmp.{eq_by_cmp_equiv, nat_list_cmp_total, and_equiv, on_equiv}
-use Rattle.std.proofs.lemmas.Map.Text.{is_eq-slice_cmp}
-use Rattle.std.proofs.lemmas.Slice.Eq.{bytes_eq-Decides}
+use Rattle.std.proofs.lemmas.Bool.{and_parts}
 use Rattle.std.specs.Cmp.{IsEquivalence}
 use Rattle.pf_ticket.specs.declared.name.RulesetKind.{RulesetKind}
 use Rattle.pf_ticket.specs.declared.name.RulesetKind.TheVariants.{Filter}
 use Rattle.pf_ticket.specs.declared.name.RulesetName.{RulesetName}
 use Rattle.pf_ticket.specs.Names.{filter_at, same_kind, same_name}
 use Rattle.pf_anchor.specs.Rulesets.{same_path}
+use Rattle.pf_anchor.proofs.RulesetMaps.{same_path_is}
 
 pub paths_alike : IsEquivalence same_path
 paths_alike = eq_by_cmp_equiv nat_list_cmp_total
@@ -33,18 +33,11 @@ names_alike = and_equiv (on_equiv (λ (n : RulesetName). n.kind) kinds_alike) (o
 kind_is : (a b : RulesetKind) → same_kind a b ≡ true → a ≡ b
 kind_is Filter Filter h = refl
 
-path_is : (p q : List ℕ) → same_path p q ≡ true → p ≡ q
-path_is p q h = (bytes_eq-Decides p q).0 (sym (is_eq-slice_cmp p q) ∙ h)
-
-both : (a b : Bool) → (a && b) ≡ true → (a ≡ true) × (b ≡ true)
-both true b h = (refl, h)
-both false b h = absurd (cc (h))
-
 pub name_is : (a b : RulesetName) → same_name a b ≡ true → a ≡ b
 name_is a b h =
     let named : RulesetKind → List ℕ → RulesetName = λ k p. record { kind = k; path = p } in
-    let each : (same_kind a.kind b.kind ≡ true) × (same_path a.path b.path ≡ true) = both (same_kind a.kind b.kind) (same_path a.path b.path) h in
-    ap (λ (k : RulesetKind). named k a.path) (kind_is a.kind b.kind each.0) ∙ ap (λ (p : List ℕ). named b.kind p) (path_is a.path b.path each.1)
+    let each : (same_kind a.kind b.kind ≡ true) × (same_path a.path b.path ≡ true) = and_parts (same_kind a.kind b.kind) (same_path a.path b.path) h in
+    ap (λ (k : RulesetKind). named k a.path) (kind_is a.kind b.kind each.0) ∙ ap (λ (p : List ℕ). named b.kind p) (same_path_is a.path b.path each.1)
 
 of_filter : (k : RulesetKind) (b : Bool) → b ≡ true → (same_kind Filter k && b) ≡ true
 of_filter Filter b h = h

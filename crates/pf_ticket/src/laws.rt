@@ -3,12 +3,14 @@ ghost use Rattle.pf_ticket.specs.Laws.{ValidIsGivenLast, GivenLastIsValid, Start
 
 /// A ticket is valid for a ruleset exactly where the latest mention that touched the ruleset is a begin's that gave it
 /// this ticket.
+#[tactic(auto, using(crate::proofs::Latest::valid_is_given_last))]
 pub fn valid_is_given_last()
     ensures found { ValidIsGivenLast }
     ensures only { GivenLastIsValid }
 {}
 
 /// With a new ticket nothing is offered yet.
+#[tactic(auto, using(crate::proofs::Moves::starts_with_nothing))]
 pub fn starts_with_nothing()
     ensures { StartsWithNothing }
 {}
@@ -19,32 +21,38 @@ pub fn offers_the_added()
 {}
 
 /// What a step mentions leaves the valid tickets of the rulesets that it doesn't name, and what is offered with them.
+#[tactic(auto, using(crate::proofs::Moves::leaves_the_others))]
 pub fn leaves_the_others()
     ensures { LeavesTheOthers }
 {}
 
 /// A commit takes out what is offered for the rulesets that it names, and nothing else.
+#[tactic(auto, using(crate::proofs::Moves::commit_takes_out))]
 pub fn a_commit_takes_out_the_named()
     ensures { CommitTakesOut }
 {}
 
 /// Each ruleset with a valid ticket is counted once among the open ones, and no other is.
+#[tactic(auto, using(crate::proofs::Moves::counts_the_open))]
 pub fn counts_the_open()
     ensures { CountsTheOpen }
 {}
 
 /// A begin gives the next tickets, and no other step gives one; and tickets that are numbered are given once each.
+#[tactic(auto, using(crate::proofs::Keeping::begins_give, crate::proofs::Twice::gives_each_once))]
 pub fn gives_each_ticket_once()
     ensures begins { BeginsGive }
     ensures once { GivesEachOnce }
 {}
 
 /// All limits of tickets hold at first, and after each step that isn't refused.
+#[tactic(auto, using(crate::proofs::Keeping::keeps_the_limits))]
 pub fn keeps_the_limits()
     ensures { KeepsTheLimits }
 {}
 
 /// What a list of entries is refused for as naming a ruleset twice is its first entry of a ruleset named before it.
+#[tactic(auto, using(crate::proofs::Twice::twice_is_first_again, crate::proofs::Twice::otherwise_once))]
 pub fn twice_is_the_first_named_again()
     ensures found { TwiceIsFirstAgain }
     ensures otherwise { OtherwiseOnce }

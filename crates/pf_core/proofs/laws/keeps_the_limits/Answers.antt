@@ -1,5 +1,5 @@
-use Rattle.pf_core.proofs.Limits.{keeps-the-limits}
+use Rattle.pf_core.proofs.Limits.{keeps_the_limits}
 use Rattle.pf_core.proofs.laws.keeps_the_limits.Goals as goal
 
 pub returns : goal.returns
-returns c = keeps-the-limits
+returns c = keeps_the_limits

@@ -1,5 +1,5 @@
-use Rattle.pf_core.proofs.Limits.{shows-all}
+use Rattle.pf_core.proofs.Limits.{shows_all}
 use Rattle.pf_core.proofs.laws.shows_all.Goals as goal
 
 pub returns : goal.returns
-returns c = shows-all
+returns c = shows_all

@@ -1,8 +1,5 @@
-use Rattle.pf_ticket.proofs.Latest.{valid_is_given_last, given_last_is_valid}
+use Rattle.pf_ticket.proofs.Latest.{given_last_is_valid}
 use Rattle.pf_ticket.proofs.laws.valid_is_given_last.Goals as goal
-
-pub returns-clause-found : goal.returns-clause-found
-returns-clause-found c = valid_is_given_last
 
 pub returns-clause-only : goal.returns-clause-only
 returns-clause-only c = given_last_is_valid
