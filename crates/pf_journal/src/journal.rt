@@ -54,6 +54,7 @@ impl<D: Disk> Journal<D> {
         ensures no_room { IsErrOf result AppendFault.NoRoom ↔ (self.old.end < self.old.gate + HEADER + length payload.now + 1) }
         ensures unchanged_without_room { IsErrOf result AppendFault.NoRoom → self.new ≡ self.old }
         ensures unchanged_without_memory { IsErrOf result AppendFault.Memory → self.new ≡ self.old }
+        ensures calls { D.moment self.new.disk ≤ D.moment self.old.disk + 4 }
         ensures faults { D.fault_count self.new.disk ≡ D.fault_count self.old.disk + (if is_append_fault result then 1 else 0) }
     {
         let room = self.end - self.gate;
@@ -77,6 +78,7 @@ fn write_record<D: Disk>(disk: &mut D, gate: usize, behind: &[u8]) -> Result<(),
     ensures synced { OnOk result (IsSynced (D.unsynced disk.new)) }
     ensures between { IsBetween gate behind.now (D.seen disk.old) (D.seen disk.new) }
     ensures any_moment { EachMoment D.moment D.left_since disk.old disk.new (IsBetween gate behind.now (D.seen disk.old)) }
+    ensures calls { D.moment disk.new ≤ D.moment disk.old + 4 }
     ensures faults { CountsFault result (D.fault_count disk.old) (D.fault_count disk.new) }
 {
     write_synced(disk, gate + 1, behind)?;
