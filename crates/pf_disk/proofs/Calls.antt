@@ -94,6 +94,7 @@ module _ (first : List ℕ) (events : List Event) (event : Event) (fits : fits_i
   pub elapses_push : Elapses (length events) (length (events ++ event ∷ [])) (LeftSince first events) (LeftSince first (events ++ event ∷ [])) (after_event now event).seen (after_event now event).unsynced
   elapses_push = record {
     later = omega (arith, length_push events event);
+    one_call = omega (arith, length_push events event);
     nothing_else = λ t c le left. nothing t c le left.0 left.1 left.2;
     keeps = λ t c le left. keeps_all t c le left.0 left.1 left.2;
   }

@@ -23,40 +23,6 @@ outside_below at n i lt = grind (arith, nat_tests)
 pub outside_above : (at n i : ℕ) → at + n ≤ i → is_within at n i ≡ false
 outside_above at n i le = grind (arith, nat_tests)
 
--- the read is one
-pub read_is_image : (seen : List ℕ) (set : ℕ → Bool) → IsImage seen set seen
-read_is_image seen set = record { same_length = refl; agrees = λ i out. refl }
-
--- an image with one range unsynced: the same below and above
-pub record Torn (at n : ℕ) (old c : List ℕ) : Type 0 where
-  pub same_length : length c ≡ length old
-  pub front : take at c ≡ take at old
-  pub back : drop (at + n) c ≡ drop (at + n) old
-
-pub torn : (at n : ℕ) (old c : List ℕ) → at + n ≤ length old → IsImage old (is_within at n) c → Torn at n old c
-torn at n old c fits image =
-    record {
-      same_length = image.same_length;
-      front = ext_get_or 0 (take at c) (take at old) (omega (arith, length-take at c, length-take at old, image.same_length)) (λ i lt.
-          let below : i < at = omega (arith, length-take at c) in
-          get_or-take at c i 0 below ∙ image.agrees i (outside_below at n i below) ∙ sym (get_or-take at old i 0 below));
-      back = ext_get_or 0 (drop (at + n) c) (drop (at + n) old) (omega (arith, length-drop (at + n) c, length-drop (at + n) old, image.same_length)) (λ i lt.
-          get_or-drop (at + n) c i 0 ∙ image.agrees (at + n + i) (outside_above at n (at + n + i) (omega arith)) ∙ sym (get_or-drop (at + n) old i 0));
-    }
-
--- a write to a synced device, and what follows it, leave the bytes elsewhere
-pub image_after_write : (at n : ℕ) (old mid seen : List ℕ) (set0 set1 set : ℕ → Bool) (c : List ℕ) → IsSynced set0 → IsImage old (is_within at n) mid
-    → AreIn set1 (with_range at n set0) → seen ≡ mid → AreIn set set1 → IsImage seen set c → IsImage old (is_within at n) c
-image_after_write at n old mid seen set0 set1 set c synced elsewhere marked same no_more image = record {
-  same_length = image.same_length ∙ ap length same ∙ elsewhere.same_length;
-  agrees = λ i out.
-      let outside : with_range at n set0 i ≡ false = rw (synced i, out) refl in
-      image.agrees i (no_more i (marked i outside)) ∙ ap (λ (l : List ℕ). get_or l i 0) same ∙ elsewhere.agrees i out;
-}
-
-pub image_at_start : (at n : ℕ) (old : List ℕ) (set : ℕ → Bool) (c : List ℕ) → IsSynced set → IsImage old set c → IsImage old (is_within at n) c
-image_at_start at n old set c synced image = record { same_length = image.same_length; agrees = λ i out. image.agrees i (synced i) }
-
 pub overwritten_elsewhere : (at : ℕ) (old bytes : List ℕ) → at + length bytes ≤ length old → IsImage old (is_within at (length bytes)) (overwritten old at bytes)
 overwritten_elsewhere at old bytes fits = record {
   same_length = search (rules, places);
@@ -77,13 +43,6 @@ wide_image at old bytes set c fits image =
       same_length = image.same_length ∙ sym elsewhere.same_length;
       agrees = λ i out. image.agrees i (neither_left (set i) (is_within at (length bytes) i) out) ∙ sym (elsewhere.agrees i (neither_right (set i) (is_within at (length bytes) i) out));
     }
-
--- no more is possible where the read stays and no place is added
-pub kept_image : (seen seen2 : List ℕ) (set set2 : ℕ → Bool) (c : List ℕ) → seen2 ≡ seen → AreIn set2 set → IsImage seen2 set2 c → IsImage seen set c
-kept_image seen seen2 set set2 c same no_more image = record {
-  same_length = image.same_length ∙ ap length same;
-  agrees = λ i out. image.agrees i (no_more i out) ∙ ap (λ (l : List ℕ). get_or l i 0) same;
-}
 
 -- a slice that no unsynced place is in
 pub slice_same : (k p : ℕ) (old c : List ℕ) (set : ℕ → Bool) → IsImage old set c → ((i : ℕ) → p ≤ i → i < p + k → set i ≡ false) → take k (drop p c) ≡ take k (drop p old)

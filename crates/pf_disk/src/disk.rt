@@ -20,7 +20,7 @@ pub trait Disk {
     /// The places where a crash may leave any bytes.
     ghost unsynced: { Self → ℕ → Bool };
 
-    /// The moment, as a number that doesn't fall.
+    /// The moment, as a number that doesn't fall and that a call raises by one at most.
     ghost moment: { Self → ℕ };
 
     /// What a crash at some moment from that one on might have left, during a call or between two.

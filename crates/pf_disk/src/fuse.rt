@@ -6,7 +6,7 @@ ghost use Rattle.pf_disk.specs.Burning.{blows, burnt, counted};
 use crate::{Disk, DiskFault};
 
 /// Which calls fail. A call is a read, a write or a sync. Own.
-#[derive(Clone, Copy, Debug, PartialEq, Eq)]
+#[derive(Clone, Copy, Debug)]
 pub enum Fuse {
     /// None.
     Whole,
@@ -123,6 +123,7 @@ impl<D: Disk> Disk for FuseDisk<D> {
         ensures refused { self.new.refused ≡ counted self.old.fuse self.old.refused }
         ensures not_passed_on { blows self.old.fuse ≡ true → self.new.inner ≡ self.old.inner }
         ensures refuses { OnOk result (blows self.old.fuse ≡ false) }
+        ensures untouched { blows self.old.fuse ≡ true → buf.new ≡ buf.old }
         ensures read { OnOk result (buf.new ≡ take (length buf.old) (drop at (D.seen self.old.inner))) }
         ensures seen { D.seen self.new.inner ≡ D.seen self.old.inner }
         ensures unsynced { AreIn (D.unsynced self.new.inner) (D.unsynced self.old.inner) }

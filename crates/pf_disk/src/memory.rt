@@ -10,7 +10,7 @@ use crate::{Disk, DiskFault};
 use std::alloc::{AllocError, Global};
 
 /// A call that was made.
-#[derive(Debug, Drop)]
+#[derive(Drop)]
 pub(crate) enum Call {
     Read,
     Write { at: usize, bytes: Vec<u8> },
@@ -157,6 +157,7 @@ impl Disk for MemDisk {
         ensures first { first_of self.new ≡ first_of self.old }
         ensures kept { OnOk result (events_of self.new ≡ events_of self.old ++ reading ∷ []) }
         ensures not_kept { OnErr result (events_of self.new ≡ events_of self.old) }
+        ensures untouched { OnErr result (buf.new ≡ buf.old) }
         ensures read { OnOk result (buf.new ≡ take (length buf.old) (drop at (seen_of self.old))) }
         ensures seen { seen_of self.new ≡ seen_of self.old }
         ensures unsynced { AreIn (unsynced_of self.new) (unsynced_of self.old) }

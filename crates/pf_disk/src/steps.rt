@@ -14,6 +14,7 @@ pub fn write_synced<D: Disk>(disk: &mut D, at: usize, bytes: &[u8]) -> Result<()
     ensures synced { OnOk result (IsSynced (D.unsynced disk.new)) }
     ensures elsewhere { IsImage (D.seen disk.old) (is_within at (length bytes.now)) (D.seen disk.new) }
     ensures any_moment { EachMoment D.moment D.left_since disk.old disk.new (IsImage (D.seen disk.old) (is_within at (length bytes.now))) }
+    ensures calls { D.moment disk.new ≤ D.moment disk.old + 2 }
     ensures faults { CountsFault result (D.fault_count disk.old) (D.fault_count disk.new) }
 {
     disk.write_at(at, bytes)?;
@@ -35,6 +36,7 @@ pub fn write_synced_if<D: Disk>(
     ensures synced { OnOk result (IsSynced (D.unsynced disk.new)) }
     ensures elsewhere { IsImage (D.seen disk.old) (λ i. wanted && is_within at (length bytes.now) i) (D.seen disk.new) }
     ensures any_moment { EachMoment D.moment D.left_since disk.old disk.new (IsImage (D.seen disk.old) (λ i. wanted && is_within at (length bytes.now) i)) }
+    ensures calls { D.moment disk.new ≤ D.moment disk.old + 2 }
     ensures faults { CountsFault result (D.fault_count disk.old) (D.fault_count disk.new) }
 {
     if wanted {

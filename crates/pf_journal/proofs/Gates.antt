@@ -1,153 +1,135 @@
--- What a crash leaves in each of the two steps of an `append`.
-use Rattle.std.proofs.Common.{◌≡◌, inl, inr, ℕ, ◌+◌, ◌^◌, ◌<◌, ◌≤◌, List, [], ◌∷◌, ◌++◌, length, get_or, take, drop, sym, ◌∙◌, ap, arith, append_assoc, length-append, take-append-drop}
-use Rattle.std.proofs.lemmas.List.{take_at, drop_at, drop_more}
-use Rattle.std.proofs.lemmas.Bool.{cases_eq}
+-- What a crash leaves while a record is written, by the bytes alone.
+use Rattle.std.proofs.Common.{◌≡◌, ◌≢◌, inl, inr, ℕ, suc, ◌+◌, ◌-◌, ◌^◌, ◌<◌, ◌≤◌, Bool, false, List, [], ◌∷◌, ◌++◌, length, get_or, take, drop, refl, sym, ◌∙◌, ap, subst, arith, append_assoc, length-append, take-append-drop}
+use Rattle.std.proofs.Math.Seq.{take-add}
+use Rattle.std.proofs.lemmas.List.{append-nil, take_at, take-take, drop_more, drop-drop, get_or-take, get_or-drop, get_or_at, length-take, length-drop}
+use Rattle.std.proofs.lemmas.List.Concat.{flat_map-append}
+use Rattle.std.proofs.lemmas.Bool.{cases_eq, cases_lt}
+use Rattle.std.proofs.lemmas.Bool.Decides.{nat_tests}
 use Rattle.pf_disk.specs.Disk.{overwritten, IsImage, is_within}
-use Rattle.pf_disk.proofs.Images.{Torn, torn}
-use Rattle.pf_journal.specs.Records.{counted, records, AreShort, StandsFor, HasBeforeOrAfter}
+use Rattle.pf_disk.proofs.Images.{outside_below, outside_above, overwritten_elsewhere, slice_same, written_there}
+use Rattle.pf_journal.specs.Records.{counted, records, region, AreShort, StandsFor, HasBeforeOrAfter}
+use Rattle.pf_journal.specs.Journal.{IsBetween}
+
+pub records-push : (ps : List (List ℕ)) (p : List ℕ) → records (ps ++ p ∷ []) ≡ records ps ++ 165 ∷ counted p
+records-push ps p = flat_map-append (λ payload. 165 ∷ counted payload) ps (p ∷ []) ∙ ap (λ (l : List ℕ). records ps ++ 165 ∷ l) (append-nil (counted p))
 
 pub length-counted : (p : List ℕ) → length (counted p) ≡ 4 + length p
 length-counted p = omega arith
 
-pub records-push : (ps : List (List ℕ)) (p rest : List ℕ) → records (ps ++ p ∷ []) ++ rest ≡ records ps ++ 165 ∷ (counted p ++ rest)
-records-push [] p rest = ap (λ (l : List ℕ). 165 ∷ l) (append_assoc (counted p) [] rest)
-records-push (q ∷ ps) p rest =
-    ap (λ (l : List ℕ). 165 ∷ l) (append_assoc (counted q) (records (ps ++ p ∷ [])) rest ∙ ap (λ (l : List ℕ). counted q ++ l) (records-push ps p rest) ∙ sym (append_assoc (counted q) (records ps) (165 ∷ (counted p ++ rest))))
-
 pub length-records-push : (ps : List (List ℕ)) (p : List ℕ) → length (records (ps ++ p ∷ [])) ≡ length (records ps) + (5 + length p)
-length-records-push [] p = omega (arith, length-append (counted p) [], length-counted p)
-length-records-push (q ∷ ps) p = omega (arith, length-append (counted q) (records (ps ++ p ∷ [])), length-append (counted q) (records ps), length-records-push ps p)
+length-records-push ps p = omega (arith, ap length (records-push ps p), length-append (records ps) (165 ∷ counted p), length-counted p)
 
 pub short-push : (ps : List (List ℕ)) (p : List ℕ) → AreShort ps → length p < 2 ^ 32 → AreShort (ps ++ p ∷ [])
 short-push [] p short fits = (fits, tt)
 short-push (q ∷ ps) p short fits = (short.0, short-push ps p short.1 fits)
 
--- an image with a whole record behind some gate
-pub record Staged (start : ℕ) (ps : List (List ℕ)) (p c : List ℕ) : Type 0 where
-  pub front : List ℕ
-  pub gate : ℕ
-  pub rest : List ℕ
-  pub split : c ≡ front ++ (records ps ++ gate ∷ (counted p ++ 0 ∷ rest))
-  pub starts : length front ≡ start
+-- outside a range, and so outside a part of it
+outside_part : (at n part m i : ℕ) → at ≤ part → part + m ≤ at + n → is_within at n i ≡ false → is_within part m i ≡ false
+outside_part at n part m i from to out = elim (cases_lt i part) [
+  | inl below ↦ outside_below part m i below
+  | inr above ↦ elim (cases_lt i (part + m)) [
+    | inl within ↦ absurd (grind (arith, nat_tests))
+    | inr behind ↦ outside_above part m i behind
+  ]
+]
 
-module _ (start end : ℕ) (ps : List (List ℕ)) (k : ℕ) (at_gate : k ≡ start + length (records ps)) where
-  -- the bytes up to the gate
-  abbrev to_gate : List ℕ → ℕ → List ℕ
-  to_gate front gate = front ++ (records ps ++ gate ∷ [])
+-- from the gate to the end of what is written
+pub between_elsewhere : (gate n : ℕ) (behind old c : List ℕ) → n ≡ 1 + length behind → gate + n ≤ length old → IsBetween gate behind old c → IsImage old (is_within gate n) c
+between_elsewhere gate n behind old c is fits (inl torn) = record {
+  same_length = torn.same_length;
+  agrees = λ i out. torn.agrees i (outside_part gate n (gate + 1) (length behind) i (omega arith) (omega arith) out);
+}
+between_elsewhere gate n behind old c is fits (inr torn) =
+    let written = overwritten_elsewhere (gate + 1) old behind (omega arith) in
+    record {
+      same_length = torn.same_length ∙ written.same_length;
+      agrees = λ i out. torn.agrees i (outside_part gate n gate 1 i (omega arith) (omega arith) out) ∙ written.agrees i (outside_part gate n (gate + 1) (length behind) i (omega arith) (omega arith) out);
+    }
 
-  regroup : (front : List ℕ) (gate : ℕ) (tail : List ℕ) → front ++ (records ps ++ gate ∷ tail) ≡ to_gate front gate ++ tail
-  regroup front gate tail = ap (λ (l : List ℕ). front ++ l) (sym (append_assoc (records ps) (gate ∷ []) tail)) ∙ sym (append_assoc front (records ps ++ gate ∷ []) tail)
-
-  size : (front : List ℕ) (gate : ℕ) → length front ≡ start → length (to_gate front gate) ≡ k + 1
-  size front gate starts = omega (arith, at_gate, starts, length-append front (records ps ++ gate ∷ []), length-append (records ps) (gate ∷ []))
-
-  -- the closed gate stands in each outcome of a write behind it
-  pub torn_behind : (n : ℕ) (old c : List ℕ) → StandsFor start end old ps → Torn (k + 1) n old c → StandsFor start end c ps
-  torn_behind n old c s torn =
-      let kept : take (k + 1) old ≡ to_gate s.front s.gate = ap (λ (l : List ℕ). take (k + 1) l) (s.split ∙ regroup s.front s.gate s.tail) ∙ take_at (to_gate s.front s.gate) s.tail (k + 1) (size s.front s.gate s.starts) in
+module _ (start end : ℕ) where
+  -- records up to a closed gate
+  stands_at : (gate : ℕ) (ps : List (List ℕ)) (c : List ℕ) → gate ≡ start + length (records ps) → gate < end → gate < length c
+      → take (length (records ps)) (drop start c) ≡ records ps → get_or c gate 0 ≢ 165 → AreShort ps → StandsFor start end c ps
+  stands_at gate ps c at_gate inside there reads closed short =
+      let m = length (records ps) in
+      let it = region start end c in
+      let size : m < length it = omega (arith, length-take (end - start) (drop start c), length-drop start c) in
+      let byte : get_or it m 0 ≡ get_or c gate 0 = get_or-take (end - start) (drop start c) m 0 (omega arith) ∙ get_or-drop start c m 0 ∙ ap (λ (k : ℕ). get_or c k 0) (sym at_gate) in
       record {
-        front = s.front;
-        gate = s.gate;
-        tail = drop (k + 1) c;
-        split = sym (take-append-drop (k + 1) c) ∙ ap (λ (l : List ℕ). l ++ drop (k + 1) c) (torn.front ∙ kept) ∙ sym (regroup s.front s.gate (drop (k + 1) c));
-        starts = s.starts;
-        closed = s.closed;
-        within = s.within;
-        short = s.short;
+        gate = get_or it m 0;
+        tail = drop (m + 1) it;
+        split = sym (take-append-drop m it) ∙ ap (λ (l : List ℕ). l ++ drop m it) (take-take m (end - start) (drop start c) (omega arith) ∙ reads) ∙ ap (λ (l : List ℕ). records ps ++ l) (drop_more it m 0 size);
+        closed = λ is. closed (sym byte ∙ is);
+        short = short;
       }
 
-  pub staged : (p old c : List ℕ) → StandsFor start end old ps → c ≡ overwritten old (k + 1) (counted p ++ 0 ∷ []) → Staged start ps p c
-  staged p old c s is =
-      let bytes = counted p ++ 0 ∷ [] in
-      let rest = drop (k + 1 + length bytes) old in
-      let kept : take (k + 1) old ≡ to_gate s.front s.gate = ap (λ (l : List ℕ). take (k + 1) l) (s.split ∙ regroup s.front s.gate s.tail) ∙ take_at (to_gate s.front s.gate) s.tail (k + 1) (size s.front s.gate s.starts) in
-      record {
-        front = s.front;
-        gate = s.gate;
-        rest = rest;
-        split = is ∙ append_assoc (take (k + 1) old) bytes rest ∙ ap (λ (l : List ℕ). l ++ (bytes ++ rest)) kept ∙ ap (λ (l : List ℕ). to_gate s.front s.gate ++ l) (append_assoc (counted p) (0 ∷ []) rest) ∙ sym (regroup s.front s.gate (counted p ++ 0 ∷ rest));
-        starts = s.starts;
-      }
+  module _ (gate : ℕ) (ps : List (List ℕ)) (p old behind : List ℕ) (at_gate : gate ≡ start + length (records ps)) (stands : StandsFor start end old ps) (is_behind : behind ≡ counted p ++ 0 ∷ [])
+      (room : gate + 6 + length p ≤ end) (inside : end ≤ length old) (fits : length p < 2 ^ 32) where
+    abbrev m : ℕ
+    m = length (records ps)
 
-  -- a whole record behind any gate counts or it doesn't
-  pub either : (p c : List ℕ) → Staged start ps p c → k + 6 + length p ≤ end → AreShort ps → length p < 2 ^ 32 → HasBeforeOrAfter start end ps p c
-  either p c s room short fits =
-      elim (cases_eq s.gate 165) [
-        | inl is_open ↦ inr (record {
-          front = s.front;
-          gate = 0;
-          tail = s.rest;
-          split = s.split ∙ ap (λ (g : ℕ). s.front ++ (records ps ++ g ∷ (counted p ++ 0 ∷ s.rest))) is_open ∙ ap (λ (l : List ℕ). s.front ++ l) (sym (records-push ps p (0 ∷ s.rest)));
-          starts = s.starts;
-          closed = omega arith;
-          within = omega (arith, room, at_gate, length-records-push ps p);
-          short = short-push ps p short fits;
-        })
-        | inr shut ↦ inl (record {
-          front = s.front;
-          gate = s.gate;
-          tail = counted p ++ 0 ∷ s.rest;
-          split = s.split;
-          starts = s.starts;
-          closed = shut;
-          within = omega (arith, room, at_gate);
-          short = short;
-        })
-      ]
+    size : length behind ≡ 5 + length p
+    size = omega (arith, ap length is_behind, length-append (counted p) (0 ∷ []), length-counted p)
 
-  regroup_at : (front : List ℕ) (tail : List ℕ) → front ++ (records ps ++ tail) ≡ (front ++ records ps) ++ tail
-  regroup_at front tail = sym (append_assoc front (records ps) tail)
+    reads : take m (drop start old) ≡ records ps
+    reads = sym (take-take m (end - start) (drop start old) (omega arith)) ∙ ap (take m) stands.split ∙ take_at (records ps) (stands.gate ∷ stands.tail) m refl
 
-  size_at : (front : List ℕ) → length front ≡ start → length (front ++ records ps) ≡ k
-  size_at front starts = omega (arith, at_gate, starts, length-append front (records ps))
+    gate_byte : get_or old gate 0 ≡ stands.gate
+    gate_byte = ap (λ (k : ℕ). get_or old k 0) at_gate ∙ sym (get_or-take (end - start) (drop start old) m 0 (omega arith) ∙ get_or-drop start old m 0) ∙ ap (λ (l : List ℕ). get_or l m 0) stands.split ∙ get_or_at (records ps) stands.gate stands.tail 0 m refl
 
-  before_gate : (p old : List ℕ) → (s : Staged start ps p old) → take k old ≡ s.front ++ records ps
-  before_gate p old s = ap (λ (l : List ℕ). take k l) (s.split ∙ regroup_at s.front (s.gate ∷ (counted p ++ 0 ∷ s.rest))) ∙ take_at (s.front ++ records ps) (s.gate ∷ (counted p ++ 0 ∷ s.rest)) k (size_at s.front s.starts)
+    -- the write behind the gate
+    first_step : (c : List ℕ) → IsImage old (is_within (gate + 1) (length behind)) c → StandsFor start end c ps
+    first_step c torn = stands_at gate ps c at_gate (omega arith) (omega (arith, torn.same_length))
+        (slice_same m start old c (is_within (gate + 1) (length behind)) torn (λ i from to. outside_below (gate + 1) (length behind) i (omega arith)) ∙ reads)
+        (λ is. stands.closed (sym gate_byte ∙ sym (torn.agrees gate (outside_below (gate + 1) (length behind) gate (omega arith))) ∙ is)) stands.short
 
-  behind_gate : (p old : List ℕ) → (s : Staged start ps p old) → drop (k + 1) old ≡ counted p ++ 0 ∷ s.rest
-  behind_gate p old s = ap (λ (l : List ℕ). drop (k + 1) l) (s.split ∙ regroup s.front s.gate (counted p ++ 0 ∷ s.rest)) ∙ drop_at (to_gate s.front s.gate) (counted p ++ 0 ∷ s.rest) (k + 1) (size s.front s.gate s.starts)
+    abbrev mid : List ℕ
+    mid = overwritten old (gate + 1) behind
 
-  -- the record stands whole in each outcome of the write at the gate
-  pub torn_gate : (p old c : List ℕ) → Staged start ps p old → Torn k 1 old c → k < length old → Staged start ps p c
-  torn_gate p old c s torn inside =
-      let gate = get_or c k 0 in
-      let rest : drop k c ≡ gate ∷ (counted p ++ 0 ∷ s.rest) = drop_more c k 0 (omega (arith, torn.same_length)) ∙ ap (λ (l : List ℕ). gate ∷ l) (torn.back ∙ behind_gate p old s) in
-      record {
-        front = s.front;
-        gate = gate;
-        rest = s.rest;
-        split = sym (take-append-drop k c) ∙ ap (λ (l : List ℕ). l ++ drop k c) (torn.front ∙ before_gate p old s) ∙ ap (λ (l : List ℕ). (s.front ++ records ps) ++ l) rest ∙ append_assoc s.front (records ps) (gate ∷ (counted p ++ 0 ∷ s.rest));
-        starts = s.starts;
-      }
+    written : IsImage old (is_within (gate + 1) (length behind)) mid
+    written = overwritten_elsewhere (gate + 1) old behind (omega (arith, size))
 
-  pub opened : (p old c : List ℕ) → Staged start ps p old → c ≡ overwritten old k (165 ∷ []) → k + 6 + length p ≤ end → AreShort ps → length p < 2 ^ 32 → StandsFor start end c (ps ++ p ∷ [])
-  opened p old c s is room short fits = record {
-    front = s.front;
-    gate = 0;
-    tail = s.rest;
-    split = is ∙ append_assoc (take k old) (165 ∷ []) (drop (k + 1) old) ∙ ap (λ (l : List ℕ). l ++ 165 ∷ drop (k + 1) old) (before_gate p old s) ∙ append_assoc s.front (records ps) (165 ∷ drop (k + 1) old)
-        ∙ ap (λ (l : List ℕ). s.front ++ (records ps ++ 165 ∷ l)) (behind_gate p old s) ∙ ap (λ (l : List ℕ). s.front ++ l) (sym (records-push ps p (0 ∷ s.rest)));
-    starts = s.starts;
-    closed = omega arith;
-    within = omega (arith, room, at_gate, length-records-push ps p);
-    short = short-push ps p short fits;
-  }
+    reads_torn : (c : List ℕ) → IsImage mid (is_within gate 1) c → take m (drop start c) ≡ records ps
+    reads_torn c torn = slice_same m start mid c (is_within gate 1) torn (λ i from to. outside_below gate 1 i (omega arith))
+        ∙ slice_same m start old mid (is_within (gate + 1) (length behind)) written (λ i from to. outside_below (gate + 1) (length behind) i (omega arith)) ∙ reads
 
-  -- ---- the two writes, by what they left and may leave
+    abbrev old_rest : List ℕ
+    old_rest = drop (gate + 1 + length behind) old
 
-  module _ (p old bytes : List ℕ) (stands : StandsFor start end old ps) (is_behind : bytes ≡ counted p ++ 0 ∷ []) (room : k + 6 + length p ≤ end) (inside : end ≤ length old) (fits : length p < 2 ^ 32) where
-    length-bytes : length bytes ≡ 5 + length p
-    length-bytes = omega (arith, ap length is_behind, length-append (counted p) (0 ∷ []), length-counted p)
+    back : drop (gate + 1) mid ≡ counted p ++ 0 ∷ old_rest
+    back = written_there (gate + 1) old behind (omega (arith, size)) ∙ ap (λ (l : List ℕ). l ++ old_rest) is_behind ∙ append_assoc (counted p) (0 ∷ []) old_rest
 
-    pub first_step : (c : List ℕ) → IsImage old (is_within (k + 1) (length bytes)) c → HasBeforeOrAfter start end ps p c
-    first_step c image = inl (torn_behind (length bytes) old c stands (torn (k + 1) (length bytes) old c (omega (arith, length-bytes, room, inside)) image))
+    -- the gate is open: the record counts
+    pub opened : (c : List ℕ) → IsImage mid (is_within gate 1) c → get_or c gate 0 ≡ 165 → StandsFor start end c (ps ++ p ∷ [])
+    opened c torn is_open =
+        let n = 4 + length p in
+        let more : 5 + length p ≡ suc n = omega arith in
+        let long : length c ≡ length old = torn.same_length ∙ written.same_length in
+        let whole : take n (drop (gate + 1) c) ≡ counted p =
+        slice_same n (gate + 1) mid c (is_within gate 1) torn (λ i from to. outside_above gate 1 i from) ∙ ap (take n) back ∙ take_at (counted p) (0 ∷ old_rest) n (length-counted p) in
+        let there : drop m (drop start c) ≡ 165 ∷ drop (gate + 1) c = drop-drop m start c ∙ ap (λ (k : ℕ). drop k c) (sym at_gate) ∙ drop_more c gate 0 (omega (arith, long)) ∙ ap (λ (b : ℕ). b ∷ drop (gate + 1) c) is_open in
+        let next : get_or c (gate + 1 + n) 0 ≡ 0 =
+        torn.agrees (gate + 1 + n) (outside_above gate 1 (gate + 1 + n) (omega arith)) ∙ sym (get_or-drop (gate + 1) mid n 0) ∙ ap (λ (l : List ℕ). get_or l n 0) back ∙ get_or_at (counted p) 0 old_rest 0 n (length-counted p) in
+        stands_at (gate + 1 + n) (ps ++ p ∷ []) c (omega (arith, at_gate, length-records-push ps p)) (omega arith) (omega (arith, long))
+        (ap (λ (k : ℕ). take k (drop start c)) (length-records-push ps p) ∙ take-add m (5 + length p) (drop start c) ∙ ap (λ (l : List ℕ). take m (drop start c) ++ take (5 + length p) l) there
+        ∙ ap (λ (k : ℕ). take m (drop start c) ++ take k (165 ∷ drop (gate + 1) c)) more ∙ ap (λ (l : List ℕ). l ++ 165 ∷ take n (drop (gate + 1) c)) (reads_torn c torn) ∙ ap (λ (l : List ℕ). records ps ++ 165 ∷ l) whole ∙ sym (records-push ps p))
+        (λ is. absurd (omega (arith, next, is))) (short-push ps p stands.short fits)
 
-    module _ (mid : List ℕ) (written : mid ≡ overwritten old (k + 1) bytes) (same_size : length mid ≡ length old) where
-      is_staged : Staged start ps p mid
-      is_staged = staged p old mid stands (written ∙ ap (overwritten old (k + 1)) is_behind)
+    -- the write of the gate
+    second_step : (c : List ℕ) → IsImage mid (is_within gate 1) c → HasBeforeOrAfter start end ps p c
+    second_step c torn = elim (cases_eq (get_or c gate 0) 165) [
+      | inl is_open ↦ inr (opened c torn is_open)
+      | inr shut ↦ inl (stands_at gate ps c at_gate (omega arith) (omega (arith, torn.same_length, written.same_length)) (reads_torn c torn) shut stands.short)
+    ]
 
-      pub second_step : (c : List ℕ) → IsImage mid (is_within k 1) c → HasBeforeOrAfter start end ps p c
-      second_step c image = either p c (torn_gate p mid c is_staged (torn k 1 mid c (omega (arith, room, inside, same_size)) image) (omega (arith, room, inside, same_size))) room stands.short fits
+    pub before_or_after : (c : List ℕ) → IsBetween gate behind old c → HasBeforeOrAfter start end ps p c
+    before_or_after c (inl torn) = inl (first_step c torn)
+    before_or_after c (inr torn) = second_step c torn
 
-      pub last_step : (new : List ℕ) → new ≡ overwritten mid k (165 ∷ []) → StandsFor start end new (ps ++ p ∷ [])
-      last_step new is = opened p mid new is_staged is room stands.short fits
+    -- both writes are made
+    pub after_both : (c : List ℕ) → c ≡ overwritten mid gate (165 ∷ []) → StandsFor start end c (ps ++ p ∷ [])
+    after_both c is =
+        let fit : gate + 1 ≤ length mid = omega (arith, written.same_length) in
+        let here : gate ≡ gate + 0 = omega arith in
+        opened c (subst (IsImage mid (is_within gate 1)) (sym is) (overwritten_elsewhere gate mid (165 ∷ []) fit))
+        (ap (λ (k : ℕ). get_or c k 0) here ∙ sym (get_or-drop gate c 0 0) ∙ ap (λ (l : List ℕ). get_or l 0 0) (ap (drop gate) is ∙ written_there gate mid (165 ∷ []) (omega arith)))

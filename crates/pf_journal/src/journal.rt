@@ -1,12 +1,12 @@
 // Adding a record.
 ghost use Rattle.std.specs.Prelude.{◌≡◌, ◌↔◌, ◌+◌, ◌^◌, ◌<◌, ◌≤◌, ◌++◌, [], ◌∷◌, List, ℕ, length, IfOk, OnOk, IsErrOf, if◌then◌else◌};
-ghost use Rattle.pf_disk.specs.Disk.{EachMoment, IsImage, is_within};
+ghost use Rattle.pf_disk.specs.Disk.{CountsFault, EachMoment, IsImage, IsSynced, is_within, overwritten};
 ghost use Rattle.pf_journal.specs.Records.{counted, StandsFor, HasBeforeOrAfter};
-ghost use Rattle.pf_journal.specs.Journal.{IsReady, Keeps};
+ghost use Rattle.pf_journal.specs.Journal.{IsBetween, IsReady, Keeps};
 ghost use Rattle.pf_journal.specs.Faults.{is_append_fault};
 
 use crate::AppendFault;
-use pf_disk::{Disk, OPEN_GATE, write_synced};
+use pf_disk::{Disk, DiskFault, OPEN_GATE, write_synced};
 use std::alloc::{AllocError, Global};
 
 /// The byte that a closed gate is written as. Each byte but the open one closes it too. Own.
@@ -54,6 +54,7 @@ impl<D: Disk> Journal<D> {
         ensures no_room { IsErrOf result AppendFault.NoRoom ↔ (self.old.end < self.old.gate + HEADER + length payload.now + 1) }
         ensures unchanged_without_room { IsErrOf result AppendFault.NoRoom → self.new ≡ self.old }
         ensures unchanged_without_memory { IsErrOf result AppendFault.Memory → self.new ≡ self.old }
+        ensures calls { D.moment self.new.disk ≤ D.moment self.old.disk + 4 }
         ensures faults { D.fault_count self.new.disk ≡ D.fault_count self.old.disk + (if is_append_fault result then 1 else 0) }
     {
         let room = self.end - self.gate;
@@ -61,11 +62,27 @@ impl<D: Disk> Journal<D> {
             return Err(AppendFault::NoRoom);
         }
         let behind = behind_gate(alloc, payload)?;
-        write_synced(&mut self.disk, self.gate + 1, &behind)?;
-        write_synced(&mut self.disk, self.gate, &[OPEN_GATE])?;
+        write_record(&mut self.disk, self.gate, &behind)?;
         self.gate += HEADER + payload.len();
         Ok(())
     }
+}
+
+// Writes these bytes behind a closed gate, and opens it.
+fn write_record<D: Disk>(disk: &mut D, gate: usize, behind: &[u8]) -> Result<(), DiskFault>
+    requires within { gate + 1 + length behind.now ≤ length (D.seen disk.old) }
+    requires small { gate < 2 ^ 32 }
+    requires synced { IsSynced (D.unsynced disk.old) }
+    requires few { D.fault_count disk.old < 2 ^ 63 }
+    ensures written { OnOk result (D.seen disk.new ≡ overwritten (overwritten (D.seen disk.old) (gate + 1) behind.now) gate (OPEN_GATE ∷ [])) }
+    ensures synced { OnOk result (IsSynced (D.unsynced disk.new)) }
+    ensures between { IsBetween gate behind.now (D.seen disk.old) (D.seen disk.new) }
+    ensures any_moment { EachMoment D.moment D.left_since disk.old disk.new (IsBetween gate behind.now (D.seen disk.old)) }
+    ensures calls { D.moment disk.new ≤ D.moment disk.old + 4 }
+    ensures faults { CountsFault result (D.fault_count disk.old) (D.fault_count disk.new) }
+{
+    write_synced(disk, gate + 1, behind)?;
+    write_synced(disk, gate, &[OPEN_GATE])
 }
 
 // What is written behind a closed gate: the length, the payload, and the next closed gate.

@@ -39,6 +39,7 @@ pub fn read_all<D: Disk>(
     ensures unsynced { AreIn (D.unsynced disk.new) (D.unsynced disk.old) }
     ensures still { AreIn (D.unsynced disk.old) (D.unsynced disk.new) }
     ensures any_moment { EachMoment D.moment D.left_since disk.old disk.new (IsImage (D.seen disk.old) (D.unsynced disk.old)) }
+    ensures call { D.moment disk.new ≤ D.moment disk.old + 1 }
     ensures faults { D.fault_count disk.new ≡ D.fault_count disk.old + (if is_read_fault result then 1 else 0) }
 {
     let bytes = read_region(alloc, disk, start, end)?;
@@ -62,6 +63,7 @@ fn read_region<D: Disk>(
     ensures unsynced { AreIn (D.unsynced disk.new) (D.unsynced disk.old) }
     ensures still { AreIn (D.unsynced disk.old) (D.unsynced disk.new) }
     ensures any_moment { EachMoment D.moment D.left_since disk.old disk.new (IsImage (D.seen disk.old) (D.unsynced disk.old)) }
+    ensures call { D.moment disk.new ≤ D.moment disk.old + 1 }
     ensures not_corrupt { IfErr result (λ e. ¬ IsCorrupt e) }
     ensures faults { D.fault_count disk.new ≡ D.fault_count disk.old + (if is_read_fault result then 1 else 0) }
 {

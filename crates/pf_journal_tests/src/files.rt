@@ -1,6 +1,6 @@
 // Devices over files, beside one in memory.
+use crate::regions::{append_all, has, over, read_to};
 use pf_disk::{Disk, FileDisk, FileFault, Fill, MemDisk};
-use pf_journal::{Journal, read_all};
 use std::alloc::Global;
 use std::fs::{self, File, OpenOptions};
 use std::path::PathBuf;
@@ -73,6 +73,20 @@ fn a_file_gives_what_memory_gives(rt: HostRuntime) -> Result<(), Fail> {
     Ok(())
 }
 
+/// How many faults a device that had none has after a write or a read of eight bytes.
+fn faults_after<D: Disk>(disk: &mut D, writes: bool) -> Result<u64, Fail> {
+    if disk.size() != SIZE || disk.faults() != 0 {
+        return Err(Fail::new("a fault, or another device"));
+    }
+    let mut buffer = [2u8; 8];
+    if writes {
+        let _ = disk.write_at(8, &buffer);
+    } else {
+        let _ = disk.read_at(8, &mut buffer);
+    }
+    Ok(disk.faults())
+}
+
 #[test]
 fn a_file_is_refused_or_fails(rt: HostRuntime) -> Result<(), Fail> {
     let alloc = rt.alloc();
@@ -84,22 +98,16 @@ fn a_file_is_refused_or_fails(rt: HostRuntime) -> Result<(), Fail> {
             "{size} bytes"
         );
     }
-    let mut buffer = [0u8; 8];
 
     // What another program writes isn't what was written here.
     let mut disk = FileDisk::of(alloc, open(&rt, &path)?, SIZE)?;
-    assert!(rt; disk.size() == SIZE && disk.faults() == 0);
-    disk.read_at(8, &mut buffer)?;
+    assert!(rt; faults_after(&mut disk, false)? == 0);
     fs::write(&rt, path.as_path(), vec![in alloc; 1u8; SIZE]?)?;
-    assert!(rt; disk.faults() == 0 && disk.size() == SIZE);
-    assert!(rt; disk.read_at(8, &mut buffer).is_err());
-    assert_eq!(rt; disk.faults(), 1);
+    assert!(rt; faults_after(&mut disk, false)? == 1);
 
     // A file that is open for reading alone takes no write.
     let mut disk = FileDisk::of(alloc, File::open(&rt, path.as_path())?, SIZE)?;
-    assert!(rt; disk.size() == SIZE && disk.faults() == 0);
-    assert!(rt; disk.write_at(8, &[2]).is_err());
-    assert_eq!(rt; disk.faults(), 1);
+    assert!(rt; faults_after(&mut disk, true)? == 1);
     fs::remove_file(&rt, path.as_path())?;
     Ok(())
 }
@@ -108,23 +116,12 @@ fn a_file_is_refused_or_fails(rt: HostRuntime) -> Result<(), Fail> {
 fn a_journal_in_a_file_is_read_again(rt: HostRuntime) -> Result<(), Fail> {
     let alloc = rt.alloc();
     let path = zeros(&rt, "journal")?;
-    let disk = FileDisk::of(alloc, open(&rt, &path)?, SIZE)?;
-    assert!(rt; disk.size() == SIZE && disk.faults() == 0);
-    let mut journal = Journal {
-        disk,
-        start: 0,
-        gate: 0,
-        end: SIZE,
-    };
-    journal.append(alloc, b"one")?;
-    journal.append(alloc, b"two")?;
+    let payloads: [&[u8]; 2] = [b"one", b"two"];
+    let mut journal = over(FileDisk::of(alloc, open(&rt, &path)?, SIZE)?, SIZE as u32)?;
+    append_all(alloc, &mut journal, &payloads)?;
     let mut again = FileDisk::of(alloc, open(&rt, &path)?, SIZE)?;
-    assert!(rt; again.size() == SIZE && again.faults() == 0);
-    let found = read_all(alloc, &mut again, 0, SIZE)?;
-    assert_eq!(rt; found.gate, journal.gate);
-    assert_eq!(rt; found.payloads.len(), 2);
-    assert_eq!(rt; found.payloads[0].as_slice(), b"one".as_slice());
-    assert_eq!(rt; found.payloads[1].as_slice(), b"two".as_slice());
+    let found = read_to(alloc, &mut again, SIZE)?;
+    assert!(rt; found.gate == journal.gate && has(&found, &payloads));
     fs::remove_file(&rt, path.as_path())?;
     Ok(())
 }

@@ -1,62 +1,34 @@
 // Journals over devices in memory: the bytes of a record, its room, crashes and faults.
-ghost use Rattle.std.specs.Prelude.{◌≡◌, ◌+◌, ◌^◌, ◌<◌, ◌≤◌, ◌≢◌, length, IfOk};
-ghost use Rattle.pf_disk.specs.Disk.{IsSynced};
-ghost use Rattle.pf_journal.specs.Journal.{IsReady};
-
+use crate::regions::{START, append_all, has, over, read_to};
 use pf_disk::{Disk, Fill, FuseDisk, MemDisk};
-use pf_journal::{AppendFault, Found, Journal, ReadFault, read_all};
+use pf_journal::{AppendFault, Found, ReadFault};
 use std::alloc::{AllocError, Global};
 use std::test::Fail;
 
-/// The device's bytes, and the places of the region.
+/// The device's bytes, and the region's end.
 const SIZE: usize = 300;
 
-const START: usize = 40;
+const END: u32 = 150;
 
-const END: usize = 150;
+const FIRST: &[u8] = &[1, 7, 0, 0, 0, 1];
 
-const FIRST: [u8; 6] = [1, 7, 0, 0, 0, 1];
-
-const SECOND: [u8; 29] = [
+const SECOND: &[u8] = &[
     1, 4, 0, 1, 0x74, 0, 0, 0, 1, 4, 8, 0, 0, 10, 0, 0, 0, 0, 0, 0, 0, 0, 0, 0, 0, 0, 0, 0, 0,
 ];
 
-/// A synced device of open gates, but for a closed one at the region's start: what isn't written isn't closed.
-fn all_open(alloc: Global) -> Result<MemDisk, AllocError>
-    ensures size { IfOk result (λ disk. length (⟦<MemDisk as Disk>⟧.seen disk) ≡ SIZE) }
-    ensures synced { IfOk result (λ disk. IsSynced (⟦<MemDisk as Disk>⟧.unsynced disk)) }
-    ensures faults { IfOk result (λ disk. ⟦<MemDisk as Disk>⟧.fault_count disk ≡ 0) }
-{
-    let mut bytes = vec![in alloc; 0xA5u8; SIZE]?;
-    bytes[START] = 0;
-    let disk = MemDisk::of(alloc, bytes)?;
-    Ok(disk)
-}
-
-/// The journal of such a device, up to this place.
-fn empty(alloc: Global, end: usize) -> Result<Journal<MemDisk>, AllocError>
-    requires some { START < end }
-    requires within { end ≤ SIZE }
-    ensures ready { IfOk result (λ journal. IsReady ⟦<MemDisk as Disk>⟧.seen ⟦<MemDisk as Disk>⟧.unsynced journal) }
-    ensures size { IfOk result (λ journal. length (⟦<MemDisk as Disk>⟧.seen journal.disk) ≡ SIZE) }
-    ensures faults { IfOk result (λ journal. ⟦<MemDisk as Disk>⟧.fault_count journal.disk ≡ 0) }
-    ensures end { IfOk result (λ journal. journal.end ≡ end) }
-{
-    Ok(Journal {
-        disk: all_open(alloc)?,
-        start: START,
-        gate: START,
-        end,
-    })
+/// Open gates, but for a closed one at the region's start: what isn't written isn't closed.
+fn all_open(alloc: Global) -> Result<Vec<u8>, AllocError> {
+    let mut bytes = Vec::new(alloc);
+    for i in 0..SIZE {
+        bytes.push(if i == START { 0 } else { 0xA5 })?;
+    }
+    Ok(bytes)
 }
 
 /// What a device that holds these bytes is read as, by one call.
 fn found(alloc: Global, bytes: Vec<u8>) -> Result<Found, ReadFault> {
     let mut disk = MemDisk::of(alloc, bytes)?;
-    if disk.size() < END {
-        return Err(ReadFault::Fault);
-    }
-    let read = read_all(alloc, &mut disk, START, END);
+    let read = read_to(alloc, &mut disk, END as usize);
     if disk.calls() != 1 {
         return Err(ReadFault::Fault);
     }
@@ -71,45 +43,49 @@ fn bytes_of(alloc: Global, disk: &MemDisk) -> Result<Vec<u8>, AllocError> {
 #[test]
 fn a_record_has_these_bytes(rt: HostRuntime) -> Result<(), Fail> {
     let alloc = rt.alloc();
-    let mut journal = empty(alloc, END)?;
-    journal.append(alloc, &FIRST)?;
-    assert_eq!(rt; journal.gate, 51);
-    journal.append(alloc, &SECOND)?;
+    let mut journal = over(MemDisk::of(alloc, all_open(alloc)?)?, END)?;
+    append_all(alloc, &mut journal, &[FIRST, SECOND])?;
     assert_eq!(rt; journal.gate, 85);
     let bytes = bytes_of(alloc, &journal.disk)?;
-    assert_eq!(rt; bytes.len(), SIZE);
-    assert_eq!(rt;
-        &bytes[40..51],
-        [0xA5, 0, 0, 0, 6, 1, 7, 0, 0, 0, 1].as_slice()
-    );
-    assert_eq!(rt; &bytes[51..56], [0xA5, 0, 0, 0, 0x1D].as_slice());
-    assert_eq!(rt; &bytes[56..85], SECOND.as_slice());
-    assert_eq!(rt; bytes[85], 0);
+    let mut wanted = Vec::new(alloc);
+    for part in [
+        &[0xA5, 0, 0, 0, 6],
+        FIRST,
+        &[0xA5, 0, 0, 0, 0x1D],
+        SECOND,
+        &[0],
+    ] {
+        wanted.extend_from_slice(part)?;
+    }
+    assert!(rt; bytes.len() == SIZE && bytes.get(START..=85) == Some(wanted.as_slice()));
     let read = found(alloc, bytes)?;
-    assert_eq!(rt; read.gate, 85);
-    assert_eq!(rt; read.payloads.len(), 2);
+    assert!(rt; read.gate == 85 && has(&read, &[FIRST, SECOND]));
     Ok(())
 }
 
 #[test]
 fn a_record_may_end_with_the_region(rt: HostRuntime) -> Result<(), Fail> {
     let alloc = rt.alloc();
-    for len in [0usize, 1, 64] {
-        let payload = vec![in alloc; 7u8; len]?;
-        let mut journal = empty(alloc, START + 6 + len)?;
-        journal.append(alloc, &payload)?;
-        assert_eq!(rt; journal.gate, START + 5 + len, "{len} bytes");
-        let mut short = empty(alloc, START + 5 + len)?;
-        let refused = short.append(alloc, &payload);
-        assert_eq!(rt; refused, Err(AppendFault::NoRoom), "{len} bytes");
-        assert_eq!(rt; short.disk.calls(), 0);
-        assert_eq!(rt; short.gate, START);
+    for len in [0u32, 1, 64] {
+        let payload = vec![in alloc; 7u8; len as usize]?;
+        let mut journal = over(MemDisk::of(alloc, all_open(alloc)?)?, 46 + len)?;
+        append_all(alloc, &mut journal, &[&payload])?;
+        let mut short = over(MemDisk::of(alloc, all_open(alloc)?)?, 45 + len)?;
+        let refused = append_all(alloc, &mut short, &[&payload]);
+        assert!(rt;
+            refused == Err(AppendFault::NoRoom) && short.disk.calls() == 0,
+            "{len} bytes"
+        );
+        assert!(rt;
+            journal.gate == 45 + len as usize && short.gate == START,
+            "{len} bytes"
+        );
     }
     Ok(())
 }
 
 /// What a crash during this call leaves, by one of the six fills.
-fn image(alloc: Global, disk: &MemDisk, moment: u64, fill: u8) -> Result<Vec<u8>, AllocError> {
+fn image(alloc: Global, disk: &MemDisk, moment: u64, fill: usize) -> Result<Vec<u8>, AllocError> {
     match fill {
         0 => disk.image(alloc, moment, Fill::Old),
         1 => disk.image(alloc, moment, Fill::New),
@@ -123,30 +99,23 @@ fn image(alloc: Global, disk: &MemDisk, moment: u64, fill: u8) -> Result<Vec<u8>
     }
 }
 
-/// A crash at each moment of the second of two appends, calls 5 to 8: how many records each fill leaves.
+/// A crash at each moment of the second of two appends, calls 5 to 8, and behind it: how many records each fill leaves.
 #[test]
 fn a_crash_leaves_the_record_or_not(rt: HostRuntime) -> Result<(), Fail> {
     let alloc = rt.alloc();
-    let mut journal = empty(alloc, END)?;
-    journal.append(alloc, &FIRST)?;
-    journal.append(alloc, &SECOND)?;
+    let mut journal = over(MemDisk::of(alloc, all_open(alloc)?)?, END)?;
+    append_all(alloc, &mut journal, &[FIRST, SECOND])?;
     assert_eq!(rt; journal.disk.calls(), 8);
-    let rows: &[(u64, [usize; 6])] = &[
-        (5, [1, 1, 1, 1, 1, 1]),
-        (6, [1, 1, 1, 1, 1, 1]),
-        (7, [1, 2, 1, 2, 1, 1]),
-        (8, [1, 2, 1, 2, 1, 1]),
-        (9, [2, 2, 2, 2, 2, 2]),
-    ];
-    for (moment, counts) in rows {
-        for fill in 0..6u8 {
-            let read = found(alloc, image(alloc, &journal.disk, *moment, fill)?)?;
-            let count = counts[fill as usize];
-            assert_eq!(rt; read.payloads.len(), count, "call {moment}, fill {fill}");
-            assert_eq!(rt; read.payloads[0].as_slice(), FIRST.as_slice());
-            if count == 2 {
-                assert_eq!(rt; read.payloads[1].as_slice(), SECOND.as_slice());
-            }
+    let rows: [&[u8]; 5] = [b"111111", b"111111", b"121211", b"121211", b"222222"];
+    for moment in 5..10u64 {
+        for (fill, count) in rows[moment as usize - 5].iter().enumerate() {
+            let read = found(alloc, image(alloc, &journal.disk, moment, fill)?)?;
+            let wanted: &[&[u8]] = if *count == b'1' {
+                &[FIRST]
+            } else {
+                &[FIRST, SECOND]
+            };
+            assert!(rt; has(&read, wanted), "call {moment}, fill {fill}");
         }
     }
     Ok(())
@@ -155,28 +124,19 @@ fn a_crash_leaves_the_record_or_not(rt: HostRuntime) -> Result<(), Fail> {
 /// An append of which call `k + 1` fails, alone or with all that follow, so that `k` reach the device: whether it answers so, and
 /// how many records are there.
 fn with_fault(alloc: Global, k: u64, once: bool) -> Result<(bool, usize), Fail> {
-    let disk = all_open(alloc)?;
+    let disk = MemDisk::of(alloc, all_open(alloc)?)?;
     let fuse = if once {
         FuseDisk::once(disk, k)
     } else {
         FuseDisk::after(disk, k)
     };
-    if fuse.size() != SIZE || fuse.faults() != 0 {
-        return Err(Fail::new("another device"));
-    }
-    let mut journal = Journal {
-        disk: fuse,
-        start: START,
-        gate: START,
-        end: END,
-    };
-    let answer = journal.append(alloc, &FIRST);
+    let mut journal = over(fuse, END)?;
+    let answer = append_all(alloc, &mut journal, &[FIRST]);
     let failed = answer == Err(AppendFault::Fault) && journal.disk.faults() == 1;
     if !failed && answer.is_err() {
         return Err(Fail::new("another fault"));
     }
-    let Journal { disk, .. } = journal;
-    let inner = disk.into_inner();
+    let inner = journal.disk.into_inner();
     if inner.calls() != k {
         return Err(Fail::new("another number of calls"));
     }
@@ -188,15 +148,9 @@ fn with_fault(alloc: Global, k: u64, once: bool) -> Result<(bool, usize), Fail> 
 fn a_fault_at_each_call(rt: HostRuntime) -> Result<(), Fail> {
     let alloc = rt.alloc();
     for once in [false, true] {
-        let rows: &[(u64, bool, usize)] = &[
-            (0, true, 0),
-            (1, true, 0),
-            (2, true, 0),
-            (3, true, 1),
-            (4, false, 1),
-        ];
-        for (k, failed, count) in rows {
-            assert_eq!(rt; with_fault(alloc, *k, once)?, (*failed, *count), "call {k}");
+        for k in 0..5u64 {
+            let wanted = (k < 4, if k < 3 { 0 } else { 1 });
+            assert!(rt; with_fault(alloc, k, once)? == wanted, "call {k}");
         }
     }
     Ok(())
@@ -206,19 +160,15 @@ fn a_fault_at_each_call(rt: HostRuntime) -> Result<(), Fail> {
 #[test]
 fn a_record_that_does_not_fit_is_corrupt(rt: HostRuntime) -> Result<(), Fail> {
     let alloc = rt.alloc();
-    for (len, fits) in [(104u8, true), (105, false), (255, false)] {
+    for len in [104u8, 105, 255] {
         let mut bytes = vec![in alloc; 0u8; SIZE]?;
         bytes[START] = 0xA5;
         bytes[START + 4] = len;
-        match found(alloc, bytes) {
-            Ok(read) => assert!(rt; fits && read.gate == 149, "{len} bytes"),
-            Err(fault) => {
-                assert!(rt;
-                    !fits && fault == ReadFault::Corrupt { at: START },
-                    "{len} bytes"
-                );
-            }
-        }
+        let well = match found(alloc, bytes) {
+            Ok(read) => len == 104 && read.gate == 149,
+            Err(fault) => len != 104 && fault == ReadFault::Corrupt { at: START },
+        };
+        assert!(rt; well, "{len} bytes");
     }
     Ok(())
 }

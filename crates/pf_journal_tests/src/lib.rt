@@ -5,3 +5,5 @@
 mod files;
 #[cfg(test)]
 mod journals;
+#[cfg(test)]
+mod regions;

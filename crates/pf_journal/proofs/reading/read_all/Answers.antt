@@ -1,9 +1,9 @@
-use Rattle.std.proofs.Common.{◌≡◌, ◌-◌, List, ℕ, take, drop, sym, ◌∙◌, subst}
+use Rattle.std.proofs.Common.{List, ℕ, sym, ◌∙◌, subst}
 use Rattle.pf_journal.specs.declared.fault.ReadFault.{ReadFault}
 use Rattle.pf_journal.specs.declared.fault.ReadFault.TheVariants.{Memory, Corrupt, Fault}
 use Rattle.pf_journal.specs.Faults.{IsCorrupt, IfCorrupt}
-use Rattle.pf_journal.specs.Records.{AreRecords, Breaks}
-use Rattle.pf_journal.proofs.Parsing.{region_stands, stands_region, torn_end}
+use Rattle.pf_journal.specs.Records.{AreRecords, Breaks, contents}
+use Rattle.pf_journal.proofs.Parsing.{torn_end}
 use Rattle.pf_journal.proofs.reading.read_all.Goals as goal
 
 -- where the bytes break they are no records
@@ -13,19 +13,11 @@ none (Corrupt at) bytes start ps corrupt breaks are = torn_end breaks.payloads b
 none Fault bytes start ps corrupt breaks are = corrupt
 
 pub returns-in-Ok-clause-found : goal.returns-in-Ok-clause-found
-returns-in-Ok-clause-found g c =
-    let seen = g.D.Disk.seen c.args.disk.now in
-    let is : c.deref.result.now ≡ take (c.args.end - c.args.start) (drop c.args.start seen) = c.deref.ensures.value ∙ c.in_ok-bytes.ensures.bytes in
-    region_stands c.args.start c.args.end seen c.deref.result.now _ c.requires.region c.requires.within is c.in-Ok.ensures.found
+returns-in-Ok-clause-found g c = subst (λ (bytes : List ℕ). AreRecords bytes (contents c.in-Ok.found.payloads.items)) (c.deref.ensures.value ∙ c.in_ok-bytes.ensures.bytes) c.in-Ok.ensures.found
 
 pub returns-clause-corrupt : goal.returns-clause-corrupt
 returns-clause-corrupt g c corrupt ps stands =
-    let seen = g.D.Disk.seen c.args.disk.now in
-    let is : c.deref.result.now ≡ take (c.args.end - c.args.start) (drop c.args.start seen) = c.deref.ensures.value ∙ c.in_ok-bytes.ensures.bytes in
-    none c.in-Err.fault c.deref.result.now c.args.start ps corrupt c.in-Err.ensures.breaks (stands_region c.args.start c.args.end seen c.deref.result.now ps c.requires.region c.requires.within is stands)
+    none c.in-Err.fault c.deref.result.now c.args.start ps corrupt c.in-Err.ensures.breaks (subst (λ (bytes : List ℕ). AreRecords bytes ps) (sym (c.deref.ensures.value ∙ c.in_ok-bytes.ensures.bytes)) stands)
 
 pub returns-clause-breaks : goal.returns-clause-breaks
-returns-clause-breaks g c =
-    let seen = g.D.Disk.seen c.args.disk.now in
-    let is : c.deref.result.now ≡ take (c.args.end - c.args.start) (drop c.args.start seen) = c.deref.ensures.value ∙ c.in_ok-bytes.ensures.bytes in
-    subst (λ (bytes : List ℕ). IfCorrupt c.in-Err.fault (Breaks bytes c.args.start)) is c.in-Err.ensures.breaks
+returns-clause-breaks g c = subst (λ (bytes : List ℕ). IfCorrupt c.in-Err.fault (Breaks bytes c.args.start)) (c.deref.ensures.value ∙ c.in_ok-bytes.ensures.bytes) c.in-Err.ensures.breaks
