@@ -1,5 +1,3 @@
 pub mod Numbers
-pub mod Values
 pub mod Fronts
 pub mod Writers
-pub mod Equal

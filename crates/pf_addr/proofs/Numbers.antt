@@ -1,5 +1,5 @@
 -- The parts of a text, read one after the other.
-use Rattle.std.proofs.Common.{◌≡◌, ℕ, ◌+◌, ◌-◌, ◌<◌, ◌≤◌, List, [], ◌∷◌, ◌++◌, length, take, drop, set, Some, None, Result, Ok, Err, refl, sym, ap, ◌∙◌, subst, arith, append_assoc}
+use Rattle.std.proofs.Common.{◌≡◌, ℕ, ◌+◌, ◌-◌, ◌<◌, ◌≤◌, List, [], ◌∷◌, ◌++◌, length, take, drop, set, Some, None, Result, Ok, Err, refl, sym, ap, ◌∙◌, arith, append_assoc}
 use Rattle.std.specs.List.{slice_split, position}
 use Rattle.std.proofs.lemmas.List.{length-take-le, length-drop, length-append, take_rest}
 use Rattle.pf_form.specs.Forms.{◌>>=◌}
@@ -7,7 +7,7 @@ use Rattle.pf_addr.specs.declared.fault.AddrFault.{AddrFault}
 use Rattle.pf_addr.specs.declared.fault.AddrFault.TheVariants.{Empty}
 use Rattle.pf_addr.specs.declared.reading.Parts.{Parts}
 use Rattle.pf_addr.specs.Grammar.{is_dot, four_bytes}
-use Rattle.pf_addr.specs.Reading.{part_at, parts_at, numbers_at, parts_of, kept_parts}
+use Rattle.pf_addr.specs.Reading.{part_at, parts_at, numbers_at, parts_of}
 use Rattle.pf_addr.specs.PlaceLaws.{split_some, split_none}
 
 -- what is read where these numbers stand before the rest, which begins at `at`
@@ -36,11 +36,11 @@ behind_last done at rest (Err e) place is = rw (split_none is_dot rest place, �
 pub record SoFar (text : List ℕ) (parts : Parts) (at : ℕ) (rest : List ℕ) : Type 0 where
   pub done : List ℕ
   pub kept : parts ≡ parts_of done
-  pub same : kept_parts (numbers_at text) ≡ behind done at rest
+  pub same : numbers_at text ≡ behind done at rest
   pub place : at + length rest ≡ length text
   pub few : length done ≤ at
 
-pub no_text : (text : List ℕ) → length text ≡ 0 → Err (Empty 0) ≡ kept_parts (numbers_at text)
+pub no_text : (text : List ℕ) → length text ≡ 0 → Err (Empty 0) ≡ numbers_at text
 unfolding numbers_at
 no_text [] e = refl
 no_text (b ∷ bs) e = absurd (omega arith)

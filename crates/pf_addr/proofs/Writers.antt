@@ -1,12 +1,10 @@
 -- Texts that are written part by part.
-use Rattle.std.proofs.Common.{◌≡◌, ◌≢◌, ◌==◌, false, decimal, ℕ, ◌+◌, ◌-◌, ◌≤◌, ◌<◌, List, ◌∷◌, ◌++◌, length, take, drop, get_or, Option, refl, sym, ap, ◌∙◌, arith}
+use Rattle.std.proofs.Common.{◌≡◌, ℕ, ◌+◌, ◌-◌, ◌<◌, List, ◌∷◌, ◌++◌, length, take, drop, get_or, Option, sym, ap, ◌∙◌}
 use Rattle.std.specs.Prelude.{flat_map}
 use Rattle.std.specs.Io.KnownBytes.{Appends}
 use Rattle.std.proofs.lemmas.List.{take_rest, take_more, flat_map_more}
 use Rattle.std.proofs.Math.Seq.{take-add}
-use Rattle.std.proofs.lemmas.Bool.Decides.{nat_tests}
-use Rattle.pf_addr.specs.Address.{Network, width}
-use Rattle.pf_addr.specs.Spelling.{group_text, length_text}
+use Rattle.pf_addr.specs.Spelling.{group_text}
 use Rattle.pf_addr.specs.Writing.{Appends-then}
 
 pub appends_more : (old mid new : Option (List ℕ)) (text : List ℕ) (w n : ℕ) → Appends old mid (take w text) → Appends mid new (take n (take (length text - w) (drop w text))) → Appends old new (take (w + n) text)
@@ -22,8 +20,3 @@ groups_to n ends i = group_text n 112 ++ flat_map (behind_colon n) (take i ends)
 
 pub groups_more : (n : ℕ) (ends : List ℕ) (i : ℕ) → i < length ends → groups_to n ends i ++ 58 ∷ group_text n (get_or ends i 0) ≡ groups_to n ends (i + 1)
 groups_more n ends i lt = flat_map_more (behind_colon n) (group_text n 112) (take i ends) (get_or ends i 0) ∙ ap (λ (l : List ℕ). group_text n 112 ++ flat_map (behind_colon n) l) (sym (take_more ends i 0 lt))
-
--- ---- a network's length
-
-pub not_full : (net : Network) → net.len ≢ width net.family → length_text net ≡ 47 ∷ decimal (net.len)
-not_full net ne = let no_end : (net.len == width net.family) ≡ false = grind (arith, nat_tests) in rw no_end refl

@@ -21,19 +21,21 @@ is_dot b = b == 46
 abbrev pub Dotted : List ℕ → List ℕ → Type 0
 Dotted numbers text = AllZip (IsNumber 255) (slice_split is_dot text) numbers
 
--- An address is four parts, its bytes from the first on.
-abbrev pub SpellsAddr : List ℕ → Addr → Type 0
-SpellsAddr text (addr.V4 n) = (parts : List ℕ) × Dotted parts text × (length parts ≡ 4) × (n ≡ from_be_bytes w32 parts)
-SpellsAddr text (addr.V6 n) = ⊥
-
 -- the four bytes of an address of which these are written, the missing ones zero
 abbrev pub four_bytes : List ℕ → List ℕ
 four_bytes parts = take 4 (parts ++ replicate 4 0)
 
+abbrev pub v4_address : List ℕ → Addr
+v4_address parts = addr.V4 (from_be_bytes w32 (four_bytes parts))
+
+-- An address is four parts, its bytes from the first on.
+unfoldable pub SpellsAddr : List ℕ → Addr → Type 0
+SpellsAddr text a = (parts : List ℕ) × Dotted parts text × (length parts ≡ 4) × (a ≡ v4_address parts)
+
 -- up to four parts, a slash (47) and how many bits are the front
 abbrev pub SpellsFront : List ℕ → Network → Type 0
-SpellsFront text net = (parts front digits : List ℕ) × (len : ℕ) × Dotted parts front × (length parts ≤ 4) × IsNumber V4_BITS digits len × (text ≡ front ++ 47 ∷ digits) × (net ≡ network_from (addr.V4 (from_be_bytes w32 (four_bytes parts))) len)
+SpellsFront text net = (parts front digits : List ℕ) × (len : ℕ) × Dotted parts front × (length parts ≤ 4) × IsNumber V4_BITS digits len × (text ≡ front ++ 47 ∷ digits) × (net ≡ network_from (v4_address parts) len)
 
 -- A network is an address alone, or the first parts of an address and a length.
-abbrev pub SpellsNet : List ℕ → Network → Type 0
+unfoldable pub SpellsNet : List ℕ → Network → Type 0
 SpellsNet text net = ((a : Addr) × SpellsAddr text a × (net ≡ network_of a)) ⊎ SpellsFront text net

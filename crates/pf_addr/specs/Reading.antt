@@ -44,21 +44,21 @@ unfoldable pub parts_at : ℕ → List (List ℕ) → Result (List ℕ) AddrFaul
 parts_at at [] = Ok []
 parts_at at (p ∷ ps) = part_at at p >>= λ n. parts_at (at + length p + 1) ps >>= λ ns. Ok (n ∷ ns)
 
-unfoldable pub numbers_at : List ℕ → Result (List ℕ) AddrFault
-numbers_at [] = Err (Empty 0)
-numbers_at (b ∷ bs) = parts_at 0 (slice_split is_dot (b ∷ bs))
-
--- what is kept of them: the first four, and how many they are
+-- what is kept of the numbers: the first four, and how many they are
 abbrev pub parts_of : List ℕ → Parts
 parts_of ns = record { bytes = four_bytes ns; count = length ns }
 
-abbrev pub kept_parts : Result (List ℕ) AddrFault → Result Parts AddrFault
-kept_parts r = r >>= λ ns. Ok (parts_of ns)
+unfoldable pub numbers_at : List ℕ → Result Parts AddrFault
+numbers_at [] = Err (Empty 0)
+numbers_at (b ∷ bs) = parts_at 0 (slice_split is_dot (b ∷ bs)) >>= λ ns. Ok (parts_of ns)
+
+abbrev pub address_in : Parts → Addr
+address_in parts = addr.V4 (from_be_bytes w32 parts.bytes)
 
 -- ---- an address
 
-abbrev pub address_of : List ℕ → Result Addr AddrFault
-address_of parts = if length parts == 4 then Ok (addr.V4 (from_be_bytes w32 parts)) else Err (BadGroups 0)
+abbrev pub address_of : Parts → Result Addr AddrFault
+address_of parts = if parts.count == 4 then Ok (address_in parts) else Err (BadGroups 0)
 
 abbrev pub addr_at : List ℕ → Result Addr AddrFault
 addr_at text = numbers_at text >>= address_of
@@ -73,8 +73,8 @@ abbrev pub length_at : ℕ → List ℕ → Result ℕ AddrFault
 length_at at text = ok_or (small_number V4_BITS text) (BadLength at)
 
 -- with these parts, and with a length that begins at `at`
-abbrev pub front_at : ℕ → List ℕ → List ℕ → Result Network AddrFault
-front_at at digits parts = if nat_le (length parts) 4 then (length_at at digits >>= λ len. Ok (network_from (addr.V4 (from_be_bytes w32 (four_bytes parts))) len)) else Err (BadGroups 0)
+abbrev pub front_at : ℕ → List ℕ → Parts → Result Network AddrFault
+front_at at digits parts = if nat_le parts.count 4 then (length_at at digits >>= λ len. Ok (network_from (address_in parts) len)) else Err (BadGroups 0)
 
 -- with the place of its first slash
 abbrev pub cut_at : List ℕ → Option ℕ → Result Network AddrFault

@@ -1,9 +1,9 @@
 -- A text is read as an address or a network exactly where it spells it.
-use Rattle.std.proofs.Common.{◌≡◌, ℕ, ◌+◌, ◌≤◌, ◌<◌, ◌==◌, Bool, false, List, [], ◌∷◌, ◌++◌, length, take, drop, Option, Some, None, Ok, Err, inl, inr, refl, sym, ap, ◌∙◌, subst, arith, append_assoc}
+use Rattle.std.proofs.Common.{◌≡◌, ℕ, ◌+◌, ◌==◌, false, List, [], ◌∷◌, ◌++◌, length, take, drop, Option, Some, None, Result, Ok, Err, inl, inr, refl, sym, ap, ◌∙◌, subst, arith, append_assoc}
+use Rattle.std.specs.Prelude.{IfOk}
 use Rattle.std.specs.List.{position, slice_split, join_with_byte, All, AllZip}
 use Rattle.std.specs.Option.{ok_or}
 use Rattle.std.specs.Str.Parse.{AllDigits}
-use Rattle.std.specs.Int.{from_be_bytes, w32}
 use Rattle.std.proofs.lemmas.Bool.{le-leb}
 use Rattle.std.proofs.lemmas.Bool.Decides.{leb_tells, eqb_tells}
 use Rattle.std.proofs.lemmas.List.{length-append, take_at, drop_at}
@@ -14,12 +14,12 @@ use Rattle.pf_form.specs.Laws.{bind_ok}
 use Rattle.pf_form.specs.Numbers.{number_of}
 use Rattle.pf_form.specs.NumberLaws.{number_only, number_found}
 use Rattle.pf_addr.specs.declared.addr.Addr.{Addr}
-use Rattle.pf_addr.specs.declared.addr.Addr.TheVariants as addr
 use Rattle.pf_addr.specs.declared.fault.AddrFault.{AddrFault}
 use Rattle.pf_addr.specs.declared.fault.AddrFault.TheVariants.{BadLength}
+use Rattle.pf_addr.specs.declared.reading.Parts.{Parts}
 use Rattle.pf_addr.specs.Address.{Network, network_from, network_of}
-use Rattle.pf_addr.specs.Grammar.{IsNumber, is_dot, Dotted, SpellsAddr, SpellsNet, SpellsFront, four_bytes}
-use Rattle.pf_addr.specs.Reading.{kept_to, small_number, part_fault, part_at, parts_at, numbers_at, address_of, addr_at, is_slash, length_at, front_at, cut_at, net_at}
+use Rattle.pf_addr.specs.Grammar.{IsNumber, is_dot, Dotted, SpellsAddr, SpellsNet, SpellsFront, v4_address}
+use Rattle.pf_addr.specs.Reading.{kept_to, small_number, part_fault, part_at, parts_at, parts_of, numbers_at, address_of, addr_at, is_slash, length_at, front_at, cut_at, net_at}
 use Rattle.pf_addr.specs.PlaceLaws.{without, digits_without, no_place, place_after, cut_there}
 
 -- ---- one number
@@ -61,15 +61,18 @@ parts_found at (p ∷ ps) ns e =
     let first : IsNumber 255 p one.0 = small_found 255 p one.0 (given (small_number 255 p) (part_fault at p) one.0 one.1) in
     subst (AllZip (IsNumber 255) (p ∷ ps)) is (first, parts_found (at + length p + 1) ps more.0 more.1)
 
-numbers_read : (ns text : List ℕ) → Dotted ns text → numbers_at text ≡ Ok ns
+numbers_read : (ns text : List ℕ) → Dotted ns text → numbers_at text ≡ Ok (parts_of ns)
 unfolding numbers_at parts_at part_at
 numbers_read ns [] is = let no = parts_read 0 ([] ∷ []) ns is in absurd cc
-numbers_read ns (b ∷ bs) is = parts_read 0 (slice_split is_dot (b ∷ bs)) ns is
+numbers_read ns (b ∷ bs) is = rw (parts_read 0 (slice_split is_dot (b ∷ bs)) ns is) refl
 
-numbers_found : (ns text : List ℕ) → numbers_at text ≡ Ok ns → Dotted ns text
+numbers_found : (parts : Parts) (text : List ℕ) → numbers_at text ≡ Ok parts → (ns : List ℕ) × Dotted ns text × (parts ≡ parts_of ns)
 unfolding numbers_at
-numbers_found ns [] e = absurd cc
-numbers_found ns (b ∷ bs) e = parts_found 0 (slice_split is_dot (b ∷ bs)) ns e
+numbers_found parts [] e = absurd cc
+numbers_found parts (b ∷ bs) e =
+    let all = bind_ok (parts_at 0 (slice_split is_dot (b ∷ bs))) (λ ns. Ok (parts_of ns)) parts e in
+    let is : parts ≡ parts_of all.0 = cc in
+    (all.0, parts_found 0 (slice_split is_dot (b ∷ bs)) all.0 all.1, is)
 
 -- ---- the bytes of such a text are dots and those of its numbers
 
@@ -90,18 +93,23 @@ no_slash ns text is = dotted_bytes (λ b. (b == 47) ≡ false) ns text refl (λ 
 -- ---- an address
 
 pub addr_found : (text : List ℕ) (a : Addr) → addr_at text ≡ Ok a → SpellsAddr text a
+unfolding SpellsAddr
 addr_found text a e =
     let all = bind_ok (numbers_at text) address_of a e in
-    elim (eqb_tells (length all.0) 4) [
-      | inl four ↦
-          let is : addr.V4 (from_be_bytes w32 all.0) ≡ a = let made = rw four.0 at all.2 in cc in
-          subst (SpellsAddr text) is (all.0, numbers_found all.0 text all.1, four.1, refl)
-      | inr other ↦ let no = rw other.0 at all.2 in absurd cc
+    let (ns, dotted, is) = numbers_found all.0 text all.1 in
+    let made : address_of (parts_of ns) ≡ Ok a = rw is at all.2 in
+    elim (eqb_tells (length ns) 4) [
+      | inl four ↦ let is_a : a ≡ v4_address ns = let m = rw four.0 at made in cc in (ns, dotted, four.1, is_a)
+      | inr other ↦ let no = rw other.0 at made in absurd cc
     ]
 
+pub addr_if_ok : (text : List ℕ) (r : Result Addr AddrFault) → r ≡ addr_at text → IfOk r (λ a. SpellsAddr text a)
+addr_if_ok text (Ok a) e = addr_found text a (sym e)
+addr_if_ok text (Err f) e = tt
+
 pub addr_only : (text : List ℕ) (a : Addr) → SpellsAddr text a → addr_at text ≡ Ok a
-addr_only text (addr.V4 n) (parts, dotted, four, is) = rw (numbers_read parts text dotted, four, is) refl
-addr_only text (addr.V6 n) is = absurd is
+unfolding SpellsAddr
+addr_only text a (parts, dotted, four, is) = rw (numbers_read parts text dotted, four, is) refl
 
 -- ---- a network
 
@@ -109,17 +117,19 @@ front_found : (text : List ℕ) (i : ℕ) (net : Network) → position is_slash 
 front_found text i net p e =
     let digits : List ℕ = drop (i + 1) text in
     let all = bind_ok (numbers_at (take i text)) (front_at (i + 1) digits) net e in
-    elim (leb_tells (length all.0) 4) [
+    let (ns, dotted, is) = numbers_found all.0 (take i text) all.1 in
+    let made : front_at (i + 1) digits (parts_of ns) ≡ Ok net = rw is at all.2 in
+    elim (leb_tells (length ns) 4) [
       | inl few ↦
-          let made = rw few.0 at all.2 in
-          let last = bind_ok (length_at (i + 1) digits) (λ len. Ok (network_from (addr.V4 (from_be_bytes w32 (four_bytes all.0))) len)) net made in
-          let is : net ≡ network_from (addr.V4 (from_be_bytes w32 (four_bytes all.0))) last.0 = cc in
+          let last = bind_ok (length_at (i + 1) digits) (λ len. Ok (network_from (v4_address ns) len)) net (rw few.0 at made) in
+          let is_net : net ≡ network_from (v4_address ns) last.0 = cc in
           let len : IsNumber 32 digits last.0 = small_found 32 digits last.0 (given (small_number 32 digits) (BadLength (i + 1)) last.0 last.1) in
-          (all.0, take i text, digits, last.0, numbers_found all.0 (take i text) all.1, few.1, len, cut_there 47 text i p, is)
-      | inr many ↦ let no = rw many.0 at all.2 in absurd cc
+          (ns, take i text, digits, last.0, dotted, few.1, len, cut_there 47 text i p, is_net)
+      | inr many ↦ let no = rw many.0 at made in absurd cc
     ]
 
 pub net_found : (text : List ℕ) (net : Network) → net_at text ≡ Ok net → SpellsNet text net
+unfolding SpellsNet
 net_found text net e = by (position is_slash text) refl e where
   by : (o : Option ℕ) → position is_slash text ≡ o → cut_at text o ≡ Ok net → SpellsNet text net
   by None p e =
@@ -128,15 +138,16 @@ net_found text net e = by (position is_slash text) refl e where
       inl (one.0, addr_found text one.0 one.1, is)
   by (Some i) p e = inr (front_found text i net p e)
 
-alone_read : (text : List ℕ) (a : Addr) → SpellsAddr text a → position is_slash text ≡ None
-alone_read text (addr.V4 n) (parts, dotted, four, is) = no_place 47 text (no_slash parts text dotted)
-alone_read text (addr.V6 n) is = absurd is
+pub net_if_ok : (text : List ℕ) (r : Result Network AddrFault) → r ≡ net_at text → IfOk r (λ n. SpellsNet text n)
+net_if_ok text (Ok n) e = net_found text n (sym e)
+net_if_ok text (Err f) e = tt
 
 -- what stands behind a text and one byte more
 behind : (front digits : List ℕ) → drop (length front + 1) (front ++ 47 ∷ digits) ≡ digits
 behind front digits = ap (drop (length front + 1)) (sym (append_assoc front (47 ∷ []) digits)) ∙ drop_at (front ++ 47 ∷ []) digits (length front + 1) (length-append front (47 ∷ []))
 
 pub net_only : (text : List ℕ) (net : Network) → SpellsNet text net → net_at text ≡ Ok net
-net_only text net (inl (a, spells, is)) = rw (alone_read text a spells, addr_only text a spells, is) refl
+unfolding SpellsNet SpellsAddr
+net_only text net (inl (a, (parts, dotted, four, spelled), is)) = rw (no_place 47 text (no_slash parts text dotted), addr_only text a (parts, dotted, four, spelled), is) refl
 net_only text net (inr (parts, front, digits, len, dotted, few, number, cut, is)) =
     rw (cut, place_after 47 front digits (no_slash parts front dotted), take_at front (47 ∷ digits) (length front) refl, behind front digits, numbers_read parts front dotted, le-leb (length parts) 4 few, small_read 32 digits len number, is) refl

@@ -1,5 +1,5 @@
 -- What is written is a text of the grammar, and what the values and the texts of the grammar look like.
-use Rattle.std.proofs.Common.{◌≡◌, ℕ, zero, suc, ◌+◌, ◌-◌, ◌*◌, ◌/◌, ◌%◌, ◌^◌, ◌==◌, ◌<◌, ◌≤◌, List, [], ◌∷◌, ◌++◌, length, decimal, map, get_or, refl, sym, ap, ◌∙◌, subst, inl, inr, arith, append-nil, length-append}
+use Rattle.std.proofs.Common.{◌≡◌, ℕ, zero, suc, ◌+◌, ◌-◌, ◌*◌, ◌/◌, ◌%◌, ◌^◌, ◌<◌, ◌≤◌, List, [], ◌∷◌, length, decimal, map, get_or, refl, sym, ap, ◌∙◌, subst, inl, inr, arith, append-nil, length-append}
 use Rattle.std.specs.Int.{to_be_bytes, from_be_bytes, w32}
 use Rattle.std.specs.List.{All, AllZip, slice_split, join_with_byte}
 use Rattle.std.specs.Str.Parse.{AllDigits}
@@ -17,7 +17,8 @@ use Rattle.pf_addr.specs.Address.{Network, network_from, IsAddr}
 pub use Rattle.pf_addr.specs.Address.{IsV4Network}
 use Rattle.pf_addr.specs.Grammar.{IsNumber, is_dot, Dotted, SpellsAddr, SpellsNet, four_bytes}
 use Rattle.pf_addr.specs.PlaceLaws.{digits_without}
-use Rattle.pf_addr.specs.ReadingLaws.{dotted_bytes}
+use Rattle.pf_addr.specs.Reading.{net_at}
+use Rattle.pf_addr.specs.ReadingLaws.{dotted_bytes, addr_only, net_only}
 use Rattle.pf_addr.specs.Spelling.{addr_text, net_text}
 
 -- ---- numbers between dots
@@ -44,8 +45,16 @@ dotted-addr_text n =
     rw (split_joined (map decimal (to_be_bytes w32 n)) (to_be_bytes w32 n) (omega arith) all) all
 
 -- an address is read again from the text that it is written as
-pub SpellsAddr-addr_text : (n : ℕ) → n < 2 ^ 32 → SpellsAddr (addr_text (addr.V4 n)) (addr.V4 n)
-SpellsAddr-addr_text n lt = (to_be_bytes w32 n, dotted-addr_text n, refl, sym (from_be_bytes-to_be_bytes_4 n lt))
+pub addr_text_spells : (n : ℕ) → n < 2 ^ 32 → SpellsAddr (addr_text (addr.V4 n)) (addr.V4 n)
+unfolding SpellsAddr
+addr_text_spells n lt = (to_be_bytes w32 n, dotted-addr_text n, refl, ap (λ (m : ℕ). addr.V4 m) (sym (from_be_bytes-to_be_bytes_4 n lt)))
+
+-- two addresses that are written as one text are one
+pub own_addr_text : (m n : ℕ) → m < 2 ^ 32 → n < 2 ^ 32 → addr_text (addr.V4 m) ≡ addr_text (addr.V4 n) → m ≡ n
+own_addr_text m n p q e =
+    let first = addr_only (addr_text (addr.V4 m)) (addr.V4 m) (addr_text_spells m p) in
+    let second = addr_only (addr_text (addr.V4 n)) (addr.V4 n) (addr_text_spells n q) in
+    cc
 
 byte_below : (ps : List (List ℕ)) (ns : List ℕ) → AllZip (IsNumber 255) ps ns → (i : ℕ) → get_or ns i 0 < 256
 byte_below [] [] is i = omega arith
@@ -54,12 +63,20 @@ byte_below (p ∷ ps) [] is i = omega arith
 byte_below (p ∷ ps) (n ∷ ns) is zero = omega (arith, is.0.small)
 byte_below (p ∷ ps) (n ∷ ns) is (suc i) = byte_below ps ns is.1 i
 
+four_below : (ns : List ℕ) → ((i : ℕ) → get_or ns i 0 < 256) → from_be_bytes w32 (four_bytes ns) < 2 ^ 32
+four_below [] below = omega arith
+four_below (a ∷ []) below = omega (arith, below 0)
+four_below (a ∷ b ∷ []) below = omega (arith, below 0, below 1)
+four_below (a ∷ b ∷ c ∷ []) below = omega (arith, below 0, below 1, below 2)
+four_below (a ∷ b ∷ c ∷ d ∷ ns) below = omega (arith, below 0, below 1, below 2, below 3)
+
+dotted_below : (ns text : List ℕ) → Dotted ns text → from_be_bytes w32 (four_bytes ns) < 2 ^ 32
+dotted_below ns text is = four_below ns (byte_below (slice_split is_dot text) ns is)
+
 -- each address that a text spells fits its family's bits
 pub IsAddr-spelled : (text : List ℕ) (a : Addr) → SpellsAddr text a → IsAddr a
-IsAddr-spelled text (addr.V4 n) (parts, dotted, four, is) =
-    let below : (i : ℕ) → get_or parts i 0 < 256 = byte_below (slice_split is_dot text) parts dotted in
-    omega (arith, is, below 0, below 1, below 2, below 3)
-IsAddr-spelled text (addr.V6 n) is = absurd is
+unfolding SpellsAddr
+IsAddr-spelled text a (parts, dotted, four, is) = rw is (dotted_below parts text dotted)
 
 -- ---- a network
 
@@ -71,38 +88,40 @@ at_v4 : (P : Network → Type 0) (net : Network) → IsV4Network net → P (with
 at_v4 P net is holds = subst (λ (f : Family). P (with_family net f)) (sym is.family) holds
 
 spells : (net : Network) → IsV4Network net → SpellsNet (net_text (with_family net V4)) (with_family net V4)
+unfolding SpellsNet
 spells net is =
     let n : ℕ = net.front * 2 ^ (32 - net.len) in
     let lt : n < 2 ^ 32 = let sum : net.len + (32 - net.len) ≡ 32 = let le = is.len in omega arith in rw sum at (shl_below net.front net.len (32 - net.len) is.front) in
     let same : with_family net V4 ≡ network_from (addr.V4 n) net.len = ap (λ (m : ℕ). record net { family = V4; front = m }) (sym (shl-shr net.front (32 - net.len))) in
     elim (eqb_tells net.len 32) [
-      | inl full ↦ rw (full.0, append-nil (addr_text (addr.V4 n))) (inl (addr.V4 n, SpellsAddr-addr_text n lt, same ∙ ap (network_from (addr.V4 n)) full.1))
+      | inl full ↦ rw (full.0, append-nil (addr_text (addr.V4 n))) (inl (addr.V4 n, addr_text_spells n lt, same ∙ ap (network_from (addr.V4 n)) full.1))
       | inr short ↦
           let number : from_be_bytes w32 (to_be_bytes w32 n) ≡ n = from_be_bytes-to_be_bytes_4 n lt in
           rw short.0 (inr (to_be_bytes w32 n, addr_text (addr.V4 n), decimal net.len, net.len, dotted-addr_text n, omega arith, IsNumber-decimal 32 net.len is.len (omega arith), refl, same ∙ ap (λ (m : ℕ). network_from (addr.V4 m) net.len) (sym number)))
     ]
 
 -- a network is read again from the text that it is written as
-pub SpellsNet-net_text : (net : Network) → IsV4Network net → SpellsNet (net_text net) net
-SpellsNet-net_text net is = at_v4 (λ n. SpellsNet (net_text n) n) net is (spells net is)
+pub net_text_spells : (net : Network) → IsV4Network net → SpellsNet (net_text net) net
+net_text_spells net is = at_v4 (λ n. SpellsNet (net_text n) n) net is (spells net is)
+
+-- two networks that are written as one text are one
+pub own_net_text : (a b : Network) → IsV4Network a → IsV4Network b → net_text a ≡ net_text b → a ≡ b
+own_net_text a b p q e =
+    let first = net_only (net_text a) a (net_text_spells a p) in
+    let second = net_only (net_text b) b (net_text_spells b q) in
+    let same : net_at (net_text a) ≡ net_at (net_text b) = ap net_at e in
+    cc
 
 from_v4 : (n len : ℕ) → n < 2 ^ 32 → len ≤ 32 → IsV4Network (network_from (addr.V4 n) len)
 from_v4 n len lt le =
     let sum : len + (32 - len) ≡ 32 = omega arith in
     record { family = refl; len = le; front = shr_below n len (32 - len) (rw sum lt) }
 
-four_below : (ns : List ℕ) → ((i : ℕ) → get_or ns i 0 < 256) → from_be_bytes w32 (four_bytes ns) < 2 ^ 32
-four_below [] below = omega arith
-four_below (a ∷ []) below = omega (arith, below 0)
-four_below (a ∷ b ∷ []) below = omega (arith, below 0, below 1)
-four_below (a ∷ b ∷ c ∷ []) below = omega (arith, below 0, below 1, below 2)
-four_below (a ∷ b ∷ c ∷ d ∷ ns) below = omega (arith, below 0, below 1, below 2, below 3)
-
 -- each network that a text spells is a V4 network
 pub IsV4Network-spelled : (text : List ℕ) (net : Network) → SpellsNet text net → IsV4Network net
-IsV4Network-spelled text net (inl (addr.V4 n, is, e)) = rw e (from_v4 n 32 (IsAddr-spelled text (addr.V4 n) is) (omega arith))
-IsV4Network-spelled text net (inl (addr.V6 n, is, e)) = absurd is
-IsV4Network-spelled text net (inr (parts, front, digits, len, dotted, few, number, cut, e)) = rw e (from_v4 (from_be_bytes w32 (four_bytes parts)) len (four_below parts (byte_below (slice_split is_dot front) parts dotted)) number.small)
+unfolding SpellsNet SpellsAddr
+IsV4Network-spelled text net (inl (a, (parts, dotted, four, is), e)) = rw (e, is) (from_v4 (from_be_bytes w32 (four_bytes parts)) 32 (dotted_below parts text dotted) (omega arith))
+IsV4Network-spelled text net (inr (parts, front, digits, len, dotted, few, number, cut, e)) = rw e (from_v4 (from_be_bytes w32 (four_bytes parts)) len (dotted_below parts front dotted) number.small)
 
 -- ---- the bytes of a network's text
 
@@ -123,8 +142,8 @@ dotted_net_bytes : (ns text : List ℕ) → Dotted ns text → All IsNetByte tex
 dotted_net_bytes ns text is = dotted_bytes IsNetByte ns text (omega arith, omega arith) digits_bytes is
 
 spelled_bytes : (text : List ℕ) (net : Network) → SpellsNet text net → All IsNetByte text
-spelled_bytes text net (inl (addr.V4 n, (parts, dotted, four, is), e)) = dotted_net_bytes parts text dotted
-spelled_bytes text net (inl (addr.V6 n, is, e)) = absurd is
+unfolding SpellsNet SpellsAddr
+spelled_bytes text net (inl (a, (parts, dotted, four, is), e)) = dotted_net_bytes parts text dotted
 spelled_bytes text net (inr (parts, front, digits, len, dotted, few, number, cut, e)) =
     subst (All IsNetByte) (sym cut) (All-append IsNetByte front (47 ∷ digits) (dotted_net_bytes parts front dotted) (All-cons IsNetByte 47 digits (omega arith, omega arith) (digits_bytes digits number.number.digits.1)))
 
@@ -146,7 +165,7 @@ net_length net le =
     ]
 
 -- a V4 network's text is one word of at most 18 digits, dots and slashes
-pub IsNetWord-net_text : (net : Network) → IsV4Network net → IsNetWord 18 (net_text net)
-IsNetWord-net_text net is =
+pub net_text_is_word : (net : Network) → IsV4Network net → IsNetWord 18 (net_text net)
+net_text_is_word net is =
     let size = at_v4 (λ n. (0 < length (net_text n)) × (length (net_text n) ≤ 18)) net is (net_length net is.len) in
-    record { some = size.0; few = size.1; bytes = spelled_bytes (net_text net) net (SpellsNet-net_text net is) }
+    record { some = size.0; few = size.1; bytes = spelled_bytes (net_text net) net (net_text_spells net is) }

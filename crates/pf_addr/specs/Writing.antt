@@ -1,6 +1,8 @@
 -- What a call that writes a text leaves in the writer, where the writer's bytes are known.
-use Rattle.std.proofs.Common.{◌≡◌, ℕ, zero, suc, List, [], ◌∷◌, ◌++◌, take, Option, Some, None, Result, Ok, Err, refl, sym, ap, ◌∙◌, subst, append_assoc, append-nil}
+use Rattle.std.proofs.Common.{◌≡◌, ℕ, ◌+◌, min, List, [], ◌++◌, length, take, arith, Option, Some, None, Result, Ok, Err, sym, ap, ◌∙◌, subst, append_assoc, append-nil}
 use Rattle.std.specs.Prelude.{◌≢◌, IfErr}
+use Rattle.std.proofs.lemmas.List.{take-append-le, take_min}
+use Rattle.std.proofs.Math.Seq.{take-append-add}
 use Rattle.std.specs.declared.io.Error.{Error}
 use Rattle.std.specs.declared.io.ErrorKind.TheVariants.{Interrupted}
 use Rattle.std.specs.Io.KnownBytes.{Appends, Keeps}
@@ -41,27 +43,13 @@ Appends-kept (Some xs) None new a p q = absurd p
 Appends-kept (Some xs) (Some ys) None a p q = absurd q
 Appends-kept (Some xs) (Some ys) (Some zs) a p q = q ∙ p
 
--- a front of a text, in the text with more behind it
-take-longer : (k : ℕ) (a b : List ℕ) → (j : ℕ) × (take j (a ++ b) ≡ take k a)
-take-longer zero a b = (zero, refl)
-take-longer (suc k) [] b = (zero, refl)
-take-longer (suc k) (x ∷ a) b = let rest = take-longer k a b in (suc rest.0, ap (λ (l : List ℕ). x ∷ l) rest.1)
-
-take-behind : (k : ℕ) (a b : List ℕ) → (j : ℕ) × (take j (a ++ b) ≡ a ++ take k b)
-take-behind k [] b = (k, refl)
-take-behind k (x ∷ a) b = let rest = take-behind k a b in (suc rest.0, ap (λ (l : List ℕ). x ∷ l) rest.1)
-
 -- Where the first of two texts fails, a front of both is written.
 pub WritesFront-longer : (old new : Option (List ℕ)) (a b : List ℕ) → WritesFront old new a → WritesFront old new (a ++ b)
-WritesFront-longer old new a b w =
-    let j = take-longer w.0 a b in
-    (j.0, subst (Appends old new) (sym j.1) w.1)
+WritesFront-longer old new a b w = (min w.0 (length a), rw (take-append-le (min w.0 (length a)) a b (omega arith), take_min w.0 a) w.1)
 
 -- Where the second fails, the first and a front of the second are a front of both.
 pub WritesFront-then : (old mid new : Option (List ℕ)) (a b : List ℕ) → Appends old mid a → WritesFront mid new b → WritesFront old new (a ++ b)
-WritesFront-then old mid new a b p w =
-    let j = take-behind w.0 a b in
-    (j.0, subst (Appends old new) (sym j.1) (Appends-then old mid new a (take w.0 b) p w.1))
+WritesFront-then old mid new a b p w = (length a + w.0, rw (take-append-add a b w.0) (Appends-then old mid new a (take w.0 b) p w.1))
 
 -- One text and then another.
 pub Writes-then : {A E : Type 0} (r : Result A E) (old mid new : Option (List ℕ)) (a b : List ℕ) → Appends old mid a → Writes r mid new b → Writes r old new (a ++ b)
@@ -86,5 +74,5 @@ Continues-err {A = A} q e mid text is = record {
 }
 
 -- behind nothing
-pub Continues-whole : {A B : Type 0} (u : A) {r : Result B Error} {mid new : Option (List ℕ)} {text : List ℕ} → Continues {A = A} (Ok u) mid r new text → Wrote r mid new text
-Continues-whole u {mid = mid} all = all.behind mid [] (Appends-none mid, tt)
+pub behind_nothing : {A B : Type 0} (u : A) {r : Result B Error} {mid new : Option (List ℕ)} {text : List ℕ} → Continues {A = A} (Ok u) mid r new text → Wrote r mid new text
+behind_nothing u {mid = mid} all = all.behind mid [] (Appends-none mid, tt)

@@ -57,6 +57,7 @@ impl Addr {
     ///
     /// The fault is the first in this order: [`AddrFault::Empty`] of no text; in the parts from left to right
     /// [`AddrFault::BadDigit`], and then [`AddrFault::TooBig`]; [`AddrFault::BadGroups`]. It takes no memory.
+    #[tactic(auto, using(crate::specs::ReadingLaws::addr_if_ok, crate::specs::ReadingLaws::addr_only))]
     pub fn from_ascii(text: &[u8]) -> Result<Addr, AddrFault>
         ensures found { IfOk result (λ a. SpellsAddr text.now a) }
         ensures only { (a : Addr) → SpellsAddr text.now a → result ≡ Ok a }

@@ -9,39 +9,43 @@ ghost use Rattle.pf_addr.specs.SpellingLaws.{IsV4Network, IsNetWord};
 use crate::addr::Addr;
 
 /// The text that a V4 address is written as spells it.
+#[tactic(auto, using(crate::specs::SpellingLaws::addr_text_spells))]
 pub fn written_addr_is_read_again()
     ensures { (n : ℕ) → n < 2 ^ 32 → SpellsAddr (addr_text (Addr.V4 n)) (Addr.V4 n) }
 {}
 
 /// The text that a V4 network is written as spells it.
+#[tactic(auto, using(crate::specs::SpellingLaws::net_text_spells))]
 pub fn written_net_is_read_again()
     ensures { (net : Network) → IsV4Network net → SpellsNet (net_text net) net }
 {}
 
 /// A text spells at most one address.
-#[tactic(auto, using(crate::proofs::Values::one_addr))]
+#[tactic(auto, using(crate::specs::ReadingLaws::addr_only))]
 pub fn text_spells_one_addr()
     ensures { (text : List ℕ) (a b : Addr) → SpellsAddr text a → SpellsAddr text b → a ≡ b }
 {}
 
 /// A text spells at most one network.
+#[tactic(auto, using(crate::specs::ReadingLaws::net_only))]
 pub fn text_spells_one_net()
     ensures { (text : List ℕ) (a b : Network) → SpellsNet text a → SpellsNet text b → a ≡ b }
 {}
 
 /// Two V4 addresses that are written as one text are one.
-#[tactic(auto, using(crate::proofs::Values::own_addr_text))]
+#[tactic(auto, using(crate::specs::SpellingLaws::own_addr_text))]
 pub fn addrs_have_texts_of_their_own()
     ensures { (m n : ℕ) → m < 2 ^ 32 → n < 2 ^ 32 → addr_text (Addr.V4 m) ≡ addr_text (Addr.V4 n) → m ≡ n }
 {}
 
 /// Two V4 networks that are written as one text are one.
-#[tactic(auto, using(crate::proofs::Values::own_net_text))]
+#[tactic(auto, using(crate::specs::SpellingLaws::own_net_text))]
 pub fn nets_have_texts_of_their_own()
     ensures { (a b : Network) → IsV4Network a → IsV4Network b → net_text a ≡ net_text b → a ≡ b }
 {}
 
 /// A V4 network's text is one word: one to 18 digits, dots and slashes.
+#[tactic(auto, using(crate::specs::SpellingLaws::net_text_is_word))]
 pub fn net_text_is_one_word()
     ensures { (net : Network) → IsV4Network net → IsNetWord 18 (net_text net) }
 {}

@@ -16,6 +16,4 @@ pub use laws::{
     written_net_is_read_again,
 };
 pub use net::Net;
-pub use write::{
-    write_addr, write_more, write_more_net, write_more_number, write_net, write_text,
-};
+pub use write::{write_addr, write_more, write_more_net, write_more_number, write_net, write_text};

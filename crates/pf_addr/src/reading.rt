@@ -2,7 +2,7 @@
 ghost use Rattle.std.specs.Prelude.{◌≡◌, ◌+◌, ◌^◌, ◌<◌, ◌==◌, ◌-◌, length, set, not, IfSome};
 ghost use Rattle.std.specs.List.{position};
 ghost use Rattle.pf_form.specs.Numbers.{is_digit};
-ghost use Rattle.pf_addr.specs.Reading.{small_number, part_at, part_fault, length_at, numbers_at, kept_parts};
+ghost use Rattle.pf_addr.specs.Reading.{small_number, part_at, part_fault, length_at, numbers_at};
 
 use crate::addr::V4_BITS;
 use crate::fault::AddrFault;
@@ -36,7 +36,7 @@ impl Parts {
 
 /// Reads the numbers of a text with a dot between each two.
 pub(crate) fn read_parts(text: &[u8]) -> Result<Parts, AddrFault>
-    ensures { result ≡ kept_parts (numbers_at text.now) }
+    ensures { result ≡ numbers_at text.now }
 {
     if text.is_empty() {
         return Err(AddrFault::Empty { at: 0 });
@@ -93,13 +93,7 @@ fn first_other(text: &[u8]) -> Option<usize>
     ensures place { result ≡ position (λ b. not (is_digit b)) text.now }
     ensures bound { IfSome result (λ i. i < length text.now) }
 {
-    text.iter().position(|b| !digit(*b))
-}
-
-fn digit(b: u8) -> bool
-    ensures { result ≡ is_digit b }
-{
-    b.is_ascii_digit()
+    text.iter().position(|b| !b.is_ascii_digit())
 }
 
 /// The number of at most `most` that one to three digits write.

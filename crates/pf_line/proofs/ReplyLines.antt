@@ -11,7 +11,7 @@ use Rattle.pf_addr.specs.declared.addr.Family.{Family}
 use Rattle.pf_addr.specs.declared.addr.Family.TheVariants.{V4, V6}
 use Rattle.pf_addr.specs.Address.{Network}
 use Rattle.pf_addr.specs.Spelling.{net_text}
-use Rattle.pf_addr.specs.SpellingLaws.{IsV4Network, IsNetByte, IsNetWord-net_text}
+use Rattle.pf_addr.specs.SpellingLaws.{IsV4Network, IsNetByte, net_text_is_word}
 use Rattle.pf_form.specs.declared.fault.Kind.{Kind}
 use Rattle.pf_rule.specs.declared.rule.Action.{Action}
 use Rattle.pf_rule.specs.declared.rule.Action.TheVariants.{Pass, Block}
@@ -150,7 +150,7 @@ join_clear c h (w ∷ []) all = all.0
 join_clear c h (w ∷ v ∷ words) all = joined w (c ∷ join_with_byte c (v ∷ words)) all.0 (and_from (clear c) (list_all clear (join_with_byte c (v ∷ words))) h (join_clear c h (v ∷ words) all.1))
 
 net_clear : (n : Network) → IsV4Network n → HasNoNewline (net_text n)
-net_clear n is = by (net_text n) (IsNetWord-net_text n is).bytes where
+net_clear n is = by (net_text n) (net_text_is_word n is).bytes where
   by : (text : List ℕ) → All IsNetByte text → HasNoNewline text
   by [] h = refl
   by (b ∷ bs) h =

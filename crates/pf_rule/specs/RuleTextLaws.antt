@@ -16,7 +16,7 @@ use Rattle.pf_form.specs.Forms.{Form, pair, Spells, read_all}
 use Rattle.pf_form.specs.TextLaws.{only}
 use Rattle.pf_addr.specs.declared.addr.Family.{Family}
 use Rattle.pf_addr.specs.Spelling.{net_text}
-use Rattle.pf_addr.specs.SpellingLaws.{IsNumber-decimal, IsNetByte, SpellsNet-net_text, IsNetWord-net_text}
+use Rattle.pf_addr.specs.SpellingLaws.{IsNumber-decimal, IsNetByte, net_text_spells, net_text_is_word}
 use Rattle.pf_addr.specs.ReadingLaws.{net_only}
 use Rattle.pf_rule.specs.declared.rule.Action.{Action}
 use Rattle.pf_rule.specs.declared.rule.Action.TheVariants.{Pass, Block}
@@ -135,14 +135,14 @@ not_any w bytes = other_bytes w (codes "any") (λ e. let b : IsNetByte 97 = subs
 
 host_read : (f : Option Family) (h : Host) → HostFits f h → host_of (host_word h) ≡ Ok h
 host_read f Any is = refl
-host_read f (Net n) is = rw (not_any (net_text n) (IsNetWord-net_text n is.1).bytes, net_only (net_text n) n (SpellsNet-net_text n is.1)) refl
+host_read f (Net n) is = rw (not_any (net_text n) (net_text_is_word n is.1).bytes, net_only (net_text n) n (net_text_spells n is.1)) refl
 
 net_byte : (b : ℕ) → IsNetByte b → nat_lt 32 b ≡ true
 net_byte b is = lt-ltb 32 b (omega (arith, is.0))
 
 host_good : (f : Option Family) (h : Host) → HostFits f h → is_word (host_word h) ≡ true
 host_good f Any is = refl
-host_good f (Net n) is = let w = IsNetWord-net_text n is.1 in rw (lt-ltb 0 (length (net_text n)) w.some, list_all-from_AllPass (nat_lt 32) (net_text n) (λ k d lt. net_byte (slice_index_or (net_text n) k d) (w.bytes k d lt))) refl
+host_good f (Net n) is = let w = net_text_is_word n is.1 in rw (lt-ltb 0 (length (net_text n)) w.some, list_all-from_AllPass (nat_lt 32) (net_text n) (λ k d lt. net_byte (slice_index_or (net_text n) k d) (w.bytes k d lt))) refl
 
 from_to : (f : Option Family) (s d : Host) → HostFits f s → HostFits f d → Written hosts (s, d) (from_to_words s d)
 unfolding hosts destination
