@@ -40,7 +40,8 @@ fn starts_behind(page: &Page, path: &Path) -> bool
     ensures value { result ≡ starts_behind path_order path.now page.now }
     ensures some { 0 < length page.now }
 {
-    page.as_slice().first().is_some_and(|first| first.is_behind(path))
+    let first = page.as_slice().first();
+    first.is_some_and(|first| first.is_behind(path))
 }
 
 // How many pages there are up to the one where a path's ruleset is, or would be: the last that doesn't start behind the path,
