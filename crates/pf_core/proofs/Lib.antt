@@ -1,4 +1,3 @@
 pub mod Switching
-pub mod Leaving
 pub mod LongerWorlds
 pub mod Limits

@@ -28,7 +28,7 @@ use Rattle.pf_core.specs.declared.step.Step.TheVariants.{Done, Wants}
 use Rattle.pf_core.specs.Calls.{call, mentions_of, Call}
 use Rattle.pf_core.specs.Commands.{unless_refused, commit_change, wanting, answer_of, step_by, mentioned, items}
 use Rattle.pf_core.specs.Edits.{Kept, Edit, rulesets_in, applied, after}
-use Rattle.pf_core.specs.WorldFacts.{given_in, tickets_in, given_by, tickets_given, GivesEachOnce, IsWithin, KeepsTheLimits, ShowsAll}
+use Rattle.pf_core.specs.WorldFacts.{tickets_in, given_by, tickets_given, GivesEachOnce, IsWithin, KeepsTheLimits, ShowsAll}
 use Rattle.pf_core.specs.WorldLaws.{unit_is, IsPassed, passed, IsCommitted, wants_commit}
 use Rattle.pf_core.specs.Worlds.{Held, log_of, durable_of, step_in, room_for, if_ok, or_refused, due_at, grouped, group_at, LegalReply, State, up, down, Upshot, Event, called, opened, flat, group_in, acked_by, shown_by, heard, next, LegalCall, IsLegal, state_after, IsLegalFrom, IsWorld}
 use Rattle.std.proofs.lemmas.Bool.{cond_both}
@@ -60,11 +60,11 @@ length-from : (epoch count n : ℕ) → length (tickets_from epoch count n) ≡ 
 length-from epoch count zero = refl
 length-from epoch count (suc n) = let rest = length-from epoch (count + 1) n in omega (arith, rest)
 
-begin-told : (t : Open) (names : List RulesetName) (a : Answer) → IsPassed (begin_reply t names) (λ range. Ok (Done (answer.Given range))) (Done a) → AreTold t (moved_by t (gives names)) (given_in a)
+begin-told : (t : Open) (names : List RulesetName) (a : Answer) → IsPassed (begin_reply t names) (λ range. Ok (Done (answer.Given range))) (Done a) → AreTold t (moved_by t (gives names)) (tickets_in (Answered a))
 begin-told t names a s =
     let is : Ok (Done (answer.Given s.value)) ≡ Ok (Done a) = s.step in
-    let told : given_in a ≡ tickets_from t.epoch t.next (length names) = ap given_in (let e : answer.Given s.value ≡ a = cc (is) in sym e) ∙ begins_give.told t names s.value s.passed in
-    let number : length (given_in a) ≡ length names = ap (λ (ts : List Ticket). length ts) told ∙ length-from t.epoch t.next (length names) in
+    let told : tickets_in (Answered a) ≡ tickets_from t.epoch t.next (length names) = ap (λ (x : Answer). tickets_in (Answered x)) (let e : answer.Given s.value ≡ a = cc (is) in sym e) ∙ begins_give.told t names s.value s.passed in
+    let number : length (tickets_in (Answered a)) ≡ length names = ap (λ (ts : List Ticket). length ts) told ∙ length-from t.epoch t.next (length names) in
     record {
       within = tickets_keep.begin t names s.value s.passed;
       given = subst (λ (n : ℕ). AreGiven n t (moved_by t (gives names))) (sym number) (begins_give.begin t names);
@@ -72,11 +72,11 @@ begin-told t names a s =
     }
 
 -- what is only done tells none
-done-told : {A : Type 0} (r : Result A TicketRefusal) (a : Answer) → unless_refused r (λ _. Ok (Done answer.Done)) ≡ Ok (Done a) → given_in a ≡ []
-done-told (Ok x) a h = let is : answer.Done ≡ a = cc (h) in ap given_in (sym is)
+done-told : {A : Type 0} (r : Result A TicketRefusal) (a : Answer) → unless_refused r (λ _. Ok (Done answer.Done)) ≡ Ok (Done a) → tickets_in (Answered a) ≡ []
+done-told (Ok x) a h = let is : answer.Done ≡ a = cc (h) in ap (λ (x : Answer). tickets_in (Answered x)) (sym is)
 done-told (Err e) a h = absurd (cc (h))
 
-question-told : (d : Kept) (q : Question) → given_in (answer_of d q) ≡ []
+question-told : (d : Kept) (q : Question) → tickets_in (Answered (answer_of d q)) ≡ []
 question-told d (Judge packet) = refl
 question-told d (ShowRules p) = refl
 
@@ -84,7 +84,7 @@ never-done : (r : Result Edit Refusal) (a : Answer) → wanting r ≡ Ok (Done a
 never-done (Ok e) a h = cc (h)
 never-done (Err e) a h = cc (h)
 
-answered-told : (t : Open) (d : Kept) (c : Command) (a : Answer) → step_by t d c ≡ Ok (Done a) → AreTold t (moved_by t (mentioned c)) (given_in a)
+answered-told : (t : Open) (d : Kept) (c : Command) (a : Answer) → step_by t d c ≡ Ok (Done a) → AreTold t (moved_by t (mentioned c)) (tickets_in (Answered a))
 answered-told t d (Transact (Begin names)) a h = begin-told t names a (passed (begin_reply t names) (λ range. Ok (Done (answer.Given range))) (Done a) h)
 answered-told t d (Transact (Add p u r)) a h =
     let s : IsPassed (add_reply t (filter_at p) u) (λ _. Ok (Done answer.Done)) (Done a) = passed (add_reply t (filter_at p) u) (λ _. Ok (Done answer.Done)) (Done a) h in
@@ -96,7 +96,7 @@ answered-told t d (Transact (Rollback entries)) a h =
     subst (AreTold t new) (sym (done-told (list_check entries) a h)) (none-told t new (tickets_keep.rollback t entries) (begins_give.rollback t entries))
 answered-told t d (Ask q) a h =
     let is : answer_of d q ≡ a = cc (h) in
-    subst (AreTold t t) (sym (question-told d q) ∙ ap given_in is) (none-told t t (λ w. w) (record { epoch = refl; next = omega arith }))
+    subst (AreTold t t) (sym (question-told d q) ∙ ap (λ (x : Answer). tickets_in (Answered x)) is) (none-told t t (λ w. w) (record { epoch = refl; next = omega arith }))
 
 applied-told : (t : Open) (d : Kept) (c : Command) (e : Edit) → IsCommitted t d c e → AreTold t (moved_by t (mentioned c)) []
 applied-told t d c e is =

@@ -25,7 +25,7 @@ use Rattle.pf_core.specs.declared.reply.Outcome.TheVariants.{Committed}
 use Rattle.pf_core.specs.declared.reply.Refusal.{Refusal}
 use Rattle.pf_core.specs.declared.reply.Refusal.TheVariants.{TooManyRulesets}
 use Rattle.pf_core.specs.declared.reply.Reply.{Reply}
-use Rattle.pf_core.specs.declared.reply.Reply.TheVariants.{Answer as Answered, Applied, Refused}
+use Rattle.pf_core.specs.declared.reply.Reply.TheVariants.{Refused}
 use Rattle.pf_core.specs.declared.step.Step.{Step}
 use Rattle.pf_core.specs.declared.step.Step.TheVariants.{Done, Wants}
 use Rattle.pf_core.specs.Edits.{Kept, Edit, verdict, commits, applied}
@@ -99,9 +99,8 @@ abbrev pub names_in : Command → List RulesetName
 names_in c = map named_in (mentioned c)
 
 abbrev pub is_accepted : Reply → Bool
-is_accepted (Answered a) = true
-is_accepted (Applied n o) = true
 is_accepted (Refused e) = false
+is_accepted r = true
 
 -- ---- memory
 

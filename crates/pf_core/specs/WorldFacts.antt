@@ -6,25 +6,17 @@ use Rattle.pf_ticket.specs.declared.ticket.Ticket.{Ticket}
 use Rattle.pf_ticket.specs.Laws.{AreOnce}
 use Rattle.pf_ticket.specs.Laws.{IsWithin as AreTicketsWithin}
 use Rattle.pf_ticket.specs.Names.{tickets_from, tickets_of}
-use Rattle.pf_core.specs.declared.reply.Answer.{Answer}
 use Rattle.pf_core.specs.declared.reply.Answer.TheVariants as answer
 use Rattle.pf_core.specs.declared.reply.Reply.{Reply}
-use Rattle.pf_core.specs.declared.reply.Reply.TheVariants.{Answer as Answered, Applied, Refused}
+use Rattle.pf_core.specs.declared.reply.Reply.TheVariants.{Answer as Answered}
 use Rattle.pf_core.specs.Edits.{Kept}
 use Rattle.pf_core.specs.Worlds.{Held, up, down, Event, called, opened, flat, log_of, durable_of, state_after, IsWorld}
 
 -- ---- tickets
 
-abbrev pub given_in : Answer → List Ticket
-given_in (answer.Given range) = tickets_of range
-given_in answer.Done = []
-given_in (answer.Judged v) = []
-given_in (answer.Rules rules) = []
-
 abbrev pub tickets_in : Reply → List Ticket
-tickets_in (Answered a) = given_in a
-tickets_in (Applied n o) = []
-tickets_in (Refused e) = []
+tickets_in (Answered (answer.Given range)) = tickets_of range
+tickets_in r = []
 
 abbrev pub given_by : List Ticket → Event → List Ticket
 given_by ts (called c t) = ts ++ tickets_in c.reply

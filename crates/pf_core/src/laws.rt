@@ -20,7 +20,7 @@ pub fn voids_the_named()
 {}
 
 /// What is refused mentions no ruleset, and so changes neither the valid tickets nor what is offered.
-#[tactic(auto, using(crate::proofs::Leaving::refused_mention_nothing))]
+#[tactic(auto, using(crate::proofs::Switching::refused_mention_nothing))]
 pub fn refused_mention_nothing()
     ensures { RefusedMentionNothing }
 {}
@@ -31,7 +31,7 @@ pub fn keeps_none_valid()
 {}
 
 /// A call leaves the valid tickets of the rulesets that it doesn't name, and what is offered with them.
-#[tactic(auto, using(crate::proofs::Leaving::leaves_the_others))]
+#[tactic(auto, using(crate::proofs::Switching::leaves_the_others))]
 pub fn leaves_the_others()
     ensures { LeavesTheOthers }
 {}

@@ -108,9 +108,9 @@ within-added t n u r room w =
     let new : Offer = offer n u (with_rule (content t n) r) in
     cond_both (is_valid t n u) (with_offers t (put new t.offers)) t IsWithin
     (λ valid.
-      let as-many : length (put new t.offers) ≡ length t.offers + 0 = length-put new t.offers ∙ ap (λ (b : Bool). length t.offers + cond b 0 1) (has-offer (offer_at t.offers n) u valid) in
-      let most = w.opened in
-      record { given = w.given; opened = omega (arith, as-many, most); offered = short-put new t.offers (one-more (content t n) r room) w.offered })
+    let as-many : length (put new t.offers) ≡ length t.offers + 0 = length-put new t.offers ∙ ap (λ (b : Bool). length t.offers + cond b 0 1) (has-offer (offer_at t.offers n) u valid) in
+    let most = w.opened in
+    record { given = w.given; opened = omega (arith, as-many, most); offered = short-put new t.offers (one-more (content t n) r room) w.offered })
     (λ b. w)
 
 not-refused : {A : Type 0} (b : Bool) (x : TicketRefusal) (r : Result A TicketRefusal) (a : A) → cond b (Err x) r ≡ Ok a → (b ≡ false) × (r ≡ Ok a)

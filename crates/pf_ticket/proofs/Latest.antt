@@ -76,12 +76,11 @@ stood-or-given t (m ∷ ms) q u is = elim (stood-or-given (moved t m) ms q u is)
   | inr given ↦ inr (later t m ms q u given)
 ]
 
-from-none : (epoch : ℕ) (ms : List Mention) (q : RulesetName) (u : Ticket) → StoodOrGiven (fresh epoch) ms q u → IsGivenLast (fresh epoch) ms q u
-from-none epoch ms q u (inl stood) = let none : None ≡ Some u = stood.0 in absurd (cc (none))
-from-none epoch ms q u (inr given) = given
-
 pub valid_is_given_last : ValidIsGivenLast
-valid_is_given_last epoch ms name u is = from-none epoch ms name u (stood-or-given (fresh epoch) ms name u is)
+valid_is_given_last epoch ms name u is = elim (stood-or-given (fresh epoch) ms name u is) [
+  | inl stood ↦ let none : None ≡ Some u = stood.0 in absurd (cc (none))
+  | inr given ↦ given
+]
 
 -- ---- what doesn't touch a ruleset leaves its ticket, and adds what it adds with it
 

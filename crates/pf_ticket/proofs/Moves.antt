@@ -6,7 +6,7 @@ use Rattle.std.proofs.lemmas.List.Folds.{fold-map}
 use Rattle.std.proofs.lemmas.List.Sums.{fold_more}
 use Rattle.pf_ticket.specs.declared.name.RulesetName.{RulesetName}
 use Rattle.pf_ticket.specs.Laws.{StartsWithNothing, LeavesTheOthers, CommitTakesOut, CountsTheOpen}
-use Rattle.pf_ticket.specs.Mentions.{Mention, gave, added, switched, dropped, named_in, with_offers, take_out, moved, after, gives, switches}
+use Rattle.pf_ticket.specs.Mentions.{Mention, gave, added, switched, dropped, named_in, with_offers, take_out, moved, after, gives}
 use Rattle.pf_ticket.specs.Names.{same_name, is_named, IsDistinct}
 use Rattle.pf_ticket.specs.NameLaws.{name_is}
 use Rattle.pf_ticket.specs.Tickets.{nothing_for, with_rule, Offer, offer, offer_at, put, without, Open, fresh, next_ticket, open_rulesets, ticket_in, offered_in, content, is_valid}

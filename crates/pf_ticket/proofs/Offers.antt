@@ -82,9 +82,9 @@ distinct-put new (o ∷ os) d =
     cond_both (same_name o.name new.name) (new ∷ os) (o ∷ put new os) (λ (ws : List Offer). IsDistinct (names_under ws))
     (λ e. (ap (is_named (names_under os)) (sym (name_is o.name new.name e)) ∙ d.0, d.1))
     (λ e. (
-        named-under (put new os) o.name ∙ ap is_some (read-put new os o.name ∙ cond-false (same_name new.name o.name) (Some new) (offer_at os o.name) (names_alike.symm new.name o.name ∙ e)) ∙ sym (named-under os o.name) ∙ d.0,
-        distinct-put new os d.1,
-      ))
+      named-under (put new os) o.name ∙ ap is_some (read-put new os o.name ∙ cond-false (same_name new.name o.name) (Some new) (offer_at os o.name) (names_alike.symm new.name o.name ∙ e)) ∙ sym (named-under os o.name) ∙ d.0,
+      distinct-put new os d.1,
+    ))
 
 pub distinct-without : (p : RulesetName) (os : List Offer) → IsDistinct (names_under os) → IsDistinct (names_under (without p os))
 distinct-without p [] d = tt
@@ -92,9 +92,9 @@ distinct-without p (o ∷ os) d =
     let rest : IsDistinct (names_under (without p os)) = distinct-without p os d.1 in
     cond_both (not (same_name o.name p)) (o ∷ without p os) (without p os) (λ (ws : List Offer). IsDistinct (names_under ws))
     (λ e. (
-        named-under (without p os) o.name ∙ ap is_some (read-without p os o.name ∙ cond-false (same_name p o.name) None (offer_at os o.name) (names_alike.symm p o.name ∙ not-true (same_name o.name p) e)) ∙ sym (named-under os o.name) ∙ d.0,
-        rest,
-      ))
+      named-under (without p os) o.name ∙ ap is_some (read-without p os o.name ∙ cond-false (same_name p o.name) None (offer_at os o.name) (names_alike.symm p o.name ∙ not-true (same_name o.name p) e)) ∙ sym (named-under os o.name) ∙ d.0,
+      rest,
+    ))
     (λ e. rest)
 
 -- ---- where a ruleset's offer stands

@@ -1,8 +1,8 @@
 -- The entry that is found is the first of a ruleset named before it; and tickets that are numbered are given once.
-use Rattle.std.proofs.Common.{◌≡◌, ℕ, suc, zero, ◌+◌, ◌<◌, ◌==◌, ◌&&◌, Bool, true, false, cond, ◌||◌, List, [], ◌∷◌, ◌++◌, length, refl, sym, ap, subst, ◌∙◌, append-nil, append_assoc, Option, Some, None, arith, get_or, take, drop}
+use Rattle.std.proofs.Common.{◌≡◌, ℕ, suc, zero, ◌+◌, ◌<◌, ◌==◌, Bool, false, cond, ◌||◌, List, [], ◌∷◌, ◌++◌, length, refl, sym, ap, subst, ◌∙◌, append-nil, append_assoc, Option, Some, None, arith, get_or, take, drop}
 use Rattle.std.specs.List.{list_any}
 use Rattle.std.proofs.Math.Seq.{take-suc, drop-cons}
-use Rattle.std.proofs.lemmas.Bool.{eqb-true, or_parts, and_right, false_from_ne_true, cond_both}
+use Rattle.std.proofs.lemmas.Bool.{eqb-true, or_parts, or_from, and_right, false_from_ne_true, cond_both}
 use Rattle.std.proofs.lemmas.List.{map-append, length-map, length-take-le}
 use Rattle.std.proofs.lemmas.List.Folds.{list_any-append}
 use Rattle.pf_ticket.specs.declared.entry.Entry.{Entry}
@@ -32,15 +32,11 @@ twice-at es p e b l h k =
 
 -- ---- what is found
 
--- one name behind
-named-behind : (ns : List RulesetName) (p q : RulesetName) → is_named ns q ≡ false → same_name p q ≡ false → is_named (ns ++ p ∷ []) q ≡ false
-named-behind ns p q h k = list_any-append (λ n. same_name n q) ns (p ∷ []) ∙ ap (λ (b : Bool). b || is_named (p ∷ []) q) h ∙ ap (λ (b : Bool). b || false) k
-
 distinct-behind : (ns : List RulesetName) (p : RulesetName) → IsDistinct ns → is_named ns p ≡ false → IsDistinct (ns ++ p ∷ [])
 distinct-behind [] p d h = (refl, tt)
 distinct-behind (n ∷ ns) p d h =
     let other : (same_name n p ≡ false) × (is_named ns p ≡ false) = or_parts (same_name n p) (is_named ns p) h in
-    (named-behind ns p n d.0 (names_alike.symm p n ∙ other.0), distinct-behind ns p d.1 other.1)
+    (list_any-append (λ m. same_name m n) ns (p ∷ []) ∙ or_from (is_named ns n) (is_named (p ∷ []) n) d.0 (or_from (same_name p n) false (names_alike.symm p n ∙ other.0) refl), distinct-behind ns p d.1 other.1)
 
 -- the first that is named again, or none is
 abbrev Found : List RulesetName → Option ℕ → Type 0

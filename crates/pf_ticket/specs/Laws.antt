@@ -49,10 +49,8 @@ StartsWithNothing = (t : Open) (names : List RulesetName) (name : RulesetName) �
 
 -- the rule that a mention adds for a ruleset with a ticket
 abbrev pub rules_added : RulesetName → Ticket → Mention → List PlainRule
-rules_added name t (gave n) = []
 rules_added name t (added n u r) = cond (same_name n name && same_ticket t u) (r ∷ []) []
-rules_added name t (switched n) = []
-rules_added name t (dropped n u) = []
+rules_added name t m = []
 
 -- the rules of the accepted adds with the valid ticket are offered, in order
 abbrev pub OffersTheAdded : Type 0
