@@ -3,7 +3,7 @@ use Rattle.std.proofs.Common.{◌≡◌, inl, inr, ℕ, ◌+◌, ◌<◌, ◌≤
 use Rattle.std.proofs.lemmas.List.{ext_get_or, places, length-take, length-drop, get_or-take, get_or-drop, drop_at}
 use Rattle.std.proofs.lemmas.Bool.{cases_lt}
 use Rattle.std.proofs.lemmas.Bool.Decides.{nat_tests}
-use Rattle.pf_disk.specs.Disk.{IsImage, IsSynced, AreIn, is_within, with_range, overwritten}
+use Rattle.pf_disk.specs.Disk.{IsImage, IsSynced, is_within, with_range, overwritten}
 
 pub neither_left : (a b : Bool) → (a || b) ≡ false → a ≡ false
 neither_left true b out = out

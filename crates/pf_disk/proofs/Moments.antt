@@ -1,6 +1,6 @@
 -- How a run of calls goes on, by single calls of the device and by whole runs.
-use Rattle.std.proofs.Common.{inl, inr, ⊎_elim, ℕ, Bool, List, arith}
-use Rattle.pf_disk.specs.Disk.{Elapses, EachMoment, IsImage}
+use Rattle.std.proofs.Common.{inl, inr, ⊎_elim, ℕ, List, arith}
+use Rattle.pf_disk.specs.Disk.{EachMoment}
 
 module _ {D : Type 0} (moment : D → ℕ) (left_since : D → ℕ → List ℕ → Type 0) where
   -- a run by a layer below, told in this layer's words

@@ -1,5 +1,5 @@
 -- The two writes of a record as one run, over any device.
-use Rattle.std.proofs.Common.{◌≡◌, inl, inr, ℕ, ◌+◌, [], ◌∷◌, List, length, sym, subst, ap}
+use Rattle.std.proofs.Common.{◌≡◌, inl, inr, ℕ, ◌+◌, List, length, subst}
 use Rattle.pf_disk.specs.Disk.{IsImage, EachMoment, is_within, overwritten}
 use Rattle.pf_disk.proofs.Moments.{weakened, and_then}
 use Rattle.pf_journal.specs.Journal.{IsBetween}

@@ -6,7 +6,7 @@ use Rattle.pf_disk.specs.declared.image.Fill.{Fill}
 use Rattle.pf_disk.specs.declared.image.Fill.TheVariants.{Old, New, Zeros, Open, Inverted, Bytes}
 use Rattle.pf_disk.specs.Memory.{events_of}
 use Rattle.pf_disk.specs.Disk.{IsImage}
-use Rattle.pf_disk.specs.Calls.{State, state_at, IsImageAt}
+use Rattle.pf_disk.specs.Calls.{State, state_at}
 use Rattle.pf_disk.specs.Filled.{fill_byte, IsFilled, GivesItsBytes}
 use Rattle.pf_disk.proofs.Images.{own_bytes}
 use Rattle.pf_disk.proofs.memory.MemDisk.image.Goals as goal
