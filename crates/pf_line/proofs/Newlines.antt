@@ -1,5 +1,5 @@
 -- What has no newline: digits, names, networks, and so paths and the texts of rules.
-use Rattle.std.proofs.Common.{◌≡◌, ℕ, suc, ◌+◌, ◌^◌, ◌<◌, ◌≤◌, ◌==◌, Bool, true, false, cond, List, [], ◌∷◌, ◌++◌, length, decimal, refl, sym, ap, subst, ◌∙◌, arith}
+use Rattle.std.proofs.Common.{◌≡◌, ℕ, suc, ◌+◌, ◌^◌, ◌<◌, ◌≤◌, ◌==◌, Bool, true, false, cond, List, [], ◌∷◌, ◌++◌, length, decimal, refl, ap, subst, ◌∙◌, arith}
 use Rattle.std.specs.Prelude.{Option, Some, None, IfSome, codes, All}
 use Rattle.std.specs.List.{list_all, join_with_byte}
 use Rattle.std.specs.Option.{is_none}
@@ -23,7 +23,7 @@ use Rattle.pf_rule.specs.declared.rule.Host.{Host}
 use Rattle.pf_rule.specs.declared.rule.Host.TheVariants.{Any, Net}
 use Rattle.pf_rule.specs.Names.{is_name_byte, IsInterfaceName}
 use Rattle.pf_rule.specs.Rules.{PlainRule, IsRule, HostFits}
-use Rattle.pf_rule.specs.RuleText.{action_word, direction_words, quick_words, interface_words, family_words, protocol_word, protocol_words, host_word, host_words, state_words, canonical, rule_text}
+use Rattle.pf_rule.specs.RuleText.{action_word, direction_words, quick_words, interface_words, family_words, protocol_words, host_word, host_words, state_words, canonical, rule_text}
 use Rattle.pf_anchor.specs.Paths.{path_fault, is_path}
 use Rattle.pf_anchor.specs.PathGrammar.{AreComponents, IsPathText}
 use Rattle.pf_anchor.specs.PathLaws.{FaultsAllElse}
@@ -102,42 +102,26 @@ hosts_plain f (Net n) d p q = omega (arith, host_plain f (Net n) p, host_plain f
 
 protocol_plain : (p : Option ℕ) → IfSome p (λ n. (0 < n) × (n < 256)) → all_newlines (protocol_words p) ≡ 0
 protocol_plain None h = refl
-protocol_plain (Some n) h = by (n == 1) (n == 6) (n == 17) (n == 58) where
-  by : (a b c d : Bool) → all_newlines (codes "proto" ∷ cond a (codes "icmp") (cond b (codes "tcp") (cond c (codes "udp") (cond d (codes "icmp6") (decimal n)))) ∷ []) ≡ 0
-  by true b c d = refl
-  by false true c d = refl
-  by false false true d = refl
-  by false false false true = refl
-  by false false false false = omega (arith, number_plain n (omega (arith, h.1)))
+protocol_plain (Some n) h = let digits = number_plain n (omega (arith, h.1)) in grind (arith, nat_tests, digits)
 
 interface_plain : (i : Option (List ℕ)) → IfSome i IsInterfaceName → all_newlines (interface_words i) ≡ 0
 interface_plain None h = refl
 interface_plain (Some name) h = omega (arith, name_plain name h.bytes)
 
--- the words that are the same in each rule that has them
-flags_plain : (a : Action) (d : Option Direction) (q : Bool) (f : Option Family) → newlines (action_word a) + all_newlines (direction_words d) + all_newlines (quick_words q) + all_newlines (family_words f) + all_newlines (state_words a) ≡ 0
-flags_plain a d q f = omega (arith, actions a, directions d, quicks q, families f) where
-  actions : (a : Action) → newlines (action_word a) + all_newlines (state_words a) ≡ 0
-  actions (Pass true) = refl
-  actions (Pass false) = refl
-  actions Block = refl
+action_plain : (a : Action) → newlines (action_word a) + all_newlines (state_words a) ≡ 0
+action_plain a = grind arith
 
-  directions : (d : Option Direction) → all_newlines (direction_words d) ≡ 0
-  directions None = refl
-  directions (Some In) = refl
-  directions (Some Out) = refl
+direction_plain : (d : Option Direction) → all_newlines (direction_words d) ≡ 0
+direction_plain d = grind arith
 
-  quicks : (q : Bool) → all_newlines (quick_words q) ≡ 0
-  quicks true = refl
-  quicks false = refl
+quick_plain : (q : Bool) → all_newlines (quick_words q) ≡ 0
+quick_plain q = grind arith
 
-  families : (f : Option Family) → all_newlines (family_words f) ≡ 0
-  families None = refl
-  families (Some V4) = refl
-  families (Some V6) = refl
+family_plain : (f : Option Family) → all_newlines (family_words f) ≡ 0
+family_plain f = grind arith
 
 canonical_plain : (r : PlainRule) → IsRule r → all_newlines (canonical r) ≡ 0
-canonical_plain r h = simp all_newlines-append (omega (arith, flags_plain r.action r.direction r.quick r.family, interface_plain r.interface h.interface, protocol_plain r.protocol h.protocol, hosts_plain r.family r.source r.destination h.source h.destination))
+canonical_plain r h = simp all_newlines-append (omega (arith, action_plain r.action, direction_plain r.direction, quick_plain r.quick, family_plain r.family, interface_plain r.interface h.interface, protocol_plain r.protocol h.protocol, hosts_plain r.family r.source r.destination h.source h.destination))
 
 pub rule_plain : (r : PlainRule) → IsRule r → newlines (rule_text r) ≡ 0
 unfolding rule_text

@@ -172,6 +172,7 @@ fn write_at<W: Write>(out: &mut W, so_far: io::Result<()>, path: &Path) -> io::R
     write_part(out, so_far, path.as_bytes())
 }
 
+#[tactic(auto, using(crate::proofs::Writers::goes_on))]
 fn write_given<W: Write>(out: &mut W, so_far: io::Result<()>, given: TicketRange) -> io::Result<()>
     ensures { GoesOn so_far (W.contents out.old) result (W.contents out.new) (codes "ok" ++ tickets_text (tickets_of given)) }
 {
