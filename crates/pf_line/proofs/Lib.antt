@@ -1,4 +1,3 @@
-pub mod Silence
 pub mod Writers
 pub mod Lines
 pub mod SpelledTickets

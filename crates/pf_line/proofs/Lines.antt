@@ -1,10 +1,11 @@
 -- What a line is answered, and why.
 use Rattle.std.proofs.Common.{◌≡◌, ℕ, ◌-◌, ◌==◌, Bool, true, false, cond, List, [], ◌∷◌, length, Option, Some, None, Result, Ok, Err, inl, inr, refl, ap, subst, arith}
-use Rattle.std.specs.Prelude.{IfOk, IfErr, IfSome}
+use Rattle.std.specs.Prelude.{IfOk, IfErr, IfSome, not, filter, nat_lt}
+use Rattle.std.specs.List.{slice_split, onto_first, find}
 use Rattle.std.proofs.lemmas.Bool.Decides.{nat_tests}
 use Rattle.pf_form.specs.declared.fault.Kind.{Kind}
 use Rattle.pf_form.specs.declared.fault.Kind.TheVariants as kinds
-use Rattle.pf_form.specs.Words.{Word, words_of}
+use Rattle.pf_form.specs.Words.{Word, is_blank, words_of}
 use Rattle.pf_form.specs.Forms.{Spells, RefusedAt, empties, begins, read_all}
 use Rattle.pf_form.specs.FormLaws.{lawful}
 use Rattle.pf_form.specs.TextLaws.{found, only, refused}
@@ -118,3 +119,25 @@ is_refused line r (inl h) = rw h (by (is_bad_line line) (is_silent line) refl re
   by false true good silent = tt
   by false false good loud = said_refused line (record { good = good; loud = loud }) (read_all grammar.line (words_of line)) refl
 is_refused line r (inr h) = rw h.1 h.0
+
+-- ---- a line is silent by its first byte that is no blank
+
+-- whether there is no such byte, or it begins a comment
+abbrev pub quiet : Option ℕ → Bool
+quiet None = true
+quiet (Some b) = b == 35
+
+abbrev words_in : List Word → List Word
+words_in parts = filter (λ w. nat_lt 0 (length w)) parts
+
+-- the first part begins with this byte
+begun : (b : ℕ) (parts : List Word) → no_command (words_in (onto_first b parts)) ≡ (b == 35)
+begun b [] = refl
+begun b (part ∷ parts) = let some : nat_lt 0 (length (b ∷ part)) ≡ true = grind arith in rw some refl
+
+pub silent_by_find : (line : List ℕ) → is_silent line ≡ quiet (find (λ b. not (is_blank b)) line)
+silent_by_find [] = refl
+silent_by_find (b ∷ bs) = by (is_blank b) refl (silent_by_find bs) where
+  by : (t : Bool) → is_blank b ≡ t → is_silent bs ≡ quiet (find (λ b. not (is_blank b)) bs) → is_silent (b ∷ bs) ≡ quiet (find (λ b. not (is_blank b)) (b ∷ bs))
+  by true e rest = rw e rest
+  by false e rest = rw e (begun b (slice_split is_blank bs))

@@ -1,6 +1,6 @@
 -- What has no newline: digits, names, networks, and so paths and the texts of rules.
 use Rattle.std.proofs.Common.{◌≡◌, ℕ, suc, ◌+◌, ◌^◌, ◌<◌, ◌≤◌, ◌==◌, Bool, true, false, cond, List, [], ◌∷◌, ◌++◌, length, decimal, refl, ap, subst, ◌∙◌, arith}
-use Rattle.std.specs.Prelude.{Option, Some, None, IfSome, codes, All}
+use Rattle.std.specs.Prelude.{Option, Some, None, IfSome, All}
 use Rattle.std.specs.List.{list_all, join_with_byte}
 use Rattle.std.specs.Option.{is_none}
 use Rattle.std.specs.Char.{digit_value}
@@ -11,14 +11,11 @@ use Rattle.std.proofs.lemmas.Fmt.{decimal_is_IsNumeral}
 use Rattle.std.proofs.lemmas.List.Elements.{All-head, All-tail}
 use Rattle.std.proofs.lemmas.List.Sums.{AllPass-from_list_all}
 use Rattle.pf_addr.specs.declared.addr.Family.{Family}
-use Rattle.pf_addr.specs.declared.addr.Family.TheVariants.{V4, V6}
 use Rattle.pf_addr.specs.Address.{width}
 use Rattle.pf_addr.specs.SpellingLaws.{IsNetByte, IsNetWord-net_text}
 use Rattle.pf_form.specs.declared.fault.Kind.{Kind}
 use Rattle.pf_rule.specs.declared.rule.Action.{Action}
-use Rattle.pf_rule.specs.declared.rule.Action.TheVariants.{Pass, Block}
 use Rattle.pf_rule.specs.declared.rule.Direction.{Direction}
-use Rattle.pf_rule.specs.declared.rule.Direction.TheVariants.{In, Out}
 use Rattle.pf_rule.specs.declared.rule.Host.{Host}
 use Rattle.pf_rule.specs.declared.rule.Host.TheVariants.{Any, Net}
 use Rattle.pf_rule.specs.Names.{is_name_byte, IsInterfaceName}

@@ -14,8 +14,7 @@ use Rattle.pf_form.specs.Words.{Word}
 use Rattle.pf_form.specs.Numbers.{number_of}
 use Rattle.pf_form.specs.NumberLaws.{number_found, number_only}
 use Rattle.pf_ticket.specs.declared.ticket.Ticket.{Ticket}
-use Rattle.pf_line.specs.Tickets.{is_dot, of_32_bits, part_of, ticket_with, cut_at, ticket_of, ticket_text}
-use Rattle.pf_line.specs.TicketGrammar.{IsPart, SpellsTicket}
+use Rattle.pf_line.specs.Tickets.{is_dot, of_32_bits, part_of, ticket_with, cut_at, ticket_of, ticket_text, IsPart, SpellsTicket}
 
 -- ---- an epoch or a count
 

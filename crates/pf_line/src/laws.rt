@@ -9,8 +9,7 @@ ghost use Rattle.pf_core.specs.declared.reply.Refusal.TheVariants.{BadLine};
 ghost use Rattle.pf_line.specs.declared.line.TheConstants.{LINE_LIMIT};
 ghost use Rattle.pf_line.specs.Grammar.{line as the_grammar};
 ghost use Rattle.pf_line.specs.Lines.{line_at};
-ghost use Rattle.pf_line.specs.Tickets.{ticket_of, ticket_text};
-ghost use Rattle.pf_line.specs.TicketGrammar.{SpellsTicket};
+ghost use Rattle.pf_line.specs.Tickets.{ticket_of, ticket_text, SpellsTicket};
 
 /// A ticket is read from a word exactly where the word spells it.
 #[tactic(auto, using(crate::proofs::SpelledTickets::read_is_spelled))]

@@ -42,7 +42,7 @@ fn first_ink(line: &[u8]) -> Option<u8>
 }
 
 /// Whether the line has no words, or its first word begins a comment.
-#[tactic(auto, using(crate::proofs::Silence::silent_by_find))]
+#[tactic(auto, using(crate::proofs::Lines::silent_by_find))]
 fn silent(line: &[u8]) -> bool
     ensures { result ≡ is_silent line.now }
 {

@@ -7,7 +7,7 @@ ghost use Rattle.pf_addr.specs.Writing.{Writes, Wrote, Continues};
 ghost use Rattle.pf_rule.specs.RuleText.{rule_text};
 ghost use Rattle.pf_ticket.specs.Names.{ticket as the_ticket, tickets_from, tickets_of};
 ghost use Rattle.pf_line.specs.Tickets.{ticket_text};
-ghost use Rattle.pf_line.specs.Replies.{tickets_text, place_text, action_text, rule_verdict_text, verdict_text, answer_text, refusal_text, last_line, shown_in, rule_line, rule_lines, lines_text, reply_text, newlines, HasLines, line_count, GoesOn};
+ghost use Rattle.pf_line.specs.Replies.{tickets_text, place_text, action_text, rule_verdict_text, answer_text, refusal_text, last_line, shown_in, rule_line, rule_lines, lines_text, reply_text, newlines, HasLines, line_count, GoesOn};
 
 use pf_addr::{write_more, write_more_number};
 use pf_anchor::laws::paths_have_no_fault;
