@@ -5,6 +5,7 @@ ghost use Rattle.pf_form.specs.Cuts.{IsWord, IsCut};
 ghost use Rattle.pf_form.specs.Numbers.{IsNumber, number_of};
 
 /// The words of a line stand between blanks, and are all that stands so.
+#[tactic(auto, using(crate::proofs::Cutting::each_is_word, crate::proofs::Cutting::line_is_cut, crate::proofs::Cutting::cut_only))]
 pub fn words_stand_between_blanks()
     ensures each { (line : List ℕ) → All IsWord (words_of line) }
     ensures cut { (line : List ℕ) → IsCut line (words_of line) }
@@ -12,6 +13,7 @@ pub fn words_stand_between_blanks()
 {}
 
 /// A number is read from a word exactly where the word writes it.
+#[tactic(auto, using(crate::specs::NumberLaws::number_found, crate::specs::NumberLaws::number_only))]
 pub fn numbers_are_read_as_written()
     ensures read { (most : ℕ) (w : Word) (n : ℕ) → number_of most w ≡ Some n → IsNumber most w n }
     ensures written { (most : ℕ) (w : Word) (n : ℕ) → IsNumber most w n → number_of most w ≡ Some n }

@@ -4,7 +4,8 @@ ghost use Rattle.pf_form.specs.Words.{is_blank, words_of, texts};
 
 use std::alloc::{AllocError, Global};
 
-fn blank(b: u8) -> bool
+/// Whether the byte is a space, a tab or a carriage return.
+pub fn blank(b: u8) -> bool
     ensures { result ≡ is_blank b }
 {
     b == b' ' || b == b'\t' || b == b'\r'

@@ -1,6 +1,4 @@
-pub mod Silence
 pub mod Writers
 pub mod Lines
 pub mod SpelledTickets
-pub mod WrittenTickets
 pub mod Newlines

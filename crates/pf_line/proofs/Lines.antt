@@ -1,10 +1,11 @@
 -- What a line is answered, and why.
-use Rattle.std.proofs.Common.{◌≡◌, ℕ, ◌-◌, ◌==◌, Bool, true, false, cond, List, [], ◌∷◌, length, Option, Some, None, Result, Ok, Err, inl, inr, refl, sym, ap, subst, arith}
-use Rattle.std.specs.Prelude.{IfOk, IfErr, IfSome}
+use Rattle.std.proofs.Common.{◌≡◌, ℕ, ◌-◌, ◌==◌, Bool, true, false, cond, List, [], ◌∷◌, length, Option, Some, None, Result, Ok, Err, inl, inr, refl, ap, subst, arith}
+use Rattle.std.specs.Prelude.{IfOk, IfErr, IfSome, not, filter, nat_lt}
+use Rattle.std.specs.List.{slice_split, onto_first, find}
 use Rattle.std.proofs.lemmas.Bool.Decides.{nat_tests}
 use Rattle.pf_form.specs.declared.fault.Kind.{Kind}
 use Rattle.pf_form.specs.declared.fault.Kind.TheVariants as kinds
-use Rattle.pf_form.specs.Words.{Word, words_of}
+use Rattle.pf_form.specs.Words.{Word, is_blank, words_of}
 use Rattle.pf_form.specs.Forms.{Spells, RefusedAt, empties, begins, read_all}
 use Rattle.pf_form.specs.FormLaws.{lawful}
 use Rattle.pf_form.specs.TextLaws.{found, only, refused}
@@ -13,7 +14,7 @@ use Rattle.pf_core.specs.declared.reply.Refusal.{Refusal}
 use Rattle.pf_core.specs.declared.reply.Refusal.TheVariants as refusals
 use Rattle.pf_line.specs.Grammar as grammar
 use Rattle.pf_line.specs.Grammar.{decided, SpellsLine}
-use Rattle.pf_line.specs.Lines.{is_bad_line, is_comment, no_command, is_silent, refusal_at, said, said_by, line_at, Parses, Speaks, Refused, Tells}
+use Rattle.pf_line.specs.Lines.{is_bad_line, is_comment, no_command, is_silent, refusal_at, said, said_by, line_at, Parses, Speaks, Refused, Answers}
 
 -- ---- words that spell a line are no comment
 
@@ -46,23 +47,32 @@ speaks x (w ∷ ws) h = no_comment w ((lawful grammar.line decided).heads x (w �
 abbrev Answer : Type 0
 Answer = Result (Option Command) Refusal
 
-exact_by : (b s : Bool) (ws : List Word) (r : Answer) → Tells b s ws r → Parses r (cond b (Err refusals.BadLine) (cond s (Ok None) (said_by ws)))
-exact_by true s ws r h = inl h
-exact_by false true ws r h = inl h
-exact_by false false ws r h = h
-
-pub is_exact : (line : List ℕ) (r : Answer) → Tells (is_bad_line line) (is_silent line) (words_of line) r → Parses r (line_at line)
+pub bad_answered : (line : List ℕ) → is_bad_line line ≡ true → Answers line (Err refusals.BadLine)
 unfolding line_at
-is_exact line r h = exact_by (is_bad_line line) (is_silent line) (words_of line) r h
+bad_answered line bad = inl (rw bad refl)
 
-pub is_bad : (b s : Bool) (ws : List Word) (r : Answer) → Tells b s ws r → b ≡ true → r ≡ Err refusals.BadLine
-is_bad true s ws r h e = h
-is_bad false s ws r h e = absurd cc
+pub silence_answered : (line : List ℕ) → is_bad_line line ≡ false → is_silent line ≡ true → Answers line (Ok None)
+unfolding line_at
+silence_answered line good silent = inl (rw (good, silent) refl)
 
-pub is_quiet : (b s : Bool) (ws : List Word) (r : Answer) → Tells b s ws r → b ≡ false → s ≡ true → r ≡ Ok None
-is_quiet true s ws r h e f = absurd cc
-is_quiet false true ws r h e f = h
-is_quiet false false ws r h e f = absurd cc
+pub answered : (line : List ℕ) (r : Answer) → is_bad_line line ≡ false → is_silent line ≡ false → Parses r (said_by (words_of line)) → Answers line r
+unfolding line_at
+answered line r good loud (inl h) = inl (rw (good, loud) h)
+answered line r good loud (inr h) = inr (record { good = good; loud = loud }, h)
+
+pub is_exact : (line : List ℕ) (r : Answer) → Answers line r → Parses r (line_at line)
+is_exact line r (inl h) = inl h
+is_exact line r (inr h) = inr h.1
+
+pub is_bad : (line : List ℕ) (r : Answer) → Answers line r → is_bad_line line ≡ true → r ≡ Err refusals.BadLine
+unfolding line_at
+is_bad line r (inl h) bad = rw bad at h
+is_bad line r (inr h) bad = absurd (not_both (is_bad_line line) h.0.good bad)
+
+pub is_quiet : (line : List ℕ) (r : Answer) → Answers line r → is_bad_line line ≡ false → is_silent line ≡ true → r ≡ Ok None
+unfolding line_at
+is_quiet line r (inl h) good silent = rw (good, silent) at h
+is_quiet line r (inr h) good silent = absurd (not_both (is_silent line) h.0.loud silent)
 
 abbrev Found : List Word → Answer → Type 0
 Found ws r = IfOk r (λ o. IfSome o (λ c. SpellsLine c ws))
@@ -72,16 +82,21 @@ said_found ws (Ok (Some c)) e = found (Option Command) grammar.line decided ws (
 said_found ws (Ok None) e = tt
 said_found ws (Err d) e = tt
 
-pub is_found : (b s : Bool) (ws : List Word) (r : Answer) → Tells b s ws r → Found ws r
-is_found true s ws r h = subst (λ (q : Answer). Found ws q) (sym h) tt
-is_found false true ws r h = subst (λ (q : Answer). Found ws q) (sym h) tt
-is_found false false ws r (inl h) = subst (λ (q : Answer). Found ws q) (sym h) (said_found ws (read_all grammar.line ws) refl)
-is_found false false ws r (inr h) = subst (λ (q : Answer). Found ws q) (sym h) tt
+pub is_found : (line : List ℕ) (r : Answer) → Answers line r → Found (words_of line) r
+unfolding line_at
+is_found line r (inl h) = rw h (by (is_bad_line line) (is_silent line)) where
+  by : (b s : Bool) → Found (words_of line) (cond b (Err refusals.BadLine) (cond s (Ok None) (said_by (words_of line))))
+  by true s = tt
+  by false true = tt
+  by false false = said_found (words_of line) (read_all grammar.line (words_of line)) refl
+is_found line r (inr h) = rw h.1 tt
 
-pub is_only : (b s : Bool) (ws : List Word) (r : Answer) → Tells b s ws r → s ≡ no_command ws → b ≡ false → (c : Command) → SpellsLine c ws → Parses r (Ok (Some c))
-is_only true s ws r h is e c x = absurd cc
-is_only false true ws r h is e c x = let loud = speaks (Some c) ws x in absurd cc
-is_only false false ws r h is e c x = subst (λ (q : Answer). Parses r q) (ap (said (length ws)) (only (Option Command) grammar.line decided ws (Some c) x)) h
+pub is_only : (line : List ℕ) (r : Answer) → Answers line r → is_bad_line line ≡ false → (c : Command) → SpellsLine c (words_of line) → Parses r (Ok (Some c))
+unfolding line_at
+is_only line r h good c x =
+    let loud : is_silent line ≡ false = speaks (Some c) (words_of line) x in
+    let there : line_at line ≡ Ok (Some c) = rw (good, loud) (ap (said (length (words_of line))) (only (Option Command) grammar.line decided (words_of line) (Some c) x)) in
+    rw there at (is_exact line r h)
 
 abbrev Fails : List ℕ → Answer → Type 0
 Fails line r = IfErr r (λ e. Refused line e)
@@ -96,11 +111,33 @@ said_refused line s (Ok (Some c)) e = tt
 said_refused line s (Ok None) e = (s, found (Option Command) grammar.line decided (words_of line) None e)
 said_refused line s (Err (k, rest)) e = at_place line k (length (words_of line) - length rest) s (refused (Option Command) grammar.line decided (words_of line) k rest e)
 
-refused_by : (line : List ℕ) (b s : Bool) (r : Answer) → is_bad_line line ≡ b → is_silent line ≡ s → Tells b s (words_of line) r → Fails line r
-refused_by line true s r e f h = subst (λ (q : Answer). Fails line q) (sym h) e
-refused_by line false true r e f h = subst (λ (q : Answer). Fails line q) (sym h) tt
-refused_by line false false r e f (inl h) = subst (λ (q : Answer). Fails line q) (sym h) (said_refused line (record { good = e; loud = f }) (read_all grammar.line (words_of line)) refl)
-refused_by line false false r e f (inr h) = subst (λ (q : Answer). Fails line q) (sym h) (record { good = e; loud = f })
+pub is_refused : (line : List ℕ) (r : Answer) → Answers line r → Fails line r
+unfolding line_at
+is_refused line r (inl h) = rw h (by (is_bad_line line) (is_silent line) refl refl) where
+  by : (b s : Bool) → is_bad_line line ≡ b → is_silent line ≡ s → Fails line (cond b (Err refusals.BadLine) (cond s (Ok None) (said_by (words_of line))))
+  by true s bad e = bad
+  by false true good silent = tt
+  by false false good loud = said_refused line (record { good = good; loud = loud }) (read_all grammar.line (words_of line)) refl
+is_refused line r (inr h) = rw h.1 h.0
 
-pub is_refused : (line : List ℕ) (r : Answer) → Tells (is_bad_line line) (is_silent line) (words_of line) r → Fails line r
-is_refused line r h = refused_by line (is_bad_line line) (is_silent line) r refl refl h
+-- ---- a line is silent by its first byte that is no blank
+
+-- whether there is no such byte, or it begins a comment
+abbrev pub quiet : Option ℕ → Bool
+quiet None = true
+quiet (Some b) = b == 35
+
+abbrev words_in : List Word → List Word
+words_in parts = filter (λ w. nat_lt 0 (length w)) parts
+
+-- the first part begins with this byte
+begun : (b : ℕ) (parts : List Word) → no_command (words_in (onto_first b parts)) ≡ (b == 35)
+begun b [] = refl
+begun b (part ∷ parts) = let some : nat_lt 0 (length (b ∷ part)) ≡ true = grind arith in rw some refl
+
+pub silent_by_find : (line : List ℕ) → is_silent line ≡ quiet (find (λ b. not (is_blank b)) line)
+silent_by_find [] = refl
+silent_by_find (b ∷ bs) = by (is_blank b) refl (silent_by_find bs) where
+  by : (t : Bool) → is_blank b ≡ t → is_silent bs ≡ quiet (find (λ b. not (is_blank b)) bs) → is_silent (b ∷ bs) ≡ quiet (find (λ b. not (is_blank b)) (b ∷ bs))
+  by true e rest = rw e rest
+  by false e rest = rw e (begun b (slice_split is_blank bs))

@@ -1,8 +1,7 @@
--- What has no newline: digits, names, networks, and so paths and the texts of rules.
-use Rattle.std.proofs.Common.{◌≡◌, ℕ, suc, ◌+◌, ◌^◌, ◌<◌, ◌≤◌, ◌==◌, Bool, true, false, cond, List, [], ◌∷◌, ◌++◌, length, decimal, refl, sym, ap, subst, ◌∙◌, arith}
-use Rattle.std.specs.Prelude.{Option, Some, None, All, nat_lt}
-use Rattle.std.specs.List.{list_all, join_with_byte}
-use Rattle.std.specs.Option.{is_none}
+-- What has no newline: digits, paths, and the texts of rules.
+use Rattle.std.proofs.Common.{◌≡◌, inl, inr, ℕ, suc, ◌+◌, ◌^◌, ◌<◌, ◌≤◌, ◌==◌, Bool, true, false, cond, List, [], ◌∷◌, ◌++◌, length, decimal, refl, ap, subst, ◌∙◌, arith}
+use Rattle.std.specs.Prelude.{nat_lt, All}
+use Rattle.std.specs.List.{AllByRecursion, list_all, join_with_byte}
 use Rattle.std.specs.Char.{digit_value}
 use Rattle.std.specs.Str.Parse.{AllDigits}
 use Rattle.std.proofs.lemmas.Bool.{ne_eqb}
@@ -10,14 +9,13 @@ use Rattle.std.proofs.lemmas.Bool.Decides.{nat_tests}
 use Rattle.std.proofs.lemmas.Fmt.{decimal_is_IsNumeral}
 use Rattle.std.proofs.lemmas.List.Elements.{All-head, All-tail}
 use Rattle.std.proofs.lemmas.List.Sums.{AllPass-from_list_all}
-use Rattle.pf_form.specs.declared.fault.Kind.{Kind}
 use Rattle.pf_rule.specs.Names.{is_name_byte}
 use Rattle.pf_rule.specs.Rules.{PlainRule, IsRule}
 use Rattle.pf_rule.specs.RuleText.{rule_text}
 use Rattle.pf_rule.specs.RuleTextLaws.{rule_text_bytes}
-use Rattle.pf_anchor.specs.Paths.{path_fault, is_path}
-use Rattle.pf_anchor.specs.PathGrammar.{AreComponents, IsPathText}
-use Rattle.pf_anchor.specs.PathLaws.{FaultsAllElse}
+use Rattle.pf_anchor.specs.Paths.{is_path}
+use Rattle.pf_anchor.specs.PathGrammar.{IsComponent, IsPathText}
+use Rattle.pf_anchor.specs.PathLaws.{ReadsWhatIsSpelled, ReadsWhatIsWritten}
 use Rattle.pf_line.specs.Replies.{newlines}
 
 pub newlines-append : (a b : List ℕ) → newlines (a ++ b) ≡ newlines a + newlines b
@@ -53,10 +51,6 @@ abbrev all_newlines : List (List ℕ) → ℕ
 all_newlines [] = 0
 all_newlines (w ∷ ws) = newlines w + all_newlines ws
 
-all_newlines-append : (a b : List (List ℕ)) → all_newlines (a ++ b) ≡ all_newlines a + all_newlines b
-all_newlines-append [] b = omega arith
-all_newlines-append (w ∷ ws) b = omega (arith, all_newlines-append ws b)
-
 join_plain : (c : ℕ) → (c == 10) ≡ false → (words : List (List ℕ)) → newlines (join_with_byte c words) ≡ all_newlines words
 join_plain c h [] = refl
 join_plain c h (w ∷ []) = omega arith
@@ -64,19 +58,17 @@ join_plain c h (w ∷ v ∷ words) =
     let behind : newlines (c ∷ join_with_byte c (v ∷ words)) ≡ all_newlines (v ∷ words) = rw h (join_plain c h (v ∷ words)) in
     omega (arith, newlines-append w (c ∷ join_with_byte c (v ∷ words)), behind)
 
-components_plain : (parts : List (List ℕ)) → AreComponents parts → all_newlines parts ≡ 0
+components_plain : (parts : List (List ℕ)) → AllByRecursion IsComponent parts → all_newlines parts ≡ 0
 components_plain [] all = refl
 components_plain (c ∷ cs) all = omega (arith, name_plain c all.0.bytes, components_plain cs all.1)
 
--- a path's text has none, as the law of paths says
-pub path_plain : FaultsAllElse → (p : List ℕ) → is_path p ≡ true → newlines p ≡ 0
-path_plain law [] e = refl
-path_plain law (b ∷ bs) e =
-    let is : IsPathText (b ∷ bs) = law (b ∷ bs) (none (path_fault (b ∷ bs)) e) in
-    ap newlines is.joined ∙ join_plain 47 refl is.parts ∙ components_plain is.parts is.each where
-      none : (o : Option Kind) → is_none o ≡ true → o ≡ None
-      none None h = refl
-      none (Some k) h = absurd cc
+-- a path's text has none, as the laws of paths say
+pub path_plain : ReadsWhatIsSpelled → ReadsWhatIsWritten → (p : List ℕ) → is_path p ≡ true → newlines p ≡ 0
+path_plain spelled again [] e = refl
+path_plain spelled again (b ∷ bs) e = elim (spelled (b ∷ bs) (b ∷ bs) (again (b ∷ bs) e)) [
+  | inl main ↦ absurd (cc (main.1))
+  | inr path ↦ let is : IsPathText (b ∷ bs) = path.0 in ap newlines is.joined ∙ join_plain 47 refl is.parts ∙ components_plain is.parts is.each
+]
 
 -- ---- rules
 

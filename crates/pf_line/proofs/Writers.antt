@@ -1,6 +1,6 @@
 -- Parts of a line, lines of rules, and tickets, that are written one after the other.
 use Rattle.std.proofs.Common.{◌≡◌, ℕ, zero, suc, ◌+◌, ◌<◌, List, [], ◌∷◌, ◌++◌, length, take, get_or, Option, Result, refl, sym, ap, ◌∙◌, subst, arith, append_assoc, append-nil, add-zero}
-use Rattle.std.proofs.lemmas.List.{take_more, take_all, length-append, length-take}
+use Rattle.std.proofs.lemmas.List.{take_more, length-append, length-take}
 use Rattle.std.specs.declared.io.Error.{Error}
 use Rattle.pf_addr.specs.Writing.{Wrote, Continues, Continues-then}
 use Rattle.pf_rule.specs.Rules.{PlainRule}

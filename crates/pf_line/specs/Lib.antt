@@ -1,5 +1,4 @@
 pub mod Tickets
-pub mod TicketGrammar
 pub mod Grammar
 pub mod Lines
 pub mod Replies

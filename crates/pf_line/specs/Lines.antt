@@ -56,16 +56,14 @@ line_at line = if is_bad_line line then Err BadLine else (if is_silent line then
 abbrev pub Parses : Result (Option Command) Refusal → Result (Option Command) Refusal → Type 0
 Parses r answer = (r ≡ answer) ⊎ (r ≡ Err Memory)
 
--- the same apart, with no memory wanted for a bad or a silent line
-abbrev pub Tells : Bool → Bool → List Word → Result (Option Command) Refusal → Type 0
-Tells true silent ws r = r ≡ Err BadLine
-Tells false true ws r = r ≡ Ok None
-Tells false false ws r = Parses r (said_by ws)
-
 -- neither bad nor silent
 pub record Speaks (line : List ℕ) : Type 0 where
   pub good : is_bad_line line ≡ false
   pub loud : is_silent line ≡ false
+
+-- It is answered as it is to be, or memory was refused, which only a line that speaks wants.
+abbrev pub Answers : List ℕ → Result (Option Command) Refusal → Type 0
+Answers line r = (r ≡ line_at line) ⊎ (Speaks line × (r ≡ Err Memory))
 
 abbrev IsRefused : List ℕ → ℕ → Kind → Type 0
 IsRefused line at kind = Speaks line × RefusedAt (Option Command) grammar.line (words_of line) at kind

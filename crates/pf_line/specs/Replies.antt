@@ -15,7 +15,6 @@ use Rattle.pf_core.specs.declared.reply.Reply.{Reply}
 use Rattle.pf_core.specs.declared.reply.Reply.TheVariants as replies
 use Rattle.pf_anchor.specs.declared.verdict.RuleVerdict.{RuleVerdict}
 use Rattle.pf_anchor.specs.declared.verdict.RuleVerdict.TheVariants.{Rule, Default}
-use Rattle.pf_core.specs.declared.reply.Verdict.{Verdict}
 use Rattle.pf_core.specs.declared.reply.Verdict.TheVariants.{Rules}
 use Rattle.pf_ticket.specs.Names.{tickets_of}
 use Rattle.pf_line.specs.Tickets.{ticket_text}
@@ -37,13 +36,10 @@ abbrev pub rule_verdict_text : RuleVerdict → List ℕ
 rule_verdict_text (Rule path number action) = action_text action ++ (codes " rule " ++ decimal number ++ place_text path)
 rule_verdict_text Default = codes "pass default"
 
-abbrev pub verdict_text : Verdict → List ℕ
-verdict_text (Rules v) = rule_verdict_text v
-
 abbrev pub answer_text : Answer → List ℕ
 answer_text (answers.Given g) = codes "ok" ++ tickets_text (tickets_of g)
 answer_text answers.Done = codes "ok"
-answer_text (answers.Judged v) = verdict_text v
+answer_text (answers.Judged (Rules v)) = rule_verdict_text v
 answer_text (answers.Rules rules) = codes "end " ++ decimal (length rules)
 
 abbrev pub refusal_text : Refusal → List ℕ
@@ -69,12 +65,8 @@ last_line (replies.Refused e) = refusal_text e
 
 -- ---- rules that are shown
 
-abbrev pub answer_rules : Answer → List PlainRule
-answer_rules (answers.Rules rules) = rules
-answer_rules _ = []
-
 abbrev pub shown_in : Reply → List PlainRule
-shown_in (replies.Answer a) = answer_rules a
+shown_in (replies.Answer (answers.Rules rules)) = rules
 shown_in _ = []
 
 -- an at sign (64) with the rule's number, and the rule's canonical text behind a space (32)

@@ -1,8 +1,8 @@
 -- The text of a ticket: its epoch and its count in decimal digits, with a dot between them.
-use Rattle.std.specs.Prelude.{ℕ, ◌+◌, ◌^◌, ◌==◌, nat_lt, Bool, List, ◌∷◌, ◌++◌, take, drop, Option, Some, None, if◌then◌else◌, decimal}
+use Rattle.std.specs.Prelude.{◌≡◌, ℕ, ◌+◌, ◌<◌, ◌^◌, ◌==◌, nat_lt, Bool, List, ◌∷◌, ◌++◌, take, drop, Option, Some, None, if◌then◌else◌, decimal}
 use Rattle.std.specs.List.{position}
 use Rattle.pf_form.specs.Words.{Word}
-use Rattle.pf_form.specs.Numbers.{number_of}
+use Rattle.pf_form.specs.Numbers.{IsNumber, number_of}
 use Rattle.pf_ticket.specs.declared.ticket.Ticket.{Ticket}
 use Rattle.pf_ticket.specs.Names.{ticket}
 use Rattle.pf_line.specs.declared.ticket.TheConstants.{DIGIT_LIMIT}
@@ -35,3 +35,18 @@ ticket_of w = cut_at w (position is_dot w)
 -- A ticket is written without leading zeros.
 abbrev pub ticket_text : Ticket → List ℕ
 ticket_text t = decimal t.epoch ++ 46 ∷ decimal t.count
+
+-- ---- which words spell a ticket, by cases
+
+-- a number of 32 bits in 1 to 10 decimal digits, of which the first may be zeros
+pub record IsPart (text : List ℕ) (n : ℕ) : Type 0 where
+  pub number : IsNumber DIGIT_LIMIT text n
+  pub small : n < 2 ^ 32
+
+-- the epoch's digits, a dot (46) and the count's digits
+pub record SpellsTicket (t : Ticket) (w : Word) : Type 0 where
+  pub front : List ℕ
+  pub rest : List ℕ
+  pub epoch : IsPart front t.epoch
+  pub count : IsPart rest t.count
+  pub dotted : w ≡ front ++ 46 ∷ rest

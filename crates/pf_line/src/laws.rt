@@ -9,16 +9,17 @@ ghost use Rattle.pf_core.specs.declared.reply.Refusal.TheVariants.{BadLine};
 ghost use Rattle.pf_line.specs.declared.line.TheConstants.{LINE_LIMIT};
 ghost use Rattle.pf_line.specs.Grammar.{line as the_grammar};
 ghost use Rattle.pf_line.specs.Lines.{line_at};
-ghost use Rattle.pf_line.specs.Tickets.{ticket_of, ticket_text};
-ghost use Rattle.pf_line.specs.TicketGrammar.{SpellsTicket};
+ghost use Rattle.pf_line.specs.Tickets.{ticket_of, ticket_text, SpellsTicket};
 
 /// A ticket is read from a word exactly where the word spells it.
+#[tactic(auto, using(crate::proofs::SpelledTickets::read_is_spelled))]
 pub fn tickets_are_read_as_spelled()
     ensures read { (t : Ticket) (w : Word) → ticket_of w ≡ Some t → SpellsTicket t w }
     ensures spelled { (t : Ticket) (w : Word) → SpellsTicket t w → ticket_of w ≡ Some t }
 {}
 
 /// The text that a ticket is written as is read back as that ticket.
+#[tactic(auto, using(crate::proofs::SpelledTickets::ticket_again))]
 pub fn written_ticket_is_read_again()
     ensures { (t : Ticket) → t.epoch < 2 ^ 32 → t.count < 2 ^ 32 → ticket_of (ticket_text t) ≡ Some t }
 {}
@@ -29,6 +30,7 @@ pub fn a_refusal_is_one()
 {}
 
 /// A line that is too long is bad, whatever its bytes are.
+#[tactic(auto, using(crate::specs::Lines::long_line))]
 pub fn long_line_is_bad()
     ensures { (line : List ℕ) → LINE_LIMIT < length line → line_at line ≡ Err BadLine }
 {}

@@ -1,15 +1,15 @@
 //! Lines.
-ghost use Rattle.std.specs.Prelude.{◌≡◌, ◌-◌, ℕ, true, false, Some, None, Ok, Err, IfOk, IfErr, IfSome, length};
-ghost use Rattle.std.specs.List.{list_all};
+ghost use Rattle.std.specs.Prelude.{◌≡◌, ◌-◌, ℕ, not, true, false, Some, None, Ok, Err, IfOk, IfErr, IfSome, length};
+ghost use Rattle.std.specs.List.{list_all, find};
 ghost use Rattle.pf_form.specs.Words.{is_blank, words_of};
 ghost use Rattle.pf_core.specs.declared.command.Command.{Command};
 ghost use Rattle.pf_core.specs.declared.reply.Refusal.TheVariants.{BadLine};
 ghost use Rattle.pf_line.specs.Grammar.{SpellsLine};
-ghost use Rattle.pf_line.specs.Lines.{is_line_byte, is_bad_line, is_silent, line_at, said_by, refusal_at, Parses, Tells, Refused};
+ghost use Rattle.pf_line.specs.Lines.{is_line_byte, is_bad_line, is_silent, line_at, said_by, refusal_at, Parses, Answers, Refused};
 
 use crate::commands::command;
 use pf_core::{Command, Refusal};
-use pf_form::{Kind, Stop, Unread, words};
+use pf_form::{Kind, Stop, Unread, blank, words};
 use std::alloc::Global;
 
 /// How many bytes a line may have, without its newline.
@@ -34,22 +34,22 @@ fn bad_line(line: &[u8]) -> bool
     LINE_LIMIT < line.len() || !all_line_bytes(line)
 }
 
-fn blank(b: u8) -> bool
-    ensures { result ≡ is_blank b }
+/// The first byte that is no blank.
+fn first_ink(line: &[u8]) -> Option<u8>
+    ensures { result ≡ find (λ b. not (is_blank b)) line.now }
 {
-    b == b' ' || b == b'\t' || b == b'\r'
+    line.iter().copied().find(|b| !blank(*b))
 }
 
 /// Whether the line has no words, or its first word begins a comment.
+#[tactic(auto, using(crate::proofs::Lines::silent_by_find))]
 fn silent(line: &[u8]) -> bool
     ensures { result ≡ is_silent line.now }
 {
-    for b in line {
-        if !blank(*b) {
-            return *b == b'#';
-        }
+    match first_ink(line) {
+        Some(first) => first == b'#',
+        None => true,
     }
-    true
 }
 
 /// The refusal of a line of so many words that stop there.
@@ -83,8 +83,9 @@ pub fn parse_line(alloc: Global, line: &[u8]) -> Result<Option<Command>, Refusal
 }
 
 // Kept apart, so that the answer is proved once for each way out.
+#[tactic(auto, using(crate::proofs::Lines::bad_answered, crate::proofs::Lines::silence_answered))]
 fn tell(alloc: Global, line: &[u8]) -> Result<Option<Command>, Refusal>
-    ensures { Tells (is_bad_line line.now) (is_silent line.now) (words_of line.now) result }
+    ensures { Answers line.now result }
 {
     if bad_line(line) {
         return Err(Refusal::BadLine);

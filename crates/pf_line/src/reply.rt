@@ -7,10 +7,10 @@ ghost use Rattle.pf_addr.specs.Writing.{Writes, Wrote, Continues};
 ghost use Rattle.pf_rule.specs.RuleText.{rule_text};
 ghost use Rattle.pf_ticket.specs.Names.{ticket as the_ticket, tickets_from, tickets_of};
 ghost use Rattle.pf_line.specs.Tickets.{ticket_text};
-ghost use Rattle.pf_line.specs.Replies.{tickets_text, place_text, action_text, rule_verdict_text, verdict_text, answer_text, refusal_text, last_line, shown_in, rule_line, rule_lines, lines_text, reply_text, newlines, HasLines, line_count, GoesOn};
+ghost use Rattle.pf_line.specs.Replies.{tickets_text, place_text, action_text, rule_verdict_text, answer_text, refusal_text, last_line, shown_in, rule_line, rule_lines, lines_text, reply_text, newlines, HasLines, line_count, GoesOn};
 
 use pf_addr::{write_more, write_more_number};
-use pf_anchor::laws::paths_have_no_fault;
+use pf_anchor::laws::{paths_are_read_again, paths_are_read_as_spelled};
 use pf_anchor::{Path, RuleVerdict};
 use pf_core::{Answer, Refusal, Reply, Verdict};
 use pf_rule::{Action, Rule};
@@ -168,10 +168,12 @@ fn write_at<W: Write>(out: &mut W, so_far: io::Result<()>, path: &Path) -> io::R
     ensures { GoesOn so_far (W.contents out.old) result (W.contents out.new) (codes " at " ++ path.now) }
 {
     let so_far = write_part(out, so_far, b" at ");
-    paths_have_no_fault();
+    paths_are_read_as_spelled();
+    paths_are_read_again();
     write_part(out, so_far, path.as_bytes())
 }
 
+#[tactic(auto, using(crate::proofs::Writers::goes_on))]
 fn write_given<W: Write>(out: &mut W, so_far: io::Result<()>, given: TicketRange) -> io::Result<()>
     ensures { GoesOn so_far (W.contents out.old) result (W.contents out.new) (codes "ok" ++ tickets_text (tickets_of given)) }
 {

@@ -14,10 +14,7 @@ pub const DIGIT_LIMIT: usize = 10;
 pub(crate) fn read_ticket(word: &[u8]) -> Result<Ticket, Kind>
     ensures { result ≡ ticket_word word.now }
 {
-    match ticket(word) {
-        Some(ticket) => Ok(ticket),
-        None => Err(Kind::BadWord),
-    }
+    ticket(word).ok_or(Kind::BadWord)
 }
 
 #[tactic(auto, unfolding(crate::specs::Tickets::ticket_of))]

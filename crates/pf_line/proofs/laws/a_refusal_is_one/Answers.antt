@@ -1,8 +1,5 @@
-use Rattle.std.proofs.Common.{Option}
 use Rattle.pf_form.specs.TextLaws.{one_refusal}
-use Rattle.pf_core.specs.declared.command.Command.{Command}
-use Rattle.pf_line.specs.Grammar.{line}
 use Rattle.pf_line.proofs.laws.a_refusal_is_one.Goals as goal
 
 pub returns : goal.returns
-returns c = one_refusal (Option Command) line
+returns c = one_refusal _ _
