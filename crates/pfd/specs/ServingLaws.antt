@@ -4,11 +4,12 @@ use Rattle.std.proofs.lemmas.List.{append-nil, length-take, take_all}
 use Rattle.std.proofs.lemmas.Bool.{cases_lt}
 use Rattle.pf_core.specs.declared.command.Command.{Command}
 use Rattle.pf_core.specs.declared.reply.Refusal.{Refusal}
+use Rattle.pf_core.specs.declared.reply.Reply.{Reply}
 use Rattle.pf_core.specs.Pages.{Page, StandsFor}
 use Rattle.pf_core.specs.Worlds.{Event}
 use Rattle.pf_line.specs.Lines.{line_at, long_line}
 use Rattle.pf_engine.specs.Lines.{seen}
-use Rattle.pfd.specs.Serving.{Says, Served, Continues, Serves}
+use Rattle.pfd.specs.Serving.{Says, Served, Continues, Serves, Told, text_of}
 
 pub continues-still : (page : Page) → Continues page page []
 continues-still page = record {
@@ -47,6 +48,14 @@ seen-says line = elim (cases_lt 4097 (length line)) [
 
 pub serves-none : (page : Page) → Serves page page [] []
 serves-none page = record { events = []; served = (refl, refl); book = continues-still page }
+
+-- one line and what it was told
+pub serves-one : (line : List ℕ) (told : Option Reply) (old new : Page) → Told (line_at line) told old new → Serves old new (line ∷ []) (text_of told)
+serves-one line told old new (events, says, book) = record {
+  events = events;
+  served = (events, [], text_of told, [], says, (refl, refl), sym (append-nil events), sym (append-nil (text_of told)));
+  book = book;
+}
 
 pub serves-then : (old mid new : Page) (lines others : List (List ℕ)) (text more : List ℕ) → Serves old mid lines text → Serves mid new others more → Serves old new (lines ++ others) (text ++ more)
 serves-then old mid new lines others text more p q = record {
