@@ -14,7 +14,6 @@ use Rattle.pf_ticket.proofs.Keeping.{begins_give, keeps_the_limits as tickets_ke
 use Rattle.pf_core.specs.declared.command.Command.{Command}
 use Rattle.pf_core.specs.declared.command.Command.TheVariants.{Transact, Ask}
 use Rattle.pf_core.specs.declared.command.Question.{Question}
-use Rattle.pf_core.specs.declared.command.Question.TheVariants.{Judge, ShowRules}
 use Rattle.pf_core.specs.declared.command.Transaction.TheVariants.{Begin, Add, Commit, Rollback}
 use Rattle.pf_core.specs.declared.reply.Answer.{Answer}
 use Rattle.pf_core.specs.declared.reply.Answer.TheVariants as answer
@@ -77,8 +76,7 @@ done-told (Ok x) a h = let is : answer.Done ≡ a = cc (h) in ap (λ (x : Answer
 done-told (Err e) a h = absurd (cc (h))
 
 question-told : (d : Kept) (q : Question) → tickets_in (Answered (answer_of d q)) ≡ []
-question-told d (Judge packet) = refl
-question-told d (ShowRules p) = refl
+question-told d q = grind arith
 
 never-done : (r : Result Edit Refusal) (a : Answer) → wanting r ≡ Ok (Done a) → ⊥
 never-done (Ok e) a h = cc (h)

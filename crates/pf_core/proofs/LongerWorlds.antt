@@ -1,9 +1,8 @@
 -- Longer worlds, one event at a time.
-use Rattle.std.proofs.Common.{◌≡◌, ◌<◌, List, [], ◌∷◌, ◌++◌, inr, refl, sym, ap, ◌∙◌, subst, append_assoc, append-nil, false}
+use Rattle.std.proofs.Common.{◌≡◌, ◌<◌, List, [], ◌∷◌, ◌++◌, refl, sym, ap, ◌∙◌, subst, append_assoc, append-nil, false}
 use Rattle.std.proofs.lemmas.List.Sums.{fold_push}
 use Rattle.pf_core.specs.declared.command.Command.{Command}
 use Rattle.pf_core.specs.declared.reply.Refusal.{Refusal}
-use Rattle.pf_core.specs.declared.reply.Refusal.TheVariants.{Memory}
 use Rattle.pf_core.specs.declared.reply.Reply.{Reply}
 use Rattle.pf_core.specs.declared.reply.Reply.TheVariants.{Refused}
 use Rattle.pf_ticket.specs.Tickets.{Open}
@@ -59,7 +58,3 @@ nothing-leads h b w c r legal none still moved at = record {
 pub refused-leads : (h : Held) (b new : Page) (c : Command) (e : Refusal) → LegalReply h c (Refused e) false → new ≡ b → IsAt h b → Leads h new (call c (Refused e)) (upshot new.shown false)
 refused-leads h b new c e legal same at =
     subst (λ (p : Page). Leads h p (call c (Refused e)) (upshot p.shown false)) (sym same) (nothing-leads h b b.whole c (Refused e) legal refl refl refl at)
-
--- each world may go on with a call refused for memory
-pub stands-refused : (first : Kept) (b : Page) (world : List Event) (c : Command) → StandsFor first b world → StandsFor first b (world ++ called (call c (Refused Memory)) (upshot b.shown false) ∷ [])
-stands-refused first b world c stands = stands-on first b b world (call c (Refused Memory)) (upshot b.shown false) stands (refused-leads stands.held b b c Memory (inr tt) refl stands.at)

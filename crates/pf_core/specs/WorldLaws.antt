@@ -21,7 +21,7 @@ use Rattle.pf_core.specs.declared.reply.Outcome.{Outcome}
 use Rattle.pf_core.specs.declared.reply.Refusal.{Refusal}
 use Rattle.pf_core.specs.declared.reply.Refusal.TheVariants.{TooManyRulesets}
 use Rattle.pf_core.specs.declared.step.Step.TheVariants.{Done, Wants}
-use Rattle.pf_core.specs.Commands.{unless_refused, item_of, items, rulesets_after, commit_change, wanting, step_by, mentioned}
+use Rattle.pf_core.specs.Commands.{unless_refused, item_of, items, rulesets_after, commit_change, wanting, step_by, mentioned, takes_memory}
 use Rattle.pf_core.specs.Edits.{Kept, Edit, commits, name_of, voided_by}
 
 -- what the tickets didn't refuse
@@ -80,7 +80,11 @@ names-items : (offered : RulesetName → Offered) (entries : List Entry) → map
 names-items offered [] = refl
 names-items offered (e ∷ es) = ap (λ (n : RulesetName). n ∷ map name_of (items offered es)) (named-item e.name (offered e.name)) ∙ ap (λ (ns : List RulesetName). e.name ∷ ns) (names-items offered es)
 
--- a command that wants a change mentions exactly what the change voids
+-- a command that wants a change takes memory
+pub wants_memory : (t : Open) (d : Kept) (c : Command) (e : Edit) (o : Outcome) → step_by t d c ≡ Ok (Wants e o) → takes_memory c ≡ true
+wants_memory t d c e o h = ap takes_memory (wants_commit t d c e o h).command
+
+-- and mentions exactly what the change voids
 pub wants_mentions : (t : Open) (d : Kept) (c : Command) (e : Edit) (o : Outcome) → step_by t d c ≡ Ok (Wants e o) → mentioned c ≡ switches (voided_by e)
 wants_mentions t d c e o h =
     let is : IsCommitted t d c e = wants_commit t d c e o h in

@@ -1,5 +1,5 @@
 -- Worlds: lists of events, which of them are legal, and what they leave. Own.
-use Rattle.std.specs.Prelude.{◌≡◌, ℕ, ◌+◌, ◌<◌, ◌⊎◌, Bool, if◌then◌else◌, List, [], ◌∷◌, ◌++◌, length, fold, nat_lt, ⊤, Result, Ok, Err}
+use Rattle.std.specs.Prelude.{◌≡◌, ℕ, ◌+◌, ◌<◌, ◌⊎◌, Bool, true, if◌then◌else◌, List, [], ◌∷◌, ◌++◌, length, fold, nat_lt, ⊤, Result, Ok, Err}
 use Rattle.pf_core.specs.declared.command.Command.{Command}
 use Rattle.pf_core.specs.declared.reply.Refusal.{Refusal}
 use Rattle.pf_core.specs.declared.reply.Refusal.TheVariants.{HistoryFull, Memory}
@@ -10,7 +10,7 @@ use Rattle.pf_core.specs.declared.step.Step.TheVariants.{Done, Wants}
 use Rattle.pf_ticket.specs.Tickets.{Open, fresh}
 use Rattle.pf_ticket.specs.Mentions.{after as moved_by}
 use Rattle.pf_core.specs.Calls.{Call, mentions_of}
-use Rattle.pf_core.specs.Commands.{step_by}
+use Rattle.pf_core.specs.Commands.{step_by, takes_memory}
 use Rattle.pf_core.specs.Edits.{Kept, Edit, after}
 
 -- ---- states
@@ -143,13 +143,13 @@ next st e = st
 
 -- ---- which events are legal
 
--- what may stand in place of the reply that is due: memory was refused
-abbrev pub StandsIn : Bool → Reply → Reply → Type 0
-StandsIn failed due (Refused Memory) = ⊤
-StandsIn failed due r = ⊥
+-- what may stand in place of the reply that is due: memory was refused, where the command takes any
+abbrev pub StandsIn : Command → Bool → Reply → Reply → Type 0
+StandsIn c failed due (Refused Memory) = takes_memory c ≡ true
+StandsIn c failed due r = ⊥
 
 abbrev pub LegalReply : Held → Command → Reply → Bool → Type 0
-LegalReply h c r failed = (r ≡ due h c) ⊎ StandsIn failed (due h c) r
+LegalReply h c r failed = (r ≡ due h c) ⊎ StandsIn c failed (due h c) r
 
 -- a change that is answered `Applied` is shown with all before it; nothing else is shown
 abbrev pub shown_by : Reply → ℕ → ℕ

@@ -117,7 +117,7 @@ fn commit(
     tickets: &Tickets,
     entries: &[Entry],
 ) -> Result<Change, Refusal>
-    ensures { OrMemory result (commit_change tickets.now durable.now entries.now) }
+    ensures { OrMemory true result (commit_change tickets.now durable.now entries.now) }
 {
     tickets.check_all(entries)?;
     let items = take_items(alloc, tickets, entries)?;
@@ -134,10 +134,9 @@ fn transact(
     tickets: &mut Tickets,
     transaction: &Transaction,
 ) -> Result<Step, Refusal>
-    ensures reply { OrMemory result (transact_step tickets.old durable.now transaction.now) }
+    ensures reply { OrMemory (transacts_in_memory transaction.now) result (transact_step tickets.old durable.now transaction.now) }
     ensures tickets { tickets.new ≡ answered tickets.old (Command.Transact transaction.now) result }
     ensures rolled_back { (entries : List Entry) → transaction.now ≡ Transaction.Rollback entries → result ≡ rollback_step entries }
-    ensures memory { result ≡ Err Refusal.Memory → transacts_in_memory transaction.now ≡ true }
 {
     match transaction {
         Transaction::Begin(names) => {
@@ -208,10 +207,9 @@ impl Core {
     /// The history's limit isn't the core's: whoever keeps the history answers `HistoryFull` to a change that is wanted,
     /// and doesn't accept it.
     pub fn step(&mut self, command: &Command) -> Result<Step, Refusal>
-        ensures reply { OrMemory result (step_by self.old.tickets self.old.durable command.now) }
+        ensures reply { OrMemory (takes_memory command.now) result (step_by self.old.tickets self.old.durable command.now) }
         ensures left { self.new ≡ stepped self.old command.now result }
         ensures judged { (packet : PlainPacket) → command.now ≡ Command.Ask (Question.Judge packet) → result ≡ Ok (Step.Done (answer.Judged (verdict self.old.durable packet))) }
-        ensures memory { result ≡ Err Refusal.Memory → takes_memory command.now ≡ true }
         ensures rolled_back { (entries : List Entry) → command.now ≡ Command.Transact (Transaction.Rollback entries) → result ≡ rollback_step entries }
     {
         match command {

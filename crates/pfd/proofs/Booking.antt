@@ -15,12 +15,12 @@ use Rattle.pf_core.specs.declared.step.Step.TheVariants.{Done, Wants}
 use Rattle.pf_ticket.specs.Tickets.{Open}
 use Rattle.pf_ticket.specs.Mentions.{after as moved_by, switches}
 use Rattle.pf_core.specs.Calls.{call}
-use Rattle.pf_core.specs.Commands.{step_by}
+use Rattle.pf_core.specs.Commands.{step_by, takes_memory}
 use Rattle.pf_core.specs.Edits.{Kept, Edit, applied, after, voided_by}
 use Rattle.pf_core.specs.Refusals.{OrMemory}
 use Rattle.pf_core.specs.Pages.{Page, IsFolded, IsAt, Leads}
 use Rattle.pf_core.specs.Wholes.{Whole}
-use Rattle.pf_core.specs.WorldLaws.{wants_mentions}
+use Rattle.pf_core.specs.WorldLaws.{wants_memory, wants_mentions}
 use Rattle.pf_core.specs.Worlds.{Held, upshot, flat, log_of, durable_of, step_in, if_ok, or_refused, due_at, grouped, group_at, due, group_in, LegalReply}
 use Rattle.pf_core.proofs.LongerWorlds.{flat-push, refused-leads}
 use Rattle.pfd.specs.Books.{singles, IsMore, IsUnkept}
@@ -35,13 +35,13 @@ with_core b w = record b { whole = w }
 
 -- what a step says of a core
 abbrev pub Steps : Page → Command → Result Step Refusal → Type 0
-Steps b c r = OrMemory r (step_by b.whole.tickets b.whole.durable c)
+Steps b c r = OrMemory (takes_memory c) r (step_by b.whole.tickets b.whole.durable c)
 
 -- the step that is taken is the world's
-step-is : (h : Held) (b : Page) (c : Command) (r : Result Step Refusal) → IsAt h b → IsFolded b → Steps b c r → OrMemory r (step_in h c)
+step-is : (h : Held) (b : Page) (c : Command) (r : Result Step Refusal) → IsAt h b → IsFolded b → Steps b c r → (r ≡ Err Memory → ⊥) → r ≡ step_in h c
 step-is h b c r at folded steps other =
     let durable : b.whole.durable ≡ durable_of h = folded.durable ∙ ap (λ (k : Kept). after k (flat b.acked)) at.base ∙ ap (λ (l : List (List Edit)). after h.base (flat l)) at.acked in
-    steps other ∙ ap (λ (t : Open). step_by t b.whole.durable c) at.tickets ∙ ap (λ (k : Kept). step_by h.tickets k c) durable
+    steps.0 other ∙ ap (λ (t : Open). step_by t b.whole.durable c) at.tickets ∙ ap (λ (k : Kept). step_by h.tickets k c) durable
 
 -- ---- nothing is kept
 
@@ -50,7 +50,7 @@ answer-is-legal h b c a at folded steps = inl (ap (due_at h) (step-is h b c (Ok 
 
 -- the core's own refusal
 pub refusal-is-legal : (h : Held) (b : Page) (c : Command) (e : Refusal) → IsAt h b → IsFolded b → Steps b c (Err e) → LegalReply h c (Refused e) false
-refusal-is-legal h b c Memory at folded steps = inr tt
+refusal-is-legal h b c Memory at folded steps = inr (steps.1 refl)
 refusal-is-legal h b c e at folded steps = inl (ap (due_at h) (step-is h b c (Err e) at folded steps (λ m. cc (m))))
 
 -- ---- a change is wanted
@@ -111,7 +111,8 @@ number-is b new e n more = more.number ∙ sym (ap (λ (l : List (List Edit)). l
 -- or it was not
 pub unkept-leads : (h : Held) (b new : Page) (c : Command) (e : Edit) (o : Outcome) (why : Refusal) → IsFolded b → b.pending ≡ [] → Steps b c (Ok (Wants e o)) → IsUnkept b why → new ≡ b → IsAt h b → Leads h new (call c (Refused why)) (upshot new.shown false)
 unkept-leads h b new c e o HistoryFull folded none steps full same at = refused-leads h b new c HistoryFull (full-is-legal h b c e o at folded none steps full) same at
-unkept-leads h b new c e o Memory folded none steps why same at = refused-leads h b new c Memory (inr tt) same at
+unkept-leads h b new c e o Memory folded none steps why same at =
+    refused-leads h b new c Memory (inr (wants_memory h.tickets (durable_of h) c e o (sym (step-is h b c (Ok (Wants e o)) at folded steps (λ m. cc (m)))))) same at
 unkept-leads h b new c e o why folded none steps never same at = absurd never
 
 -- the book is still what its changes leave, and shows them all

@@ -1,5 +1,5 @@
 -- What one line comes to.
-use Rattle.std.proofs.Common.{◌≡◌, ℕ, false, List, [], ◌∷◌, Option, Some, None, Result, Ok, Err, inl, inr, refl, subst}
+use Rattle.std.proofs.Common.{◌≡◌, ℕ, List, [], ◌∷◌, Option, Some, None, Result, Ok, Err, inl, inr, refl, subst}
 use Rattle.pf_core.specs.declared.command.Command.{Command}
 use Rattle.pf_core.specs.declared.reply.Refusal.{Refusal}
 use Rattle.pf_core.specs.declared.reply.Refusal.TheVariants.{BadLine, Memory}
@@ -7,8 +7,7 @@ use Rattle.pf_core.specs.declared.reply.Reply.{Reply}
 use Rattle.pf_core.specs.declared.reply.Reply.TheVariants.{Refused}
 use Rattle.pf_core.specs.Calls.{call}
 use Rattle.pf_core.specs.Pages.{Page}
-use Rattle.pf_core.specs.Worlds.{Upshot, upshot, called}
-use Rattle.pf_core.proofs.LongerWorlds.{stands-refused}
+use Rattle.pf_core.specs.Worlds.{Upshot, called}
 use Rattle.pf_line.specs.Lines.{Parses, line_at, speaks}
 use Rattle.pf_line.specs.Lines.{Refused as IsRefusal}
 use Rattle.pf_line.specs.Replies.{reply_text}
@@ -20,7 +19,7 @@ told-silence at page (inl e) = subst (λ (a : Result (Option Command) Refusal). 
 told-silence at page (inr m) = absurd (cc (m))
 
 pub told-reply : (at : Result (Option Command) Refusal) (c : Command) (r : Reply) (t : Upshot) (old new : Page) → Parses (Ok (Some c)) at → Continues old new (called (call c r) t ∷ []) → Told at (Some r) old new
-told-reply at c r t old new (inl e) continues = subst (λ (a : Result (Option Command) Refusal). Told a (Some r) old new) e (called (call c r) t ∷ [], (r, t, refl, refl), continues)
+told-reply at c r t old new (inl e) continues = subst (λ (a : Result (Option Command) Refusal). Told a (Some r) old new) e (called (call c r) t ∷ [], inl (r, t, refl, refl), continues)
 told-reply at c r t old new (inr m) continues = absurd (cc (m))
 
 -- a refusal is told by its own reply
@@ -31,9 +30,7 @@ says-refusal e = (refl, inl refl)
 -- in place of a command or of another refusal there was no memory
 instead : (at : Result (Option Command) Refusal) (page : Page) → (at ≡ Ok None → ⊥) → (at ≡ Err BadLine → ⊥) → Told at (Some (Refused Memory)) page page
 instead (Ok None) page loud good = absurd (loud refl)
-instead (Ok (Some c)) page loud good =
-    let t : Upshot = upshot page.shown false in
-    (called (call c (Refused Memory)) t ∷ [], (Refused Memory, t, refl, refl), record { worlds = λ first world stands. stands-refused first page world c stands; limit = refl })
+instead (Ok (Some c)) page loud good = ([], inr (refl, refl), continues-still page)
 instead (Err BadLine) page loud good = absurd (good refl)
 instead (Err e) page loud good = ([], (refl, inr refl), continues-still page)
 

@@ -13,11 +13,12 @@ use Rattle.pf_line.specs.Lines.{line_at}
 use Rattle.pf_line.specs.Replies.{reply_text}
 
 -- What a line says, the event of the call that it comes to, and what is written for it: nothing for a silent line, the
--- refusal of a line that is refused, the reply to a command. A bad line is told just that; instead of any other refusal it may be
--- that of memory.
+-- refusal of a line that is refused, the reply to a command. A bad line is told just that; instead of reading a command, or of any
+-- other refusal, it may be that of memory, and then there is no call.
 abbrev pub Says : Result (Option Command) Refusal → List Event → List ℕ → Type 0
 Says (Ok None) events text = (events ≡ []) × (text ≡ [])
-Says (Ok (Some c)) events text = (r : Reply) × (t : Upshot) × (events ≡ called (call c r) t ∷ []) × (text ≡ reply_text r)
+Says (Ok (Some c)) events text =
+    ((r : Reply) × (t : Upshot) × (events ≡ called (call c r) t ∷ []) × (text ≡ reply_text r)) ⊎ ((events ≡ []) × (text ≡ reply_text (Refused Memory)))
 Says (Err BadLine) events text = (events ≡ []) × (text ≡ reply_text (Refused BadLine))
 Says (Err e) events text = (events ≡ []) × ((text ≡ reply_text (Refused e)) ⊎ (text ≡ reply_text (Refused Memory)))
 
