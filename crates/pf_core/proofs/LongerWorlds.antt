@@ -1,16 +1,18 @@
 -- Longer worlds, one event at a time.
 use Rattle.std.proofs.Common.{◌≡◌, ◌<◌, List, [], ◌∷◌, ◌++◌, refl, sym, ap, ◌∙◌, subst, append_assoc, append-nil, false}
-use Rattle.std.proofs.lemmas.List.Sums.{fold_push}
+use Rattle.std.specs.Prelude.{fold, ⊤}
+use Rattle.std.proofs.lemmas.List.Sums.{fold-append, fold_push}
 use Rattle.pf_core.specs.declared.command.Command.{Command}
 use Rattle.pf_core.specs.declared.reply.Refusal.{Refusal}
 use Rattle.pf_core.specs.declared.reply.Reply.{Reply}
 use Rattle.pf_core.specs.declared.reply.Reply.TheVariants.{Refused}
-use Rattle.pf_ticket.specs.Tickets.{Open}
-use Rattle.pf_ticket.specs.Mentions.{after}
+use Rattle.pf_ticket.specs.Tickets.{Open, fresh}
+use Rattle.pf_ticket.specs.Mentions.{Mention, moved, after, opened as left_by}
 use Rattle.pf_core.specs.Calls.{Call, call, mentions_of}
 use Rattle.pf_core.specs.Edits.{Kept, Edit}
 use Rattle.pf_core.specs.Pages.{Page, IsAt, StandsFor, Leads}
 use Rattle.pf_core.specs.Wholes.{Whole}
+use Rattle.pf_core.specs.WorldFacts.{mentions_by, mentions_since, TicketsAreOfTheCalls}
 use Rattle.pf_core.specs.Worlds.{Setting, Held, State, up, down, begun, raised, flat, group_in, Upshot, upshot, Event, called, opened, acked_by, shown_by, heard, next, LegalReply, last_epoch, IsLegal, state_after, IsLegalFrom, IsWorld}
 
 -- a group of one change more
@@ -58,3 +60,22 @@ nothing-leads h b w c r legal none still moved at = record {
 pub refused-leads : (h : Held) (b new : Page) (c : Command) (e : Refusal) → LegalReply h c (Refused e) false → new ≡ b → IsAt h b → Leads h new (call c (Refused e)) (upshot new.shown false)
 refused-leads h b new c e legal same at =
     subst (λ (p : Page). Leads h p (call c (Refused e)) (upshot p.shown false)) (sym same) (nothing-leads h b b.whole c (Refused e) legal refl refl refl at)
+
+-- ---- what was mentioned since an opening
+
+abbrev AgreesIn : State → List Mention → Type 0
+AgreesIn (up h) ms = h.tickets ≡ left_by h.base.epoch ms
+AgreesIn (down d) ms = ⊤
+
+agrees-next : (st : State) (ms : List Mention) (e : Event) → IsLegal st e → AgreesIn st ms → AgreesIn (next st e) (mentions_by ms e)
+agrees-next (up h) ms (called c t) legal is = ap (λ (o : Open). after o (mentions_of c)) is ∙ sym (fold-append moved (fresh h.base.epoch) ms (mentions_of c))
+agrees-next (up h) ms (opened setting) legal is = absurd legal
+agrees-next (down d) ms (called c t) legal is = absurd legal
+agrees-next (down d) ms (opened setting) legal is = refl
+
+agrees-from : (st : State) (ms : List Mention) (world : List Event) → IsLegalFrom st world → AgreesIn st ms → AgreesIn (state_after st world) (fold mentions_by ms world)
+agrees-from st ms [] legal is = is
+agrees-from st ms (e ∷ es) legal is = agrees-from (next st e) (mentions_by ms e) es legal.1 (agrees-next st ms e legal.0 is)
+
+pub tickets_are_of_the_calls : TicketsAreOfTheCalls
+tickets_are_of_the_calls first world h legal comes = subst (λ (st : State). AgreesIn st (mentions_since world)) comes (agrees-from (down first) [] world legal tt)

@@ -1,6 +1,8 @@
 -- What a commit leaves of each ruleset, and any call of those that it doesn't name.
 use Rattle.std.proofs.Common.{◌≡◌, ℕ, Bool, true, false, cond, ◌&&◌, ◌||◌, List, [], ◌∷◌, length, refl, sym, ap, ◌∙◌, Option, Some, None, Result, Ok, Err, subst}
 use Rattle.std.proofs.lemmas.Bool.{or_parts, cond_both}
+use Rattle.std.proofs.lemmas.List.{map-id}
+use Rattle.std.proofs.lemmas.Simd.{map-map}
 use Rattle.pf_rule.specs.Rules.{PlainRule}
 use Rattle.pf_anchor.specs.Laws.{rules_by}
 use Rattle.pf_anchor.specs.Rulesets.{Ruled, ruled, same_path, rules_at}
@@ -16,16 +18,16 @@ use Rattle.pf_ticket.specs.declared.refusal.TicketRefusal.TheVariants.{BadCount,
 use Rattle.pf_ticket.specs.NameLaws.{paths_alike, name_is, filter_is}
 use Rattle.pf_ticket.specs.Names.{same_kind, same_name, is_named, names_of, filter_at, IsDistinct}
 use Rattle.pf_ticket.specs.Replies.{bad_count, twice_in, busy_in, refused_at, and_then, list_check, commit_check}
-use Rattle.pf_ticket.specs.Mentions.{Mention, after}
+use Rattle.pf_ticket.specs.Mentions.{Mention, switched, dropped, named_in, after}
 use Rattle.pf_ticket.specs.Tickets.{rules_in, offer_at, ticket_in, content}
-use Rattle.pf_ticket.proofs.Moves.{leaves_the_others as mentions_leave, commit_takes_out}
+use Rattle.pf_ticket.proofs.Moves.{leaves_the_others as mentions_leave, commit_takes_out, gives-named}
 use Rattle.pf_ticket.proofs.Twice.{otherwise_once}
 use Rattle.pf_core.specs.declared.change.Item.{Item}
-use Rattle.pf_core.specs.declared.command.Command.TheVariants.{Transact}
-use Rattle.pf_core.specs.declared.command.Transaction.TheVariants.{Commit}
+use Rattle.pf_core.specs.declared.command.Command.TheVariants.{Transact, Ask}
+use Rattle.pf_core.specs.declared.command.Transaction.TheVariants.{Begin, Add, Commit, Rollback}
 use Rattle.pf_core.specs.Commands.{item_of, items, mentioned, is_accepted}
 use Rattle.pf_core.specs.Edits.{Edit, commits, rulesets_in, applied}
-use Rattle.pf_core.specs.Laws.{ReplacesExactly, AreSwitched, SwitchesAll, KeepsNoneValid, LeavesTheOthers, RefusedMentionNothing}
+use Rattle.pf_core.specs.Laws.{ReplacesExactly, AreSwitched, SwitchesAll, KeepsNoneValid, MentionsTheNamed, LeavesTheOthers, RefusedMentionNothing}
 use Rattle.pf_core.specs.WorldLaws.{IsCommitted, wants_commit}
 
 pub replaces_exactly : ReplacesExactly
@@ -104,9 +106,17 @@ switches_all t d entries e o h =
 
 -- ---- what any call leaves
 
+pub mentions_the_named : MentionsTheNamed
+mentions_the_named (Transact (Begin names)) = gives-named names
+mentions_the_named (Transact (Add p u r)) = refl
+mentions_the_named (Transact (Commit entries)) = map-map named_in (λ (n : RulesetName). switched n) (names_of entries) ∙ map-id (names_of entries)
+mentions_the_named (Transact (Rollback entries)) = map-map named_in (λ (e : Entry). dropped e.name e.ticket) entries
+mentions_the_named (Ask q) = refl
+
 pub leaves_the_others : LeavesTheOthers
 leaves_the_others t c name h =
-    cond_both (is_accepted c.reply) (mentioned c.command) [] (λ (ms : List Mention). offer_at (after t ms).offers name ≡ offer_at t.offers name) (λ e. mentions_leave t (mentioned c.command) name h) (λ e. refl)
+    cond_both (is_accepted c.reply) (mentioned c.command) [] (λ (ms : List Mention). offer_at (after t ms).offers name ≡ offer_at t.offers name)
+    (λ e. mentions_leave t (mentioned c.command) name (ap (λ (ns : List RulesetName). is_named ns name) (mentions_the_named c.command) ∙ h)) (λ e. refl)
 
 pub keeps_none_valid : KeepsNoneValid
 keeps_none_valid t entries n o name h = ap ticket_in (commit_takes_out t (names_of entries) name ∙ ap (λ (b : Bool). cond b None (offer_at t.offers name)) h)

@@ -8,7 +8,7 @@ use Rattle.pf_ticket.specs.declared.offered.Offered.{Offered}
 use Rattle.pf_ticket.specs.declared.offered.Offered.TheVariants as offered
 use Rattle.pf_ticket.specs.declared.refusal.TicketRefusal.{TicketRefusal}
 use Rattle.pf_ticket.specs.Names.{filter_at, names_of}
-use Rattle.pf_ticket.specs.Mentions.{Mention, added, named_in, gives, switches, drops}
+use Rattle.pf_ticket.specs.Mentions.{Mention, added, gives, switches, drops}
 use Rattle.pf_ticket.specs.Tickets.{Open, content}
 use Rattle.pf_ticket.specs.Replies.{begin_reply, add_reply, list_check, commit_check}
 use Rattle.pf_core.specs.declared.change.Item.{Item}
@@ -25,7 +25,7 @@ use Rattle.pf_core.specs.declared.reply.Outcome.TheVariants.{Committed}
 use Rattle.pf_core.specs.declared.reply.Refusal.{Refusal}
 use Rattle.pf_core.specs.declared.reply.Refusal.TheVariants.{TooManyRulesets}
 use Rattle.pf_core.specs.declared.reply.Reply.{Reply}
-use Rattle.pf_core.specs.declared.reply.Reply.TheVariants.{Refused}
+use Rattle.pf_core.specs.declared.reply.Reply.TheVariants.{Answer as Answered, Applied, Refused}
 use Rattle.pf_core.specs.declared.step.Step.{Step}
 use Rattle.pf_core.specs.declared.step.Step.TheVariants.{Done, Wants}
 use Rattle.pf_core.specs.Edits.{Kept, Edit, verdict, commits, applied}
@@ -94,13 +94,18 @@ abbrev pub mentioned : Command → List Mention
 mentioned (Transact t) = transacted t
 mentioned (Ask q) = []
 
--- the rulesets whose tickets a command speaks of
-abbrev pub names_in : Command → List RulesetName
-names_in c = map named_in (mentioned c)
+-- the rulesets that a command names, by its own words
+abbrev pub named_by : Command → List RulesetName
+named_by (Transact (Begin names)) = names
+named_by (Transact (Add p t rule)) = filter_at p ∷ []
+named_by (Transact (Commit entries)) = names_of entries
+named_by (Transact (Rollback entries)) = names_of entries
+named_by (Ask q) = []
 
 abbrev pub is_accepted : Reply → Bool
+is_accepted (Answered a) = true
+is_accepted (Applied n o) = true
 is_accepted (Refused e) = false
-is_accepted r = true
 
 -- ---- memory
 

@@ -1,11 +1,11 @@
 -- What follows from the definitions, as law functions promise it.
-use Rattle.std.specs.Prelude.{◌≡◌, ℕ, true, false, List, [], None, Ok}
+use Rattle.std.specs.Prelude.{◌≡◌, ℕ, true, false, List, [], map, None, Ok}
 use Rattle.pf_anchor.specs.Laws.{rules_by}
 use Rattle.pf_anchor.specs.Rulesets.{rules_at, IsMap}
 use Rattle.pf_ticket.specs.declared.entry.Entry.{Entry}
 use Rattle.pf_ticket.specs.declared.name.RulesetName.{RulesetName}
 use Rattle.pf_ticket.specs.Tickets.{rules_in, offer_at, Open, valid_ticket, content}
-use Rattle.pf_ticket.specs.Mentions.{after, switches}
+use Rattle.pf_ticket.specs.Mentions.{named_in, after, switches}
 use Rattle.pf_ticket.specs.Names.{is_named, names_of, filter_at}
 use Rattle.pf_core.specs.declared.change.Item.{Item}
 use Rattle.pf_core.specs.declared.command.Command.{Command}
@@ -16,7 +16,7 @@ use Rattle.pf_core.specs.declared.reply.Refusal.{Refusal}
 use Rattle.pf_core.specs.declared.reply.Reply.TheVariants.{Applied, Refused}
 use Rattle.pf_core.specs.declared.step.Step.TheVariants.{Wants}
 use Rattle.pf_core.specs.Calls.{Call, call, mentions_of}
-use Rattle.pf_core.specs.Commands.{step_by, mentioned, names_in}
+use Rattle.pf_core.specs.Commands.{step_by, mentioned, named_by}
 use Rattle.pf_core.specs.Edits.{Kept, Edit, commits, rulesets_in, applied, voided_by}
 
 -- what is kept after a commit, whole
@@ -47,7 +47,11 @@ KeepsNoneValid = (t : Open) (entries : List Entry) (n : ℕ) (o : Outcome) (name
 
 -- a call leaves each ruleset that it doesn't name its valid ticket, and what is offered with it
 abbrev pub LeavesTheOthers : Type 0
-LeavesTheOthers = (t : Open) (c : Call) (name : RulesetName) → is_named (names_in c.command) name ≡ false → offer_at (after t (mentions_of c)).offers name ≡ offer_at t.offers name
+LeavesTheOthers = (t : Open) (c : Call) (name : RulesetName) → is_named (named_by c.command) name ≡ false → offer_at (after t (mentions_of c)).offers name ≡ offer_at t.offers name
+
+-- a command mentions exactly the rulesets that it names, in their order
+abbrev pub MentionsTheNamed : Type 0
+MentionsTheNamed = (c : Command) → map named_in (mentioned c) ≡ named_by c
 
 -- a refused command mentions nothing
 abbrev pub RefusedMentionNothing : Type 0

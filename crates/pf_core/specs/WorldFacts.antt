@@ -5,10 +5,12 @@ use Rattle.pf_anchor.specs.Rulesets.{rules_at}
 use Rattle.pf_ticket.specs.declared.ticket.Ticket.{Ticket}
 use Rattle.pf_ticket.specs.Laws.{AreOnce}
 use Rattle.pf_ticket.specs.Laws.{IsWithin as AreTicketsWithin}
+use Rattle.pf_ticket.specs.Mentions.{Mention, opened as left_by}
 use Rattle.pf_ticket.specs.Names.{tickets_from, tickets_of}
 use Rattle.pf_core.specs.declared.reply.Answer.TheVariants as answer
 use Rattle.pf_core.specs.declared.reply.Reply.{Reply}
 use Rattle.pf_core.specs.declared.reply.Reply.TheVariants.{Answer as Answered}
+use Rattle.pf_core.specs.Calls.{mentions_of}
 use Rattle.pf_core.specs.Edits.{Kept}
 use Rattle.pf_core.specs.Worlds.{Held, up, down, Event, called, opened, flat, log_of, durable_of, state_after, IsWorld}
 
@@ -26,7 +28,19 @@ given_by ts (opened setting) = []
 abbrev pub tickets_given : List Event → List Ticket
 tickets_given world = fold given_by [] world
 
--- they are numbered from 1 on, and so none is given twice
+abbrev pub mentions_by : List Mention → Event → List Mention
+mentions_by ms (called c t) = ms ++ mentions_of c
+mentions_by ms (opened setting) = []
+
+-- what was mentioned since the opening, in order
+abbrev pub mentions_since : List Event → List Mention
+mentions_since world = fold mentions_by [] world
+
+-- the transactions of each opening that a world comes to are what the mentions since it leave
+abbrev pub TicketsAreOfTheCalls : Type 0
+TicketsAreOfTheCalls = (first : Kept) (world : List Event) (h : Held) → IsWorld first world → state_after (down first) world ≡ up h → h.tickets ≡ left_by h.base.epoch (mentions_since world)
+
+-- tickets are numbered from 1 on, and so none is given twice
 pub record AreGivenOnce (epoch : ℕ) (ts : List Ticket) : Type 0 where
   pub numbered : ts ≡ tickets_from epoch 1 (length ts)
   pub once : AreOnce ts

@@ -1,6 +1,6 @@
 //! What follows from the definitions that contracts cite: functions that do nothing, whose contracts are the laws.
-ghost use Rattle.pf_core.specs.Laws.{ReplacesExactly, SwitchesAll, VoidsTheNamed, KeepsNoneValid, LeavesTheOthers, RefusedMentionNothing};
-ghost use Rattle.pf_core.specs.WorldFacts.{GivesEachOnce, KeepsTheLimits, ShowsAll};
+ghost use Rattle.pf_core.specs.Laws.{ReplacesExactly, SwitchesAll, VoidsTheNamed, KeepsNoneValid, LeavesTheOthers, MentionsTheNamed, RefusedMentionNothing};
+ghost use Rattle.pf_core.specs.WorldFacts.{TicketsAreOfTheCalls, GivesEachOnce, KeepsTheLimits, ShowsAll};
 
 /// After a commit's change the epoch stays, each path has the rules that the change gives it or else its own, and what has no rules isn't there.
 pub fn replaces_exactly()
@@ -30,10 +30,18 @@ pub fn keeps_none_valid()
     ensures { KeepsNoneValid }
 {}
 
-/// A call leaves the valid tickets of the rulesets that it doesn't name, and what is offered with them.
-#[tactic(auto, using(crate::proofs::Switching::leaves_the_others))]
+/// A call leaves the valid tickets of the rulesets that it doesn't name, and what is offered with them; and what its
+/// command mentions is exactly what it names, in its order.
+#[tactic(auto, using(crate::proofs::Switching::leaves_the_others, crate::proofs::Switching::mentions_the_named))]
 pub fn leaves_the_others()
-    ensures { LeavesTheOthers }
+    ensures others { LeavesTheOthers }
+    ensures named { MentionsTheNamed }
+{}
+
+/// In each opening that a world comes to the open transactions are what the mentions of the calls since leave.
+#[tactic(auto, using(crate::proofs::LongerWorlds::tickets_are_of_the_calls))]
+pub fn tickets_are_of_the_calls()
+    ensures { TicketsAreOfTheCalls }
 {}
 
 /// In each opening that a world comes to the tickets given are numbered from 1 on, and none is given twice.

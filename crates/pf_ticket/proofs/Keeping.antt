@@ -1,6 +1,7 @@
 -- How many tickets a step gives, and that the limits hold after each step that isn't refused.
-use Rattle.std.proofs.Common.{◌≡◌, ◌+◌, ◌-◌, ◌<◌, ◌≤◌, Bool, true, false, not, cond, List, [], ◌∷◌, length, refl, sym, ap, ◌∙◌, subst, Option, Some, None, is_some, Result, Ok, Err, arith, length-append}
+use Rattle.std.proofs.Common.{◌≡◌, ◌+◌, ◌-◌, ◌<◌, ◌≤◌, Bool, true, false, not, cond, List, [], ◌∷◌, ◌++◌, length, refl, sym, ap, ◌∙◌, subst, Option, Some, None, is_some, Result, Ok, Err, arith, length-append}
 use Rattle.std.specs.Prelude.{nat_lt, nat_le}
+use Rattle.std.specs.List.{slice_get}
 use Rattle.std.proofs.lemmas.Bool.{cond_both}
 use Rattle.std.proofs.lemmas.Bool.Decides.{nat_tests}
 use Rattle.pf_rule.specs.Rules.{PlainRule}
@@ -16,11 +17,13 @@ use Rattle.pf_ticket.specs.declared.refusal.TicketRefusal.{TicketRefusal}
 use Rattle.pf_ticket.specs.declared.refusal.TicketRefusal.TheVariants.{BadCount, Busy, RulesetFull, TooManyRulesets, TicketsExhausted}
 use Rattle.pf_ticket.specs.declared.ticket.Ticket.{Ticket}
 use Rattle.pf_ticket.specs.declared.ticket.TicketRange.{TicketRange}
-use Rattle.pf_ticket.specs.Laws.{AreGiven, BeginsGive, IsWithin, KeepsTheLimits}
+use Rattle.pf_ticket.specs.Laws.{AreGiven, BeginsGive, TellsWhatIsGiven, IsWithin, KeepsTheLimits}
 use Rattle.pf_ticket.specs.Mentions.{gave, added, dropped, with_offers, take_out, moved, after, gives, switches, drops}
-use Rattle.pf_ticket.specs.Names.{filter_at, same_name, is_ticket, tickets_of}
+use Rattle.pf_ticket.specs.Names.{filter_at, same_name, is_named, is_ticket, tickets_from, tickets_of}
+use Rattle.pf_ticket.specs.NameLaws.{names_alike}
 use Rattle.pf_ticket.specs.Replies.{bad_count, range, begin_reply}
-use Rattle.pf_ticket.specs.Tickets.{nothing_for, rules_in, with_rule, Offer, offer, offer_at, put, Open, next_ticket, ticket_in, offered_in, content, is_valid}
+use Rattle.pf_ticket.specs.Tickets.{nothing_for, rules_in, with_rule, Offer, offer, offer_at, put, Open, next_ticket, ticket_in, offered_in, valid_ticket, content, is_valid}
+use Rattle.pf_ticket.proofs.Moves.{made_by, reads, leaves_the_others, gives-named}
 use Rattle.pf_ticket.proofs.Offers.{read-put, read-without, length-put, length-without}
 
 -- ---- what is kept where offers are taken out
@@ -68,6 +71,16 @@ begins_give = record {
   commit = λ t names. switches-keep (AreGiven 0 t) (λ s n g. record { epoch = g.epoch; next = g.next }) t names (none-given t t.offers);
   rollback = λ t entries. drops-keep (AreGiven 0 t) (λ s n g. record { epoch = g.epoch; next = g.next }) t entries (none-given t t.offers);
 }
+
+-- the ticket at a ruleset's place is its own
+own-ticket : (t : Open) (before : List RulesetName) (name : RulesetName) (behind : List RulesetName) → is_named behind name ≡ false → valid_ticket (after t (gives (before ++ name ∷ behind))) name ≡ slice_get (tickets_from t.epoch t.next (length (before ++ name ∷ behind))) (length before)
+own-ticket t [] name behind last =
+    ap ticket_in (leaves_the_others (moved t (gave name)) (gives behind) name (ap (λ (ns : List RulesetName). is_named ns name) (gives-named behind) ∙ last) ∙ reads t (gave name) name ∙ ap (λ (b : Bool). cond b (made_by t (gave name)) (offer_at t.offers name)) (names_alike.refl name))
+own-ticket t (n ∷ ns) name behind last = own-ticket (moved t (gave n)) ns name behind last
+
+pub tells_what_is_given : TellsWhatIsGiven
+tells_what_is_given t range before name behind h last =
+    own-ticket t before name behind last ∙ ap (λ (ts : List Ticket). slice_get ts (length before)) (sym (begins_give.told t (before ++ name ∷ behind) range h))
 
 -- ---- how much is offered
 

@@ -1,13 +1,17 @@
 -- What a mention makes of its ruleset's offer, and that it leaves the others: one law for all mentions, and what follows of lists of them.
-use Rattle.std.proofs.Common.{◌≡◌, ℕ, ◌+◌, ◌<◌, Bool, true, false, not, cond, ◌||◌, List, [], ◌∷◌, length, map, take, get_or, refl, sym, ap, ◌∙◌, Option, Some, None, is_some}
+use Rattle.std.proofs.Common.{◌≡◌, ℕ, ◌+◌, ◌<◌, Bool, true, false, not, cond, ◌&&◌, ◌||◌, List, [], ◌∷◌, ◌++◌, length, map, take, get_or, refl, sym, ap, ◌∙◌, Option, Some, None, is_some}
 use Rattle.std.specs.List.{list_any}
 use Rattle.std.proofs.lemmas.Bool.{or_parts, or_right, cond_both}
+use Rattle.std.proofs.lemmas.List.{map-id}
 use Rattle.std.proofs.lemmas.List.Folds.{fold-map}
-use Rattle.std.proofs.lemmas.List.Sums.{fold_more}
+use Rattle.std.proofs.lemmas.List.Sums.{fold-append, fold_more}
+use Rattle.std.proofs.lemmas.Simd.{map-map}
+use Rattle.pf_ticket.specs.declared.entry.Entry.{Entry}
 use Rattle.pf_ticket.specs.declared.name.RulesetName.{RulesetName}
-use Rattle.pf_ticket.specs.Laws.{StartsWithNothing, LeavesTheOthers, CommitTakesOut, CountsTheOpen}
-use Rattle.pf_ticket.specs.Mentions.{Mention, gave, added, switched, dropped, named_in, with_offers, take_out, moved, after, gives}
-use Rattle.pf_ticket.specs.Names.{same_name, is_named, IsDistinct}
+use Rattle.pf_ticket.specs.declared.ticket.Ticket.{Ticket}
+use Rattle.pf_ticket.specs.Laws.{StartsWithNothing, LeavesTheOthers, CommitTakesOut, RollbackDropsExactly, GoesOnAgreeing, CountsTheOpen}
+use Rattle.pf_ticket.specs.Mentions.{Mention, gave, added, switched, dropped, named_in, with_offers, take_out, moved, after, opened, gives}
+use Rattle.pf_ticket.specs.Names.{same_name, is_named, is_ticket, IsDistinct}
 use Rattle.pf_ticket.specs.NameLaws.{name_is}
 use Rattle.pf_ticket.specs.Tickets.{nothing_for, with_rule, Offer, offer, offer_at, put, without, Open, fresh, next_ticket, open_rulesets, ticket_in, offered_in, content, is_valid}
 use Rattle.pf_ticket.proofs.Offers.{or-false, any-of, read-put, read-without, named-under, length-put, distinct-put, distinct-without}
@@ -48,6 +52,46 @@ commit_takes_out t [] name = refl
 commit_takes_out t (n ∷ ns) name =
     commit_takes_out (moved t (switched n)) ns name ∙ ap (λ (v : Option Offer). cond (is_named ns name) None v) (reads t (switched n) name) ∙ out-either (is_named ns name) (same_name n name) None (offer_at t.offers name)
 
+read-dropped : (t : Open) (n : RulesetName) (u : Ticket) (q : RulesetName) → offer_at (moved t (dropped n u)).offers q ≡ cond (same_name n q && is_valid t q u) None (offer_at t.offers q)
+read-dropped t n u q = reads t (dropped n u) q ∙ cond_both (same_name n q) (made_by t (dropped n u)) (offer_at t.offers q) (λ (v : Option Offer). v ≡ cond (same_name n q && is_valid t q u) None (offer_at t.offers q))
+    (λ e. ap (λ (p : RulesetName). made_by t (dropped p u)) (name_is n q e) ∙ ap (λ (b : Bool). cond (b && is_valid t q u) None (offer_at t.offers q)) (sym e))
+    (λ e. ap (λ (b : Bool). cond (b && is_valid t q u) None (offer_at t.offers q)) (sym e))
+
+-- what these entries leave of a ruleset's offer
+abbrev left_of : RulesetName → List Entry → Option Offer → Option Offer
+left_of q es v = cond (list_any (λ e. same_name e.name q && is_ticket (ticket_in v) e.ticket) es) None v
+
+none-left : (b : Bool) → cond b None None ≡ (let none : Option Offer = None in none)
+none-left true = refl
+none-left false = refl
+
+left-once : (q : RulesetName) (es : List Entry) (v : Option Offer) (b : Bool) → left_of q es (cond b None v) ≡ cond (b || list_any (λ e. same_name e.name q && is_ticket (ticket_in v) e.ticket) es) None v
+left-once q es v true = none-left (list_any (λ e. same_name e.name q && false) es)
+left-once q es v false = refl
+
+pub rollback_drops_exactly : RollbackDropsExactly
+rollback_drops_exactly t [] name = refl
+rollback_drops_exactly t (e ∷ es) name =
+    rollback_drops_exactly (moved t (dropped e.name e.ticket)) es name ∙ ap (left_of name es) (read-dropped t e.name e.ticket name) ∙ left-once name es (offer_at t.offers name) (same_name e.name name && is_valid t name e.ticket)
+
+-- ---- what the mentions since an opening leave
+
+epoch-on : (t : Open) (m : Mention) → (moved t m).epoch ≡ t.epoch
+epoch-on t (gave n) = refl
+epoch-on t (added n u r) = let os : List Offer = put (offer n u (with_rule (content t n) r)) t.offers in cond_both (is_valid t n u) (with_offers t os) t (λ (s : Open). s.epoch ≡ t.epoch) (λ e. refl) (λ e. refl)
+epoch-on t (switched n) = refl
+epoch-on t (dropped n u) = cond_both (is_valid t n u) (take_out t n) t (λ (s : Open). s.epoch ≡ t.epoch) (λ e. refl) (λ e. refl)
+
+epoch-stays : (t : Open) (ms : List Mention) → (after t ms).epoch ≡ t.epoch
+epoch-stays t [] = refl
+epoch-stays t (m ∷ ms) = epoch-stays (moved t m) ms ∙ epoch-on t m
+
+pub goes_on_agreeing : GoesOnAgreeing
+goes_on_agreeing = record {
+  first = λ epoch. refl;
+  on = λ t ms more is. ap (λ (s : Open). after s more) is ∙ sym (fold-append moved (fresh t.epoch) ms more) ∙ ap (λ (e : ℕ). opened e (ms ++ more)) (sym (epoch-stays t more));
+}
+
 -- ---- how many rulesets are open
 
 distinct-on : (t : Open) (m : Mention) → IsDistinct (open_rulesets t) → IsDistinct (open_rulesets (moved t m))
@@ -72,6 +116,10 @@ counts_the_open epoch ms =
     record { once = distinct-after (fresh epoch) ms tt; valid = λ name. named-under t.offers name ∙ with-ticket (offer_at t.offers name) }
 
 -- ---- what a begin leaves
+
+-- it mentions what it names
+pub gives-named : (names : List RulesetName) → map named_in (gives names) ≡ names
+gives-named names = map-map named_in (λ (n : RulesetName). gave n) names ∙ map-id names
 
 starts-from : (t : Open) (names : List RulesetName) (q : RulesetName) → (is_named names q ≡ false → content t q ≡ nothing_for q.kind) → content (after t (gives names)) q ≡ nothing_for q.kind
 starts-from t [] q h = h refl

@@ -1,6 +1,6 @@
 -- What follows from the definitions, as law functions promise it.
 use Rattle.std.specs.Prelude.{◌≡◌, ℕ, ◌+◌, ◌≤◌, ◌&&◌, Bool, true, false, cond, List, [], ◌∷◌, ◌++◌, length, map, flat_map, is_some, Some, None, Ok}
-use Rattle.std.specs.List.{list_any}
+use Rattle.std.specs.List.{list_any, slice_get}
 use Rattle.pf_rule.specs.Rules.{PlainRule}
 use Rattle.pf_anchor.specs.declared.limits.TheConstants.{RULE_LIMIT, RULESET_LIMIT}
 use Rattle.pf_ticket.specs.declared.entry.Entry.{Entry}
@@ -9,7 +9,7 @@ use Rattle.pf_ticket.specs.declared.name.RulesetName.{RulesetName}
 use Rattle.pf_ticket.specs.declared.ticket.Ticket.{Ticket}
 use Rattle.pf_ticket.specs.declared.ticket.TicketRange.{TicketRange}
 use Rattle.pf_ticket.specs.Names.{filter_at, same_name, same_ticket, is_named, names_of, tickets_from, tickets_of, IsDistinct}
-use Rattle.pf_ticket.specs.Tickets.{nothing_for, rules_in, offer_at, Open, fresh, next_ticket, open_rulesets, valid_ticket, content}
+use Rattle.pf_ticket.specs.Tickets.{nothing_for, rules_in, offer_at, Open, fresh, next_ticket, open_rulesets, valid_ticket, content, is_valid}
 use Rattle.pf_ticket.specs.Mentions.{Mention, gave, added, switched, dropped, named_in, moved, after, opened, gives, switches, drops}
 use Rattle.pf_ticket.specs.Replies.{twice_in, begin_reply, add_reply}
 
@@ -64,6 +64,25 @@ LeavesTheOthers = (t : Open) (ms : List Mention) (name : RulesetName) → is_nam
 abbrev pub CommitTakesOut : Type 0
 CommitTakesOut = (t : Open) (names : List RulesetName) (name : RulesetName) → offer_at (after t (switches names)).offers name ≡ cond (is_named names name) None (offer_at t.offers name)
 
+-- whether one of these entries names the ruleset with its valid ticket
+abbrev pub is_named_validly : Open → List Entry → RulesetName → Bool
+is_named_validly t entries name = list_any (λ e. same_name e.name name && is_valid t name e.ticket) entries
+
+-- a rollback drops what is offered for the rulesets that it names with their valid tickets, and nothing else
+abbrev pub RollbackDropsExactly : Type 0
+RollbackDropsExactly = (t : Open) (entries : List Entry) (name : RulesetName) → offer_at (after t (drops entries)).offers name ≡ cond (is_named_validly t entries name) None (offer_at t.offers name)
+
+-- ---- the transactions, and what was mentioned since the opening
+
+-- the transactions are what these mentions leave
+abbrev pub Agrees : Open → List Mention → Type 0
+Agrees t ms = t ≡ opened t.epoch ms
+
+-- they agree with no mention at first, and go on so with each list of mentions
+pub record GoesOnAgreeing : Type 0 where
+  pub first : (epoch : ℕ) → Agrees (fresh epoch) []
+  pub on : (t : Open) (ms more : List Mention) → Agrees t ms → Agrees (after t more) (ms ++ more)
+
 -- ---- how many tickets and rulesets
 
 -- each ruleset with a valid ticket stands once among the open ones, and no other does
@@ -82,6 +101,11 @@ AreOnce (t ∷ ts) = (list_any (λ u. same_ticket u t) ts ≡ false) × AreOnce 
 -- tickets that are numbered are given once
 abbrev pub GivesEachOnce : Type 0
 GivesEachOnce = (epoch count number : ℕ) → AreOnce (tickets_from epoch count number)
+
+-- a begin tells at each ruleset's place the ticket that is then valid for it, where it isn't named again behind
+abbrev pub TellsWhatIsGiven : Type 0
+TellsWhatIsGiven = (t : Open) (range : TicketRange) (before : List RulesetName) (name : RulesetName) (behind : List RulesetName) → begin_reply t (before ++ name ∷ behind) ≡ Ok range → is_named behind name ≡ false
+    → valid_ticket (after t (gives (before ++ name ∷ behind))) name ≡ slice_get (tickets_of range) (length before)
 
 -- so many tickets were given
 pub record AreGiven (number : ℕ) (t new : Open) : Type 0 where

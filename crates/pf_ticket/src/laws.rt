@@ -1,5 +1,5 @@
 //! What follows from the definitions that contracts cite: functions that do nothing, whose contracts are the laws.
-ghost use Rattle.pf_ticket.specs.Laws.{ValidIsGivenLast, GivenLastIsValid, StartsWithNothing, OffersTheAdded, LeavesTheOthers, CommitTakesOut, CountsTheOpen, BeginsGive, GivesEachOnce, KeepsTheLimits, TwiceIsFirstAgain, OtherwiseOnce};
+ghost use Rattle.pf_ticket.specs.Laws.{ValidIsGivenLast, GivenLastIsValid, StartsWithNothing, OffersTheAdded, LeavesTheOthers, CommitTakesOut, RollbackDropsExactly, GoesOnAgreeing, CountsTheOpen, BeginsGive, TellsWhatIsGiven, GivesEachOnce, KeepsTheLimits, TwiceIsFirstAgain, OtherwiseOnce};
 
 /// A ticket is valid for a ruleset exactly where the latest mention that touched the ruleset is a begin's that gave it
 /// this ticket.
@@ -32,10 +32,28 @@ pub fn a_commit_takes_out_the_named()
     ensures { CommitTakesOut }
 {}
 
+/// A rollback drops what is offered for the rulesets that it names with their valid tickets, and nothing else.
+#[tactic(auto, using(crate::proofs::Moves::rollback_drops_exactly))]
+pub fn a_rollback_drops_exactly()
+    ensures { RollbackDropsExactly }
+{}
+
+/// An opening's tickets are what the mentions since it leave: none at first, and so on with each step.
+#[tactic(auto, using(crate::proofs::Moves::goes_on_agreeing))]
+pub fn tickets_agree_with_the_mentions()
+    ensures { GoesOnAgreeing }
+{}
+
 /// Each ruleset with a valid ticket is counted once among the open ones, and no other is.
 #[tactic(auto, using(crate::proofs::Moves::counts_the_open))]
 pub fn counts_the_open()
     ensures { CountsTheOpen }
+{}
+
+/// A begin's reply tells at each ruleset's place the ticket that is then valid for it, where it isn't named again behind.
+#[tactic(auto, using(crate::proofs::Keeping::tells_what_is_given))]
+pub fn a_begin_tells_the_valid_tickets()
+    ensures { TellsWhatIsGiven }
 {}
 
 /// A begin gives the next tickets, and no other step gives one; and tickets that are numbered are given once each.
