@@ -1,7 +1,7 @@
 -- How a network is kept: the number of its first address, and how many of its bits are the front.
-use Rattle.std.specs.Prelude.{◌≡◌, ℕ, ◌+◌, ◌-◌, ◌*◌, ◌/◌, ◌^◌, ◌%◌, ◌<◌, ◌≤◌}
+use Rattle.std.specs.Prelude.{◌≡◌, ℕ, ◌-◌, ◌*◌, ◌/◌, ◌^◌, ◌%◌, ◌<◌, ◌≤◌}
 use Rattle.std.proofs.Common.{ap, arith}
-use Rattle.std.proofs.lemmas.Nat.{shr_split, shr_below}
+use Rattle.std.proofs.lemmas.Nat.{shr_split}
 use Rattle.pf_addr.specs.declared.net.Net.TheInside.{Inside}
 use Rattle.pf_addr.specs.Address.{Network, width}
 
@@ -27,9 +27,3 @@ filled n is = omega (arith, shr_split n.number (host_bits n), is.host)
 
 pub inside_of-network_in : (n : Inside) → IsWithin n → inside_of (network_in n) ≡ n
 inside_of-network_in n is = ap (λ (m : ℕ). record n { number = m }) (filled n is)
-
--- the front is written by its bits
-pub front_below : (n : Inside) → IsWithin n → (network_in n).front < 2 ^ n.len
-front_below n is =
-    let sum : n.len + host_bits n ≡ width n.family = omega (arith, is.len) in
-    shr_below n.number n.len (host_bits n) (rw sum is.number)
