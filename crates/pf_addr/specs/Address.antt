@@ -1,5 +1,5 @@
 -- Addresses, networks, and which network contains which address (pf.conf(5), PARAMETERS, networks in CIDR notation).
-use Rattle.std.specs.Prelude.{◌≡◌, ℕ, ◌-◌, ◌/◌, ◌^◌, ◌==◌, ◌<◌, ◌≤◌, Bool, true, false, ◌&&◌}
+use Rattle.std.specs.Prelude.{◌≡◌, ℕ, ◌-◌, ◌/◌, ◌%◌, ◌^◌, ◌==◌, ◌<◌, ◌≤◌, Bool, true, false, ◌&&◌}
 use Rattle.pf_addr.specs.declared.addr.Addr.{Addr}
 use Rattle.pf_addr.specs.declared.addr.Addr.TheVariants as addr
 use Rattle.pf_addr.specs.declared.addr.TheConstants.{V4_BITS, V6_BITS}
@@ -53,6 +53,20 @@ contains n a = same_family n.family (family_of a) && (first_bits n.len a == n.fr
 abbrev pub IsAddr : Addr → Type 0
 IsAddr (addr.V4 n) = n < 2 ^ V4_BITS
 IsAddr (addr.V6 n) = n < 2 ^ V6_BITS
+
+-- bit i of a number of so many bits, from the front on: bit 0 is the highest
+abbrev pub bit : ℕ → ℕ → ℕ → ℕ
+bit size i n = n / 2 ^ (size - 1 - i) % 2
+
+-- The address is of the network's family, and each of its first bits, as many as the front has, is the front's.
+pub record BeginsAs (net : Network) (a : Addr) : Type 0 where
+  pub family : family_of a ≡ net.family
+  pub bits : (i : ℕ) → i < net.len → bit (width (family_of a)) i (number_in a) ≡ bit net.len i net.front
+
+-- Two addresses are of one family and agree in each of their first `len` bits.
+pub record Agree (len : ℕ) (a b : Addr) : Type 0 where
+  pub family : family_of a ≡ family_of b
+  pub bits : (i : ℕ) → i < len → bit (width (family_of a)) i (number_in a) ≡ bit (width (family_of b)) i (number_in b)
 
 -- A V4 network: at most 32 bits, and a number that they can write.
 pub record IsV4Network (net : Network) : Type 0 where

@@ -1,5 +1,6 @@
 pub mod Address
 pub mod Nets
+pub mod BitLaws
 pub mod Grammar
 pub mod Reading
 pub mod PlaceLaws

@@ -8,13 +8,14 @@ use Rattle.std.proofs.lemmas.List.Elements.{All-cons, All-append, All-from_get_o
 use Rattle.std.proofs.lemmas.List.Splits.{slice_split_at, slice_split_none}
 use Rattle.std.proofs.lemmas.Str.Parse.{digit_at}
 use Rattle.std.proofs.lemmas.Fmt.{decimal_is_IsNumeral, length-decimal-le}
-use Rattle.std.proofs.lemmas.Nat.{from_be_bytes-to_be_bytes_4, shl_below, shl-shr, shr_below}
+use Rattle.std.proofs.lemmas.Nat.{from_be_bytes-to_be_bytes_4, shl_below, shl-shr}
 use Rattle.pf_addr.specs.declared.addr.Addr.{Addr}
 use Rattle.pf_addr.specs.declared.addr.Addr.TheVariants as addr
 use Rattle.pf_addr.specs.declared.addr.Family.{Family}
 use Rattle.pf_addr.specs.declared.addr.Family.TheVariants.{V4}
 use Rattle.pf_addr.specs.Address.{Network, network_from, IsAddr}
 pub use Rattle.pf_addr.specs.Address.{IsV4Network}
+use Rattle.pf_addr.specs.BitLaws.{front_below}
 use Rattle.pf_addr.specs.Grammar.{IsNumber, is_dot, Dotted, SpellsAddr, SpellsNet, four_bytes}
 use Rattle.pf_addr.specs.PlaceLaws.{digits_without}
 use Rattle.pf_addr.specs.Reading.{net_at}
@@ -113,9 +114,7 @@ own_net_text a b p q e =
     cc
 
 from_v4 : (n len : ℕ) → n < 2 ^ 32 → len ≤ 32 → IsV4Network (network_from (addr.V4 n) len)
-from_v4 n len lt le =
-    let sum : len + (32 - len) ≡ 32 = omega arith in
-    record { family = refl; len = le; front = shr_below n len (32 - len) (rw sum lt) }
+from_v4 n len lt le = record { family = refl; len = le; front = front_below 32 len n le lt }
 
 -- each network that a text spells is a V4 network
 pub IsV4Network-spelled : (text : List ℕ) (net : Network) → SpellsNet text net → IsV4Network net

@@ -1,12 +1,21 @@
-//! Laws of the texts. Each function's contract is the law, and its body does nothing.
-ghost use Rattle.std.specs.Prelude.{◌≡◌, ℕ, ◌^◌, ◌<◌, List};
+//! Laws of networks and of texts. Each function's contract is the law, and its body does nothing.
+ghost use Rattle.std.specs.Prelude.{◌≡◌, ◌↔◌, ℕ, ◌^◌, ◌<◌, ◌≤◌, true, List};
+ghost use Rattle.pf_addr.specs.declared.addr.Addr.{Addr};
 ghost use Rattle.pf_addr.specs.declared.addr.Addr.TheVariants as Addr;
-ghost use Rattle.pf_addr.specs.Address.{Network};
+ghost use Rattle.pf_addr.specs.Address.{Network, width, family_of, network_from, contains, IsAddr, BeginsAs, Agree};
 ghost use Rattle.pf_addr.specs.Grammar.{SpellsAddr, SpellsNet};
 ghost use Rattle.pf_addr.specs.Spelling.{addr_text, net_text};
 ghost use Rattle.pf_addr.specs.SpellingLaws.{IsV4Network, IsNetWord};
 
 use crate::addr::Addr;
+
+/// A network contains exactly the addresses of its family whose first bits are its own, bit by bit.
+#[tactic(auto, using(crate::specs::BitLaws::contains_by_bits, crate::specs::BitLaws::network_agrees))]
+pub fn networks_contain_by_bits()
+    ensures bits { (net : Network) (a : Addr) → net.len ≤ width net.family → net.front < 2 ^ net.len → IsAddr a → (contains net a ≡ true) ↔ BeginsAs net a }
+    // an address with its length is the network of those that agree with it in so many first bits
+    ensures shared { (a b : Addr) (len : ℕ) → len ≤ width (family_of b) → IsAddr a → IsAddr b → (contains (network_from b len) a ≡ true) ↔ Agree len a b }
+{}
 
 /// The text that a V4 address is written as spells it.
 #[tactic(auto, using(crate::specs::SpellingLaws::addr_text_spells))]

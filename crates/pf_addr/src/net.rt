@@ -7,7 +7,7 @@ ghost use Rattle.pf_addr.specs.Spelling.{first_addr};
 
 use crate::addr::{Addr, Family, V4_BITS, V6_BITS};
 use crate::fault::AddrFault;
-use crate::reading::{first, read_parts, read_prefix_len};
+use crate::reading::{place_of, read_parts, read_prefix_len};
 use std::marker::Model;
 
 /// A network: the addresses of one family that begin with the same bits. The bits past the front are zero.
@@ -65,8 +65,9 @@ impl Net {
     /// The network's family.
     pub fn family(self) -> Family
         ensures family { result ≡ self.family }
-        // a network's front is no longer than an address of its family
+        // a network's front is no longer than an address of its family, and so many bits write it
         ensures within { self.len ≤ width self.family }
+        ensures front { self.front < 2 ^ self.len }
     {
         let Net { family, .. } = self;
         family
@@ -132,7 +133,7 @@ impl Net {
     fn with_or_without_len(text: &[u8]) -> Result<Net, AddrFault>
         ensures { result ≡ net_at text.now }
     {
-        match first(b'/', text) {
+        match place_of(b'/', text) {
             Some(slash) => Net::cut_at(text, slash),
             None => Ok(Net::single(Addr::from_ascii(text)?)),
         }

@@ -47,7 +47,7 @@ pub(crate) fn read_parts(text: &[u8]) -> Result<Parts, AddrFault>
     };
     let mut at = 0;
     let mut rest = text;
-    while let Some(dot) = first(b'.', rest) {
+    while let Some(dot) = place_of(b'.', rest) {
         parts.push(read_part(at, &rest[..dot])?);
         at += dot + 1;
         rest = &rest[dot + 1..];
@@ -57,7 +57,7 @@ pub(crate) fn read_parts(text: &[u8]) -> Result<Parts, AddrFault>
 }
 
 /// The first place of a byte.
-pub(crate) fn first(byte: u8, text: &[u8]) -> Option<usize>
+pub(crate) fn place_of(byte: u8, text: &[u8]) -> Option<usize>
     ensures place { result ≡ position (λ b. b == byte) text.now }
     ensures bound { IfSome result (λ i. i < length text.now) }
 {
