@@ -28,10 +28,11 @@ abbrev pub rules_by : List Ruled → List ℕ → List PlainRule → List PlainR
 rules_by [] q old = old
 rules_by (e ∷ es) q old = rules_by es q (cond (same_path e.0 q) e.1 old)
 
--- a commit gives each path its rules, and leaves a map
+-- a commit gives each path its rules
 abbrev pub ReplacesInTurn : Type 0
 ReplacesInTurn = (items es : List Ruled) (q : List ℕ) → rules_at q (fold with_rules es items) ≡ rules_by items q (rules_at q es)
 
+-- and it leaves a map
 abbrev pub StaysMap : Type 0
 StaysMap = (items es : List Ruled) → IsMap es → IsMap (fold with_rules es items)
 

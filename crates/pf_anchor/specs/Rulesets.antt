@@ -42,7 +42,7 @@ rules_in (Some rs) = rs
 abbrev pub rules_at : List ℕ → List Ruled → List PlainRule
 rules_at p es = rules_in (find path_order p es)
 
--- entries in the order of their paths, none of them twice, and each with rules
+-- entries in the order of their paths, none of them twice; each is then what is found at its path, and so has rules
 pub record IsMap (es : List Ruled) : Type 0 where
   pub sorted : T (is_sorted path_order es)
   pub ruled : (p : List ℕ) → find path_order p es ≢ Some []

@@ -9,20 +9,26 @@ use std::alloc::{AllocError, Global};
 use std::marker::Model;
 use std::sync::Arc;
 
+// A path and the rules there.
+#[derive(Drop)]
+struct Entry {
+    path: Path,
+    rules: RuleList,
+}
+
 /// A ruleset at its path, shared by all that hold it: path and rules stand once. Contracts see it as a `Ruled`.
 #[derive(Drop)]
 pub struct Placed {
-    // The path, and the rules there.
-    entry: Arc<(Path, RuleList)>,
+    entry: Arc<Entry>,
 }
 
 impl Model for Placed {
     ghost use Rattle.std.specs.Arc.{arc_value};
-    ghost use Rattle.pf_anchor.specs.Rulesets.{Ruled};
+    ghost use Rattle.pf_anchor.specs.Rulesets.{Ruled, ruled};
 
     ghost Value = { Ruled };
 
-    ghost view = { λ p. arc_value p.entry };
+    ghost view = { λ p. ruled (arc_value p.entry).path (arc_value p.entry).rules };
 }
 
 impl Placed {
@@ -31,7 +37,7 @@ impl Placed {
         ensures { IfOk result (λ p. p ≡ ruled path rules) }
     {
         Ok(Placed {
-            entry: Arc::new(alloc, (path, rules))?,
+            entry: Arc::new(alloc, Entry { path, rules })?,
         })
     }
 
@@ -48,14 +54,14 @@ impl Placed {
     pub fn path(&self) -> &Path
         ensures { result.now ≡ self.now.0 }
     {
-        &self.entry.0
+        &self.entry.path
     }
 
     /// Its rules.
     pub fn rules(&self) -> &RuleList
         ensures { result.now ≡ self.now.1 }
     {
-        &self.entry.1
+        &self.entry.rules
     }
 
     /// Whether it comes behind a path.

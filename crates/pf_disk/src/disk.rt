@@ -11,6 +11,9 @@ pub struct DiskFault;
 /// What a crash leaves is as long as the device and agrees with what a read gives, but for the unsynced places: there any
 /// bytes may stand. A write adds its range to them from its own start on, and a sync that succeeds empties them at its end.
 ///
+/// A call takes one moment at most, so a bound on the moments of a function over every device bounds the calls that succeed on a
+/// device where each of these is one moment, as it is on `MemDisk`.
+///
 /// A call fails exactly where it raises the count of faults by one. A caller keeps ranges within the device and stops at 2^63
 /// faults. Own.
 pub trait Disk {

@@ -6,7 +6,7 @@ ghost use Rattle.pf_disk.specs.Burning.{blows, burnt, counted};
 use crate::{Disk, DiskFault};
 
 /// Which calls fail. A call is a read, a write or a sync. Own.
-#[derive(Clone, Copy, Debug)]
+#[derive(Clone, Copy, Debug, PartialEq, Eq)]
 pub enum Fuse {
     /// None.
     Whole,

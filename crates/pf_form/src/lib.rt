@@ -17,4 +17,4 @@ pub use fault::{Kind, Stop, Unread};
 pub use laws::{numbers_are_read_as_written, words_stand_between_blanks};
 pub use number::read_number;
 pub use reading::{Words, bad_word, each, end, expect, stop, takes};
-pub use splitting::{blank, words};
+pub use splitting::{is_blank, words};

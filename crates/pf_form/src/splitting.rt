@@ -5,7 +5,7 @@ ghost use Rattle.pf_form.specs.Words.{is_blank, words_of, texts};
 use std::alloc::{AllocError, Global};
 
 /// Whether the byte is a space, a tab or a carriage return.
-pub fn blank(b: u8) -> bool
+pub fn is_blank(b: u8) -> bool
     ensures { result ≡ is_blank b }
 {
     b == b' ' || b == b'\t' || b == b'\r'
@@ -15,7 +15,7 @@ pub fn blank(b: u8) -> bool
 pub fn words<'a>(alloc: Global, line: &'a [u8]) -> Result<Vec<&'a [u8]>, AllocError>
     ensures { IfOk result (λ v. texts v.items ≡ words_of line.now) }
 {
-    line.split(|b| blank(*b))
+    line.split(|b| is_blank(*b))
         .filter(|w| !w.is_empty())
         .collect(alloc)
 }

@@ -9,7 +9,7 @@ ghost use Rattle.pf_line.specs.Lines.{is_line_byte, is_bad_line, is_silent, line
 
 use crate::commands::command;
 use pf_core::{Command, Refusal};
-use pf_form::{Kind, Stop, Unread, blank, words};
+use pf_form::{Kind, Stop, Unread, is_blank, words};
 use std::alloc::Global;
 
 /// How many bytes a line may have, without its newline.
@@ -35,10 +35,10 @@ fn bad_line(line: &[u8]) -> bool
 }
 
 /// The first byte that is no blank.
-fn first_ink(line: &[u8]) -> Option<u8>
+fn first_non_blank(line: &[u8]) -> Option<u8>
     ensures { result ≡ find (λ b. not (is_blank b)) line.now }
 {
-    line.iter().copied().find(|b| !blank(*b))
+    line.iter().copied().find(|b| !is_blank(*b))
 }
 
 /// Whether the line has no words, or its first word begins a comment.
@@ -46,7 +46,7 @@ fn first_ink(line: &[u8]) -> Option<u8>
 fn silent(line: &[u8]) -> bool
     ensures { result ≡ is_silent line.now }
 {
-    match first_ink(line) {
+    match first_non_blank(line) {
         Some(first) => first == b'#',
         None => true,
     }

@@ -81,6 +81,7 @@ fn write_rule<W: Write>(
 fn write_rule_text<W: Write>(out: &mut W, so_far: io::Result<()>, rule: &Rule) -> io::Result<()>
     ensures { GoesOn so_far (W.contents out.old) result (W.contents out.new) (rule_text rule.now) }
 {
+    // The call says what each rule keeps (`kept`), and so that the rule's text has no newline.
     let _kept = rule.action();
     match so_far {
         Ok(()) => rule.write(out),
@@ -168,6 +169,7 @@ fn write_at<W: Write>(out: &mut W, so_far: io::Result<()>, path: &Path) -> io::R
     ensures { GoesOn so_far (W.contents out.old) result (W.contents out.new) (codes " at " ++ path.now) }
 {
     let so_far = write_part(out, so_far, b" at ");
+    // The laws say what bytes each path has, and so that its text has no newline.
     paths_are_read_as_spelled();
     paths_are_read_again();
     write_part(out, so_far, path.as_bytes())

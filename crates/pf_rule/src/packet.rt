@@ -16,15 +16,23 @@ use pf_form::{Stop, Words, expect, takes, words};
 use std::alloc::Global;
 use std::marker::Model;
 
-/// What the filter sees of a packet.
+/// What the filter sees of a packet, which is what rules test (pf.conf(5), Packet Filtering). Contracts see a [`Packet`] as these
+/// fields (`PlainPacket`), each as they see its type. That a packet is a value, and carries no flags, is own.
 #[derive(Clone, Copy)]
 struct PacketParts {
+    /// Which way it goes through the interface.
     direction: Direction,
+    /// The interface that it goes through, as the 1 to 15 bytes of its name.
     interface: Interface,
+    /// Its protocol, as the number, 1 to 255.
     protocol: Protocol,
+    /// The address that it comes from.
     source: Addr,
+    /// The port that it comes from, 0 to 65535; 0 where the protocol has no ports.
     source_port: u16,
+    /// The address that it goes to, of the source's family.
     destination: Addr,
+    /// The port that it goes to, as `source_port`.
     destination_port: u16,
 }
 

@@ -44,16 +44,25 @@ pub enum Host {
     Net(Net),
 }
 
-/// What a rule says. A test that is absent holds for every packet.
+/// What a rule says (pf.conf(5), Packet Filtering and its Parameters). Contracts see a [`Rule`] as these fields (`PlainRule`), each
+/// as they see its type. A test that is absent holds for every packet, and a rule matches where all its tests hold.
 #[derive(Clone, Copy)]
 struct RuleParts {
+    /// What a rule that decides does with the packet (`pass`, `block`).
     action: Action,
+    /// The way a packet has to go (`in`, `out`).
     direction: Option<Direction>,
+    /// Whether a match ends the evaluation (`quick`).
     quick: bool,
+    /// The interface that a packet has to go through (`on`), as the 1 to 15 bytes of its name.
     interface: Option<Interface>,
+    /// The family that a packet's addresses have to be of (`inet`, `inet6`): the one written, or that of a host's network.
     family: Option<Family>,
+    /// The protocol that a packet has to be of (`proto`), as its number, 1 to 255.
     protocol: Option<Protocol>,
+    /// The addresses that a packet has to come from (`from`).
     source: Host,
+    /// The addresses that a packet has to go to (`to`).
     destination: Host,
 }
 
@@ -154,10 +163,10 @@ impl Rule {
         ensures { result ≡ matches self.now packet.now }
     {
         let rule = &self.0;
-        is_wanted(rule.direction, packet.direction())
-            && is_wanted(rule.interface, *packet.interface())
-            && is_wanted(rule.family, packet.source().family())
-            && is_wanted(rule.protocol, packet.protocol())
+        is_wanted(&rule.direction, &packet.direction())
+            && is_wanted(&rule.interface, packet.interface())
+            && is_wanted(&rule.family, &packet.source().family())
+            && is_wanted(&rule.protocol, &packet.protocol())
             && rule.source.holds(packet.source())
             && rule.destination.holds(packet.destination())
     }
@@ -251,11 +260,11 @@ fn action_of(passes: bool, keeps_state: bool) -> Action
 }
 
 /// Whether a value is the one that a test wants. A test that is absent holds.
-fn is_wanted<T: Copy + PartialEq>(wanted: Option<T>, value: T) -> bool
-    ensures { result ≡ holds wanted (λ x. T.eq x value) }
+fn is_wanted<T: PartialEq>(wanted: &Option<T>, value: &T) -> bool
+    ensures { result ≡ holds wanted.now (λ x. T.eq x value.now) }
 {
     match wanted {
-        Some(wanted) => wanted == value,
+        Some(wanted) => *wanted == *value,
         None => true,
     }
 }

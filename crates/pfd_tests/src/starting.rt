@@ -92,7 +92,8 @@ fn says_why_it_has_no_words(rt: HostRuntime) {
     assert!(rt; told.as_slice() == b"pfd: memory\npfd: a word isn't text\n".as_slice());
 }
 
-// The words of a test aren't the program's.
+// The words that it takes are those that the test runner itself was started with. These aren't the program's, so its
+// parser refuses them, says so on standard error, and nothing is read.
 #[test]
 fn takes_the_words_of_its_process(rt: HostRuntime) {
     assert!(rt; run_process(&rt) == 2);
