@@ -24,7 +24,7 @@ unfoldable pub direction : Form (Option Direction)
 direction = or (codes "in") (nothing (Some In)) (or (codes "out") (nothing (Some Out)) (nothing None))
 
 -- ["quick"]
-unfoldable pub quick : Form Bool
+abbrev pub quick : Form Bool
 quick = or (codes "quick") (nothing true) (nothing false)
 
 -- ["on" interface]
@@ -91,5 +91,5 @@ rule = making agreeing rule_words
 
 -- One word of look-ahead decides it.
 pub rule_decided : is_decided rule ≡ true
-unfolding rule opening direction quick interface family protocol destination hosts state
+unfolding rule opening direction interface family protocol destination hosts state
 rule_decided = refl

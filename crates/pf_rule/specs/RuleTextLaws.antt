@@ -61,7 +61,6 @@ unfolding direction
 direction_written d = record { spells = grind arith; words = grind arith }
 
 quick_written : (q : Bool) → Written quick q (quick_words q)
-unfolding quick
 quick_written q = record { spells = grind arith; words = grind arith }
 
 family_written : (f : Option Family) → Written family f (family_words f)

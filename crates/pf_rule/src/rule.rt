@@ -108,7 +108,7 @@ impl Rule {
     /// Reads a rule from the front of the words that are left. It takes no memory.
     ///
     /// A refusal stands at the first word at which no rule can go on. None where the written families differ.
-    #[tactic(auto, unfolding(crate::specs::RuleGrammar::rule, crate::specs::RuleGrammar::quick))]
+    #[tactic(auto, unfolding(crate::specs::RuleGrammar::rule))]
     pub fn read<'a>(words: &mut Words<'a>) -> Result<Option<Rule>, Stop>
         ensures { Moves rule result words.old.now words.new.now }
     {
