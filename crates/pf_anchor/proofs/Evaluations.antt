@@ -7,7 +7,8 @@ use Rattle.pf_anchor.specs.declared.evaluated.Evaluated.TheVariants.{Open, Ended
 use Rattle.pf_anchor.specs.declared.evaluated.Decision.{Decision}
 use Rattle.pf_anchor.specs.Evaluation.{and_then, settled, rules_from, decision, decides, matching, last_of, verdict_by}
 use Rattle.pf_anchor.specs.EvaluationLaws.{IsDeciding, TellsWhatDecides}
-use Rattle.pf_anchor.specs.Rulesets.{main, rules_at}
+use Rattle.pf_path.specs.Paths.{main}
+use Rattle.pf_anchor.specs.Rulesets.{rules_at}
 
 pub none_and_then : {M : Type 0} (x : Evaluated M) → and_then (Open None) x ≡ x
 none_and_then (Ended m) = refl

@@ -8,7 +8,8 @@ use Rattle.pf_anchor.specs.declared.evaluated.Evaluated.TheVariants.{Open, Ended
 use Rattle.pf_anchor.specs.declared.evaluated.Decision.{Decision}
 use Rattle.pf_anchor.specs.declared.verdict.RuleVerdict.{RuleVerdict}
 use Rattle.pf_anchor.specs.declared.verdict.RuleVerdict.TheVariants as by
-use Rattle.pf_anchor.specs.Rulesets.{Ruled, main, rules_at}
+use Rattle.pf_path.specs.Paths.{main}
+use Rattle.pf_anchor.specs.Rulesets.{Ruled, rules_at}
 
 -- two evaluations one after the other: the later match stands, and what has ended ends all
 abbrev pub and_then : {M : Type 0} → Evaluated M → Evaluated M → Evaluated M

@@ -5,7 +5,8 @@ use Rattle.pf_rule.specs.Packets.{PlainPacket}
 use Rattle.pf_rule.specs.Rules.{PlainRule}
 use Rattle.pf_anchor.specs.declared.verdict.RuleVerdict.TheVariants as by
 use Rattle.pf_anchor.specs.Evaluation.{matching, judged}
-use Rattle.pf_anchor.specs.Rulesets.{Ruled, main, rules_at}
+use Rattle.pf_path.specs.Paths.{main}
+use Rattle.pf_anchor.specs.Rulesets.{Ruled, rules_at}
 
 -- the rule with this number matches, no quick rule before it does, and it is quick or no later rule matches
 pub record IsDeciding (test : PlainRule → Bool) (rules : List PlainRule) (number : ℕ) (rule : PlainRule) : Type 0 where

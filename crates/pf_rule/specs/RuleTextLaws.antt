@@ -23,7 +23,8 @@ use Rattle.pf_rule.specs.declared.rule.Action.TheVariants.{Pass, Block}
 use Rattle.pf_rule.specs.declared.rule.Direction.{Direction}
 use Rattle.pf_rule.specs.declared.rule.Host.{Host}
 use Rattle.pf_rule.specs.declared.rule.Host.TheVariants.{Any, Net}
-use Rattle.pf_rule.specs.Names.{IsInterfaceName, is_name_byte}
+use Rattle.pf_path.specs.Names.{is_name_byte}
+use Rattle.pf_rule.specs.Names.{IsInterfaceName}
 use Rattle.pf_rule.specs.Values.{interface_of, protocol_names, number_named, protocol_of, host_of}
 use Rattle.pf_rule.specs.Rules.{PlainRule, IsRule, HostFits}
 use Rattle.pf_rule.specs.RuleGrammar.{opening, direction, quick, interface, family, protocol, destination, hosts, state, action_of, host_family, agreed, agreeing, rule, rule_decided}

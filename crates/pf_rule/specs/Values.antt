@@ -18,7 +18,7 @@ use Rattle.pf_rule.specs.declared.protocol.TheConstants.Protocol as protocols
 use Rattle.pf_rule.specs.declared.values.TheConstants.{PROTOCOL_DIGITS, PORT_DIGITS}
 use Rattle.pf_rule.specs.declared.rule.Host.{Host}
 use Rattle.pf_rule.specs.declared.rule.Host.TheVariants.{Any, Net}
-use Rattle.pf_rule.specs.Names.{is_name_byte}
+use Rattle.pf_path.specs.Names.{is_name_byte}
 
 -- ---- an interface's name; its length is tested first
 

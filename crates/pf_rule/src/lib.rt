@@ -21,4 +21,3 @@ pub use laws::{
 pub use packet::Packet;
 pub use protocol::Protocol;
 pub use rule::{Action, Direction, Host, Rule};
-pub use values::has_name_bytes;

@@ -7,13 +7,14 @@ use Rattle.std.specs.Str.{bytes_eq}
 use Rattle.std.proofs.lemmas.Bool.Decides.{nat_tests}
 use Rattle.std.proofs.lemmas.List.Splits.{length-slice_split, slice_split_at, slice_split_none, join_with_byte-slice_split}
 use Rattle.std.proofs.lemmas.List.Sums.{AllPass-from_list_all}
+use Rattle.std.proofs.lemmas.Map.Text.{is_eq-slice_cmp}
 use Rattle.std.proofs.lemmas.Slice.Eq.{bytes_eq-Decides}
 use Rattle.pf_form.specs.declared.fault.Kind.{Kind}
-use Rattle.pf_rule.specs.Names.{is_name_byte}
+use Rattle.pf_path.specs.Names.{is_name_byte}
 use Rattle.pf_form.specs.Words.{Word}
-use Rattle.pf_anchor.specs.Paths.{is_slash, components, component_fault, first_fault, depth_fault, path_fault, path_of, path_text, is_path}
-use Rattle.pf_anchor.specs.PathGrammar.{IsComponent, IsPathText, SpellsPath}
-use Rattle.pf_anchor.specs.Rulesets.{main}
+use Rattle.pf_path.specs.Paths.{is_slash, components, component_fault, first_fault, depth_fault, path_fault, path_of, path_text, is_path, main}
+use Rattle.pf_path.specs.PathGrammar.{IsComponent, IsPathText, SpellsPath}
+use Rattle.pf_path.specs.PathLaws.{SamePathIsEqual}
 
 -- ---- components
 
@@ -111,3 +112,8 @@ none_of (Some k) e = absurd (cc)
 pub read_again : (p : List ℕ) → is_path p ≡ true → path_of (path_text p) ≡ Ok p
 read_again [] is = refl
 read_again (b ∷ bs) is = read_faultless (b ∷ bs) (none_of (path_fault (b ∷ bs)) is)
+
+-- ---- the same path
+
+pub same_path_is : SamePathIsEqual
+same_path_is p q h = (bytes_eq-Decides p q).0 (sym (is_eq-slice_cmp p q) ∙ h)

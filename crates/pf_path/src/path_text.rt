@@ -1,11 +1,11 @@
 //! Texts of paths.
 ghost use Rattle.std.specs.Prelude.{◌≡◌, ◌<◌, length, count_by, IfSome};
 ghost use Rattle.std.specs.List.{position};
-ghost use Rattle.pf_anchor.specs.Paths.{is_slash, components, is_component, component_fault, first_fault, depth_fault, path_fault};
+ghost use Rattle.pf_path.specs.Paths.{is_slash, components, is_component, component_fault, first_fault, depth_fault, path_fault};
 
 use crate::limits::{COMPONENT_LIMIT, DEPTH_LIMIT, PATH_LIMIT};
+use crate::names::has_name_bytes;
 use pf_form::Kind;
-use pf_rule::has_name_bytes;
 
 /// Why a word is no path, if it is none: its length comes first, then its components from left to right, then their
 /// number. It takes no memory.

@@ -1,10 +1,10 @@
 -- Which words spell a path (pf.conf(5), ANCHORS), by cases.
 use Rattle.std.specs.Prelude.{◌≡◌, ◌≢◌, ◌⊎◌, ℕ, ◌<◌, ◌≤◌, true, List, length, codes}
 use Rattle.std.specs.List.{AllByRecursion, list_all, join_with_byte}
-use Rattle.pf_rule.specs.Names.{is_name_byte}
+use Rattle.pf_path.specs.Names.{is_name_byte}
 use Rattle.pf_form.specs.Words.{Word}
-use Rattle.pf_anchor.specs.declared.limits.TheConstants.{PATH_LIMIT, COMPONENT_LIMIT, DEPTH_LIMIT}
-use Rattle.pf_anchor.specs.Rulesets.{main}
+use Rattle.pf_path.specs.declared.limits.TheConstants.{PATH_LIMIT, COMPONENT_LIMIT, DEPTH_LIMIT}
+use Rattle.pf_path.specs.Paths.{main}
 
 -- 1 to 63 bytes of a name, and neither ".." nor "-"
 pub record IsComponent (c : List ℕ) : Type 0 where

@@ -1,0 +1,2 @@
+mod PathTexts
+pub mod PathsRead

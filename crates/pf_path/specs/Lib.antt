@@ -1,0 +1,4 @@
+pub mod Names
+pub mod Paths
+pub mod PathGrammar
+pub mod PathLaws
