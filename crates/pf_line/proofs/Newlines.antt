@@ -14,7 +14,7 @@ use Rattle.pf_rule.specs.Rules.{PlainRule, IsRule}
 use Rattle.pf_rule.specs.RuleText.{rule_text}
 use Rattle.pf_rule.specs.RuleTextLaws.{rule_text_bytes}
 use Rattle.pf_path.specs.Paths.{is_path}
-use Rattle.pf_path.specs.PathGrammar.{IsComponent, IsPathText}
+use Rattle.pf_path.specs.PathGrammar.{IsComponent, IsNames}
 use Rattle.pf_path.specs.PathLaws.{ReadsWhatIsSpelled, ReadsWhatIsWritten}
 use Rattle.pf_line.specs.Replies.{newlines}
 
@@ -67,7 +67,7 @@ pub path_plain : ReadsWhatIsSpelled → ReadsWhatIsWritten → (p : List ℕ) �
 path_plain spelled again [] e = refl
 path_plain spelled again (b ∷ bs) e = elim (spelled (b ∷ bs) (b ∷ bs) (again (b ∷ bs) e)) [
   | inl main ↦ absurd (cc (main.1))
-  | inr path ↦ let is : IsPathText (b ∷ bs) = path.0 in ap newlines is.joined ∙ join_plain 47 refl is.parts ∙ components_plain is.parts is.each
+  | inr path ↦ let is : IsNames (b ∷ bs) = path.0.names in ap newlines is.joined ∙ join_plain 47 refl is.parts ∙ components_plain is.parts is.each
 ]
 
 -- ---- rules

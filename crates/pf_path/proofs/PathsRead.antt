@@ -1,5 +1,5 @@
 -- A word has no fault exactly where the grammar takes it, and reading and writing a path undo each other.
-use Rattle.std.proofs.Common.{◌≡◌, inl, inr, ℕ, ◌<◌, Bool, true, false, List, [], ◌∷◌, length, Some, None, Option, Ok, Err, refl, sym, ap, subst, ◌∙◌, arith}
+use Rattle.std.proofs.Common.{◌≡◌, inl, inr, ℕ, ◌<◌, ◌≤◌, Bool, true, false, List, [], ◌∷◌, length, Some, None, Option, Ok, Err, refl, sym, ap, subst, ◌∙◌, arith}
 use Rattle.std.specs.Prelude.{codes, if◌then◌else◌}
 use Rattle.std.specs.List.{AllByRecursion, join_with_byte, All}
 use Rattle.std.specs.Option.{is_none, option_map_or, option_or}
@@ -12,8 +12,9 @@ use Rattle.std.proofs.lemmas.Slice.Eq.{bytes_eq-Decides}
 use Rattle.pf_form.specs.declared.fault.Kind.{Kind}
 use Rattle.pf_path.specs.Names.{is_name_byte}
 use Rattle.pf_form.specs.Words.{Word}
-use Rattle.pf_path.specs.Paths.{is_slash, components, component_fault, first_fault, depth_fault, path_fault, path_of, path_text, is_path, main}
-use Rattle.pf_path.specs.PathGrammar.{IsComponent, IsPathText, SpellsPath}
+use Rattle.pf_path.specs.declared.limits.TheConstants.{PATH_LIMIT}
+use Rattle.pf_path.specs.Paths.{is_slash, components, component_fault, first_fault, depth_fault, fault_within, path_fault, path_of, path_text, is_path, main}
+use Rattle.pf_path.specs.PathGrammar.{IsComponent, IsNames, IsPathText, SpellsPath}
 use Rattle.pf_path.specs.PathLaws.{SamePathIsEqual}
 
 -- ---- components
@@ -56,25 +57,32 @@ split_joined (c ∷ d ∷ cs) is some =
 
 -- ---- a word
 
-faultless_only : (w : Word) → path_fault w ≡ None → IsPathText w
-faultless_only w e =
+pub names_only : (limit : ℕ) (text w : Word) → fault_within limit text w ≡ None → IsNames w × (length text ≤ limit)
+names_only limit text w e =
     let tests : option_or (first_fault (components w)) (depth_fault (length (components w))) ≡ None = grind (arith, nat_tests) in
     let faults = none_parts (first_fault (components w)) (depth_fault (length (components w))) tests in
-    record {
+    let names : IsNames w = record {
       parts = components w;
       each = each_is (components w) faults.0;
       some = omega (arith, length-slice_split is_slash w);
       few = let few = faults.1 in grind (arith, nat_tests);
       joined = sym (join_with_byte-slice_split 47 w);
-      short = grind (arith, nat_tests);
-    }
+    } in
+    (names, grind (arith, nat_tests))
 
-faultless_found : (w : Word) → IsPathText w → path_fault w ≡ None
-faultless_found w is =
+pub names_found : (limit : ℕ) (text w : Word) → IsNames w → length text ≤ limit → fault_within limit text w ≡ None
+names_found limit text w is short =
     let cut : components w ≡ is.parts = ap components is.joined ∙ split_joined is.parts is.each is.some in
     let none : first_fault (components w) ≡ None = ap first_fault cut ∙ each_faultless is.parts is.each in
     let few = ap (λ (cs : List (List ℕ)). length cs) cut in
+    let more = is.few in
     rw none (grind (arith, nat_tests))
+
+faultless_only : (w : Word) → path_fault w ≡ None → IsPathText w
+faultless_only w e = let is = names_only PATH_LIMIT w w e in record { names = is.0; short = is.1 }
+
+faultless_found : (w : Word) → IsPathText w → path_fault w ≡ None
+faultless_found w is = names_found PATH_LIMIT w w is.names is.short
 
 -- ---- reading and writing
 

@@ -14,13 +14,17 @@ pub record IsComponent (c : List ℕ) : Type 0 where
   pub no_dots : c ≢ codes ".."
   pub no_dash : c ≢ codes "-"
 
--- 1 to 16 components with a slash (47) between each two, and at most 255 bytes in all
-pub record IsPathText (w : Word) : Type 0 where
+-- 1 to 16 components with a slash (47) between each two
+pub record IsNames (w : Word) : Type 0 where
   pub parts : List (List ℕ)
   pub each : AllByRecursion IsComponent parts
   pub some : 0 < length parts
   pub few : length parts ≤ DEPTH_LIMIT
   pub joined : w ≡ join_with_byte 47 parts
+
+-- and at most 255 bytes in all
+pub record IsPathText (w : Word) : Type 0 where
+  pub names : IsNames w
   pub short : length w ≤ PATH_LIMIT
 
 -- "-" spells the main ruleset's path, and each other path spells itself

@@ -48,9 +48,13 @@ first_fault (c ∷ cs) = option_or (component_fault c) (first_fault cs)
 abbrev pub depth_fault : ℕ → Option Kind
 depth_fault n = if nat_lt DEPTH_LIMIT n then Some NameTooLong else None
 
--- why a word is no path: its length first, then its components from left to right, then their number
+-- why a text of so many bytes at most can't have these names in it: its whole length first, then their components from left to right, then the number of these
+abbrev pub fault_within : ℕ → Word → Word → Option Kind
+fault_within limit text names = if nat_lt limit (length text) then Some NameTooLong else option_or (first_fault (components names)) (depth_fault (length (components names)))
+
+-- why a word is no path
 abbrev pub path_fault : Word → Option Kind
-path_fault w = if nat_lt PATH_LIMIT (length w) then Some NameTooLong else option_or (first_fault (components w)) (depth_fault (length (components w)))
+path_fault w = fault_within PATH_LIMIT w w
 
 -- PATH: "-" for the main ruleset, else the path itself
 abbrev pub path_of : Word → Result (List ℕ) Kind

@@ -1,5 +1,6 @@
 //! What follows from the definitions that contracts cite: functions that do nothing, whose contracts are the laws.
 ghost use Rattle.pf_path.specs.PathLaws.{ReadsWhatIsSpelled, ReadsAllThatIsSpelled, WritesWhatWasRead, ReadsWhatIsWritten, SamePathIsEqual};
+ghost use Rattle.pf_path.specs.ReferenceLaws.{ReferenceIsSpelled, SpelledReferenceIsRead};
 
 /// A path is read from a word exactly where the word spells it.
 #[tactic(auto, using(crate::proofs::PathsRead::read_is_spelled, crate::proofs::PathsRead::spelled_is_read))]
@@ -20,4 +21,11 @@ pub fn paths_are_read_again()
 #[tactic(auto, using(crate::proofs::PathsRead::same_path_is))]
 pub fn same_paths_are_equal()
     ensures { SamePathIsEqual }
+{}
+
+/// A reference is read from a word exactly where the word spells it.
+#[tactic(auto, using(crate::proofs::ReferencesRead::read_is_spelled, crate::proofs::ReferencesRead::spelled_is_read))]
+pub fn references_are_read_as_spelled()
+    ensures read { ReferenceIsSpelled }
+    ensures spelled { SpelledReferenceIsRead }
 {}

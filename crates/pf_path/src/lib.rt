@@ -6,7 +6,9 @@ mod limits;
 mod names;
 mod path;
 mod path_text;
+mod reference;
 
-pub use limits::{COMPONENT_LIMIT, DEPTH_LIMIT, PATH_LIMIT};
+pub use limits::{COMPONENT_LIMIT, DEPTH_LIMIT, PATH_LIMIT, REFERENCE_LIMIT};
 pub use names::has_name_bytes;
 pub use path::Path;
+pub use reference::Reference;

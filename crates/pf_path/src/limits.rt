@@ -8,3 +8,6 @@ pub const COMPONENT_LIMIT: usize = 63;
 
 /// How many components a path may have.
 pub const DEPTH_LIMIT: usize = 16;
+
+/// How many bytes a reference may have, with the `/*` at its end and without quotes.
+pub const REFERENCE_LIMIT: usize = 63;

@@ -51,7 +51,7 @@ impl Path {
         if text == b"-".as_slice() {
             return Ok(Path::main());
         }
-        match fault_in(text) {
+        match fault_in(PATH_LIMIT, text, text) {
             None => Ok(Path::holding(text)),
             Some(kind) => Err(kind),
         }
