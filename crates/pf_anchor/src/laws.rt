@@ -23,7 +23,7 @@ pub fn one_map()
     ensures { OneMap }
 {}
 
-/// The default is told where no rule of the main ruleset matches; else the number of a rule that matches, with no quick
+/// Where all rules of the main ruleset decide: the default is told where none of them matches; else the number of a rule that matches, with no quick
 /// rule that matches before it, and that is quick or has no later rule that matches.
 #[tactic(auto, using(crate::proofs::Evaluations::tells_what_decides))]
 pub fn the_last_or_quick_rule_decides()
