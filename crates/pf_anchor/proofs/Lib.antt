@@ -1,5 +1,3 @@
-pub mod PathTexts
-pub mod PathsRead
 pub mod Maps
 pub mod RulesetMaps
 pub mod Pages

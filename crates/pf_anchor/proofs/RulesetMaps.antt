@@ -4,15 +4,11 @@ use Rattle.std.specs.Prelude.{fold}
 use Rattle.std.specs.FinMap.{find, slice_cmp-IsAntisymmetric, nat_cmp-IsAntisymmetric}
 use Rattle.std.specs.FinMap.Entries.{same_entries}
 use Rattle.std.proofs.lemmas.Cmp.{eq_by_cmp_equiv, nat_list_cmp_total}
-use Rattle.std.proofs.lemmas.Map.Text.{is_eq-slice_cmp}
-use Rattle.std.proofs.lemmas.Slice.Eq.{bytes_eq-Decides}
 use Rattle.pf_rule.specs.Rules.{PlainRule}
-use Rattle.pf_anchor.specs.Laws.{rules_by, ReplacesInTurn, StaysMap, SamePathIsEqual, OneMap}
-use Rattle.pf_anchor.specs.Rulesets.{Ruled, path_order, same_path, unless_empty, rules_in, rules_at, with_rules, IsMap}
+use Rattle.pf_anchor.specs.Laws.{rules_by, ReplacesInTurn, StaysMap, OneMap}
+use Rattle.pf_path.specs.Paths.{path_order, same_path}
+use Rattle.pf_anchor.specs.Rulesets.{Ruled, unless_empty, rules_in, rules_at, with_rules, IsMap}
 use Rattle.pf_anchor.proofs.Maps.{replaces_the_key, stays_sorted, with_grows}
-
-pub same_path_is : SamePathIsEqual
-same_path_is p q h = (bytes_eq-Decides p q).0 (sym (is_eq-slice_cmp p q) ∙ h)
 
 -- ---- replaced
 

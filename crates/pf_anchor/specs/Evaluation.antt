@@ -3,12 +3,15 @@ use Rattle.std.specs.Prelude.{ℕ, ◌+◌, Bool, cond, List, [], ◌∷◌, Opt
 use Rattle.pf_rule.specs.Packets.{PlainPacket}
 use Rattle.pf_rule.specs.Rules.{PlainRule, matches}
 use Rattle.pf_rule.specs.declared.rule.Action.{Action}
+use Rattle.pf_rule.specs.declared.rule.Effect.{Effect}
+use Rattle.pf_rule.specs.declared.rule.Effect.TheVariants.{Decide, Evaluate}
 use Rattle.pf_anchor.specs.declared.evaluated.Evaluated.{Evaluated}
 use Rattle.pf_anchor.specs.declared.evaluated.Evaluated.TheVariants.{Open, Ended}
 use Rattle.pf_anchor.specs.declared.evaluated.Decision.{Decision}
 use Rattle.pf_anchor.specs.declared.verdict.RuleVerdict.{RuleVerdict}
 use Rattle.pf_anchor.specs.declared.verdict.RuleVerdict.TheVariants as by
-use Rattle.pf_anchor.specs.Rulesets.{Ruled, main, rules_at}
+use Rattle.pf_path.specs.Paths.{main}
+use Rattle.pf_anchor.specs.Rulesets.{Ruled, rules_at}
 
 -- two evaluations one after the other: the later match stands, and what has ended ends all
 abbrev pub and_then : {M : Type 0} → Evaluated M → Evaluated M → Evaluated M
@@ -35,9 +38,13 @@ rules_from effect test n (r ∷ rs) = and_then (said effect test n r) (rules_fro
 abbrev pub decision : ℕ → Action → Decision
 decision n a = record { number = n; action = a }
 
--- the effect of a rule: it decides. An anchor rule will give what the rulesets give that it asks
+-- the effect of a rule: it decides. What an anchor rule names isn't evaluated yet
+abbrev pub effected : ℕ → Effect → Evaluated Decision
+effected n (Decide a) = Open (Some (decision n a))
+effected n (Evaluate r) = Open None
+
 abbrev pub decides : ℕ → PlainRule → Evaluated Decision
-decides n r = Open (Some (decision n r.action))
+decides n r = effected n r.effect
 
 abbrev pub matching : PlainPacket → PlainRule → Bool
 matching packet r = matches r packet

@@ -1,11 +1,12 @@
 -- What follows from the definitions of maps, as law functions promise it.
-use Rattle.std.specs.Prelude.{◌≡◌, ℕ, T, true, cond, List, [], ◌∷◌, Option, fold}
+use Rattle.std.specs.Prelude.{◌≡◌, ℕ, T, cond, List, [], ◌∷◌, Option, fold}
 use Rattle.std.specs.declared.cmp.Ordering.{Ordering}
 use Rattle.std.specs.FinMap.{IsAntisymmetric, find, is_sorted}
 use Rattle.std.specs.Ordering.{eq_by_cmp}
 use Rattle.pf_rule.specs.Rules.{PlainRule}
 use Rattle.pf_anchor.specs.Maps.{with_value}
-use Rattle.pf_anchor.specs.Rulesets.{Ruled, same_path, rules_at, with_rules, IsMap}
+use Rattle.pf_path.specs.Paths.{same_path}
+use Rattle.pf_anchor.specs.Rulesets.{Ruled, rules_at, with_rules, IsMap}
 
 -- ---- any map, under keys in a total order
 
@@ -35,10 +36,6 @@ ReplacesInTurn = (items es : List Ruled) (q : List ℕ) → rules_at q (fold wit
 -- and it leaves a map
 abbrev pub StaysMap : Type 0
 StaysMap = (items es : List Ruled) → IsMap es → IsMap (fold with_rules es items)
-
--- paths that are the same are equal
-abbrev pub SamePathIsEqual : Type 0
-SamePathIsEqual = (p q : List ℕ) → same_path p q ≡ true → p ≡ q
 
 -- two maps of which the same is read at each path are one
 abbrev pub OneMap : Type 0

@@ -1,22 +1,9 @@
--- Rulesets at paths (pf.conf(5), ANCHORS): a finite map. That an empty ruleset doesn't exist and that paths are ordered by their bytes is own.
-use Rattle.std.specs.Prelude.{◌≢◌, ℕ, T, Bool, List, [], ◌∷◌, Option, Some, None}
-use Rattle.std.specs.declared.cmp.Ordering.{Ordering}
-use Rattle.std.specs.Ordering.{nat_cmp, eq_by_cmp}
-use Rattle.std.specs.Cmp.Lexicographic.{slice_cmp}
+-- Rulesets at paths (pf.conf(5), ANCHORS): a finite map. That an empty ruleset doesn't exist is own.
+use Rattle.std.specs.Prelude.{◌≢◌, ℕ, T, List, [], ◌∷◌, Option, Some, None}
 use Rattle.std.specs.FinMap.{find, is_sorted}
+use Rattle.pf_path.specs.Paths.{path_order}
 use Rattle.pf_rule.specs.Rules.{PlainRule}
 use Rattle.pf_anchor.specs.Maps.{with_value}
-
--- the path of the main ruleset
-abbrev pub main : List ℕ
-main = []
-
--- paths are ordered by the bytes of their text
-abbrev pub path_order : List ℕ → List ℕ → Ordering
-path_order p q = slice_cmp nat_cmp p q
-
-abbrev pub same_path : List ℕ → List ℕ → Bool
-same_path p q = eq_by_cmp path_order p q
 
 -- a path and the rules there
 abbrev pub Ruled : Type 0

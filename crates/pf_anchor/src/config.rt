@@ -1,16 +1,17 @@
 //! The active rulesets.
 ghost use Rattle.std.specs.Prelude.{◌≡◌, ◌≤◌, ◌<◌, [], ◌++◌, length, IfOk, OnOk, fold, nat_lt};
 ghost use Rattle.std.specs.Option.{MatchOption};
-ghost use Rattle.pf_anchor.specs.Rulesets.{Ruled, path_order, rules_at, with_rules, IsMap};
+ghost use Rattle.pf_path.specs.Paths.{path_order};
+ghost use Rattle.pf_anchor.specs.Rulesets.{Ruled, rules_at, with_rules, IsMap};
 ghost use Rattle.pf_anchor.specs.Evaluation.{judged};
 ghost use Rattle.pf_anchor.specs.Pages.{joined, starts_behind, page_before, IsPlace};
 
 use crate::limits::RULESET_LIMIT;
 use crate::page::{PAGE_LIMIT, Page, push_page, replaced};
-use crate::path::Path;
 use crate::placed::Placed;
 use crate::rule_list::RuleList;
 use crate::verdict::RuleVerdict;
+use pf_path::Path;
 use pf_rule::Packet;
 use std::alloc::{AllocError, Global};
 use std::marker::Model;

@@ -1,9 +1,9 @@
 //! What an evaluation has found.
 ghost use Rattle.std.specs.Prelude.{◌≡◌, ◌≤◌, length};
-ghost use Rattle.pf_anchor.specs.Evaluation.{evaluation, settled, last_of};
+ghost use Rattle.pf_anchor.specs.Evaluation.{effected, evaluation, settled, last_of};
 
 use crate::limits::RULE_LIMIT;
-use pf_rule::{Action, Packet, Rule};
+use pf_rule::{Action, Effect, Packet, Rule};
 
 /// The rule of a ruleset that decides: its number there from 0, and what it does.
 #[derive(Clone, Copy, Debug, PartialEq, Eq)]
@@ -43,6 +43,16 @@ impl<M: Drop> Evaluated<M> {
     }
 }
 
+// What a rule gives that matches. What an anchor rule names isn't evaluated yet.
+fn effected(number: u32, effect: Effect) -> Evaluated<Decision>
+    ensures { result ≡ effected number effect }
+{
+    match effect {
+        Effect::Decide(action) => Evaluated::Open(Some(Decision { number, action })),
+        Effect::Evaluate(_) => Evaluated::Open(None),
+    }
+}
+
 /// What a ruleset's rules give for a packet: the last that matches, or the first quick one that does.
 #[tactic(auto, using(crate::proofs::Evaluations::none_and_then))]
 pub(crate) fn evaluate(rules: &[Rule], packet: &Packet) -> Evaluated<Decision>
@@ -52,10 +62,7 @@ pub(crate) fn evaluate(rules: &[Rule], packet: &Packet) -> Evaluated<Decision>
     let mut last = None;
     for (number, rule) in rules.iter().enumerate() {
         if rule.matches(packet) {
-            let found = Evaluated::Open(Some(Decision {
-                number: number as u32,
-                action: rule.action(),
-            }));
+            let found = effected(number as u32, rule.effect());
             match found.settled(rule.is_quick()) {
                 Evaluated::Open(latest) => last = latest.or(last),
                 Evaluated::Ended(end) => return Evaluated::Ended(end),

@@ -6,16 +6,14 @@ mod evaluated;
 pub mod laws;
 mod limits;
 mod page;
-mod path;
-mod path_text;
 mod placed;
 mod rule_list;
 mod verdict;
 
 pub use config::Config;
 pub use evaluated::{Decision, Evaluated};
-pub use limits::{COMPONENT_LIMIT, DEPTH_LIMIT, PATH_LIMIT, RULE_LIMIT, RULESET_LIMIT};
-pub use path::Path;
+pub use limits::{RULE_LIMIT, RULESET_LIMIT};
+pub use pf_path::{COMPONENT_LIMIT, DEPTH_LIMIT, PATH_LIMIT, Path};
 pub use placed::Placed;
 pub use rule_list::RuleList;
 pub use verdict::RuleVerdict;

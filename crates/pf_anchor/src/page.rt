@@ -4,10 +4,11 @@ ghost use Rattle.std.specs.List.{position};
 ghost use Rattle.std.specs.Ordering.{is_lt};
 ghost use Rattle.pf_anchor.specs.Maps.{without};
 ghost use Rattle.pf_anchor.specs.Pages.{joined};
-ghost use Rattle.pf_anchor.specs.Rulesets.{path_order, with_rules};
+ghost use Rattle.pf_path.specs.Paths.{path_order};
+ghost use Rattle.pf_anchor.specs.Rulesets.{with_rules};
 
-use crate::path::Path;
 use crate::placed::Placed;
+use pf_path::Path;
 use std::alloc::{AllocError, Global};
 use std::marker::Model;
 use std::sync::Arc;

@@ -1,10 +1,11 @@
 //! A ruleset at its path.
 ghost use Rattle.std.specs.Prelude.{◌≡◌, IfOk};
 ghost use Rattle.std.specs.Ordering.{is_lt};
-ghost use Rattle.pf_anchor.specs.Rulesets.{ruled, path_order};
+ghost use Rattle.pf_path.specs.Paths.{path_order};
+ghost use Rattle.pf_anchor.specs.Rulesets.{ruled};
 
-use crate::path::Path;
 use crate::rule_list::RuleList;
+use pf_path::Path;
 use std::alloc::{AllocError, Global};
 use std::marker::Model;
 use std::sync::Arc;

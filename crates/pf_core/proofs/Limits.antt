@@ -36,7 +36,8 @@ use Rattle.std.proofs.lemmas.List.Sums.{fold_push}
 use Rattle.pf_rule.specs.Rules.{PlainRule}
 use Rattle.pf_anchor.specs.declared.limits.TheConstants.{RULE_LIMIT}
 use Rattle.pf_anchor.specs.Laws.{rules_by}
-use Rattle.pf_anchor.specs.Rulesets.{Ruled, same_path, rules_at}
+use Rattle.pf_path.specs.Paths.{same_path}
+use Rattle.pf_anchor.specs.Rulesets.{Ruled, rules_at}
 use Rattle.pf_anchor.proofs.RulesetMaps.{replaced_in_turn}
 use Rattle.pf_ticket.specs.declared.entry.Entry.{Entry}
 use Rattle.pf_ticket.specs.declared.offered.Offered.{Offered}

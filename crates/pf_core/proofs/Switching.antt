@@ -5,7 +5,8 @@ use Rattle.std.proofs.lemmas.List.{map-id}
 use Rattle.std.proofs.lemmas.Simd.{map-map}
 use Rattle.pf_rule.specs.Rules.{PlainRule}
 use Rattle.pf_anchor.specs.Laws.{rules_by}
-use Rattle.pf_anchor.specs.Rulesets.{Ruled, ruled, same_path, rules_at}
+use Rattle.pf_path.specs.Paths.{same_path}
+use Rattle.pf_anchor.specs.Rulesets.{Ruled, ruled, rules_at}
 use Rattle.pf_anchor.proofs.RulesetMaps.{map_all, replaced_in_turn}
 use Rattle.pf_ticket.specs.declared.entry.Entry.{Entry}
 use Rattle.pf_ticket.specs.declared.name.RulesetKind.{RulesetKind}

@@ -9,13 +9,13 @@ use Rattle.std.proofs.lemmas.Bool.Decides.{nat_tests}
 use Rattle.std.proofs.lemmas.Fmt.{decimal_is_IsNumeral}
 use Rattle.std.proofs.lemmas.List.Elements.{All-head, All-tail}
 use Rattle.std.proofs.lemmas.List.Sums.{AllPass-from_list_all}
-use Rattle.pf_rule.specs.Names.{is_name_byte}
+use Rattle.pf_path.specs.Names.{is_name_byte}
 use Rattle.pf_rule.specs.Rules.{PlainRule, IsRule}
 use Rattle.pf_rule.specs.RuleText.{rule_text}
 use Rattle.pf_rule.specs.RuleTextLaws.{rule_text_bytes}
-use Rattle.pf_anchor.specs.Paths.{is_path}
-use Rattle.pf_anchor.specs.PathGrammar.{IsComponent, IsPathText}
-use Rattle.pf_anchor.specs.PathLaws.{ReadsWhatIsSpelled, ReadsWhatIsWritten}
+use Rattle.pf_path.specs.Paths.{is_path}
+use Rattle.pf_path.specs.PathGrammar.{IsComponent, IsNames}
+use Rattle.pf_path.specs.PathLaws.{ReadsWhatIsSpelled, ReadsWhatIsWritten}
 use Rattle.pf_line.specs.Replies.{newlines}
 
 pub newlines-append : (a b : List ℕ) → newlines (a ++ b) ≡ newlines a + newlines b
@@ -67,7 +67,7 @@ pub path_plain : ReadsWhatIsSpelled → ReadsWhatIsWritten → (p : List ℕ) �
 path_plain spelled again [] e = refl
 path_plain spelled again (b ∷ bs) e = elim (spelled (b ∷ bs) (b ∷ bs) (again (b ∷ bs) e)) [
   | inl main ↦ absurd (cc (main.1))
-  | inr path ↦ let is : IsPathText (b ∷ bs) = path.0 in ap newlines is.joined ∙ join_plain 47 refl is.parts ∙ components_plain is.parts is.each
+  | inr path ↦ let is : IsNames (b ∷ bs) = path.0.names in ap newlines is.joined ∙ join_plain 47 refl is.parts ∙ components_plain is.parts is.each
 ]
 
 -- ---- rules

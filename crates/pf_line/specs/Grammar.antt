@@ -19,8 +19,8 @@ use Rattle.pf_ticket.specs.declared.name.RulesetKind.TheVariants.{Filter}
 use Rattle.pf_ticket.specs.declared.name.RulesetName.{RulesetName}
 use Rattle.pf_ticket.specs.declared.ticket.Ticket.{Ticket}
 use Rattle.pf_ticket.specs.Names.{ticket}
-use Rattle.pf_anchor.specs.Paths.{path_of}
-use Rattle.pf_anchor.specs.Rulesets.{main}
+use Rattle.pf_path.specs.Paths.{path_of}
+use Rattle.pf_path.specs.Paths.{main}
 use Rattle.pf_line.specs.Tickets.{ticket_of}
 
 -- ---- words that stand for values

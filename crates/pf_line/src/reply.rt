@@ -10,9 +10,9 @@ ghost use Rattle.pf_line.specs.Tickets.{ticket_text};
 ghost use Rattle.pf_line.specs.Replies.{tickets_text, place_text, action_text, rule_verdict_text, answer_text, refusal_text, last_line, shown_in, rule_line, rule_lines, lines_text, reply_text, newlines, HasLines, line_count, GoesOn};
 
 use pf_addr::{write_more, write_more_number};
-use pf_anchor::laws::{paths_are_read_again, paths_are_read_as_spelled};
 use pf_anchor::{Path, RuleVerdict};
 use pf_core::{Answer, Refusal, Reply, Verdict};
+use pf_path::laws::{paths_are_read_again, paths_are_read_as_spelled};
 use pf_rule::{Action, Rule};
 use pf_ticket::TicketRange;
 use std::io::{self, ErrorKind, Write};

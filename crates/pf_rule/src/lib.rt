@@ -20,5 +20,4 @@ pub use laws::{
 };
 pub use packet::Packet;
 pub use protocol::Protocol;
-pub use rule::{Action, Direction, Host, Rule};
-pub use values::has_name_bytes;
+pub use rule::{Action, Direction, Effect, Host, Rule};

@@ -1,8 +1,6 @@
 //! Words that stand for values.
 ghost use Rattle.std.specs.Prelude.{◌≡◌};
-ghost use Rattle.std.specs.List.{list_all};
 ghost use Rattle.pf_form.specs.Numbers.{number_of};
-ghost use Rattle.pf_rule.specs.Names.{is_name_byte};
 ghost use Rattle.pf_rule.specs.Values.{interface_of, protocol_of, port_of, host_of, address_of};
 
 use crate::interface::{INTERFACE_LIMIT, Interface};
@@ -10,24 +8,12 @@ use crate::protocol::Protocol;
 use crate::rule::Host;
 use pf_addr::{Addr, Net};
 use pf_form::{Kind, read_number};
+use pf_path::has_name_bytes;
 
 /// How many digits a protocol's number may have, leading zeros among them.
 pub(crate) const PROTOCOL_DIGITS: usize = 3;
 /// The same of a port.
 pub(crate) const PORT_DIGITS: usize = 5;
-
-fn fits_name(b: u8) -> bool
-    ensures { result ≡ is_name_byte b }
-{
-    b.is_ascii_alphanumeric() || b == b'_' || b == b'.' || b == b'-'
-}
-
-/// Whether each byte of a word is one that a name may have: a letter, a digit, `_`, `.` or `-`.
-pub fn has_name_bytes(word: &[u8]) -> bool
-    ensures { result ≡ list_all is_name_byte word.now }
-{
-    word.iter().all(|b| fits_name(*b))
-}
 
 /// An interface's name. Its length is tested before its bytes.
 pub(crate) fn interface_of(word: &[u8]) -> Result<Interface, Kind>

@@ -1,6 +1,6 @@
 use Rattle.std.proofs.Common.{◌≡◌, ◌<◌, length, false}
 use Rattle.pf_anchor.specs.Pages.{page_before, starts_behind}
-use Rattle.pf_anchor.specs.Rulesets.{path_order}
+use Rattle.pf_path.specs.Paths.{path_order}
 use Rattle.pf_anchor.proofs.config.place_in.Given as goal
 
 abbrev pub invariant-loop-index : goal.invariant-loop-index

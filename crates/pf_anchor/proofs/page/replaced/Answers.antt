@@ -1,5 +1,5 @@
 use Rattle.std.proofs.Common.{sym, ◌∙◌}
-use Rattle.pf_anchor.specs.Rulesets.{path_order}
+use Rattle.pf_path.specs.Paths.{path_order}
 use Rattle.pf_anchor.proofs.Maps.{with_some}
 use Rattle.pf_anchor.proofs.RulesetMaps.{filled}
 use Rattle.pf_anchor.proofs.page.replaced.Goals as goal

@@ -1,8 +1,8 @@
 -- What follows from the definitions of paths, as law functions promise it.
 use Rattle.std.specs.Prelude.{◌≡◌, ℕ, true, List, Ok}
 use Rattle.pf_form.specs.Words.{Word}
-use Rattle.pf_anchor.specs.Paths.{path_of, path_text, is_path}
-use Rattle.pf_anchor.specs.PathGrammar.{SpellsPath}
+use Rattle.pf_path.specs.Paths.{path_of, path_text, is_path, same_path}
+use Rattle.pf_path.specs.PathGrammar.{SpellsPath}
 
 -- what is read is what the word spells
 abbrev pub ReadsWhatIsSpelled : Type 0
@@ -19,3 +19,7 @@ WritesWhatWasRead = (w : Word) (p : List ℕ) → path_of w ≡ Ok p → (is_pat
 -- each path is read again from what it is written as
 abbrev pub ReadsWhatIsWritten : Type 0
 ReadsWhatIsWritten = (p : List ℕ) → is_path p ≡ true → path_of (path_text p) ≡ Ok p
+
+-- paths that are the same are equal
+abbrev pub SamePathIsEqual : Type 0
+SamePathIsEqual = (p q : List ℕ) → same_path p q ≡ true → p ≡ q

@@ -1,21 +1,21 @@
 //! Texts of paths.
 ghost use Rattle.std.specs.Prelude.{◌≡◌, ◌<◌, length, count_by, IfSome};
 ghost use Rattle.std.specs.List.{position};
-ghost use Rattle.pf_anchor.specs.Paths.{is_slash, components, is_component, component_fault, first_fault, depth_fault, path_fault};
+ghost use Rattle.pf_path.specs.Paths.{is_slash, components, is_component, component_fault, first_fault, depth_fault, fault_within};
 
-use crate::limits::{COMPONENT_LIMIT, DEPTH_LIMIT, PATH_LIMIT};
+use crate::limits::{COMPONENT_LIMIT, DEPTH_LIMIT};
+use crate::names::has_name_bytes;
 use pf_form::Kind;
-use pf_rule::has_name_bytes;
 
-/// Why a word is no path, if it is none: its length comes first, then its components from left to right, then their
-/// number. It takes no memory.
-pub(crate) fn fault_in(text: &[u8]) -> Option<Kind>
-    ensures { result ≡ path_fault text.now }
+/// Why a text of at most `limit` bytes can't have these names in it, if it can't: its whole length comes first, then their
+/// components from left to right, then the number of these. It takes no memory.
+pub(crate) fn fault_in(limit: usize, text: &[u8], names: &[u8]) -> Option<Kind>
+    ensures { result ≡ fault_within limit text.now names.now }
 {
-    if text.len() > PATH_LIMIT {
+    if text.len() > limit {
         return Some(Kind::NameTooLong);
     }
-    first_fault_in(text).or_else(|| depth_fault_in(text))
+    first_fault_in(names).or_else(|| depth_fault_in(names))
 }
 
 // The fault of the first component that has one.

@@ -1,5 +1,5 @@
 -- A word has no fault exactly where the grammar takes it, and reading and writing a path undo each other.
-use Rattle.std.proofs.Common.{◌≡◌, inl, inr, ℕ, ◌<◌, Bool, true, false, List, [], ◌∷◌, length, Some, None, Option, Ok, Err, refl, sym, ap, subst, ◌∙◌, arith}
+use Rattle.std.proofs.Common.{◌≡◌, inl, inr, ℕ, ◌<◌, ◌≤◌, Bool, true, false, List, [], ◌∷◌, length, Some, None, Option, Ok, Err, refl, sym, ap, subst, ◌∙◌, arith}
 use Rattle.std.specs.Prelude.{codes, if◌then◌else◌}
 use Rattle.std.specs.List.{AllByRecursion, join_with_byte, All}
 use Rattle.std.specs.Option.{is_none, option_map_or, option_or}
@@ -7,13 +7,15 @@ use Rattle.std.specs.Str.{bytes_eq}
 use Rattle.std.proofs.lemmas.Bool.Decides.{nat_tests}
 use Rattle.std.proofs.lemmas.List.Splits.{length-slice_split, slice_split_at, slice_split_none, join_with_byte-slice_split}
 use Rattle.std.proofs.lemmas.List.Sums.{AllPass-from_list_all}
+use Rattle.std.proofs.lemmas.Map.Text.{is_eq-slice_cmp}
 use Rattle.std.proofs.lemmas.Slice.Eq.{bytes_eq-Decides}
 use Rattle.pf_form.specs.declared.fault.Kind.{Kind}
-use Rattle.pf_rule.specs.Names.{is_name_byte}
+use Rattle.pf_path.specs.Names.{is_name_byte}
 use Rattle.pf_form.specs.Words.{Word}
-use Rattle.pf_anchor.specs.Paths.{is_slash, components, component_fault, first_fault, depth_fault, path_fault, path_of, path_text, is_path}
-use Rattle.pf_anchor.specs.PathGrammar.{IsComponent, IsPathText, SpellsPath}
-use Rattle.pf_anchor.specs.Rulesets.{main}
+use Rattle.pf_path.specs.declared.limits.TheConstants.{PATH_LIMIT}
+use Rattle.pf_path.specs.Paths.{is_slash, components, component_fault, first_fault, depth_fault, fault_within, path_fault, path_of, path_text, is_path, main}
+use Rattle.pf_path.specs.PathGrammar.{IsComponent, IsNames, IsPathText, SpellsPath}
+use Rattle.pf_path.specs.PathLaws.{SamePathIsEqual}
 
 -- ---- components
 
@@ -55,25 +57,32 @@ split_joined (c ∷ d ∷ cs) is some =
 
 -- ---- a word
 
-faultless_only : (w : Word) → path_fault w ≡ None → IsPathText w
-faultless_only w e =
+pub names_only : (limit : ℕ) (text w : Word) → fault_within limit text w ≡ None → IsNames w × (length text ≤ limit)
+names_only limit text w e =
     let tests : option_or (first_fault (components w)) (depth_fault (length (components w))) ≡ None = grind (arith, nat_tests) in
     let faults = none_parts (first_fault (components w)) (depth_fault (length (components w))) tests in
-    record {
+    let names : IsNames w = record {
       parts = components w;
       each = each_is (components w) faults.0;
       some = omega (arith, length-slice_split is_slash w);
       few = let few = faults.1 in grind (arith, nat_tests);
       joined = sym (join_with_byte-slice_split 47 w);
-      short = grind (arith, nat_tests);
-    }
+    } in
+    (names, grind (arith, nat_tests))
 
-faultless_found : (w : Word) → IsPathText w → path_fault w ≡ None
-faultless_found w is =
+pub names_found : (limit : ℕ) (text w : Word) → IsNames w → length text ≤ limit → fault_within limit text w ≡ None
+names_found limit text w is short =
     let cut : components w ≡ is.parts = ap components is.joined ∙ split_joined is.parts is.each is.some in
     let none : first_fault (components w) ≡ None = ap first_fault cut ∙ each_faultless is.parts is.each in
     let few = ap (λ (cs : List (List ℕ)). length cs) cut in
+    let more = is.few in
     rw none (grind (arith, nat_tests))
+
+faultless_only : (w : Word) → path_fault w ≡ None → IsPathText w
+faultless_only w e = let is = names_only PATH_LIMIT w w e in record { names = is.0; short = is.1 }
+
+faultless_found : (w : Word) → IsPathText w → path_fault w ≡ None
+faultless_found w is = names_found PATH_LIMIT w w is.names is.short
 
 -- ---- reading and writing
 
@@ -111,3 +120,8 @@ none_of (Some k) e = absurd (cc)
 pub read_again : (p : List ℕ) → is_path p ≡ true → path_of (path_text p) ≡ Ok p
 read_again [] is = refl
 read_again (b ∷ bs) is = read_faultless (b ∷ bs) (none_of (path_fault (b ∷ bs)) is)
+
+-- ---- the same path
+
+pub same_path_is : SamePathIsEqual
+same_path_is p q h = (bytes_eq-Decides p q).0 (sym (is_eq-slice_cmp p q) ∙ h)

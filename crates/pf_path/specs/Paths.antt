@@ -1,14 +1,29 @@
--- The texts of paths (pf.conf(5), ANCHORS): components, with a slash between each two. The limits, and that the main ruleset is written "-", are own.
+-- Paths of rulesets (pf.conf(5), ANCHORS), and their texts: components, with a slash between each two. The limits, that the main ruleset is written "-", and that paths are ordered by their bytes, are own.
 use Rattle.std.specs.Prelude.{ℕ, ◌==◌, ◌&&◌, Bool, true, not, if◌then◌else◌, List, [], ◌∷◌, length, codes, Option, Some, None, Result, Ok, Err, nat_lt}
 use Rattle.std.specs.List.{list_all, slice_split}
 use Rattle.std.specs.Option.{is_none, option_map_or, option_or}
 use Rattle.std.specs.Str.{bytes_eq}
+use Rattle.std.specs.declared.cmp.Ordering.{Ordering}
+use Rattle.std.specs.Ordering.{nat_cmp, eq_by_cmp}
+use Rattle.std.specs.Cmp.Lexicographic.{slice_cmp}
 use Rattle.pf_form.specs.declared.fault.Kind.{Kind}
 use Rattle.pf_form.specs.declared.fault.Kind.TheVariants.{BadWord, NameTooLong}
-use Rattle.pf_rule.specs.Names.{is_name_byte}
+use Rattle.pf_path.specs.Names.{is_name_byte}
 use Rattle.pf_form.specs.Words.{Word}
-use Rattle.pf_anchor.specs.declared.limits.TheConstants.{PATH_LIMIT, COMPONENT_LIMIT, DEPTH_LIMIT}
-use Rattle.pf_anchor.specs.Rulesets.{main}
+use Rattle.pf_path.specs.declared.limits.TheConstants.{PATH_LIMIT, COMPONENT_LIMIT, DEPTH_LIMIT}
+
+-- the path of the main ruleset
+abbrev pub main : List ℕ
+main = []
+
+-- paths are ordered by the bytes of their text
+abbrev pub path_order : List ℕ → List ℕ → Ordering
+path_order p q = slice_cmp nat_cmp p q
+
+abbrev pub same_path : List ℕ → List ℕ → Bool
+same_path p q = eq_by_cmp path_order p q
+
+-- ---- texts
 
 -- a slash (47)
 abbrev pub is_slash : ℕ → Bool
@@ -33,9 +48,13 @@ first_fault (c ∷ cs) = option_or (component_fault c) (first_fault cs)
 abbrev pub depth_fault : ℕ → Option Kind
 depth_fault n = if nat_lt DEPTH_LIMIT n then Some NameTooLong else None
 
--- why a word is no path: its length first, then its components from left to right, then their number
+-- why a text of so many bytes at most can't have these names in it: its whole length first, then their components from left to right, then the number of these
+abbrev pub fault_within : ℕ → Word → Word → Option Kind
+fault_within limit text names = if nat_lt limit (length text) then Some NameTooLong else option_or (first_fault (components names)) (depth_fault (length (components names)))
+
+-- why a word is no path
 abbrev pub path_fault : Word → Option Kind
-path_fault w = if nat_lt PATH_LIMIT (length w) then Some NameTooLong else option_or (first_fault (components w)) (depth_fault (length (components w)))
+path_fault w = fault_within PATH_LIMIT w w
 
 -- PATH: "-" for the main ruleset, else the path itself
 abbrev pub path_of : Word → Result (List ℕ) Kind

@@ -1,7 +1,6 @@
 //! Paths of rulesets.
 ghost use Rattle.std.specs.Prelude.{◌≡◌, [], true};
-ghost use Rattle.pf_anchor.specs.Paths.{path_of, path_fault, is_path};
-ghost use Rattle.pf_anchor.specs.Rulesets.{path_order, same_path};
+ghost use Rattle.pf_path.specs.Paths.{path_of, path_fault, is_path, path_order, same_path};
 
 use crate::limits::PATH_LIMIT;
 use crate::path_text::fault_in;
@@ -19,8 +18,8 @@ pub struct Path {
 
 impl Model for Path {
     ghost use Rattle.std.specs.Prelude.{ℕ, List, take, ◌≡◌, ◌≤◌, true};
-    ghost use Rattle.pf_anchor.specs.declared.limits.TheConstants.{PATH_LIMIT};
-    ghost use Rattle.pf_anchor.specs.Paths.{is_path};
+    ghost use Rattle.pf_path.specs.declared.limits.TheConstants.{PATH_LIMIT};
+    ghost use Rattle.pf_path.specs.Paths.{is_path};
 
     ghost Value = { List ℕ };
 
@@ -52,7 +51,7 @@ impl Path {
         if text == b"-".as_slice() {
             return Ok(Path::main());
         }
-        match fault_in(text) {
+        match fault_in(PATH_LIMIT, text, text) {
             None => Ok(Path::holding(text)),
             Some(kind) => Err(kind),
         }

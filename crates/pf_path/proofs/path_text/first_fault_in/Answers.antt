@@ -1,6 +1,6 @@
 use Rattle.std.proofs.Common.{sym, ◌∙◌, None, Some}
-use Rattle.pf_anchor.proofs.PathTexts.{fault_some, fault_none}
-use Rattle.pf_anchor.proofs.path_text.first_fault_in.Goals as goal
+use Rattle.pf_path.proofs.PathTexts.{fault_some, fault_none}
+use Rattle.pf_path.proofs.path_text.first_fault_in.Goals as goal
 
 pub returns-in-Some-component_fault_in : goal.returns-in-Some-component_fault_in
 returns-in-Some-component_fault_in c =

@@ -1,0 +1,3 @@
+mod PathTexts
+pub mod PathsRead
+pub mod ReferencesRead
