@@ -1,6 +1,6 @@
 -- A grammar as data: a form. Which words spell a value, how words are read, where a text goes wrong and how, and
 -- whether one word of look-ahead decides, are each a function of the form.
-use Rattle.std.specs.Prelude.{◌≡◌, ℕ, zero, suc, ◌+◌, ◌<◌, ◌≤◌, ◌&&◌, ◌||◌, not, Bool, true, false, List, [], ◌∷◌, ◌++◌, length, take, drop, Result, Ok, Err, ◌⊎◌, if◌then◌else◌}
+use Rattle.std.specs.Prelude.{◌≡◌, ◌≢◌, ℕ, zero, suc, ◌+◌, ◌<◌, ◌≤◌, ◌&&◌, ◌||◌, not, Bool, true, false, List, [], ◌∷◌, ◌++◌, length, take, drop, Result, Ok, Err, ◌⊎◌, if◌then◌else◌}
 use Rattle.std.specs.Str.{bytes_eq}
 use Rattle.pf_form.specs.declared.fault.Kind.{Kind}
 use Rattle.pf_form.specs.declared.fault.Kind.TheVariants.{BadWord}
@@ -52,10 +52,11 @@ Spells (pair_by f flag g) x ws = (a b : List Word) × Spells f x.0 a × Spells (
 Spells (any_number f) xs ws = InOrder (Spells f) xs ws
 Spells (making make f) y ws = (x : _) × Spells f x ws × (y ≡ make x)
 
--- Behind these words a test may stand, which faults the word so.
+-- Behind these words a test may stand, which faults the word with a kind of its own. Where no test does, a word that can't
+-- stand there is just a bad word.
 abbrev pub Faults : {A : Type 0} → Form A → List Word → Word → Kind → Type 0
 Faults (nothing none) front w kind = ⊥
-Faults (word test) front w kind = (test.of w ≡ Err kind) × (front ≡ [])
+Faults (word test) front w kind = (test.of w ≡ Err kind) × (kind ≢ BadWord) × (front ≡ [])
 Faults (key k f) front w kind = (rest : List Word) × Faults f rest w kind × (front ≡ k ∷ rest)
 Faults (or k f g) front w kind = ((rest : List Word) × Faults f rest w kind × (front ≡ k ∷ rest)) ⊎ Faults g front w kind
 Faults {A = _} (pair f g) front w kind = Faults f front w kind ⊎ ((x : _) × (a b : List Word) × Spells f x a × Faults g b w kind × (front ≡ a ++ b))
@@ -128,10 +129,16 @@ empties (pair_by f flag g) = empties f && either (λ b. empties (g b))
 empties (any_number f) = true
 empties (making make f) = empties f
 
--- whether a text, or a word that a test faults, can begin so
+-- whether a test takes the word, or faults it with a kind of its own
+abbrev pub knows : {A : Type 0} → Result A Kind → Bool
+knows (Ok x) = true
+knows (Err BadWord) = false
+knows (Err kind) = true
+
+-- whether a text, or a word that a test faults with a kind of its own, can begin so
 abbrev pub begins : {A : Type 0} → Form A → Word → Bool
 begins (nothing none) w = false
-begins (word test) w = true
+begins (word test) w = knows (test.of w)
 begins (key k f) w = bytes_eq w k
 begins (or k f g) w = bytes_eq w k || begins g w
 begins (pair f g) w = begins f w || (empties f && begins g w)
@@ -229,8 +236,8 @@ read_all f ws = reads f ws >>= ended
 abbrev pub StandsAt : List Word → ℕ → Word → Type 0
 StandsAt ws at w = (tail : List Word) × (drop at ws ≡ w ∷ tail)
 
--- The words are refused at the place where they stop. Where a test that may stand there faults the word, the kind is
--- that test's; else the word is bad, or missing.
+-- The words are refused at the place where they stop. Where a test that may stand there faults the word with a kind of its
+-- own, this is the kind; else the word is bad, or missing.
 pub record RefusedAt (A : Type 0) (f : Form A) (ws : List Word) (at : ℕ) (kind : Kind) : Type 0 where
   pub place : StopsAt A (Spells f) ws at
   pub tested : (w : Word) (k : Kind) → StandsAt ws at w → Faults f (take at ws) w k → kind ≡ k

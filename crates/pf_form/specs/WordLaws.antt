@@ -1,11 +1,11 @@
 -- The laws of no word, one word, a word that has to stand, and a word that chooses.
-use Rattle.std.proofs.Common.{◌≡◌, Bool, true, false, List, [], ◌∷◌, ◌++◌, length, Result, Ok, Err, ◌⊎◌, inl, inr, refl, sym, ap, ◌∙◌, arith}
+use Rattle.std.proofs.Common.{◌≡◌, ◌≢◌, Bool, true, false, List, [], ◌∷◌, ◌++◌, length, Result, Ok, Err, ◌⊎◌, inl, inr, refl, sym, ap, ◌∙◌, arith}
 use Rattle.std.specs.Str.{bytes_eq}
 use Rattle.std.proofs.lemmas.List.{length-append}
 use Rattle.pf_form.specs.declared.fault.Kind.{Kind}
-use Rattle.pf_form.specs.declared.fault.Kind.TheVariants.{BadWord}
+use Rattle.pf_form.specs.declared.fault.Kind.TheVariants.{BadWord, NameTooLong, BadProto}
 use Rattle.pf_form.specs.Words.{Word}
-use Rattle.pf_form.specs.Forms.{Form, nothing, word, key, or, Test, Spells, Faults, reads, empties, begins, follow, tested, but, plus, where_empty}
+use Rattle.pf_form.specs.Forms.{Form, nothing, word, key, or, Test, Spells, Faults, reads, empties, begins, knows, follow, tested, but, plus, where_empty}
 use Rattle.pf_form.specs.Laws.{Clear, Heads, clear_both, differs, or_left, or_right, word_is, word_same, leaves, leaves_is, ok_is, still, Stopped, Lawful, heads_more, splits, misplaced_here, stopped_behind}
 
 -- ---- no word
@@ -24,6 +24,17 @@ nothing_laws {A = A} none = record {
 
 -- ---- one word
 
+-- a word that is faulted with a kind of its own is known
+known : (A : Type 0) (k : Kind) → k ≢ BadWord → knows {A = A} (Err k) ≡ true
+known A BadWord own = absurd (own refl)
+known A NameTooLong own = refl
+known A BadProto own = refl
+
+bad_or_own : (k : Kind) → (k ≡ BadWord) ⊎ (k ≢ BadWord)
+bad_or_own BadWord = inl refl
+bad_or_own NameTooLong = inr (λ e. cc)
+bad_or_own BadProto = inr (λ e. cc)
+
 module _ {A : Type 0} (t : Test A) where
   word_takes : (ws : List Word) (x : A) (rest : List Word) → reads (word t) ws ≡ Ok (x, rest) → (part : List Word) × Spells (word t) x part × (ws ≡ part ++ rest)
   word_takes [] x rest e = absurd cc
@@ -39,7 +50,9 @@ module _ {A : Type 0} (t : Test A) where
     by (Ok y) h e = absurd cc
     by (Err j) h e =
         let g = leaves_is {A = A} (Err j) (Err k) (w ∷ ws) rest e in
-        record { front = []; parts = g.1; starts = (t.value, t.sample ∷ [], (t.sample, t.takes, refl)); kind = inr (w, ws, (h ∙ g.0, refl), sym g.1) }
+        let is : t.of w ≡ Err k = h ∙ g.0 in
+        let kind : (k ≡ BadWord) ⊎ ((v : Word) × (tail : List Word) × Faults (word t) [] v k × (rest ≡ v ∷ tail)) = elim (bad_or_own k) [ inl bad ↦ inl bad | inr own ↦ inr (w, ws, (is, own, refl), sym g.1) ] in
+        record { front = []; parts = g.1; starts = (t.value, t.sample ∷ [], (t.sample, t.takes, refl)); kind = kind }
 
   word_ahead : (o : Result A Kind) (part left : List Word) (v : Word) (r s : List Word) → reads (word t) (part ++ v ∷ r) ≡ leaves o (left ++ v ∷ r) → reads (word t) (part ++ v ∷ s) ≡ leaves o (left ++ v ∷ s)
   word_ahead o [] left v r s e = by (t.of v) e where
@@ -54,11 +67,11 @@ module _ {A : Type 0} (t : Test A) where
   pub word_laws : Lawful (word t)
   word_laws = record {
     some = (t.value, t.sample ∷ [], (t.sample, t.takes, refl));
-    heads = λ x ws h. rw h.2 refl;
-    fault_heads = λ front w k h. rw h.1 refl;
+    heads = λ x ws h. rw (h.2, h.1) refl;
+    fault_heads = λ front w k h. rw (h.2, h.0) (known A k h.1);
     takes = word_takes;
     again = λ x part rest h c. rw (h.2, h.1) refl;
-    faulty = λ front w k tail h. rw (h.1, h.0) refl;
+    faulty = λ front w k tail h. rw (h.2, h.0) refl;
     stops = word_stops;
     ahead = word_ahead;
   }
