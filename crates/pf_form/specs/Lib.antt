@@ -8,6 +8,7 @@ pub mod Laws
 pub mod WordLaws
 pub mod PairLaws
 pub mod ListLaws
+pub mod StepLaws
 pub mod FormLaws
 pub mod TextLaws
 pub mod Lists

@@ -2,10 +2,13 @@ pub mod Names
 pub mod Interfaces
 pub mod Values
 pub mod Packets
+pub mod Ports
 pub mod PacketGrammar
 pub mod Rules
 pub mod RuleGrammar
 pub mod RuleText
 pub mod Spacing
+pub mod Written
+pub mod PortLaws
 pub mod RuleTextLaws
 pub mod Refusals

@@ -1,11 +1,13 @@
 -- The grammar of a packet. Own.
-use Rattle.std.specs.Prelude.{◌≡◌, ℕ, true, List, codes, Option, Some, None, if◌then◌else◌}
+use Rattle.std.specs.Prelude.{◌≡◌, ℕ, true, List, codes, Result, Ok, Err, if◌then◌else◌}
 use Rattle.std.proofs.Common.{refl}
 use Rattle.pf_form.specs.Forms.{Form, nothing, key, or, pair, pair_by, making, is_decided}
 use Rattle.pf_addr.specs.declared.addr.Addr.{Addr}
 use Rattle.pf_addr.specs.Address.{family_of, same_family}
 use Rattle.pf_rule.specs.declared.rule.Direction.{Direction}
 use Rattle.pf_rule.specs.declared.rule.Direction.TheVariants.{In, Out}
+use Rattle.pf_rule.specs.declared.fault.Mistake.{Mistake}
+use Rattle.pf_rule.specs.declared.fault.Mistake.TheVariants.{MixedFamily}
 use Rattle.pf_rule.specs.Values.{an_interface, a_protocol, an_address, a_port}
 use Rattle.pf_rule.specs.Packets.{PlainPacket, has_ports}
 
@@ -21,11 +23,11 @@ abbrev pub packet_words : Form PlainPacket
 packet_words = making packet_with (pair way (pair an_interface (pair_by a_protocol has_ports (λ ports. pair an_address (pair (a_port ports) (pair an_address (a_port ports)))))))
 
 -- after the last word: a packet has addresses of one family
-abbrev pub of_one_family : PlainPacket → Option PlainPacket
-of_one_family p = if same_family (family_of p.source) (family_of p.destination) then Some p else None
+abbrev pub of_one_family : PlainPacket → Result PlainPacket Mistake
+of_one_family p = if same_family (family_of p.source) (family_of p.destination) then Ok p else Err MixedFamily
 
--- The words of a packet, or none where its addresses differ in family.
-unfoldable pub packet : Form (Option PlainPacket)
+-- The words of a packet, or of addresses that differ in family.
+unfoldable pub packet : Form (Result PlainPacket Mistake)
 packet = making of_one_family packet_words
 
 -- One word of look-ahead decides it.

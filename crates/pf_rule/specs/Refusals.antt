@@ -1,29 +1,35 @@
 -- What reading a text answers: a value, or the one refusal.
-use Rattle.std.specs.Prelude.{◌≡◌, ℕ, ◌-◌, List, length, Option, Some, None, Result, Ok, Err, IfOk, IfErr}
+use Rattle.std.specs.Prelude.{◌≡◌, ℕ, ◌-◌, List, length, Result, Ok, Err, IfOk, IfErr}
 use Rattle.pf_form.specs.declared.fault.Kind.{Kind}
 use Rattle.pf_form.specs.declared.fault.Kind.TheVariants as kinds
 use Rattle.pf_form.specs.Words.{Word}
 use Rattle.pf_form.specs.Forms.{Form, Spells, RefusedAt, Reader, reads, ended, ◌>>=◌}
+use Rattle.pf_rule.specs.declared.fault.Mistake.{Mistake}
+use Rattle.pf_rule.specs.declared.fault.Mistake.TheVariants as mistakes
 use Rattle.pf_rule.specs.declared.fault.TextFault.{TextFault}
-use Rattle.pf_rule.specs.declared.fault.TextFault.TheVariants.{BadWord, NameTooLong, BadProto, MixedFamily, Memory}
+use Rattle.pf_rule.specs.declared.fault.TextFault.TheVariants.{BadWord, NameTooLong, BadProto, MixedFamily, PortNeedsProto, Memory}
 
 abbrev pub fault_at : Kind → ℕ → TextFault
 fault_at kinds.BadWord at = BadWord at
 fault_at kinds.NameTooLong at = NameTooLong at
 fault_at kinds.BadProto at = BadProto at
 
--- what was read of so many words, where a value may be none because families differ
-abbrev pub told : {A : Type 0} → ℕ → Result (Option A) (Kind × List Word) → Result A TextFault
-told count (Ok (Some x)) = Ok x
-told count (Ok None) = Err MixedFamily
+abbrev pub fault_for : Mistake → TextFault
+fault_for mistakes.MixedFamily = MixedFamily
+fault_for mistakes.PortNeedsProto = PortNeedsProto
+
+-- what was read of so many words, which may all be good and still make a mistake
+abbrev pub told : {A : Type 0} → ℕ → Result (Result A Mistake) (Kind × List Word) → Result A TextFault
+told count (Ok (Ok x)) = Ok x
+told count (Ok (Err mistake)) = Err (fault_for mistake)
 told count (Err e) = Err (fault_at e.0 (count - length e.1))
 
 -- what a reader gives, where no word may be left
-abbrev pub told_by : {A : Type 0} → ℕ → Reader (Option A) → List Word → Result A TextFault
+abbrev pub told_by : {A : Type 0} → ℕ → Reader (Result A Mistake) → List Word → Result A TextFault
 told_by count read ws = told count (read ws >>= ended)
 
 -- what the words of a text give
-unfoldable pub reading : {A : Type 0} → Form (Option A) → List Word → Result A TextFault
+unfoldable pub reading : {A : Type 0} → Form (Result A Mistake) → List Word → Result A TextFault
 reading text ws = told_by (length ws) (reads text) ws
 
 -- What was answered is this, unless memory was refused.
@@ -33,16 +39,17 @@ Answers (Err Memory) expected = Unit {0}
 Answers (Err e) expected = expected ≡ Err e
 
 -- A refusal of these words. Its place and its kind are by the grammar alone.
-abbrev pub Refused : {A : Type 0} → Form (Option A) → List Word → TextFault → Type 0
-Refused {A = A} text ws (BadWord at) = RefusedAt (Option A) text ws at kinds.BadWord
-Refused {A = A} text ws (NameTooLong at) = RefusedAt (Option A) text ws at kinds.NameTooLong
-Refused {A = A} text ws (BadProto at) = RefusedAt (Option A) text ws at kinds.BadProto
-Refused text ws MixedFamily = Spells text None ws
+abbrev pub Refused : {A : Type 0} → Form (Result A Mistake) → List Word → TextFault → Type 0
+Refused {A = A} text ws (BadWord at) = RefusedAt (Result A Mistake) text ws at kinds.BadWord
+Refused {A = A} text ws (NameTooLong at) = RefusedAt (Result A Mistake) text ws at kinds.NameTooLong
+Refused {A = A} text ws (BadProto at) = RefusedAt (Result A Mistake) text ws at kinds.BadProto
+Refused text ws MixedFamily = Spells text (Err mistakes.MixedFamily) ws
+Refused text ws PortNeedsProto = Spells text (Err mistakes.PortNeedsProto) ws
 Refused text ws Memory = Unit {0}
 
 -- What reading the words answers, by the grammar alone, and by the grammar's reader.
-pub record IsAnswer (A : Type 0) (text : Form (Option A)) (ws : List Word) (result : Result A TextFault) : Type 0 where
-  pub found : IfOk result (λ x. Spells text (Some x) ws)
-  pub only : (x : A) → Spells text (Some x) ws → Answers result (Ok x)
+pub record IsAnswer (A : Type 0) (text : Form (Result A Mistake)) (ws : List Word) (result : Result A TextFault) : Type 0 where
+  pub found : IfOk result (λ x. Spells text (Ok x) ws)
+  pub only : (x : A) → Spells text (Ok x) ws → Answers result (Ok x)
   pub refused : IfErr result (λ e. Refused text ws e)
   pub exact : Answers result (reading text ws)

@@ -1,11 +1,12 @@
 -- The grammar of a rule (pf.conf(5), GRAMMAR).
-use Rattle.std.specs.Prelude.{◌≡◌, ℕ, Bool, true, false, List, codes, Option, Some, None, if◌then◌else◌}
-use Rattle.std.specs.Option.{option_and_then, option_map}
+use Rattle.std.specs.Prelude.{◌≡◌, ℕ, Bool, true, false, List, codes, Option, Some, None, Result, Ok, Err, if◌then◌else◌}
+use Rattle.std.specs.Option.{option_and_then}
 use Rattle.std.proofs.Common.{refl}
 use Rattle.pf_form.specs.Forms.{Form, nothing, key, or, pair, pair_by, making, is_decided}
 use Rattle.pf_addr.specs.declared.addr.Family.{Family}
 use Rattle.pf_addr.specs.declared.addr.Family.TheVariants.{V4, V6}
 use Rattle.pf_addr.specs.Address.{same_family}
+use Rattle.pf_addr.specs.Reading.{numbers_at, parts_at, part_at}
 use Rattle.pf_rule.specs.declared.rule.Action.TheVariants.{Pass, Block}
 use Rattle.pf_rule.specs.declared.rule.Effect.{Effect}
 use Rattle.pf_rule.specs.declared.rule.Effect.TheVariants.{Decide, Evaluate}
@@ -15,8 +16,11 @@ use Rattle.pf_rule.specs.declared.rule.Direction.{Direction}
 use Rattle.pf_rule.specs.declared.rule.Direction.TheVariants.{In, Out}
 use Rattle.pf_rule.specs.declared.rule.Host.{Host}
 use Rattle.pf_rule.specs.declared.rule.Host.TheVariants.{Any, Net}
-use Rattle.pf_rule.specs.Values.{a_reference, an_interface, a_protocol, a_host}
-use Rattle.pf_rule.specs.Rules.{PlainRule}
+use Rattle.pf_rule.specs.declared.fault.Mistake.{Mistake}
+use Rattle.pf_rule.specs.declared.fault.Mistake.TheVariants.{MixedFamily, PortNeedsProto}
+use Rattle.pf_rule.specs.Values.{a_reference, an_interface, a_protocol, a_negated_network, a_host}
+use Rattle.pf_rule.specs.Ports.{port, port_test, ordered, compared, ranged, range_end, ports_fit}
+use Rattle.pf_rule.specs.Rules.{PlainRule, End}
 
 -- "pass" | "block" ["drop"] | "anchor" reference
 unfoldable pub opening : Form Opening
@@ -47,16 +51,27 @@ family = or (codes "inet") (nothing (Some V4)) (or (codes "inet6") (nothing (Som
 unfoldable pub protocol : Form (Option ℕ)
 protocol = or (codes "proto") (making (λ n. Some n) a_protocol) (nothing None)
 
--- ["to" host]
-unfoldable pub destination : Form Host
-destination = or (codes "to") a_host (nothing Any)
+-- "any" | ["!"] network, where the `!` may also be joined to the network
+unfoldable pub host : Form Host
+host = or (codes "any") (nothing Any) (or (codes "!") a_negated_network a_host)
 
-abbrev pub to_alone : Host → Host × Host
-to_alone h = (Any, h)
+abbrev pub anywhere : End
+anywhere = (Any, None)
 
--- ["all" | "from" host ["to" host] | "to" host], a source and a destination
-unfoldable pub hosts : Form (Host × Host)
-hosts = or (codes "all") (nothing (Any, Any)) (or (codes "from") (pair a_host destination) (or (codes "to") (making to_alone a_host) (nothing (Any, Any))))
+-- host ["port" test]
+unfoldable pub end : Form End
+end = pair host port
+
+-- ["to" end]
+unfoldable pub destination : Form End
+destination = or (codes "to") end (nothing anywhere)
+
+abbrev pub to_alone : End → End × End
+to_alone e = (anywhere, e)
+
+-- ["all" | "from" end ["to" end] | "to" end], a source and a destination
+unfoldable pub hosts : Form (End × End)
+hosts = or (codes "all") (nothing (anywhere, anywhere)) (or (codes "from") (pair end destination) (or (codes "to") (making to_alone end) (nothing (anywhere, anywhere))))
 
 -- ["keep" "state" | "no" "state"], where the rule passes; it keeps state where nothing is said
 unfoldable pub state : Bool → Form Bool
@@ -69,17 +84,17 @@ effect_of openings.Block keeps = Decide Block
 effect_of (openings.Anchor r) keeps = Evaluate r
 
 -- with the family as it is written
-abbrev pub rule_with : Opening × (Option Direction × (Bool × (Option (List ℕ) × (Option Family × (Option ℕ × ((Host × Host) × Bool)))))) → PlainRule
-rule_with (o, (d, (q, (i, (f, (p, (h, keeps))))))) = record { effect = effect_of o keeps; direction = d; quick = q; interface = i; family = f; protocol = p; source = h.0; destination = h.1 }
+abbrev pub rule_with : Opening × (Option Direction × (Bool × (Option (List ℕ) × (Option Family × (Option ℕ × ((End × End) × Bool)))))) → PlainRule
+rule_with (o, (d, (q, (i, (f, (p, (h, keeps))))))) = record { effect = effect_of o keeps; direction = d; quick = q; interface = i; family = f; protocol = p; source = h.0.0; source_port = h.0.1; destination = h.1.0; destination_port = h.1.1 }
 
 abbrev pub rule_words : Form PlainRule
 rule_words = making rule_with (pair_by opening passes (λ passes. pair direction (pair quick (pair interface (pair family (pair protocol (pair hosts (state passes))))))))
 
--- ---- after the last word: the families that are written agree
+-- ---- after the last word: the families that are written agree, and ports are tested of a protocol that has them
 
 abbrev pub host_family : Host → Option Family
 host_family Any = None
-host_family (Net n) = Some n.family
+host_family (Net n negated) = Some n.family
 
 -- The one family of two, either of which may be absent; none where they differ.
 abbrev pub agreed : Option Family → Option Family → Option (Option Family)
@@ -91,14 +106,20 @@ agreed (Some f) (Some g) = if same_family f g then Some (Some f) else None
 abbrev pub one_family : Option Family → Host → Host → Option (Option Family)
 one_family written source destination = option_and_then (λ f. agreed f (host_family destination)) (agreed written (host_family source))
 
-abbrev pub agreeing : PlainRule → Option PlainRule
-agreeing r = option_map (λ f. record r { family = f }) (one_family r.family r.source r.destination)
+-- with its one family, and by whether its ports may be tested; that families differ is told first
+abbrev pub agreeing_with : PlainRule → Option (Option Family) → Bool → Result PlainRule Mistake
+agreeing_with r None fit = Err MixedFamily
+agreeing_with r (Some f) false = Err PortNeedsProto
+agreeing_with r (Some f) true = Ok (record r { family = f })
 
--- The words of a rule, or none where its families differ.
-unfoldable pub rule : Form (Option PlainRule)
+abbrev pub agreeing : PlainRule → Result PlainRule Mistake
+agreeing r = agreeing_with r (one_family r.family r.source r.destination) (ports_fit r.protocol r.source_port r.destination_port)
+
+-- The words of a rule, or of one whose words are good one by one and make a mistake.
+unfoldable pub rule : Form (Result PlainRule Mistake)
 rule = making agreeing rule_words
 
 -- One word of look-ahead decides it.
 pub rule_decided : is_decided rule ≡ true
-unfolding rule opening direction interface family protocol destination hosts state
+unfolding rule opening direction interface family protocol a_negated_network a_host host port port_test ordered compared ranged range_end end destination hosts state numbers_at parts_at part_at
 rule_decided = refl

@@ -14,7 +14,8 @@ use Rattle.pf_rule.specs.declared.rule.Direction.TheVariants.{In, Out}
 use Rattle.pf_rule.specs.declared.rule.Host.{Host}
 use Rattle.pf_rule.specs.declared.rule.Host.TheVariants.{Any, Net}
 use Rattle.pf_form.specs.Words.{Word}
-use Rattle.pf_rule.specs.Rules.{PlainRule}
+use Rattle.pf_rule.specs.Ports.{port_words}
+use Rattle.pf_rule.specs.Rules.{PlainRule, End}
 
 abbrev pub effect_word : Effect → Word
 effect_word (Decide (Pass keeps)) = codes "pass"
@@ -51,17 +52,21 @@ abbrev pub protocol_words : Option ℕ → List Word
 protocol_words None = []
 protocol_words (Some n) = codes "proto" ∷ protocol_word n ∷ []
 
-abbrev pub host_word : Host → Word
-host_word Any = codes "any"
-host_word (Net n) = net_text n
+abbrev pub host_words : Host → List Word
+host_words Any = codes "any" ∷ []
+host_words (Net n true) = codes "!" ∷ net_text n ∷ []
+host_words (Net n false) = net_text n ∷ []
 
-abbrev pub from_to_words : Host → Host → List Word
-from_to_words source destination = codes "from" ∷ host_word source ∷ codes "to" ∷ host_word destination ∷ []
+abbrev pub end_words : End → List Word
+end_words e = host_words e.0 ++ port_words e.1
 
-abbrev pub host_words : Host → Host → List Word
-host_words Any Any = codes "all" ∷ []
-host_words Any (Net n) = from_to_words Any (Net n)
-host_words (Net n) destination = from_to_words (Net n) destination
+abbrev pub from_to_words : End → End → List Word
+from_to_words source destination = codes "from" ∷ (end_words source ++ codes "to" ∷ end_words destination)
+
+-- "all" where both hosts are any and no port is tested
+abbrev pub ends_words : End → End → List Word
+ends_words (Any, None) (Any, None) = codes "all" ∷ []
+ends_words source destination = from_to_words source destination
 
 abbrev pub state_words : Effect → List Word
 state_words (Decide (Pass true)) = codes "keep" ∷ codes "state" ∷ []
@@ -72,7 +77,7 @@ state_words (Evaluate r) = []
 abbrev pub canonical : PlainRule → List Word
 canonical r =
     effect_word r.effect ∷ (reference_words r.effect ++ (direction_words r.direction ++ (quick_words r.quick ++ (interface_words r.interface ++ (family_words r.family
-    ++ (protocol_words r.protocol ++ (host_words r.source r.destination ++ state_words r.effect)))))))
+    ++ (protocol_words r.protocol ++ (ends_words (r.source, r.source_port) (r.destination, r.destination_port) ++ state_words r.effect)))))))
 
 -- words with a space (32) between two
 unfoldable pub rule_text : PlainRule → List ℕ

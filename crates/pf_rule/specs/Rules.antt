@@ -1,5 +1,5 @@
 -- Rules, and which packets they match (pf.conf(5), PARAMETERS).
-use Rattle.std.specs.Prelude.{◌≡◌, ◌<◌, ◌==◌, ◌&&◌, Bool, true, false, Option, Some, None, IfSome}
+use Rattle.std.specs.Prelude.{◌≡◌, ◌<◌, ◌==◌, ◌&&◌, not, Bool, true, false, Option, Some, None, IfSome, if◌then◌else◌}
 use Rattle.std.specs.Str.{bytes_eq}
 use Rattle.pf_addr.specs.declared.addr.Addr.{Addr}
 use Rattle.pf_addr.specs.declared.addr.Family.{Family}
@@ -10,14 +10,20 @@ use Rattle.pf_rule.specs.declared.rule.Effect.TheVariants.{Decide, Evaluate}
 use Rattle.pf_rule.specs.declared.rule.Direction.{Direction}
 use Rattle.pf_rule.specs.declared.rule.Direction.TheVariants.{In, Out}
 use Rattle.pf_rule.specs.declared.rule.Host.{Host}
+use Rattle.pf_rule.specs.declared.ports.PortTest.{PortTest}
 use Rattle.pf_rule.specs.declared.rule.RuleParts.{RuleParts}
 use Rattle.pf_rule.specs.declared.rule.Host.TheVariants.{Any, Net}
 use Rattle.pf_rule.specs.Names.{IsInterfaceName}
 use Rattle.pf_rule.specs.Packets.{PlainPacket}
+use Rattle.pf_rule.specs.Ports.{IsPortTest, port_holds, ports_fit}
 
 -- a rule as contracts see it: its fields
 abbrev pub PlainRule : Type 0
 PlainRule = RuleParts
+
+-- one end of a packet's way, the source or the destination: a host, and a test of its port
+abbrev pub End : Type 0
+End = Host × Option PortTest
 
 -- a test that is absent holds
 abbrev pub holds : {A : Type 0} → Option A → (A → Bool) → Bool
@@ -30,9 +36,18 @@ same_direction In Out = false
 same_direction Out In = false
 same_direction Out Out = true
 
+-- `!` turns the test of a network
 abbrev pub host_holds : Host → Addr → Bool
 host_holds Any a = true
-host_holds (Net n) a = contains n a
+host_holds (Net n negated) a = if negated then not (contains n a) else contains n a
+
+-- the packet's addresses and ports are among those of the rule's two ends
+unfoldable pub ends_hold : PlainRule → PlainPacket → Bool
+ends_hold r p =
+    host_holds r.source p.source
+    && holds r.source_port (λ t. port_holds t p.source_port)
+    && host_holds r.destination p.destination
+    && holds r.destination_port (λ t. port_holds t p.destination_port)
 
 -- a rule matches a packet for which all its tests hold
 abbrev pub matches : PlainRule → PlainPacket → Bool
@@ -41,13 +56,12 @@ matches r p =
     && holds r.interface (λ name. bytes_eq name p.interface)
     && holds r.family (λ f. same_family f (family_of p.source))
     && holds r.protocol (λ n. n == p.protocol)
-    && host_holds r.source p.source
-    && host_holds r.destination p.destination
+    && ends_hold r p
 
--- a network as a host gives the rule its family; only IPv4 networks have a text so far
+-- a network as a host gives the rule its family, negated or not; only IPv4 networks have a text so far
 abbrev pub HostFits : Option Family → Host → Type 0
 HostFits family Any = Unit {0}
-HostFits family (Net n) = (family ≡ Some n.family) × IsV4Network n
+HostFits family (Net n negated) = (family ≡ Some n.family) × IsV4Network n
 
 -- an anchor rule names a reference
 abbrev pub IsEffect : Effect → Type 0
@@ -61,3 +75,5 @@ pub record IsRule (r : PlainRule) : Type 0 where
   pub protocol : IfSome r.protocol (λ n. (0 < n) × (n < 256))
   pub source : HostFits r.family r.source
   pub destination : HostFits r.family r.destination
+  pub port_tests : IfSome r.source_port IsPortTest × IfSome r.destination_port IsPortTest
+  pub ports : ports_fit r.protocol r.source_port r.destination_port ≡ true

@@ -1,5 +1,5 @@
 -- Words with spaces between them.
-use Rattle.std.proofs.Common.{◌≡◌, ℕ, true, false, List, [], ◌∷◌, ◌++◌, length, refl, sym, ap, ◌∙◌, append_assoc, append-nil, arith}
+use Rattle.std.proofs.Common.{◌≡◌, ℕ, true, false, List, [], ◌∷◌, ◌++◌, length, codes, refl, sym, ap, ◌∙◌, append_assoc, append-nil, arith}
 use Rattle.std.specs.Prelude.{Bool, ◌&&◌, filter, nat_lt}
 use Rattle.std.specs.List.{join_with_byte, list_all, slice_index_or, All}
 use Rattle.std.proofs.lemmas.Bool.{and_parts}
@@ -9,8 +9,9 @@ use Rattle.std.proofs.lemmas.List.Sums.{AllPass-from_list_all, list_all-from_All
 use Rattle.std.proofs.lemmas.List.Folds.{list_all-append}
 use Rattle.pf_form.specs.Words.{Word, is_blank, words_of}
 use Rattle.pf_addr.specs.Writing.{Continues-then}
-use Rattle.pf_rule.specs.Rules.{PlainRule}
-use Rattle.pf_rule.specs.RuleText.{effect_word, reference_words, direction_words, quick_words, interface_words, family_words, protocol_words, host_words, state_words, rule_text, spaced}
+use Rattle.pf_rule.specs.Rules.{PlainRule, End}
+use Rattle.pf_rule.specs.RuleText.{effect_word, reference_words, direction_words, quick_words, interface_words, family_words, protocol_words, host_words, end_words, from_to_words, ends_words, state_words, rule_text, spaced}
+use Rattle.pf_rule.specs.Ports.{port_words}
 
 first_spaced : (w : Word) (ws : List Word) → join_with_byte 32 (w ∷ ws) ≡ w ++ spaced ws
 first_spaced w [] = sym (append-nil w)
@@ -22,9 +23,20 @@ spaced-append (w ∷ ws) b = ap (λ (t : List ℕ). 32 ∷ t) (first_spaced w (w
 
 -- a rule's text, part by part
 pub in_order : (r : PlainRule) → rule_text r ≡ effect_word r.effect ++ (spaced (reference_words r.effect) ++ (spaced (direction_words r.direction) ++ (spaced (quick_words r.quick) ++ (spaced (interface_words r.interface) ++ (spaced (family_words r.family)
-    ++ (spaced (protocol_words r.protocol) ++ (spaced (host_words r.source r.destination) ++ spaced (state_words r.effect))))))))
+    ++ (spaced (protocol_words r.protocol) ++ (spaced (ends_words (r.source, r.source_port) (r.destination, r.destination_port)) ++ spaced (state_words r.effect))))))))
 unfolding rule_text
 in_order r = first_spaced (effect_word r.effect) _ ∙ ap (λ (t : List ℕ). effect_word r.effect ++ t) (simp spaced-append)
+
+-- the text of one end, and of both
+abbrev pub end_text : End → List ℕ
+end_text e = spaced (host_words e.0) ++ spaced (port_words e.1)
+
+pub ends_in_order : (source destination : End) → spaced (from_to_words source destination) ≡ codes " from" ++ (end_text source ++ (codes " to" ++ end_text destination))
+ends_in_order source destination =
+    let each : (e : End) → spaced (end_words e) ≡ end_text e = λ e. spaced-append (host_words e.0) (port_words e.1) in
+    let behind : spaced (codes "to" ∷ end_words destination) ≡ codes " to" ++ end_text destination = spaced-append (codes "to" ∷ []) (end_words destination) ∙ ap (λ (t : List ℕ). codes " to" ++ t) (each destination) in
+    spaced-append (codes "from" ∷ []) (end_words source ++ codes "to" ∷ end_words destination)
+    ∙ ap (λ (t : List ℕ). codes " from" ++ t) (spaced-append (end_words source) (codes "to" ∷ end_words destination) ∙ rw (each source, behind) refl)
 
 -- one part written behind another
 pub ruleset continuing = (Continues-then)

@@ -1,23 +1,23 @@
 -- The words that stand for values: references, names, protocols, hosts, addresses and ports. Each is a test of a word, and a form.
-use Rattle.std.specs.Prelude.{ℕ, ◌&&◌, nat_lt, Bool, true, false, List, [], ◌∷◌, length, codes, Option, Some, None, Result, Ok, Err, if◌then◌else◌}
+use Rattle.std.specs.Prelude.{ℕ, ◌&&◌, nat_lt, Bool, true, false, List, [], ◌∷◌, take, drop, length, codes, Option, Some, None, Result, Ok, Err, if◌then◌else◌}
 use Rattle.std.specs.List.{list_all}
 use Rattle.std.specs.Str.{bytes_eq}
 use Rattle.std.proofs.Common.{◌≡◌, refl}
 use Rattle.pf_form.specs.declared.fault.Kind.{Kind}
 use Rattle.pf_form.specs.declared.fault.Kind.TheVariants.{BadWord, NameTooLong, BadProto}
 use Rattle.pf_form.specs.Words.{Word}
-use Rattle.pf_form.specs.Forms.{Form, word}
+use Rattle.pf_form.specs.Forms.{Form, word, ◌>>=◌}
 use Rattle.pf_addr.specs.declared.addr.Addr.{Addr}
 use Rattle.pf_addr.specs.declared.addr.Addr.TheVariants as addr
 use Rattle.pf_addr.specs.declared.fault.AddrFault.{AddrFault}
-use Rattle.pf_addr.specs.Address.{Network}
+use Rattle.pf_addr.specs.Address.{Network, network_of}
 use Rattle.pf_form.specs.Numbers.{number_of}
 use Rattle.pf_addr.specs.Reading.{numbers_at, parts_at, part_at, net_at, addr_at}
 use Rattle.pf_rule.specs.declared.interface.TheConstants.{INTERFACE_LIMIT}
 use Rattle.pf_rule.specs.declared.protocol.TheConstants.Protocol as protocols
 use Rattle.pf_rule.specs.declared.values.TheConstants.{PROTOCOL_DIGITS, PORT_DIGITS}
 use Rattle.pf_rule.specs.declared.rule.Host.{Host}
-use Rattle.pf_rule.specs.declared.rule.Host.TheVariants.{Any, Net}
+use Rattle.pf_rule.specs.declared.rule.Host.TheVariants.{Net}
 use Rattle.pf_path.specs.Names.{is_name_byte}
 use Rattle.pf_path.specs.References.{PlainReference, refers, reference_of}
 
@@ -60,17 +60,40 @@ protocol_of w = named_or (number_named protocol_names w) (protocol_numbered (num
 abbrev pub a_protocol : Form ℕ
 a_protocol = word (record { of = protocol_of; sample = codes "tcp"; value = protocols.TCP; takes = refl })
 
--- ---- a host: "any" or a network
+-- ---- a network
 
-abbrev pub host_in : Result Network AddrFault → Result Host Kind
-host_in (Ok n) = Ok (Net n)
-host_in (Err e) = Err BadWord
+abbrev pub net_in : Result Network AddrFault → Result Network Kind
+net_in (Ok n) = Ok n
+net_in (Err e) = Err BadWord
+
+abbrev pub net_of : Word → Result Network Kind
+net_of w = net_in (net_at w)
+
+-- as a host, negated or not
+abbrev pub marked : Bool → Word → Result Host Kind
+marked negated w = net_of w >>= λ n. Ok (Net n negated)
+
+pub marked_taken : marked true (codes "0.0.0.0") ≡ Ok (Net (network_of (addr.V4 0)) true)
+unfolding numbers_at parts_at part_at
+marked_taken = refl
+
+unfoldable pub a_negated_network : Form Host
+a_negated_network = word (record { of = marked true; sample = codes "0.0.0.0"; value = Net (network_of (addr.V4 0)) true; takes = marked_taken })
+
+-- ---- a network with a `!` joined to it, or without one
+
+abbrev pub begins_with : Word → Word → Bool
+begins_with front w = bytes_eq (take (length front) w) front
 
 abbrev pub host_of : Word → Result Host Kind
-host_of w = if bytes_eq w (codes "any") then Ok Any else host_in (net_at w)
+host_of w = if begins_with (codes "!") w then marked true (drop 1 w) else marked false w
 
-abbrev pub a_host : Form Host
-a_host = word (record { of = host_of; sample = codes "any"; value = Any; takes = refl })
+pub host_taken : host_of (codes "0.0.0.0") ≡ Ok (Net (network_of (addr.V4 0)) false)
+unfolding numbers_at parts_at part_at
+host_taken = refl
+
+unfoldable pub a_host : Form Host
+a_host = word (record { of = host_of; sample = codes "0.0.0.0"; value = Net (network_of (addr.V4 0)) false; takes = host_taken })
 
 -- ---- an address
 

@@ -1,15 +1,25 @@
 //! Why a text could not be read.
-ghost use Rattle.std.specs.Prelude.{◌≡◌, ◌-◌, Option, List};
+ghost use Rattle.std.specs.Prelude.{◌≡◌, ◌-◌, List, Result};
 ghost use denote.Ref.{Bor};
 ghost use Rattle.pf_form.specs.Forms.{Reader};
 ghost use Rattle.pf_form.specs.Readers.{MovesBy};
 ghost use Rattle.pf_form.specs.Words.{Word, texts};
-ghost use Rattle.pf_rule.specs.Refusals.{fault_at, told_by};
+ghost use Rattle.pf_rule.specs.Refusals.{fault_at, fault_for, told_by};
+ghost use Rattle.pf_rule.specs.declared.fault.Mistake.{Mistake};
 ghost use Rattle.pf_rule.specs.declared.fault.TextFault.TheVariants.{Memory};
 
 use pf_form::{Kind, Stop, Words, end};
 use std::alloc::AllocError;
 use thiserror::Error;
+
+/// What is wrong with a text whose words can all stand where they stand.
+#[derive(Clone, Copy)]
+pub enum Mistake {
+    /// Addresses, networks or a family that differ in family.
+    MixedFamily,
+    /// A port is tested, and the protocol isn't TCP or UDP.
+    PortNeedsProto,
+}
 
 /// Why a text is no rule or no packet. `at` is the number of a word, from 0, or the number of words where one is missing.
 #[derive(Clone, Copy, Debug, PartialEq, Eq, Error)]
@@ -26,6 +36,9 @@ pub enum TextFault {
     /// All words can stand, and their addresses, networks and family aren't of one family.
     #[error("addresses, networks or a family that differ in family")]
     MixedFamily,
+    /// All words can stand, and a port is tested where the protocol isn't TCP or UDP. Only a rule's text has it.
+    #[error("a port test without a protocol that has ports")]
+    PortNeedsProto,
     /// Memory was refused.
     #[error("no memory")]
     Memory,
@@ -43,18 +56,27 @@ fn fault_of(stop: Stop, count: usize) -> TextFault
     }
 }
 
+fn fault_for(mistake: Mistake) -> TextFault
+    ensures { result ≡ fault_for mistake }
+{
+    match mistake {
+        Mistake::MixedFamily => TextFault::MixedFamily,
+        Mistake::PortNeedsProto => TextFault::PortNeedsProto,
+    }
+}
+
 /// What a text of so many words answers, of which this was read and these are left.
 pub(crate) fn tell<T: Copy>(
-    read: Result<Option<T>, Stop>,
+    read: Result<Result<T, Mistake>, Stop>,
     rest: Words<'_>,
     count: usize,
 ) -> Result<T, TextFault>
-    ensures { (at : Reader (Option T)) (ws : List (Bor Word)) → MovesBy at read ws rest.now → result ≡ told_by count at (texts ws) }
+    ensures { (at : Reader (Result T Mistake)) (ws : List (Bor Word)) → MovesBy at read ws rest.now → result ≡ told_by count at (texts ws) }
 {
     match (read, end(rest)) {
         (Err(stop), _) | (Ok(_), Err(stop)) => Err(fault_of(stop, count)),
-        (Ok(None), Ok(())) => Err(TextFault::MixedFamily),
-        (Ok(Some(value)), Ok(())) => Ok(value),
+        (Ok(Err(mistake)), Ok(())) => Err(fault_for(mistake)),
+        (Ok(Ok(value)), Ok(())) => Ok(value),
     }
 }
 

@@ -1,8 +1,9 @@
 //! Laws of texts. Each function does nothing; its clauses are what is proved.
-ghost use Rattle.std.specs.Prelude.{◌≡◌, ℕ, List, Option, Ok, Some};
+ghost use Rattle.std.specs.Prelude.{◌≡◌, ℕ, List, Result, Ok};
 ghost use Rattle.pf_form.specs.declared.fault.Kind.{Kind};
 ghost use Rattle.pf_form.specs.Forms.{Spells, RefusedAt, read_all};
 ghost use Rattle.pf_form.specs.Words.{Word, words_of};
+ghost use Rattle.pf_rule.specs.declared.fault.Mistake.{Mistake};
 ghost use Rattle.pf_rule.specs.Rules.{PlainRule, IsRule};
 ghost use Rattle.pf_rule.specs.Packets.{PlainPacket, IsPacket};
 ghost use Rattle.pf_rule.specs.RuleGrammar.{rule};
@@ -13,8 +14,8 @@ ghost use Rattle.pf_rule.specs.RuleText.{canonical, rule_text};
 #[tactic(auto, using(crate::specs::RuleTextLaws::spells_canonical, crate::specs::RuleTextLaws::words_are, crate::specs::RuleTextLaws::read_again))]
 pub fn what_is_written_is_read_again()
     ensures words { (r : PlainRule) → IsRule r → words_of (rule_text r) ≡ canonical r }
-    ensures spelled { (r : PlainRule) → IsRule r → Spells rule (Some r) (canonical r) }
-    ensures read { (r : PlainRule) → IsRule r → read_all rule (words_of (rule_text r)) ≡ Ok (Some r) }
+    ensures spelled { (r : PlainRule) → IsRule r → Spells rule (Ok r) (canonical r) }
+    ensures read { (r : PlainRule) → IsRule r → read_all rule (words_of (rule_text r)) ≡ Ok (Ok r) }
 {}
 
 /// Two different rules are written as different texts.
@@ -25,12 +26,12 @@ pub fn different_rules_have_different_texts()
 /// What a text spells is a rule or a packet; so a rule is exactly what some text spells.
 #[tactic(auto, using(crate::proofs::Kept::rule_kept, crate::proofs::Kept::packet_kept))]
 pub fn what_is_spelled_is_kept()
-    ensures rules { (r : PlainRule) (ws : List Word) → Spells rule (Some r) ws → IsRule r }
-    ensures packets { (p : PlainPacket) (ws : List Word) → Spells packet (Some p) ws → IsPacket p }
+    ensures rules { (r : PlainRule) (ws : List Word) → Spells rule (Ok r) ws → IsRule r }
+    ensures packets { (p : PlainPacket) (ws : List Word) → Spells packet (Ok p) ws → IsPacket p }
 {}
 
 /// A text that is refused at a word has one place at which it can be refused, and one kind of refusal there.
 pub fn a_refusal_is_one()
-    ensures rules { (ws : List Word) (m n : ℕ) (j k : Kind) → RefusedAt (Option PlainRule) rule ws m j → RefusedAt (Option PlainRule) rule ws n k → (m ≡ n) × (j ≡ k) }
-    ensures packets { (ws : List Word) (m n : ℕ) (j k : Kind) → RefusedAt (Option PlainPacket) packet ws m j → RefusedAt (Option PlainPacket) packet ws n k → (m ≡ n) × (j ≡ k) }
+    ensures rules { (ws : List Word) (m n : ℕ) (j k : Kind) → RefusedAt (Result PlainRule Mistake) rule ws m j → RefusedAt (Result PlainRule Mistake) rule ws n k → (m ≡ n) × (j ≡ k) }
+    ensures packets { (ws : List Word) (m n : ℕ) (j k : Kind) → RefusedAt (Result PlainPacket Mistake) packet ws m j → RefusedAt (Result PlainPacket Mistake) packet ws n k → (m ≡ n) × (j ≡ k) }
 {}

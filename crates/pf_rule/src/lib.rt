@@ -5,6 +5,7 @@ mod fault;
 mod interface;
 mod laws;
 mod packet;
+mod ports;
 mod protocol;
 mod rule;
 mod rule_text;
@@ -12,12 +13,13 @@ mod rule_words;
 mod value_words;
 mod values;
 
-pub use fault::TextFault;
+pub use fault::{Mistake, TextFault};
 pub use interface::{INTERFACE_LIMIT, Interface};
 pub use laws::{
     a_refusal_is_one, different_rules_have_different_texts, what_is_spelled_is_kept,
     what_is_written_is_read_again,
 };
 pub use packet::Packet;
+pub use ports::{Comparison, PortRange, PortTest};
 pub use protocol::Protocol;
 pub use rule::{Action, Direction, Effect, Host, Rule};

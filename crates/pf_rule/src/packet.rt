@@ -6,7 +6,7 @@ ghost use Rattle.pf_rule.specs.PacketGrammar.{packet, way};
 ghost use Rattle.pf_rule.specs.Refusals.{IsAnswer, reading};
 ghost use Rattle.pf_rule.specs.Packets.{PlainPacket, IsPacket};
 
-use crate::fault::{TextFault, tell};
+use crate::fault::{Mistake, TextFault, tell};
 use crate::interface::Interface;
 use crate::protocol::Protocol;
 use crate::rule::Direction;
@@ -55,9 +55,9 @@ impl Model for Packet {
 impl Packet {
     /// Reads a packet from the front of the words that are left. It takes no memory.
     ///
-    /// A refusal stands at the first word at which no packet can go on. None where the addresses differ in family.
+    /// A refusal stands at the first word at which no packet can go on. The mistake is that the addresses differ in family.
     #[tactic(auto, unfolding(crate::specs::PacketGrammar::packet))]
-    pub fn read<'a>(words: &mut Words<'a>) -> Result<Option<Packet>, Stop>
+    pub fn read<'a>(words: &mut Words<'a>) -> Result<Result<Packet, Mistake>, Stop>
         ensures { Moves packet result words.old.now words.new.now }
     {
         let direction = read_way(words)?;
@@ -69,9 +69,9 @@ impl Packet {
         let destination = address_word(words)?;
         let destination_port = port_word(ports, words)?;
         if source.family() != destination.family() {
-            return Ok(None);
+            return Ok(Err(Mistake::MixedFamily));
         }
-        Ok(Some(Packet(PacketParts {
+        Ok(Ok(Packet(PacketParts {
             direction,
             interface,
             protocol,

@@ -2,13 +2,14 @@
 ghost use Rattle.std.specs.Prelude.{◌≡◌};
 ghost use Rattle.pf_form.specs.Readers.{Moves};
 ghost use Rattle.pf_form.specs.Words.{words_of, texts};
-ghost use Rattle.pf_rule.specs.RuleGrammar.{rule, host_family, agreed, one_family, passes, effect_of};
+ghost use Rattle.pf_rule.specs.RuleGrammar.{rule, host_family, agreed, one_family, agreeing, passes, effect_of};
 ghost use Rattle.pf_rule.specs.Refusals.{IsAnswer, reading};
-ghost use Rattle.pf_rule.specs.Rules.{PlainRule, IsRule, holds, host_holds, matches};
+ghost use Rattle.pf_rule.specs.Rules.{PlainRule, IsRule, holds, host_holds, ends_hold, matches};
 
-use crate::fault::{TextFault, tell};
+use crate::fault::{Mistake, TextFault, tell};
 use crate::interface::Interface;
 use crate::packet::Packet;
+use crate::ports::{PortTest, ports_fit, takes_port};
 use crate::protocol::Protocol;
 use crate::rule_words::{
     read_direction, read_family, read_hosts, read_interface, read_opening, read_protocol,
@@ -61,8 +62,8 @@ pub(crate) enum Opening {
 pub enum Host {
     /// Every address.
     Any,
-    /// The addresses of a network.
-    Net(Net),
+    /// The addresses of a network, or where it is negated (`!`) all others.
+    Net { net: Net, is_negated: bool },
 }
 
 /// What a rule says (pf.conf(5), Packet Filtering and its Parameters). Contracts see a [`Rule`] as these fields (`PlainRule`), each
@@ -83,8 +84,12 @@ struct RuleParts {
     protocol: Option<Protocol>,
     /// The addresses that a packet has to come from (`from`).
     source: Host,
+    /// The ports that a packet has to come from (`port`). Only a rule of TCP or UDP tests ports.
+    source_port: Option<PortTest>,
     /// The addresses that a packet has to go to (`to`).
     destination: Host,
+    /// The ports that a packet has to go to, as `source_port`.
+    destination_port: Option<PortTest>,
 }
 
 /// A filter rule (pf.conf(5), Packet Filtering). A rule is exactly what some text spells.
@@ -130,17 +135,17 @@ impl Host {
     {
         match self {
             Host::Any => true,
-            Host::Net(net) => net.contains(address),
+            Host::Net { net, is_negated } => net.contains(address) != is_negated,
         }
     }
 
-    /// The family of the host's addresses, where it takes those of one alone.
+    /// The family of the host's network, negated or not.
     pub fn family(self) -> Option<Family>
         ensures { result ≡ host_family self }
     {
         match self {
             Host::Any => None,
-            Host::Net(net) => Some(net.family()),
+            Host::Net { net, .. } => Some(net.family()),
         }
     }
 }
@@ -148,40 +153,44 @@ impl Host {
 impl Rule {
     /// Reads a rule from the front of the words that are left. It takes no memory.
     ///
-    /// A refusal stands at the first word at which no rule can go on. None where the written families differ.
+    /// A refusal stands at the first word at which no rule can go on. Of two mistakes that the families differ is told first.
     #[tactic(auto, unfolding(crate::specs::RuleGrammar::rule))]
-    pub fn read<'a>(words: &mut Words<'a>) -> Result<Option<Rule>, Stop>
+    pub fn read<'a>(words: &mut Words<'a>) -> Result<Result<Rule, Mistake>, Stop>
         ensures { Moves rule result words.old.now words.new.now }
     {
         let opening = read_opening(words)?;
         let direction = read_direction(words);
         let quick = takes(words, b"quick");
         let interface = read_interface(words)?;
-        let written = read_family(words);
+        let family = read_family(words);
         let protocol = read_protocol(words)?;
-        let hosts = read_hosts(words)?;
+        let ends = read_hosts(words)?;
         let keeps_state = read_state(opening.passes(), words)?;
-        let Some(family) = one_family(written, hosts.0, hosts.1) else {
-            return Ok(None);
-        };
-        Ok(Some(Rule(RuleParts {
+        let parts = agreeing(RuleParts {
             effect: opening.effect(keeps_state),
             direction,
             quick,
             interface,
             family,
             protocol,
-            source: hosts.0,
-            destination: hosts.1,
-        })))
+            source: ends.0.0,
+            source_port: ends.0.1,
+            destination: ends.1.0,
+            destination_port: ends.1.1,
+        });
+        match parts {
+            Ok(parts) => Ok(Ok(Rule(parts))),
+            Err(mistake) => Ok(Err(mistake)),
+        }
     }
 
     /// Reads the text of a rule: its words between blanks.
     ///
     /// `at` is the number of the first word at which no text can go on, from 0, or the number of words where one is missing.
     /// [`TextFault::NameTooLong`] is for an interface of more than 15 bytes and a reference past its limits,
-    /// [`TextFault::BadProto`] for a word that has to be a protocol, [`TextFault::BadWord`] for any other. [`TextFault::MixedFamily`] comes after the last word, and
-    /// [`TextFault::Memory`] where memory for the list of words is refused.
+    /// [`TextFault::BadProto`] for a word that has to be a protocol, [`TextFault::BadWord`] for any other.
+    /// [`TextFault::MixedFamily`] and then [`TextFault::PortNeedsProto`] come after the last word, and [`TextFault::Memory`] where
+    /// memory for the list of words is refused.
     #[tactic(auto, using(crate::proofs::Answering::is_answer_rule))]
     pub fn parse(alloc: Global, text: &str) -> Result<Rule, TextFault>
         ensures { IsAnswer PlainRule rule (words_of text.now) result }
@@ -208,8 +217,7 @@ impl Rule {
             && is_wanted(&rule.interface, packet.interface())
             && is_wanted(&rule.family, &packet.source().family())
             && is_wanted(&rule.protocol, &packet.protocol())
-            && rule.source.holds(packet.source())
-            && rule.destination.holds(packet.destination())
+            && ends_hold(rule, packet)
     }
 
     /// What a match with the rule gives.
@@ -263,11 +271,25 @@ impl Rule {
         self.0.source
     }
 
+    /// The test of the port that packets come from, where there is one.
+    pub fn source_port(&self) -> Option<PortTest>
+        ensures { result ≡ self.now.source_port }
+    {
+        self.0.source_port
+    }
+
     /// The addresses that packets may go to.
     pub fn destination(&self) -> Host
         ensures { result ≡ self.now.destination }
     {
         self.0.destination
+    }
+
+    /// The test of the port that packets go to, where there is one.
+    pub fn destination_port(&self) -> Option<PortTest>
+        ensures { result ≡ self.now.destination_port }
+    {
+        self.0.destination_port
     }
 }
 
@@ -288,6 +310,32 @@ fn one_family(written: Option<Family>, source: Host, destination: Host) -> Optio
 {
     let family = agreed(written, source.family())?;
     agreed(family, destination.family())
+}
+
+/// The parts with their one family, where they make no mistake.
+fn agreeing(parts: RuleParts) -> Result<RuleParts, Mistake>
+    ensures { result ≡ agreeing parts }
+{
+    let Some(family) = one_family(parts.family, parts.source, parts.destination) else {
+        return Err(Mistake::MixedFamily);
+    };
+    if !ports_fit(parts.protocol, parts.source_port, parts.destination_port) {
+        return Err(Mistake::PortNeedsProto);
+    }
+    let mut parts = parts;
+    parts.family = family;
+    Ok(parts)
+}
+
+/// Whether a packet's addresses and ports are among those of the rule's two ends.
+#[tactic(auto, unfolding(crate::specs::Rules::ends_hold))]
+fn ends_hold(rule: &RuleParts, packet: &Packet) -> bool
+    ensures { result ≡ ends_hold rule.now packet.now }
+{
+    rule.source.holds(packet.source())
+        && takes_port(rule.source_port, packet.source_port())
+        && rule.destination.holds(packet.destination())
+        && takes_port(rule.destination_port, packet.destination_port())
 }
 
 /// Whether a value is the one that a test wants. A test that is absent holds.

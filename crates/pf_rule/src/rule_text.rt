@@ -1,12 +1,16 @@
 //! The canonical text of a rule.
-ghost use Rattle.std.specs.Prelude.{◌≡◌, ◌≢◌, IfErr};
+ghost use Rattle.std.specs.Prelude.{◌≡◌, ◌≢◌, ◌++◌, codes, decimal, IfErr};
 ghost use Rattle.std.specs.IoError.{error_kind};
 ghost use Rattle.pf_addr.specs.Writing.{Writes, Continues};
-ghost use Rattle.pf_rule.specs.RuleText.{effect_word, reference_words, direction_words, quick_words, interface_words, family_words, protocol_words, host_word, host_words, state_words, spaced, rule_text};
+ghost use Rattle.pf_rule.specs.RuleText.{effect_word, reference_words, direction_words, quick_words, interface_words, family_words, protocol_words, host_words, from_to_words, ends_words, state_words, spaced, rule_text};
+ghost use Rattle.pf_rule.specs.Spacing.{end_text};
+ghost use Rattle.pf_rule.specs.Ports.{operator_word, port_words};
 
 use crate::interface::Interface;
+use crate::ports::{Comparison, PortRange, PortTest};
 use crate::protocol::Protocol;
 use crate::rule::{Action, Direction, Effect, Host, Rule};
+use crate::rule_words::End;
 use pf_addr::{Family, write_more, write_more_net, write_more_number, write_text};
 use std::io::{self, ErrorKind, Write};
 
@@ -27,7 +31,9 @@ impl Rule {
         let so_far = write_interface(out, so_far, self.interface());
         let so_far = write_more(out, so_far, family_text(self.family()));
         let so_far = write_protocol(out, so_far, self.protocol());
-        let so_far = write_hosts(out, so_far, self.source(), self.destination());
+        let source = (self.source(), self.source_port());
+        let destination = (self.destination(), self.destination_port());
+        let so_far = write_ends(out, so_far, source, destination);
         write_more(out, so_far, state_text(self.effect()))
     }
 }
@@ -137,28 +143,109 @@ fn write_protocol<W: Write>(
     }
 }
 
-fn write_hosts<W: Write>(
+fn write_ends<W: Write>(
     out: &mut W,
     so_far: io::Result<()>,
-    source: Host,
-    destination: Host,
+    source: End,
+    destination: End,
 ) -> io::Result<()>
-    ensures { Continues so_far (W.contents out.old) result (W.contents out.new) (spaced (host_words source destination)) }
+    ensures { Continues so_far (W.contents out.old) result (W.contents out.new) (spaced (ends_words source destination)) }
 {
-    if let (Host::Any, Host::Any) = (source, destination) {
-        return write_more(out, so_far, b" all");
+    match (source, destination) {
+        ((Host::Any, None), (Host::Any, None)) => write_more(out, so_far, b" all"),
+        _ => write_from_to(out, so_far, source, destination),
     }
-    let so_far = write_more(out, so_far, b" from ");
-    let so_far = write_host(out, so_far, source);
-    let so_far = write_more(out, so_far, b" to ");
-    write_host(out, so_far, destination)
 }
 
+fn write_from_to<W: Write>(
+    out: &mut W,
+    so_far: io::Result<()>,
+    source: End,
+    destination: End,
+) -> io::Result<()>
+    ensures { Continues so_far (W.contents out.old) result (W.contents out.new) (spaced (from_to_words source destination)) }
+{
+    let so_far = write_more(out, so_far, b" from");
+    let so_far = write_end(out, so_far, source);
+    let so_far = write_more(out, so_far, b" to");
+    write_end(out, so_far, destination)
+}
+
+#[tactic(auto, using(crate::specs::Spacing::continuing))]
+fn write_end<W: Write>(out: &mut W, so_far: io::Result<()>, end: End) -> io::Result<()>
+    ensures { Continues so_far (W.contents out.old) result (W.contents out.new) (end_text end) }
+{
+    let so_far = write_host(out, so_far, end.0);
+    write_port(out, so_far, end.1)
+}
+
+#[tactic(auto, using(crate::specs::Spacing::continuing))]
 fn write_host<W: Write>(out: &mut W, so_far: io::Result<()>, host: Host) -> io::Result<()>
-    ensures { Continues so_far (W.contents out.old) result (W.contents out.new) (host_word host) }
+    ensures { Continues so_far (W.contents out.old) result (W.contents out.new) (spaced (host_words host)) }
 {
     match host {
-        Host::Any => write_more(out, so_far, b"any"),
-        Host::Net(net) => write_more_net(out, so_far, net),
+        Host::Any => write_more(out, so_far, b" any"),
+        Host::Net { net, is_negated } => {
+            if is_negated {
+                let so_far = write_more(out, so_far, b" ! ");
+                return write_more_net(out, so_far, net);
+            }
+            let so_far = write_more(out, so_far, b" ");
+            write_more_net(out, so_far, net)
+        }
     }
+}
+
+fn operator_text(operator: Comparison) -> &'static [u8]
+    ensures { result.now ≡ operator_word operator }
+{
+    match operator {
+        Comparison::Equal => b"=",
+        Comparison::NotEqual => b"!=",
+        Comparison::Less => b"<",
+        Comparison::AtMost => b"<=",
+        Comparison::Greater => b">",
+        Comparison::AtLeast => b">=",
+    }
+}
+
+/// Writes a port test, each word with a space before it.
+#[tactic(auto, using(crate::specs::Spacing::continuing))]
+fn write_port<W: Write>(
+    out: &mut W,
+    so_far: io::Result<()>,
+    test: Option<PortTest>,
+) -> io::Result<()>
+    ensures { Continues so_far (W.contents out.old) result (W.contents out.new) (spaced (port_words test)) }
+{
+    match test {
+        None => write_more(out, so_far, b""),
+        Some(PortTest::Compared { operator, port }) => {
+            let so_far = write_more(out, so_far, b" port ");
+            let so_far = write_more(out, so_far, operator_text(operator));
+            let so_far = write_more(out, so_far, b" ");
+            write_more_number(out, so_far, u64::from(port))
+        }
+        Some(PortTest::Ranged { range, first, last }) => match range {
+            PortRange::Including => write_range(out, so_far, first, b":", last),
+            PortRange::Excluding => write_range(out, so_far, first, b" >< ", last),
+            PortRange::Except => write_range(out, so_far, first, b" <> ", last),
+        },
+    }
+}
+
+#[tactic(auto, using(crate::specs::Spacing::continuing))]
+fn write_range<W: Write>(
+    out: &mut W,
+    so_far: io::Result<()>,
+    first: u16,
+    between: &[u8],
+    last: u16,
+) -> io::Result<()>
+    ensures { Continues so_far (W.contents out.old) result (W.contents out.new) (codes " port " ++ (decimal first ++ (between.now ++ decimal last))) }
+{
+    let so_far = write_more(out, so_far, b" port ");
+    let so_far = write_more_number(out, so_far, u64::from(first));
+    let so_far = write_more(out, so_far, between);
+    write_more_number(out, so_far, u64::from(last))
 }

@@ -3,12 +3,13 @@ ghost use Rattle.std.specs.Prelude.{◌≡◌, Ok};
 ghost use Rattle.pf_form.specs.Forms.{reads};
 ghost use Rattle.pf_form.specs.Readers.{Moves};
 ghost use Rattle.pf_form.specs.Words.{texts};
-ghost use Rattle.pf_rule.specs.RuleGrammar.{opening, direction, interface, family, protocol, destination, hosts, state};
+ghost use Rattle.pf_rule.specs.RuleGrammar.{opening, direction, interface, family, protocol, host, end, destination, hosts, state};
 
 use crate::interface::Interface;
+use crate::ports::{PortTest, read_port};
 use crate::protocol::Protocol;
 use crate::rule::{Direction, Host, Opening};
-use crate::value_words::{host_word, interface_word, protocol_word, reference_word};
+use crate::value_words::{host_word, interface_word, negated_word, protocol_word, reference_word};
 use pf_addr::Family;
 use pf_form::{Stop, Words, expect, takes};
 
@@ -74,32 +75,56 @@ pub(crate) fn read_protocol<'a>(words: &mut Words<'a>) -> Result<Option<Protocol
     Ok(Some(protocol_word(words)?))
 }
 
+/// One end of a packet's way: its host, and a test of its port.
+pub(crate) type End = (Host, Option<PortTest>);
+
+#[tactic(auto, unfolding(crate::specs::RuleGrammar::host))]
+fn read_host<'a>(words: &mut Words<'a>) -> Result<Host, Stop>
+    ensures { Moves host result words.old.now words.new.now }
+{
+    if takes(words, b"any") {
+        return Ok(Host::Any);
+    }
+    if takes(words, b"!") {
+        return negated_word(words);
+    }
+    host_word(words)
+}
+
+#[tactic(auto, unfolding(crate::specs::RuleGrammar::end))]
+fn read_end<'a>(words: &mut Words<'a>) -> Result<End, Stop>
+    ensures { Moves end result words.old.now words.new.now }
+{
+    Ok((read_host(words)?, read_port(words)?))
+}
+
 #[tactic(auto, unfolding(crate::specs::RuleGrammar::destination))]
-fn read_destination<'a>(words: &mut Words<'a>) -> Result<Host, Stop>
+fn read_destination<'a>(words: &mut Words<'a>) -> Result<End, Stop>
     ensures { Moves destination result words.old.now words.new.now }
 {
     if takes(words, b"to") {
-        host_word(words)
+        read_end(words)
     } else {
-        Ok(Host::Any)
+        Ok((Host::Any, None))
     }
 }
 
 /// A source and a destination.
 #[tactic(auto, unfolding(crate::specs::RuleGrammar::hosts))]
-pub(crate) fn read_hosts<'a>(words: &mut Words<'a>) -> Result<(Host, Host), Stop>
+pub(crate) fn read_hosts<'a>(words: &mut Words<'a>) -> Result<(End, End), Stop>
     ensures { Moves hosts result words.old.now words.new.now }
 {
+    let anywhere = (Host::Any, None);
     if takes(words, b"all") {
-        return Ok((Host::Any, Host::Any));
+        return Ok((anywhere, anywhere));
     }
     if takes(words, b"from") {
-        return Ok((host_word(words)?, read_destination(words)?));
+        return Ok((read_end(words)?, read_destination(words)?));
     }
     if takes(words, b"to") {
-        return Ok((Host::Any, host_word(words)?));
+        return Ok((anywhere, read_end(words)?));
     }
-    Ok((Host::Any, Host::Any))
+    Ok((anywhere, anywhere))
 }
 
 /// Whether a rule keeps state. Only a rule that passes has the option, and it keeps state where nothing is said.

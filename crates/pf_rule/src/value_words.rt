@@ -1,11 +1,11 @@
 //! Reading the words that stand for values, each from the front of those that are left.
 ghost use Rattle.pf_form.specs.Readers.{Moves};
-ghost use Rattle.pf_rule.specs.Values.{a_reference, an_interface, a_protocol, a_host, an_address, a_port};
+ghost use Rattle.pf_rule.specs.Values.{a_reference, an_interface, a_protocol, a_negated_network, a_host, an_address, a_port};
 
 use crate::interface::Interface;
 use crate::protocol::Protocol;
 use crate::rule::Host;
-use crate::values::{address_of, host_of, interface_of, port_of, protocol_of};
+use crate::values::{address_of, host_of, interface_of, marked, port_of, protocol_of};
 use pf_addr::Addr;
 use pf_form::{Stop, Words, bad_word, stop};
 use pf_path::Reference;
@@ -26,6 +26,8 @@ macro_rules! take_word {
     };
 }
 
+pub(crate) use take_word;
+
 pub(crate) fn reference_word<'a>(words: &mut Words<'a>) -> Result<Reference, Stop>
     ensures { Moves a_reference result words.old.now words.new.now }
 {
@@ -44,6 +46,16 @@ pub(crate) fn protocol_word<'a>(words: &mut Words<'a>) -> Result<Protocol, Stop>
     take_word!(words, word => protocol_of(word))
 }
 
+/// The network behind a `!` that is a word of its own.
+#[tactic(auto, unfolding(crate::specs::Values::a_negated_network))]
+pub(crate) fn negated_word<'a>(words: &mut Words<'a>) -> Result<Host, Stop>
+    ensures { Moves a_negated_network result words.old.now words.new.now }
+{
+    take_word!(words, word => marked(true, word))
+}
+
+/// A network, with a `!` joined to it or without one.
+#[tactic(auto, unfolding(crate::specs::Values::a_host))]
 pub(crate) fn host_word<'a>(words: &mut Words<'a>) -> Result<Host, Stop>
     ensures { Moves a_host result words.old.now words.new.now }
 {

@@ -1,7 +1,7 @@
 //! Words that stand for values.
 ghost use Rattle.std.specs.Prelude.{◌≡◌};
 ghost use Rattle.pf_form.specs.Numbers.{number_of};
-ghost use Rattle.pf_rule.specs.Values.{interface_of, protocol_of, port_of, host_of, address_of};
+ghost use Rattle.pf_rule.specs.Values.{interface_of, protocol_of, port_of, marked, host_of, address_of};
 
 use crate::interface::{INTERFACE_LIMIT, Interface};
 use crate::protocol::Protocol;
@@ -60,16 +60,23 @@ pub(crate) fn port_of(ports: bool, word: &[u8]) -> Result<u16, Kind>
     }
 }
 
-/// `any` or a network.
+/// A network as a host, negated or not.
+pub(crate) fn marked(is_negated: bool, word: &[u8]) -> Result<Host, Kind>
+    ensures { result ≡ marked is_negated word.now }
+{
+    match Net::from_ascii(word) {
+        Ok(net) => Ok(Host::Net { net, is_negated }),
+        Err(_) => Err(Kind::BadWord),
+    }
+}
+
+/// A network, with a `!` joined to it or without one.
 pub(crate) fn host_of(word: &[u8]) -> Result<Host, Kind>
     ensures { result ≡ host_of word.now }
 {
-    if word == b"any".as_slice() {
-        return Ok(Host::Any);
-    }
-    match Net::from_ascii(word) {
-        Ok(net) => Ok(Host::Net(net)),
-        Err(_) => Err(Kind::BadWord),
+    match word.strip_prefix(b"!".as_slice()) {
+        Some(text) => marked(true, text),
+        None => marked(false, word),
     }
 }
 
