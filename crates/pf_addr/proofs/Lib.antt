@@ -1,3 +1,4 @@
 pub mod Numbers
 pub mod Fronts
 pub mod Writers
+pub mod Addresses

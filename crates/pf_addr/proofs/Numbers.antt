@@ -1,54 +1,77 @@
--- The parts of a text, read one after the other.
-use Rattle.std.proofs.Common.{◌≡◌, ℕ, ◌+◌, ◌-◌, ◌<◌, ◌≤◌, List, [], ◌∷◌, ◌++◌, length, take, drop, set, Some, None, Result, Ok, Err, refl, sym, ap, ◌∙◌, arith, append_assoc}
+-- The pieces of a text, read one after the other.
+use Rattle.std.proofs.Common.{◌≡◌, ℕ, ◌+◌, ◌-◌, ◌<◌, ◌≤◌, ◌==◌, List, [], ◌∷◌, ◌++◌, length, take, drop, set, Some, None, Result, Ok, Err, refl, sym, ap, ◌∙◌, arith, append_assoc}
 use Rattle.std.specs.List.{slice_split, position}
 use Rattle.std.proofs.lemmas.List.{length-take-le, length-drop, length-append, take_rest}
+use Rattle.std.proofs.lemmas.List.Splits.{length-slice_split}
 use Rattle.pf_form.specs.Forms.{◌>>=◌}
 use Rattle.pf_addr.specs.declared.fault.AddrFault.{AddrFault}
-use Rattle.pf_addr.specs.declared.fault.AddrFault.TheVariants.{Empty}
+use Rattle.pf_addr.specs.declared.groups.Groups.{Groups}
 use Rattle.pf_addr.specs.declared.reading.Parts.{Parts}
-use Rattle.pf_addr.specs.Grammar.{is_dot, four_bytes}
-use Rattle.pf_addr.specs.Reading.{part_at, parts_at, numbers_at, parts_of}
+use Rattle.pf_addr.specs.Collected.{parts_of, eight_groups, groups_of}
+use Rattle.pf_addr.specs.Grammar.{pieces, four_bytes}
+use Rattle.pf_addr.specs.Reading.{One, Last, pieces_at}
 use Rattle.pf_addr.specs.PlaceLaws.{split_some, split_none}
 
--- what is read where these numbers stand before the rest, which begins at `at`
-abbrev pub behind : List ℕ → ℕ → List ℕ → Result Parts AddrFault
-behind done at rest = parts_at at (slice_split is_dot rest) >>= λ ns. Ok (parts_of (done ++ ns))
+-- what is read, and kept by `make`, where these numbers stand before the rest, which begins at `at`
+abbrev pub behind : {S : Type 0} → One → Last → ℕ → (List ℕ → S) → List ℕ → ℕ → List ℕ → Result S AddrFault
+behind one last c make done at rest = pieces_at one last at (slice_split (λ b. b == c) rest) >>= λ ns. Ok (make (done ++ ns))
 
-regrouped : (done : List ℕ) (first : Result ℕ AddrFault) (others : Result (List ℕ) AddrFault) → (first >>= (λ n. others >>= λ ns. Ok (n ∷ ns)) >>= λ ns. Ok (parts_of (done ++ ns))) ≡ (first >>= λ n. others >>= λ ns. Ok (parts_of ((done ++ n ∷ []) ++ ns)))
-regrouped done (Err e) others = refl
-regrouped done (Ok n) (Err e) = refl
-regrouped done (Ok n) (Ok ns) = ap (λ (l : List ℕ). Ok (parts_of l)) (sym (append_assoc done (n ∷ []) ns))
+regrouped : {S : Type 0} (make : List ℕ → S) (done : List ℕ) (first : Result ℕ AddrFault) (others : Result (List ℕ) AddrFault) → (first >>= (λ n. others >>= λ ns. Ok (n ∷ ns)) >>= λ ns. Ok (make (done ++ ns))) ≡ (first >>= λ n. others >>= λ ns. Ok (make ((done ++ n ∷ []) ++ ns)))
+regrouped make done (Err e) others = refl
+regrouped make done (Ok n) (Err e) = refl
+regrouped make done (Ok n) (Ok ns) = ap (λ (l : List ℕ). Ok (make l)) (sym (append_assoc done (n ∷ []) ns))
 
--- A part is read, and then the rest behind its dot.
-pub behind_part : (done : List ℕ) (at : ℕ) (rest : List ℕ) (i : ℕ) (r : Result ℕ AddrFault) → position is_dot rest ≡ Some i → i < length rest → r ≡ part_at at (take i rest) → behind done at rest ≡ (r >>= λ n. behind (done ++ n ∷ []) (at + (i + 1)) (drop (i + 1) rest))
-unfolding parts_at
-behind_part done at rest i r place lt is =
+step : (one : One) (last : Last) (at : ℕ) (p : List ℕ) (ps : List (List ℕ)) → 0 < length ps → pieces_at one last at (p ∷ ps) ≡ (one at p >>= λ n. pieces_at one last (at + length p + 1) ps >>= λ ns. Ok (n ∷ ns))
+unfolding pieces_at
+step one last at p [] lt = absurd (omega arith)
+step one last at p (q ∷ ps) lt = refl
+
+-- A piece is read, and then the rest behind its separator.
+pub behind_piece : {S : Type 0} (one : One) (last : Last) (c : ℕ) (make : List ℕ → S) (done : List ℕ) (at : ℕ) (rest : List ℕ) (i : ℕ) (r : Result ℕ AddrFault) → position (λ b. b == c) rest ≡ Some i → i < length rest → r ≡ one at (take i rest) → behind one last c make done at rest ≡ (r >>= λ n. behind one last c make (done ++ n ∷ []) (at + (i + 1)) (drop (i + 1) rest))
+behind_piece one last c make done at rest i r place lt is =
     let next : at + length (take i rest) + 1 ≡ at + (i + 1) = omega (arith, length-take-le i rest (omega arith)) in
-    rw (split_some is_dot rest i place, ← is, next) (regrouped done r (parts_at (at + (i + 1)) (slice_split is_dot (drop (i + 1) rest))))
+    let others : List (List ℕ) = slice_split (λ b. b == c) (drop (i + 1) rest) in
+    let some : 0 < length others = omega (arith, length-slice_split (λ b. b == c) (drop (i + 1) rest)) in
+    rw (split_some (λ b. b == c) rest i place, step one last at (take i rest) others some, ← is, next) (regrouped make done r (pieces_at one last (at + (i + 1)) others))
 
-pub behind_last : (done : List ℕ) (at : ℕ) (rest : List ℕ) (r : Result ℕ AddrFault) → position is_dot rest ≡ None → r ≡ part_at at rest → behind done at rest ≡ (r >>= λ n. Ok (parts_of (done ++ n ∷ [])))
-unfolding parts_at
-behind_last done at rest (Ok n) place is = rw (split_none is_dot rest place, ← is) refl
-behind_last done at rest (Err e) place is = rw (split_none is_dot rest place, ← is) refl
+pub behind_last : {S : Type 0} (one : One) (last : Last) (c : ℕ) (make : List ℕ → S) (done : List ℕ) (at : ℕ) (rest : List ℕ) → position (λ b. b == c) rest ≡ None → behind one last c make done at rest ≡ (last at rest >>= λ ns. Ok (make (done ++ ns)))
+unfolding pieces_at
+behind_last one last c make done at rest place = rw (split_none (λ b. b == c) rest place) refl
 
 -- ---- a text whose first numbers have been read
 
-pub record SoFar (text : List ℕ) (parts : Parts) (at : ℕ) (rest : List ℕ) : Type 0 where
+pub record SoFar {S : Type 0} (one : One) (last : Last) (c : ℕ) (make : List ℕ → S) (begin : ℕ) (text : List ℕ) (kept : S) (at : ℕ) (rest : List ℕ) : Type 0 where
   pub done : List ℕ
-  pub kept : parts ≡ parts_of done
-  pub same : numbers_at text ≡ behind done at rest
-  pub place : at + length rest ≡ length text
+  pub is : kept ≡ make done
+  pub same : (pieces_at one last begin (pieces c text) >>= λ ns. Ok (make ns)) ≡ behind one last c make done at rest
+  pub place : at + length rest ≡ begin + length text
   pub few : length done ≤ at
 
-pub no_text : (text : List ℕ) → length text ≡ 0 → Err (Empty 0) ≡ numbers_at text
-unfolding numbers_at
-no_text [] e = refl
-no_text (b ∷ bs) e = absurd (omega arith)
+pub no_text : {S : Type 0} (one : One) (last : Last) (c : ℕ) (make : List ℕ → S) (begin : ℕ) (text : List ℕ) → length text ≡ 0 → Ok (make []) ≡ (pieces_at one last begin (pieces c text) >>= λ ns. Ok (make ns))
+unfolding pieces_at
+no_text one last c make begin [] e = refl
+no_text one last c make begin (b ∷ bs) e = absurd (omega arith)
 
-pub at_start : (text : List ℕ) → 0 < length text → SoFar text (parts_of []) 0 text
-unfolding numbers_at
-at_start [] lt = absurd (omega arith)
-at_start (b ∷ bs) lt = record { done = []; kept = refl; same = refl; place = omega arith; few = omega arith }
+pub at_start : {S : Type 0} (one : One) (last : Last) (c : ℕ) (make : List ℕ → S) (begin : ℕ) (text : List ℕ) → 0 < length text → SoFar one last c make begin text (make []) begin text
+at_start one last c make begin [] lt = absurd (omega arith)
+at_start one last c make begin (b ∷ bs) lt = record { done = []; is = refl; same = refl; place = refl; few = omega arith }
+
+pub at_next : {S : Type 0} (one : One) (last : Last) (c : ℕ) (make : List ℕ → S) (begin : ℕ) (text : List ℕ) (kept next : S) (at : ℕ) (rest : List ℕ) (i n : ℕ) (so : SoFar one last c make begin text kept at rest) → position (λ b. b == c) rest ≡ Some i → i < length rest → Ok n ≡ one at (take i rest) → next ≡ make (so.done ++ n ∷ []) → SoFar one last c make begin text next (at + (i + 1)) (take (length rest - (i + 1)) (drop (i + 1) rest))
+at_next one last c make begin text kept next at rest i n so place lt read is = rw (take_rest rest (i + 1)) (record {
+  done = so.done ++ n ∷ [];
+  is = is;
+  same = so.same ∙ behind_piece one last c make so.done at rest i (Ok n) place lt read;
+  place = omega (arith, length-drop (i + 1) rest, so.place);
+  few = omega (arith, length-append so.done (n ∷ []), so.few);
+})
+
+pub at_fault : {S : Type 0} (one : One) (last : Last) (c : ℕ) (make : List ℕ → S) (begin : ℕ) (text : List ℕ) (kept : S) (at : ℕ) (rest : List ℕ) (i : ℕ) (e : AddrFault) (so : SoFar one last c make begin text kept at rest) → position (λ b. b == c) rest ≡ Some i → i < length rest → Err e ≡ one at (take i rest) → Err e ≡ (pieces_at one last begin (pieces c text) >>= λ ns. Ok (make ns))
+at_fault one last c make begin text kept at rest i e so place lt read = sym (so.same ∙ behind_piece one last c make so.done at rest i (Err e) place lt read)
+
+pub at_last : {S : Type 0} (one : One) (last : Last) (c : ℕ) (make : List ℕ → S) (begin : ℕ) (text : List ℕ) (kept : S) (at : ℕ) (rest : List ℕ) (so : SoFar one last c make begin text kept at rest) → position (λ b. b == c) rest ≡ None → (last at rest >>= λ ns. Ok (make (so.done ++ ns))) ≡ (pieces_at one last begin (pieces c text) >>= λ ns. Ok (make ns))
+at_last one last c make begin text kept at rest so place = sym (so.same ∙ behind_last one last c make so.done at rest place)
+
+-- ---- one number more
 
 put_byte : (ns : List ℕ) (n : ℕ) → set (four_bytes ns) (length ns) n ≡ four_bytes (ns ++ n ∷ [])
 put_byte [] n = refl
@@ -57,19 +80,29 @@ put_byte (a ∷ b ∷ []) n = refl
 put_byte (a ∷ b ∷ c ∷ []) n = refl
 put_byte (a ∷ b ∷ c ∷ d ∷ ns) n = refl
 
+put_group : (ns : List ℕ) (n : ℕ) → set (eight_groups ns) (length ns) n ≡ eight_groups (ns ++ n ∷ [])
+put_group [] n = refl
+put_group (a ∷ []) n = refl
+put_group (a ∷ b ∷ []) n = refl
+put_group (a ∷ b ∷ c ∷ []) n = refl
+put_group (a ∷ b ∷ c ∷ d ∷ []) n = refl
+put_group (a ∷ b ∷ c ∷ d ∷ e ∷ []) n = refl
+put_group (a ∷ b ∷ c ∷ d ∷ e ∷ f ∷ []) n = refl
+put_group (a ∷ b ∷ c ∷ d ∷ e ∷ f ∷ g ∷ []) n = refl
+put_group (a ∷ b ∷ c ∷ d ∷ e ∷ f ∷ g ∷ h ∷ ns) n = refl
+
 abbrev parts_with : ℕ → List ℕ → Parts
 parts_with count bytes = record { bytes = bytes; count = count }
 
-pub pushed : (done : List ℕ) (n : ℕ) (parts next : Parts) → parts ≡ parts_of done → next.count ≡ parts.count + 1 → next.bytes ≡ set parts.bytes parts.count n → next ≡ parts_of (done ++ n ∷ [])
-pushed done n parts next is count bytes =
+abbrev groups_with : ℕ → List ℕ → Groups
+groups_with count numbers = record { numbers = numbers; count = count }
+
+pub part_pushed : (done : List ℕ) (n : ℕ) (kept next : Parts) → kept ≡ parts_of done → next.count ≡ kept.count + 1 → next.bytes ≡ set kept.bytes kept.count n → next ≡ parts_of (done ++ n ∷ [])
+part_pushed done n kept next is count bytes =
     let size : next.count ≡ length (done ++ n ∷ []) = omega (arith, count, ap (λ (p : Parts). p.count) is, length-append done (n ∷ [])) in
     ap (λ (k : ℕ). parts_with k next.bytes) size ∙ ap (parts_with (length (done ++ n ∷ []))) (bytes ∙ ap (λ (p : Parts). set p.bytes p.count n) is ∙ put_byte done n)
 
-pub at_next : (text : List ℕ) (parts next : Parts) (at : ℕ) (rest : List ℕ) (i n : ℕ) (so : SoFar text parts at rest) → position is_dot rest ≡ Some i → i < length rest → Ok n ≡ part_at at (take i rest) → next ≡ parts_of (so.done ++ n ∷ []) → SoFar text next (at + (i + 1)) (take (length rest - (i + 1)) (drop (i + 1) rest))
-at_next text parts next at rest i n so place lt is kept = rw (take_rest rest (i + 1)) (record {
-  done = so.done ++ n ∷ [];
-  kept = kept;
-  same = so.same ∙ behind_part so.done at rest i (Ok n) place lt is;
-  place = omega (arith, length-drop (i + 1) rest, so.place);
-  few = omega (arith, length-append so.done (n ∷ []), so.few);
-})
+pub group_pushed : (done : List ℕ) (n : ℕ) (kept next : Groups) → kept ≡ groups_of done → next.count ≡ kept.count + 1 → next.numbers ≡ set kept.numbers kept.count n → next ≡ groups_of (done ++ n ∷ [])
+group_pushed done n kept next is count numbers =
+    let size : next.count ≡ length (done ++ n ∷ []) = omega (arith, count, ap (λ (p : Groups). p.count) is, length-append done (n ∷ [])) in
+    ap (λ (k : ℕ). groups_with k next.numbers) size ∙ ap (groups_with (length (done ++ n ∷ []))) (numbers ∙ ap (λ (p : Groups). set p.numbers p.count n) is ∙ put_group done n)

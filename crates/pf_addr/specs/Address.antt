@@ -68,8 +68,7 @@ pub record Agree (len : ℕ) (a b : Addr) : Type 0 where
   pub family : family_of a ≡ family_of b
   pub bits : (i : ℕ) → i < len → bit (width (family_of a)) i (number_in a) ≡ bit (width (family_of b)) i (number_in b)
 
--- A V4 network: at most 32 bits, and a number that they can write.
-pub record IsV4Network (net : Network) : Type 0 where
-  pub family : net.family ≡ V4
-  pub len : net.len ≤ 32
+-- The front is within an address of the family, and a number that so many bits can write.
+pub record IsNetwork (net : Network) : Type 0 where
+  pub len : net.len ≤ width net.family
   pub front : net.front < 2 ^ net.len

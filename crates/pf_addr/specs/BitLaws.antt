@@ -15,7 +15,7 @@ one_family V4 V6 = (λ e. absurd (true≢false (sym e)), λ e. sym (ap (same_fam
 one_family V6 V4 = (λ e. absurd (true≢false (sym e)), λ e. sym (ap (same_family V6) e))
 one_family V6 V6 = (λ _. refl, λ _. refl)
 
-number_below : (a : Addr) → IsAddr a → number_in a < 2 ^ width (family_of a)
+pub number_below : (a : Addr) → IsAddr a → number_in a < 2 ^ width (family_of a)
 number_below (addr.V4 n) is = is
 number_below (addr.V6 n) is = is
 

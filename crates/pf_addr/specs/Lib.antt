@@ -3,8 +3,12 @@ pub mod Nets
 pub mod BitLaws
 pub mod Grammar
 pub mod Reading
+pub mod Collected
 pub mod PlaceLaws
+pub mod GapLaws
+pub mod PieceLaws
 pub mod ReadingLaws
+pub mod DigitLaws
 pub mod Spelling
 pub mod SpellingLaws
 pub mod Faults

@@ -12,7 +12,7 @@ use Rattle.std.proofs.lemmas.Str.Parse.{digit_at}
 first_some : (p : ℕ → Bool) (text : List ℕ) (i : ℕ) → position p text ≡ Some i → (position_or_len p text < length text) × (position_or_len p text ≡ i)
 first_some p text i e = grind (arith, nat_tests)
 
-first_none : (p : ℕ → Bool) (text : List ℕ) → position p text ≡ None → All (λ b. p b ≡ false) text
+pub first_none : (p : ℕ → Bool) (text : List ℕ) → position p text ≡ None → All (λ b. p b ≡ false) text
 first_none p text e =
     let end : length text ≤ position_or_len p text = grind (arith, nat_tests, prefix_len-le-length) in
     λ k d lt. fails_before_first p text k d (omega arith)
@@ -42,10 +42,13 @@ without c = All (λ b. (b == c) ≡ false)
 pub digits_without : (c : ℕ) (text : List ℕ) → c < 48 → AllDigits 10 text → without c text
 digits_without c text lt ds = All-from_get_or (λ b. (b == c) ≡ false) text 0 (λ i le. let d = digit_at text i ds le in grind (arith, nat_tests))
 
-pub no_place : (c : ℕ) (text : List ℕ) → without c text → position (λ b. b == c) text ≡ None
-no_place c text none =
-    let at : position_or_len (λ b. b == c) text ≡ length text = position_or_len_is (λ b. b == c) text (length text) 0 (omega arith) (λ k lt. none k 0 lt) (λ lt. absurd (omega arith)) in
+pub none_first : (p : ℕ → Bool) (text : List ℕ) → All (λ b. p b ≡ false) text → position p text ≡ None
+none_first p text none =
+    let at : position_or_len p text ≡ length text = position_or_len_is p text (length text) 0 (omega arith) (λ k lt. none k 0 lt) (λ lt. absurd (omega arith)) in
     grind (arith, nat_tests)
+
+pub no_place : (c : ℕ) (text : List ℕ) → without c text → position (λ b. b == c) text ≡ None
+no_place c text none = none_first (λ b. b == c) text none
 
 pub place_after : (c : ℕ) (front behind : List ℕ) → without c front → position (λ b. b == c) (front ++ c ∷ behind) ≡ Some (length front)
 place_after c front behind none =

@@ -1,21 +1,21 @@
--- Which fault of a text is answered. Several faults may stand in one text, and the format fixes their order (parts
--- from left to right; in a part the first byte that is no digit before its length and value; then the number of
--- parts; then a network's length). So the fault and its place are a function of the text.
-use Rattle.std.specs.Prelude.{ℕ, ◌+◌, ◌==◌, not, nat_le, Bool, List, [], ◌∷◌, length, take, drop, Option, Some, None, Result, Ok, Err, if◌then◌else◌}
-use Rattle.std.specs.List.{slice_split, position}
+-- Which fault of a text is answered. Several faults may stand in one text, and the format fixes their order (pieces
+-- from left to right; in a piece the first byte that is no digit before its length and value; then the number of
+-- pieces; then a network's length). So the fault and its place are a function of the text.
+use Rattle.std.specs.Prelude.{ℕ, ◌+◌, ◌-◌, ◌==◌, not, nat_le, Bool, true, false, ◌&&◌, List, [], ◌∷◌, ◌++◌, length, take, drop, replicate, Option, Some, None, is_some, Result, Ok, Err, if◌then◌else◌}
+use Rattle.std.specs.Char.{digit_value}
+use Rattle.std.specs.List.{position}
 use Rattle.std.specs.Option.{ok_or}
-use Rattle.std.specs.Int.{from_be_bytes, w32}
+use Rattle.std.specs.Str.Parse.{digits_value}
 use Rattle.pf_form.specs.Forms.{◌>>=◌}
 use Rattle.pf_form.specs.Numbers.{is_digit, number_of}
 use Rattle.pf_addr.specs.declared.addr.Addr.{Addr}
 use Rattle.pf_addr.specs.declared.addr.Addr.TheVariants as addr
 use Rattle.pf_addr.specs.declared.fault.AddrFault.{AddrFault}
 use Rattle.pf_addr.specs.declared.fault.AddrFault.TheVariants.{Empty, BadDigit, TooBig, BadLength, BadGroups}
-use Rattle.pf_addr.specs.declared.addr.TheConstants.{V4_BITS}
-use Rattle.pf_addr.specs.declared.reading.Parts.{Parts}
 use Rattle.pf_addr.specs.declared.reading.TheConstants.{NUMBER_DIGITS}
-use Rattle.pf_addr.specs.Address.{Network, network_from, network_of}
-use Rattle.pf_addr.specs.Grammar.{is_dot, four_bytes}
+use Rattle.pf_addr.specs.declared.groups.TheConstants.{GROUP_DIGITS, GROUPS}
+use Rattle.pf_addr.specs.Address.{Network, width, family_of, network_from, network_of}
+use Rattle.pf_addr.specs.Grammar.{pieces, v4_number, v6_number, two_groups}
 
 -- the number, if it is at most `most`
 abbrev pub kept_to : ℕ → Option ℕ → Option ℕ
@@ -25,7 +25,7 @@ kept_to most None = None
 abbrev pub small_number : ℕ → List ℕ → Option ℕ
 small_number most text = kept_to most (number_of NUMBER_DIGITS text)
 
--- ---- one part, which begins at `at`
+-- ---- one piece, which begins at `at`
 
 -- with the place in it of its first byte that is no digit
 abbrev pub fault_by : ℕ → List ℕ → Option ℕ → AddrFault
@@ -38,30 +38,98 @@ part_fault at text = fault_by at text (position (λ b. not (is_digit b)) text)
 unfoldable pub part_at : ℕ → List ℕ → Result ℕ AddrFault
 part_at at text = ok_or (small_number 255 text) (part_fault at text)
 
--- ---- the parts of a text, of which the first begins at `at`, with one byte between two
+abbrev pub is_no_hex : ℕ → Bool
+is_no_hex b = nat_le 16 (digit_value b)
 
-unfoldable pub parts_at : ℕ → List (List ℕ) → Result (List ℕ) AddrFault
-parts_at at [] = Ok []
-parts_at at (p ∷ ps) = part_at at p >>= λ n. parts_at (at + length p + 1) ps >>= λ ns. Ok (n ∷ ns)
+abbrev pub group_by : ℕ → List ℕ → Option ℕ → Result ℕ AddrFault
+group_by at text (Some i) = Err (BadDigit (at + i))
+group_by at text None = if length text == 0 then Err (BadDigit at) else (if nat_le (length text) GROUP_DIGITS then Ok (digits_value 16 text) else Err (TooBig at))
 
--- what is kept of the numbers: the first four, and how many they are
-abbrev pub parts_of : List ℕ → Parts
-parts_of ns = record { bytes = four_bytes ns; count = length ns }
+unfoldable pub group_at : ℕ → List ℕ → Result ℕ AddrFault
+group_at at text = group_by at text (position is_no_hex text)
 
-unfoldable pub numbers_at : List ℕ → Result Parts AddrFault
-numbers_at [] = Err (Empty 0)
-numbers_at (b ∷ bs) = parts_at 0 (slice_split is_dot (b ∷ bs)) >>= λ ns. Ok (parts_of ns)
+-- ---- pieces in a row, of which the first begins at `at`, with one byte between two
 
-abbrev pub address_in : Parts → Addr
-address_in parts = addr.V4 (from_be_bytes w32 parts.bytes)
+-- How one piece is read: as one number, or where it is the last as some.
+abbrev pub One : Type 0
+One = ℕ → List ℕ → Result ℕ AddrFault
+
+abbrev pub Last : Type 0
+Last = ℕ → List ℕ → Result (List ℕ) AddrFault
+
+abbrev pub single : One → Last
+single one at p = one at p >>= λ n. Ok (n ∷ [])
+
+unfoldable pub pieces_at : One → Last → ℕ → List (List ℕ) → Result (List ℕ) AddrFault
+pieces_at one last at [] = Ok []
+pieces_at one last at (p ∷ []) = last at p
+pieces_at one last at (p ∷ q ∷ ps) = one at p >>= λ n. pieces_at one last (at + length p + 1) (q ∷ ps) >>= λ ns. Ok (n ∷ ns)
+
+-- ---- V4
+
+abbrev pub parts_at : ℕ → List ℕ → Result (List ℕ) AddrFault
+parts_at at text = pieces_at part_at (single part_at) at (pieces 46 text)
+
+abbrev pub v4_of : ℕ → ℕ → List ℕ → Result ℕ AddrFault
+v4_of fewest at parts = if nat_le fewest (length parts) && nat_le (length parts) 4 then Ok (v4_number parts) else Err (BadGroups at)
+
+-- so many parts at least
+unfoldable pub v4_at : ℕ → ℕ → List ℕ → Result ℕ AddrFault
+v4_at fewest at text = parts_at at text >>= v4_of fewest at
+
+-- ---- V6
+
+abbrev pub has : ℕ → List ℕ → Bool
+has c text = is_some (position (λ b. b == c) text)
+
+-- The last piece of all may be a V4 address.
+unfoldable pub end_at : Bool → ℕ → List ℕ → Result (List ℕ) AddrFault
+end_at ends at text = if ends && has 46 text then (v4_at 4 at text >>= λ n. Ok (two_groups n)) else single group_at at text
+
+-- the groups of a text; whether the address ends with it
+abbrev pub groups_at : Bool → ℕ → List ℕ → Result (List ℕ) AddrFault
+groups_at ends at text = pieces_at group_at (end_at ends) at (pieces 58 text)
+
+abbrev pub v6_of : List ℕ → Result ℕ AddrFault
+v6_of groups = if length groups == GROUPS then Ok (v6_number groups) else Err (BadGroups 0)
+
+-- with zeros in between
+abbrev pub v6_around : List ℕ → List ℕ → Result ℕ AddrFault
+v6_around front back = if nat_le (length front + length back) (GROUPS - 1) then Ok (v6_number (front ++ replicate (GROUPS - (length front + length back)) 0 ++ back)) else Err (BadGroups 0)
+
+abbrev pub later : ℕ → Option ℕ → Option ℕ
+later n (Some i) = Some (n + i)
+later n None = None
+
+abbrev pub begins_with : ℕ → List ℕ → Bool
+begins_with c [] = false
+begins_with c (b ∷ bs) = b == c
+
+-- the place of the first `::`
+unfoldable pub gap : List ℕ → Option ℕ
+gap [] = None
+gap (b ∷ bs) = if (b == 58) && begins_with 58 bs then Some 0 else later 1 (gap bs)
+
+-- with the place of its first `::`
+abbrev pub v6_by : List ℕ → Option ℕ → Result ℕ AddrFault
+v6_by text None = groups_at true 0 text >>= v6_of
+v6_by text (Some i) = groups_at false 0 (take i text) >>= λ front. groups_at true (i + 2) (drop (i + 2) text) >>= v6_around front
+
+unfoldable pub v6_at : List ℕ → Result ℕ AddrFault
+v6_at text = v6_by text (gap text)
 
 -- ---- an address
 
-abbrev pub address_of : Parts → Result Addr AddrFault
-address_of parts = if parts.count == 4 then Ok (address_in parts) else Err (BadGroups 0)
+-- A text with a colon is V6, any other V4 of so many parts at least.
+abbrev pub family_at : ℕ → List ℕ → Bool → Result Addr AddrFault
+family_at fewest text true = v6_at text >>= λ n. Ok (addr.V6 n)
+family_at fewest text false = v4_at fewest 0 text >>= λ n. Ok (addr.V4 n)
+
+unfoldable pub address_at : ℕ → List ℕ → Result Addr AddrFault
+address_at fewest text = if length text == 0 then Err (Empty 0) else family_at fewest text (has 58 text)
 
 abbrev pub addr_at : List ℕ → Result Addr AddrFault
-addr_at text = numbers_at text >>= address_of
+addr_at text = address_at 4 text
 
 -- ---- a network
 
@@ -69,17 +137,17 @@ abbrev pub is_slash : ℕ → Bool
 is_slash b = b == 47
 
 -- A length has one fault, whatever is wrong with it.
-abbrev pub length_at : ℕ → List ℕ → Result ℕ AddrFault
-length_at at text = ok_or (small_number V4_BITS text) (BadLength at)
+abbrev pub length_at : ℕ → ℕ → List ℕ → Result ℕ AddrFault
+length_at most at text = ok_or (small_number most text) (BadLength at)
 
--- with these parts, and with a length that begins at `at`
-abbrev pub front_at : ℕ → List ℕ → Parts → Result Network AddrFault
-front_at at digits parts = if nat_le parts.count 4 then (length_at at digits >>= λ len. Ok (network_from (address_in parts) len)) else Err (BadGroups 0)
+-- with this address, and with a length that begins at `at`
+abbrev pub front_at : ℕ → List ℕ → Addr → Result Network AddrFault
+front_at at digits a = length_at (width (family_of a)) at digits >>= λ len. Ok (network_from a len)
 
 -- with the place of its first slash
 abbrev pub cut_at : List ℕ → Option ℕ → Result Network AddrFault
 cut_at text None = addr_at text >>= λ a. Ok (network_of a)
-cut_at text (Some i) = numbers_at (take i text) >>= front_at (i + 1) (drop (i + 1) text)
+cut_at text (Some i) = address_at 1 (take i text) >>= front_at (i + 1) (drop (i + 1) text)
 
 abbrev pub net_at : List ℕ → Result Network AddrFault
 net_at text = cut_at text (position is_slash text)

@@ -5,7 +5,7 @@ ghost use Rattle.pf_addr.specs.Grammar.{SpellsAddr};
 ghost use Rattle.pf_addr.specs.Reading.{addr_at};
 
 use crate::fault::AddrFault;
-use crate::reading::read_parts;
+use crate::reading::read_address;
 
 /// How many bits an IPv4 address has.
 pub const V4_BITS: u8 = 32;
@@ -53,17 +53,21 @@ impl Addr {
         }
     }
 
-    /// Reads a V4 address: four decimal numbers of one byte between dots, each of one to three digits.
+    /// Reads an address (RFC 4291 section 2.2 for V6). With a colon it is V6: eight groups of one to four hexadecimal
+    /// digits in either case between colons, where `::` once stands for one zero group or more, and a V4 address may
+    /// stand for the last two groups. Else it is V4: four decimal numbers of one byte between dots, each of one to three
+    /// digits.
     ///
-    /// The fault is the first in this order: [`AddrFault::Empty`] of no text; in the parts from left to right
-    /// [`AddrFault::BadDigit`], and then [`AddrFault::TooBig`]; [`AddrFault::BadGroups`]. It takes no memory.
+    /// The fault is the first in this order: [`AddrFault::Empty`] of no text; in the parts or groups from left to right
+    /// [`AddrFault::BadDigit`], and then [`AddrFault::TooBig`]; [`AddrFault::BadGroups`], of a V4 address within a V6
+    /// address as its last piece. It takes no memory.
     #[tactic(auto, using(crate::specs::ReadingLaws::addr_if_ok, crate::specs::ReadingLaws::addr_only))]
     pub fn from_ascii(text: &[u8]) -> Result<Addr, AddrFault>
         ensures found { IfOk result (λ a. SpellsAddr text.now a) }
         ensures only { (a : Addr) → SpellsAddr text.now a → result ≡ Ok a }
         ensures exact { result ≡ addr_at text.now }
     {
-        Addr::four_parts(text)
+        read_address(4, text)
     }
 
     /// As [`Addr::from_ascii`].
@@ -73,16 +77,5 @@ impl Addr {
         ensures exact { result ≡ addr_at text.now }
     {
         Addr::from_ascii(text.as_bytes())
-    }
-
-    // Kept apart, so that what is read is proved once for each way out.
-    fn four_parts(text: &[u8]) -> Result<Addr, AddrFault>
-        ensures { result ≡ addr_at text.now }
-    {
-        let parts = read_parts(text)?;
-        if parts.count != 4 {
-            return Err(AddrFault::BadGroups { at: 0 });
-        }
-        Ok(Addr::V4(u32::from_be_bytes(parts.bytes)))
     }
 }

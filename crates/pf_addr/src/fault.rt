@@ -4,21 +4,23 @@ ghost use Rattle.pf_addr.specs.Faults.{fault_text};
 
 use std::fmt::{self, Display, Formatter, Write};
 
-/// The first fault of a text. Each place `at` is a number of bytes from 0, in the whole text.
+/// The first fault of a text. Each place `at` is a number of bytes from 0, in the whole text. The pieces of a V4 address
+/// are its parts, those of a V6 address its groups, of which the last may be a V4 address.
 ///
-/// Faults are found in this order: no text; the parts from left to right (in a part first a byte that is no digit, then
-/// its length and value); the number of parts; the length behind a network's slash.
+/// Faults are found in this order: no text; the pieces from left to right (in a piece first a byte that is no digit, then
+/// its length and value); the number of pieces; the length behind a network's slash.
 #[derive(Clone, Copy, Debug, PartialEq, Eq)]
 pub enum AddrFault {
     /// There is no text, or none before a network's slash. The place is 0.
     Empty { at: usize },
-    /// An empty part, where it begins, or a byte that is no digit, at that byte.
+    /// An empty piece, where it begins, or a byte that is no digit, at that byte.
     BadDigit { at: usize },
-    /// A part of more than three digits or of a value past 255, where it begins.
+    /// A part of more than three digits or of a value past 255, or a group of more than four digits, where it begins.
     TooBig { at: usize },
-    /// The length is not one to three digits of a value of at most 32. The place is the byte after the slash.
+    /// The length is not one to three digits of a value of at most the family's width. The place is the byte after the
+    /// slash.
     BadLength { at: usize },
-    /// The number of parts is not four, or more than four before a slash. The place is 0.
+    /// A wrong number of pieces. The place is 0, or where a V4 address at the end of a V6 address begins.
     BadGroups { at: usize },
 }
 

@@ -1,11 +1,10 @@
 //! Laws of networks and of texts. Each function's contract is the law, and its body does nothing.
 ghost use Rattle.std.specs.Prelude.{◌≡◌, ◌↔◌, ℕ, ◌^◌, ◌<◌, ◌≤◌, true, List};
 ghost use Rattle.pf_addr.specs.declared.addr.Addr.{Addr};
-ghost use Rattle.pf_addr.specs.declared.addr.Addr.TheVariants as Addr;
 ghost use Rattle.pf_addr.specs.Address.{Network, width, family_of, network_from, contains, IsAddr, BeginsAs, Agree};
 ghost use Rattle.pf_addr.specs.Grammar.{SpellsAddr, SpellsNet};
 ghost use Rattle.pf_addr.specs.Spelling.{addr_text, net_text};
-ghost use Rattle.pf_addr.specs.SpellingLaws.{IsV4Network, IsNetWord};
+ghost use Rattle.pf_addr.specs.SpellingLaws.{IsNetwork, IsNetWord};
 
 use crate::addr::Addr;
 
@@ -17,16 +16,16 @@ pub fn networks_contain_by_bits()
     ensures shared { (a b : Addr) (len : ℕ) → len ≤ width (family_of b) → IsAddr a → IsAddr b → (contains (network_from b len) a ≡ true) ↔ Agree len a b }
 {}
 
-/// The text that a V4 address is written as spells it.
+/// The text that an address is written as spells it.
 #[tactic(auto, using(crate::specs::SpellingLaws::addr_text_spells))]
 pub fn written_addr_is_read_again()
-    ensures { (n : ℕ) → n < 2 ^ 32 → SpellsAddr (addr_text (Addr.V4 n)) (Addr.V4 n) }
+    ensures { (a : Addr) → IsAddr a → SpellsAddr (addr_text a) a }
 {}
 
-/// The text that a V4 network is written as spells it.
+/// The text that a network is written as spells it.
 #[tactic(auto, using(crate::specs::SpellingLaws::net_text_spells))]
 pub fn written_net_is_read_again()
-    ensures { (net : Network) → IsV4Network net → SpellsNet (net_text net) net }
+    ensures { (net : Network) → IsNetwork net → SpellsNet (net_text net) net }
 {}
 
 /// A text spells at most one address.
@@ -41,20 +40,19 @@ pub fn text_spells_one_net()
     ensures { (text : List ℕ) (a b : Network) → SpellsNet text a → SpellsNet text b → a ≡ b }
 {}
 
-/// Two V4 addresses that are written as one text are one.
+/// Two addresses that are written as one text are one.
 #[tactic(auto, using(crate::specs::SpellingLaws::own_addr_text))]
 pub fn addrs_have_texts_of_their_own()
-    ensures { (m n : ℕ) → m < 2 ^ 32 → n < 2 ^ 32 → addr_text (Addr.V4 m) ≡ addr_text (Addr.V4 n) → m ≡ n }
+    ensures { (a b : Addr) → IsAddr a → IsAddr b → addr_text a ≡ addr_text b → a ≡ b }
 {}
 
-/// Two V4 networks that are written as one text are one.
-#[tactic(auto, using(crate::specs::SpellingLaws::own_net_text))]
+/// Two networks that are written as one text are one.
 pub fn nets_have_texts_of_their_own()
-    ensures { (a b : Network) → IsV4Network a → IsV4Network b → net_text a ≡ net_text b → a ≡ b }
+    ensures { (a b : Network) → IsNetwork a → IsNetwork b → net_text a ≡ net_text b → a ≡ b }
 {}
 
-/// A V4 network's text is one word: one to 18 digits, dots and slashes.
+/// A network's text is one word: one to 43 digits, letters from a to f, dots, colons and slashes.
 #[tactic(auto, using(crate::specs::SpellingLaws::net_text_is_word))]
 pub fn net_text_is_one_word()
-    ensures { (net : Network) → IsV4Network net → IsNetWord 18 (net_text net) }
+    ensures { (net : Network) → IsNetwork net → IsNetWord 43 (net_text net) }
 {}

@@ -3,6 +3,7 @@
 
 mod addr;
 mod fault;
+mod groups;
 mod laws;
 mod net;
 mod reading;

@@ -7,7 +7,7 @@ ghost use Rattle.pf_addr.specs.Spelling.{first_addr};
 
 use crate::addr::{Addr, Family, V4_BITS, V6_BITS};
 use crate::fault::AddrFault;
-use crate::reading::{place_of, read_parts, read_prefix_len};
+use crate::reading::{place_of, read_address, read_prefix_len};
 use std::marker::Model;
 
 /// A network: the addresses of one family that begin with the same bits. The bits past the front are zero.
@@ -106,8 +106,9 @@ impl Net {
         }
     }
 
-    /// Reads a network in CIDR notation: an address alone, or one to four parts of a V4 address (the missing ones are
-    /// zero), a slash, and how many bits the network's addresses share. The other bits are cleared.
+    /// Reads a network in CIDR notation: an address alone, or an address, a slash, and how many bits the network's
+    /// addresses share. Before the slash the last parts of a V4 address may be missing; they are zero. The bits that
+    /// aren't shared are cleared.
     ///
     /// The fault is the first in this order: [`AddrFault::Empty`] where nothing stands before the slash; those of the
     /// address, as [`Addr::from_ascii`] answers them; [`AddrFault::BadLength`]. It takes no memory.
@@ -144,12 +145,10 @@ impl Net {
         requires { slash < length text.now }
         ensures { result ≡ cut_at text.now (Some slash) }
     {
-        let parts = read_parts(&text[..slash])?;
-        if parts.count > 4 {
-            return Err(AddrFault::BadGroups { at: 0 });
-        }
-        let len = read_prefix_len(slash + 1, &text[slash + 1..])?;
-        Ok(Net::new(Addr::V4(u32::from_be_bytes(parts.bytes)), len))
+        let addr = read_address(1, &text[..slash])?;
+        let most = addr.family().width();
+        let len = read_prefix_len(most, slash + 1, &text[slash + 1..])?;
+        Ok(Net::new(addr, len))
     }
 }
 

@@ -1,11 +1,13 @@
-//! The numbers between the dots of a text.
+//! Addresses as text, and the numbers between the dots of an IPv4 address.
 ghost use Rattle.std.specs.Prelude.{◌≡◌, ◌+◌, ◌^◌, ◌<◌, ◌==◌, ◌-◌, length, set, not, IfSome};
 ghost use Rattle.std.specs.List.{position};
 ghost use Rattle.pf_form.specs.Numbers.{is_digit};
-ghost use Rattle.pf_addr.specs.Reading.{small_number, part_at, part_fault, length_at, numbers_at};
+ghost use Rattle.pf_addr.specs.Collected.{parts_kept};
+ghost use Rattle.pf_addr.specs.Reading.{small_number, part_at, part_fault, v4_at, address_at, length_at};
 
-use crate::addr::V4_BITS;
+use crate::addr::Addr;
 use crate::fault::AddrFault;
+use crate::groups::read_v6;
 use pf_form::read_number;
 
 /// How many digits a part or a prefix length may have, leading zeros among them.
@@ -34,18 +36,46 @@ impl Parts {
     }
 }
 
-/// Reads the numbers of a text with a dot between each two.
-pub(crate) fn read_parts(text: &[u8]) -> Result<Parts, AddrFault>
-    ensures { result ≡ numbers_at text.now }
+/// Reads an address: V6 where the text has a colon, else V4 of so many parts at least, the missing ones being zero.
+#[tactic(auto, unfolding(crate::specs::Reading::address_at))]
+pub(crate) fn read_address(fewest: usize, text: &[u8]) -> Result<Addr, AddrFault>
+    ensures { result ≡ address_at fewest text.now }
 {
     if text.is_empty() {
         return Err(AddrFault::Empty { at: 0 });
     }
+    if place_of(b':', text).is_some() {
+        Ok(Addr::V6(read_v6(text)?))
+    } else {
+        Ok(Addr::V4(read_v4(fewest, 0, text)?))
+    }
+}
+
+/// Reads a V4 address of so many parts at least, which begins at this byte.
+pub(crate) fn read_v4(fewest: usize, at: usize, text: &[u8]) -> Result<u32, AddrFault>
+    requires { at + length text.now < 2 ^ 64 - 2 }
+    ensures { result ≡ v4_at fewest at text.now }
+{
+    let parts = read_parts(at, text)?;
+    if parts.count < fewest || parts.count > 4 {
+        return Err(AddrFault::BadGroups { at });
+    }
+    Ok(u32::from_be_bytes(parts.bytes))
+}
+
+/// Reads the numbers of a text with a dot between each two; no text has none.
+fn read_parts(at: usize, text: &[u8]) -> Result<Parts, AddrFault>
+    requires { at + length text.now < 2 ^ 64 - 2 }
+    ensures { result ≡ parts_kept at text.now }
+{
     let mut parts = Parts {
         bytes: [0; 4],
         count: 0,
     };
-    let mut at = 0;
+    if text.is_empty() {
+        return Ok(parts);
+    }
+    let mut at = at;
     let mut rest = text;
     while let Some(dot) = place_of(b'.', rest) {
         parts.push(read_part(at, &rest[..dot])?);
@@ -106,9 +136,9 @@ fn small_number(most: u8, text: &[u8]) -> Option<u8>
     }
 }
 
-/// The prefix length behind a network's slash, which begins at this byte.
-pub(crate) fn read_prefix_len(at: usize, text: &[u8]) -> Result<u8, AddrFault>
-    ensures { result ≡ length_at at text.now }
+/// The prefix length of at most `most` behind a network's slash, which begins at this byte.
+pub(crate) fn read_prefix_len(most: u8, at: usize, text: &[u8]) -> Result<u8, AddrFault>
+    ensures { result ≡ length_at most at text.now }
 {
-    small_number(V4_BITS, text).ok_or(AddrFault::BadLength { at })
+    small_number(most, text).ok_or(AddrFault::BadLength { at })
 }
