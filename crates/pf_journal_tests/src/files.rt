@@ -1,127 +1,147 @@
-// Devices over files, beside one in memory.
-use crate::regions::{append_all, has, over, read_to};
-use pf_disk::{Disk, FileDisk, FileFault, Fill, MemDisk};
-use std::alloc::Global;
-use std::fs::{self, File, OpenOptions};
-use std::path::PathBuf;
-use std::test::Fail;
-use std::{env, process};
+// Devices over files, beside one in memory. The files lie where the program runs.
+ghost use Rattle.std.specs.Prelude.{◌≡◌, length, IfOk};
+ghost use Rattle.pf_disk.specs.Disk.{IsSynced};
 
-/// The files' bytes.
+use crate::records::{START, with_two};
+use pf_disk::{Disk, FileDisk, Fill, MemDisk};
+use pf_journal::{ReadFault, read_all};
+use std::alloc::Global;
+use std::fs::{File, OpenOptions};
+use std::os::unix::fs::FileExt;
+
+/// The bytes of each file, all of them the digit 0.
 const SIZE: usize = 4096;
 
-/// The path of a file of zeros, named after the test that makes it and its process.
-fn zeros(rt: &HostRuntime, name: &str) -> Result<PathBuf, Fail> {
-    let alloc = rt.alloc();
-    let file = format!(in alloc; "pf_journal_tests-{name}-{}", process::id(rt.process()))?;
-    let path = env::temp_dir(rt)?.join(alloc, file.as_str())?;
-    fs::write(rt, path.as_path(), vec![in alloc; 0u8; SIZE]?)?;
-    Ok(path)
+pub fn play(rt: &HostRuntime, told: &mut String) -> Result<(), ReadFault> {
+    tell_script(rt, told)?;
+    tell_journal(rt, told)?;
+    for size in [0, SIZE - 1, SIZE + 1] {
+        tell_length(rt, told, size)?;
+    }
+    tell_other_bytes(rt, told)?;
+    tell_read_only(rt, told)
 }
 
-fn open(rt: &HostRuntime, path: &PathBuf) -> Result<File, Fail> {
-    Ok(
-        OpenOptions::new()
-            .read(true)
-            .write(true)
-            .open(rt, path.as_path())?,
-    )
+fn open(rt: &HostRuntime, name: &str) -> Result<File, ReadFault> {
+    match OpenOptions::new().read(true).write(true).open(rt, name) {
+        Ok(file) => Ok(file),
+        Err(_) => Err(ReadFault::Fault),
+    }
+}
+
+fn device(alloc: Global, file: File) -> Result<FileDisk, ReadFault>
+    ensures size { IfOk result (λ disk. length (⟦<FileDisk as Disk>⟧.seen disk) ≡ SIZE) }
+    ensures synced { IfOk result (λ disk. IsSynced (⟦<FileDisk as Disk>⟧.unsynced disk)) }
+    ensures faults { IfOk result (λ disk. ⟦<FileDisk as Disk>⟧.fault_count disk ≡ 0) }
+{
+    match FileDisk::of(alloc, file, SIZE) {
+        Ok(disk) => Ok(disk),
+        Err(_) => Err(ReadFault::Fault),
+    }
 }
 
 /// A thousand reads, writes and syncs, the same ones each time: all that the reads gave.
-fn played<D: Disk>(alloc: Global, disk: &mut D) -> Result<Vec<u8>, Fail> {
+fn played<D: Disk>(alloc: Global, disk: &mut D) -> Result<Vec<u8>, ReadFault> {
     let mut random = 0x2545_F491_4F6C_DD1Du64;
     let mut given = Vec::new(alloc);
-    let mut buffer = [0u8; 64];
     for _ in 0..1000u32 {
-        if disk.size() != SIZE || disk.faults() != 0 {
-            return Err(Fail::new("a fault, or another device"));
-        }
         random = random
             .wrapping_mul(6_364_136_223_846_793_005)
             .wrapping_add(1_442_695_040_888_963_407);
-        let at = (random >> 33) as usize % (SIZE - 64);
-        let len = (random >> 24) as usize % 65;
-        match random >> 62 {
-            0 => disk.sync()?,
-            1 => {
-                disk.read_at(at, &mut buffer[..len])?;
-                given.extend_from_slice(&buffer[..len])?;
-            }
-            _ => {
-                buffer.fill((random >> 56) as u8);
-                disk.write_at(at, &buffer[..len])?;
-            }
-        }
+        play_call(disk, random, &mut given)?;
     }
     Ok(given)
 }
 
-#[test]
-fn a_file_gives_what_memory_gives(rt: HostRuntime) -> Result<(), Fail> {
-    let alloc = rt.alloc();
-    let path = zeros(&rt, "script")?;
-    let mut memory = MemDisk::of(alloc, vec![in alloc; 0u8; SIZE]?)?;
-    let mut file = FileDisk::of(alloc, open(&rt, &path)?, SIZE)?;
-    let given = played(alloc, &mut memory)?;
-    assert!(rt; given.len() > 1000);
-    assert_eq!(rt; played(alloc, &mut file)?, given);
-    assert_eq!(rt; memory.calls(), 1000);
-    let bytes = memory.image(alloc, 1000, Fill::New)?;
-    assert_eq!(rt; fs::read(&rt, path.as_path())?, bytes);
-    fs::remove_file(&rt, path.as_path())?;
-    Ok(())
-}
-
-/// How many faults a device that had none has after a write or a read of eight bytes.
-fn faults_after<D: Disk>(disk: &mut D, writes: bool) -> Result<u64, Fail> {
+/// The call that this number stands for. What a read gives is added.
+fn play_call<D: Disk>(disk: &mut D, random: u64, given: &mut Vec<u8>) -> Result<(), ReadFault> {
     if disk.size() != SIZE || disk.faults() != 0 {
-        return Err(Fail::new("a fault, or another device"));
+        return Err(ReadFault::Fault);
     }
-    let mut buffer = [2u8; 8];
-    if writes {
-        let _ = disk.write_at(8, &buffer);
-    } else {
-        let _ = disk.read_at(8, &mut buffer);
+    let place = (random >> 33) as usize % (SIZE - 64);
+    let len = (random >> 24) as usize % 65;
+    let mut buffer = [(random >> 56) as u8; 64];
+    match random >> 62 {
+        0 => disk.sync()?,
+        1 => {
+            disk.read_at(place, &mut buffer[..len])?;
+            given.extend_from_slice(&buffer[..len])?;
+        }
+        _ => disk.write_at(place, &buffer[..len])?,
     }
-    Ok(disk.faults())
-}
-
-#[test]
-fn a_file_is_refused_or_fails(rt: HostRuntime) -> Result<(), Fail> {
-    let alloc = rt.alloc();
-    let path = zeros(&rt, "refused")?;
-    for size in [0, SIZE - 1, SIZE + 1] {
-        let refused = FileDisk::of(alloc, open(&rt, &path)?, size);
-        assert!(rt;
-            matches!(refused, Err(FileFault::WrongLength)),
-            "{size} bytes"
-        );
-    }
-
-    // What another program writes isn't what was written here.
-    let mut disk = FileDisk::of(alloc, open(&rt, &path)?, SIZE)?;
-    assert!(rt; faults_after(&mut disk, false)? == 0);
-    fs::write(&rt, path.as_path(), vec![in alloc; 1u8; SIZE]?)?;
-    assert!(rt; faults_after(&mut disk, false)? == 1);
-
-    // A file that is open for reading alone takes no write.
-    let mut disk = FileDisk::of(alloc, File::open(&rt, path.as_path())?, SIZE)?;
-    assert!(rt; faults_after(&mut disk, true)? == 1);
-    fs::remove_file(&rt, path.as_path())?;
     Ok(())
 }
 
-#[test]
-fn a_journal_in_a_file_is_read_again(rt: HostRuntime) -> Result<(), Fail> {
+/// The same script on a file and in memory.
+fn tell_script(rt: &HostRuntime, told: &mut String) -> Result<(), ReadFault> {
     let alloc = rt.alloc();
-    let path = zeros(&rt, "journal")?;
-    let payloads: [&[u8]; 2] = [b"one", b"two"];
-    let mut journal = over(FileDisk::of(alloc, open(&rt, &path)?, SIZE)?, SIZE as u32)?;
-    append_all(alloc, &mut journal, &payloads)?;
-    let mut again = FileDisk::of(alloc, open(&rt, &path)?, SIZE)?;
-    let found = read_to(alloc, &mut again, SIZE)?;
-    assert!(rt; found.gate == journal.gate && has(&found, &payloads));
-    fs::remove_file(&rt, path.as_path())?;
+    let mut memory = MemDisk::of(alloc, vec![in alloc; b'0'; SIZE]?)?;
+    let mut file = device(alloc, open(rt, "script")?)?;
+    let given = played(alloc, &mut memory)?;
+    let same = played(alloc, &mut file)? == given;
+    let mut bytes = vec![in alloc; 0u8; SIZE]?;
+    let read = open(rt, "script")?
+        .read_exact_at(bytes.as_mut_slice(), 0)
+        .is_ok();
+    let left = memory.image(alloc, 1000, Fill::New)? == bytes;
+    let calls = memory.calls();
+    let len = given.len();
+    write!(
+        told,
+        "{calls} calls gave {len} bytes, on a file the same: {same}, and left it the same: {}\n",
+        read && left
+    )?;
+    Ok(())
+}
+
+/// A journal in a file, and what the file is read as when it is opened again.
+fn tell_journal(rt: &HostRuntime, told: &mut String) -> Result<(), ReadFault> {
+    let alloc = rt.alloc();
+    let disk = device(alloc, open(rt, "journal")?)?;
+    let Ok(journal) = with_two(alloc, disk, SIZE, b"one", b"two") else {
+        return Err(ReadFault::Fault);
+    };
+    let mut again = device(alloc, open(rt, "journal")?)?;
+    let found = read_all(alloc, &mut again, START, SIZE)?;
+    write!(
+        told,
+        "a file has {:?}, gate {} of {}\n",
+        found.payloads, found.gate, journal.gate
+    )?;
+    Ok(())
+}
+
+/// What a file is taken as where it should have so many bytes.
+fn tell_length(rt: &HostRuntime, told: &mut String, size: usize) -> Result<(), ReadFault> {
+    match FileDisk::of(rt.alloc(), open(rt, "script")?, size) {
+        Ok(_) => write!(told, "a file of {size} bytes\n")?,
+        Err(fault) => write!(told, "no file of {size} bytes: {fault:?}\n")?,
+    }
+    Ok(())
+}
+
+/// What another program writes isn't what was written here.
+fn tell_other_bytes(rt: &HostRuntime, told: &mut String) -> Result<(), ReadFault> {
+    let mut disk = device(rt.alloc(), open(rt, "journal")?)?;
+    let mut buffer = [0u8; 8];
+    let before = disk.read_at(8, &mut buffer);
+    let other = open(rt, "journal")?.write_all_at(b"1", 12).is_ok();
+    let after = disk.read_at(8, &mut buffer);
+    write!(
+        told,
+        "a read: {before:?}, once another writes ({other}): {after:?}\n"
+    )?;
+    Ok(())
+}
+
+/// A file that is open for reading alone takes no write.
+fn tell_read_only(rt: &HostRuntime, told: &mut String) -> Result<(), ReadFault> {
+    let Ok(file) = File::open(rt, "journal") else {
+        return Err(ReadFault::Fault);
+    };
+    let mut disk = device(rt.alloc(), file)?;
+    let answer = disk.write_at(8, b"2");
+    let faults = disk.faults();
+    write!(told, "a write: {answer:?}, {faults} faults\n")?;
     Ok(())
 }

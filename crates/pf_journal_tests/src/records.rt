@@ -1,0 +1,131 @@
+// Records in memory: their bytes, their room, and what is no record.
+ghost use Rattle.std.specs.Prelude.{◌≡◌, ◌+◌, ◌^◌, ◌<◌, ◌≤◌, length, IfOk};
+ghost use Rattle.pf_disk.specs.Disk.{IsSynced};
+
+use pf_disk::{Disk, Fill, MemDisk, OPEN_GATE};
+use pf_journal::{AppendFault, CLOSED_GATE, Found, Journal, ReadFault, read_all};
+use std::alloc::{AllocError, Global};
+
+/// Where each region begins, in bytes from the device's start.
+pub const START: usize = 40;
+
+/// Where a region in memory ends.
+pub const END: usize = 150;
+
+/// The bytes of a device in memory.
+const SIZE: usize = 300;
+
+pub const FIRST: &[u8] = &[1, 7, 0, 0, 0, 1];
+
+pub const SECOND: &[u8] = &[
+    1, 4, 0, 1, 0x74, 0, 0, 0, 1, 4, 8, 0, 0, 10, 0, 0, 0, 0, 0, 0, 0, 0, 0, 0, 0, 0, 0, 0, 0,
+];
+
+/// A device of open gates, but for a closed one at the region's start: what isn't written isn't closed.
+pub fn open_gates(alloc: Global) -> Result<MemDisk, AllocError>
+    ensures size { IfOk result (λ disk. length (⟦<MemDisk as Disk>⟧.seen disk) ≡ SIZE) }
+    ensures synced { IfOk result (λ disk. IsSynced (⟦<MemDisk as Disk>⟧.unsynced disk)) }
+    ensures faults { IfOk result (λ disk. ⟦<MemDisk as Disk>⟧.fault_count disk ≡ 0) }
+{
+    let mut gates = vec![in alloc; OPEN_GATE; SIZE]?;
+    gates[START] = CLOSED_GATE;
+    let disk = MemDisk::of(alloc, gates)?;
+    Ok(disk)
+}
+
+/// A journal of no records up to a place.
+pub fn empty<D: Disk>(disk: D, end: usize) -> Journal<D>
+    ensures { result ≡ record { disk = disk; start = START; gate = START; end = end } }
+{
+    Journal {
+        disk,
+        start: START,
+        gate: START,
+        end,
+    }
+}
+
+/// A journal of these two records up to a place.
+pub fn with_two<D: Disk + Drop>(
+    alloc: Global,
+    disk: D,
+    end: usize,
+    first: &[u8],
+    second: &[u8],
+) -> Result<Journal<D>, AppendFault>
+    requires begins { START < end }
+    requires ends { end ≤ length (D.seen disk) }
+    requires small { end < 2 ^ 32 }
+    requires synced { IsSynced (D.unsynced disk) }
+    requires few { D.fault_count disk < 2 ^ 63 }
+{
+    let mut journal = empty(disk, end);
+    journal.append(alloc, first)?;
+    journal.append(alloc, second)?;
+    Ok(journal)
+}
+
+/// What these bytes of a device are read as.
+pub fn read_back(alloc: Global, bytes: Vec<u8>) -> Result<Found, ReadFault> {
+    if bytes.len() < END {
+        return Err(ReadFault::Fault);
+    }
+    let mut disk = MemDisk::of(alloc, bytes)?;
+    read_all(alloc, &mut disk, START, END)
+}
+
+pub fn play(alloc: Global, told: &mut String) -> Result<(), ReadFault> {
+    tell_bytes(alloc, told)?;
+    for len in [0u8, 1, 64] {
+        let payload = vec![in alloc; 7u8; len as usize]?;
+        tell_room(alloc, told, &payload, 46 + len as usize)?;
+        tell_room(alloc, told, &payload, 45 + len as usize)?;
+    }
+    for len in [104u8, 105, 255] {
+        tell_open_gate(alloc, told, len)?;
+    }
+    Ok(())
+}
+
+/// The bytes of two records, from the region's start to the closed gate behind them.
+fn tell_bytes(alloc: Global, told: &mut String) -> Result<(), ReadFault> {
+    let Ok(journal) = with_two(alloc, open_gates(alloc)?, END, FIRST, SECOND) else {
+        return Err(ReadFault::Fault);
+    };
+    let bytes = journal.disk.image(alloc, journal.disk.calls(), Fill::New)?;
+    let gate = journal.gate;
+    let Some(records) = bytes.get(START..86) else {
+        return Err(ReadFault::Fault);
+    };
+    write!(told, "gate {gate}, places {START} to 85: {records:?}\n")?;
+    Ok(())
+}
+
+/// What an append of this payload to a region up to this place answers.
+fn tell_room(alloc: Global, told: &mut String, payload: &[u8], end: usize) -> Result<(), ReadFault>
+    requires begins { START < end }
+    requires ends { end ≤ SIZE }
+{
+    let mut journal = empty(open_gates(alloc)?, end);
+    let answer = journal.append(alloc, payload);
+    let len = payload.len();
+    let calls = journal.disk.calls();
+    let gate = journal.gate;
+    write!(
+        told,
+        "{len} bytes up to place {end}: {answer:?}, {calls} calls, gate {gate}\n"
+    )?;
+    Ok(())
+}
+
+/// What an open gate with this length behind it is read as.
+fn tell_open_gate(alloc: Global, told: &mut String, len: u8) -> Result<(), ReadFault> {
+    let mut bytes = vec![in alloc; 0u8; SIZE]?;
+    bytes[START] = OPEN_GATE;
+    bytes[START + 4] = len;
+    match read_back(alloc, bytes) {
+        Ok(found) => write!(told, "a record of {len} bytes, gate {}\n", found.gate)?,
+        Err(fault) => write!(told, "{len} bytes behind an open gate: {fault:?}\n")?,
+    }
+    Ok(())
+}
