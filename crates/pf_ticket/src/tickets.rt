@@ -5,7 +5,7 @@ ghost use Rattle.pf_anchor.specs.declared.limits.TheConstants.{RULE_LIMIT};
 ghost use Rattle.pf_ticket.specs.Mentions.{added, moved, take_out, after, gives, switches, drops};
 ghost use Rattle.pf_ticket.specs.Names.{filter_at, is_named, same_name, names_of};
 ghost use Rattle.pf_ticket.specs.Replies.{bad_count, twice_in, busy_in, list_check, commit_check, begin_reply, add_reply, IsReply};
-ghost use Rattle.pf_ticket.specs.Tickets.{Offer, offer_at, rules_in, put, without, IsPlace, fresh, content, is_valid};
+ghost use Rattle.pf_ticket.specs.Tickets.{Offer, offer_at, rules_in, put, without, IsPlace, fresh, open_with, content, is_valid};
 
 use crate::entry::Entry;
 use crate::limits::{ENTRY_LIMIT, LAST_COUNT};
@@ -147,10 +147,20 @@ impl Tickets {
     pub fn new(alloc: Global, epoch: u32) -> Tickets
         ensures { result ≡ fresh epoch }
     {
+        Tickets::starting(alloc, epoch, 1)
+    }
+
+    /// An opening's tickets, none yet, of which the next has this count, from 1 to 4,294,967,295: so the last counts can be
+    /// reached. With 1 it is `new`, and only then are the tickets what the mentions since the opening leave. It takes no
+    /// memory.
+    pub fn starting(alloc: Global, epoch: u32, next_count: u32) -> Tickets
+        requires { 0 < next_count }
+        ensures { result ≡ open_with epoch next_count [] }
+    {
         Tickets {
             alloc,
             epoch,
-            next: 1,
+            next: u64::from(next_count),
             slots: Vec::new(alloc),
         }
     }
