@@ -8,8 +8,9 @@ use Rattle.pf_form.specs.Words.{Word}
 use Rattle.pf_form.specs.Forms.{Spells, reads, ◌>>=◌}
 use Rattle.pf_form.specs.FormLaws.{lawful}
 use Rattle.pf_addr.specs.declared.addr.Addr.{Addr}
-use Rattle.pf_addr.specs.Address.{Network, IsAddr, IsV4Network}
-use Rattle.pf_addr.specs.SpellingLaws.{IsAddr-spelled, IsV4Network-spelled}
+use Rattle.pf_addr.specs.declared.fault.AddrFault.{AddrFault}
+use Rattle.pf_addr.specs.Address.{Network, IsAddr, IsNetwork}
+use Rattle.pf_addr.specs.SpellingLaws.{IsAddr-spelled, IsNetwork-spelled}
 use Rattle.pf_addr.specs.Reading.{net_at, addr_at}
 use Rattle.pf_addr.specs.ReadingLaws.{addr_found, net_found}
 use Rattle.pf_path.specs.References.{PlainReference, reference_of}
@@ -20,7 +21,7 @@ use Rattle.pf_rule.specs.declared.rule.Opening.TheVariants as openings
 use Rattle.pf_rule.specs.declared.rule.Host.{Host}
 use Rattle.pf_rule.specs.declared.rule.Host.TheVariants.{Any, Net}
 use Rattle.pf_rule.specs.Names.{IsInterfaceName}
-use Rattle.pf_rule.specs.Values.{interface_of, protocol_of, net_of, begins_with, marked, a_negated_network, host_of, a_host, address_of, port_of}
+use Rattle.pf_rule.specs.Values.{interface_of, protocol_of, net_in, net_of, begins_with, marked, a_negated_network, host_of, a_host, address_of, port_of}
 use Rattle.pf_rule.specs.Packets.{PlainPacket, IsPacket, has_ports}
 use Rattle.pf_rule.specs.declared.ports.PortRange.{PortRange}
 use Rattle.pf_rule.specs.declared.ports.PortRange.TheVariants.{Including}
@@ -39,8 +40,8 @@ use Rattle.pf_rule.specs.RuleGrammar.{opening, effect_of, interface, protocol, h
 
 -- ---- what is read as a network or an address
 
-net_is : (w : Word) (n : Network) → net_at w ≡ Ok n → IsV4Network n
-net_is w n e = IsV4Network-spelled w n (net_found w n e)
+net_is : (w : Word) (n : Network) → net_at w ≡ Ok n → IsNetwork n
+net_is w n e = IsNetwork-spelled w n (net_found w n e)
 
 addr_is : (w : List ℕ) (a : Addr) → addr_at w ≡ Ok a → IsAddr a
 addr_is w a e = IsAddr-spelled w a (addr_found w a e)
@@ -58,14 +59,17 @@ protocol_kept w n e = grind (arith, nat_tests)
 
 abbrev HostIs : Host → Type 0
 HostIs Any = Unit {0}
-HostIs (Net n negated) = IsV4Network n
+HostIs (Net n negated) = IsNetwork n
 
-net_kept : (w : Word) (n : Network) → net_of w ≡ Ok n → IsV4Network n
-net_kept w n e = grind (arith, net_is)
+net_kept : (w : Word) (n : Network) → net_of w ≡ Ok n → IsNetwork n
+net_kept w n e = by (net_at w) (net_is w) e where
+  by : (r : Result Network AddrFault) → ((m : Network) → r ≡ Ok m → IsNetwork m) → net_in r ≡ Ok n → IsNetwork n
+  by (Ok m) is e = subst (λ (a : Result Network Kind). IfOk a IsNetwork) e (is m refl)
+  by (Err k) is e = absurd cc
 
 marked_kept : (negated : Bool) (w : Word) (h : Host) → marked negated w ≡ Ok h → HostIs h
 marked_kept negated w h e = by (net_of w) (net_kept w) e where
-  by : (r : Result Network Kind) → ((n : Network) → r ≡ Ok n → IsV4Network n) → (r >>= (λ n. Ok (Net n negated))) ≡ Ok h → HostIs h
+  by : (r : Result Network Kind) → ((n : Network) → r ≡ Ok n → IsNetwork n) → (r >>= (λ n. Ok (Net n negated))) ≡ Ok h → HostIs h
   by (Ok n) is e = subst (λ (a : Result Host Kind). IfOk a HostIs) e (is n refl)
   by (Err k) is e = absurd cc
 

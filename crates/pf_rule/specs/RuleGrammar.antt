@@ -6,7 +6,7 @@ use Rattle.pf_form.specs.Forms.{Form, nothing, key, or, pair, pair_by, making, i
 use Rattle.pf_addr.specs.declared.addr.Family.{Family}
 use Rattle.pf_addr.specs.declared.addr.Family.TheVariants.{V4, V6}
 use Rattle.pf_addr.specs.Address.{same_family}
-use Rattle.pf_addr.specs.Reading.{numbers_at, parts_at, part_at}
+use Rattle.pf_addr.specs.Reading.{part_at, pieces_at, v4_at, address_at}
 use Rattle.pf_rule.specs.declared.rule.Action.TheVariants.{Pass, Block}
 use Rattle.pf_rule.specs.declared.rule.Effect.{Effect}
 use Rattle.pf_rule.specs.declared.rule.Effect.TheVariants.{Decide, Evaluate}
@@ -121,5 +121,5 @@ rule = making agreeing rule_words
 
 -- One word of look-ahead decides it.
 pub rule_decided : is_decided rule ≡ true
-unfolding rule opening direction interface family protocol a_negated_network a_host host port port_test ordered compared ranged range_end end destination hosts state numbers_at parts_at part_at
+unfolding rule opening direction interface family protocol a_negated_network a_host host port port_test ordered compared ranged range_end end destination hosts state part_at pieces_at v4_at address_at
 rule_decided = refl

@@ -15,7 +15,7 @@ use Rattle.pf_form.specs.Words.{Word, words_of}
 use Rattle.pf_form.specs.Forms.{Spells, read_all}
 use Rattle.pf_form.specs.TextLaws.{only}
 use Rattle.pf_addr.specs.declared.addr.Family.{Family}
-use Rattle.pf_addr.specs.Address.{Network, IsV4Network}
+use Rattle.pf_addr.specs.Address.{Network, IsNetwork}
 use Rattle.pf_addr.specs.Spelling.{net_text}
 use Rattle.pf_addr.specs.SpellingLaws.{IsNumber-decimal, IsNetByte, net_text_spells, net_text_is_word}
 use Rattle.pf_addr.specs.ReadingLaws.{net_only}
@@ -134,11 +134,11 @@ protocol_written (Some n) is =
 
 -- ---- hosts
 
-net_read : (n : Network) → IsV4Network n → net_of (net_text n) ≡ Ok n
+net_read : (n : Network) → IsNetwork n → net_of (net_text n) ≡ Ok n
 net_read n is = rw (net_only (net_text n) n (net_text_spells n is)) refl
 
 -- no network's text begins with a `!`
-host_read : (n : Network) → IsV4Network n → host_of (net_text n) ≡ Ok (Net n false)
+host_read : (n : Network) → IsNetwork n → host_of (net_text n) ≡ Ok (Net n false)
 host_read n is = let w = net_text_is_word n is in by (net_text n) w.some w.bytes (net_read n is) where
   by : (text : Word) → 0 < length text → All IsNetByte text → net_of text ≡ Ok n → host_of text ≡ Ok (Net n false)
   by [] some bytes read = absurd (omega (arith, some))
@@ -148,9 +148,10 @@ host_read n is = let w = net_text_is_word n is in by (net_text n) w.some w.bytes
       rw (other, read) refl
 
 net_byte : (b : ℕ) → IsNetByte b → nat_lt 32 b ≡ true
-net_byte b is = lt-ltb 32 b (omega (arith, is.0))
+net_byte b (inl is) = lt-ltb 32 b (omega (arith, is.0))
+net_byte b (inr is) = lt-ltb 32 b (omega (arith, is.0))
 
-net_good : (n : Network) → IsV4Network n → is_word (net_text n) ≡ true
+net_good : (n : Network) → IsNetwork n → is_word (net_text n) ≡ true
 net_good n is = let w = net_text_is_word n is in rw (lt-ltb 0 (length (net_text n)) w.some, list_all-from_AllPass (nat_lt 32) (net_text n) (λ k d lt. net_byte (slice_index_or (net_text n) k d) (w.bytes k d lt))) refl
 
 host_written : (f : Option Family) (h : Host) → HostFits f h → Written host h (host_words h)

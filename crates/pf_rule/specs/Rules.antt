@@ -3,7 +3,7 @@ use Rattle.std.specs.Prelude.{◌≡◌, ◌<◌, ◌==◌, ◌&&◌, not, Bool,
 use Rattle.std.specs.Str.{bytes_eq}
 use Rattle.pf_addr.specs.declared.addr.Addr.{Addr}
 use Rattle.pf_addr.specs.declared.addr.Family.{Family}
-use Rattle.pf_addr.specs.Address.{family_of, same_family, contains, IsV4Network}
+use Rattle.pf_addr.specs.Address.{family_of, same_family, contains, IsNetwork}
 use Rattle.pf_path.specs.ReferenceGrammar.{IsReference}
 use Rattle.pf_rule.specs.declared.rule.Effect.{Effect}
 use Rattle.pf_rule.specs.declared.rule.Effect.TheVariants.{Decide, Evaluate}
@@ -58,10 +58,10 @@ matches r p =
     && holds r.protocol (λ n. n == p.protocol)
     && ends_hold r p
 
--- a network as a host gives the rule its family, negated or not; only IPv4 networks have a text so far
+-- a network as a host gives the rule its family, negated or not
 abbrev pub HostFits : Option Family → Host → Type 0
 HostFits family Any = Unit {0}
-HostFits family (Net n negated) = (family ≡ Some n.family) × IsV4Network n
+HostFits family (Net n negated) = (family ≡ Some n.family) × IsNetwork n
 
 -- an anchor rule names a reference
 abbrev pub IsEffect : Effect → Type 0
