@@ -7,8 +7,8 @@ use Rattle.pf_form.specs.Words.{Word}
 use Rattle.pf_form.specs.Forms.{Spells, reads}
 use Rattle.pf_form.specs.FormLaws.{lawful}
 use Rattle.pf_addr.specs.declared.addr.Addr.{Addr}
-use Rattle.pf_addr.specs.Address.{Network, IsAddr, IsV4Network}
-use Rattle.pf_addr.specs.SpellingLaws.{IsAddr-spelled, IsV4Network-spelled}
+use Rattle.pf_addr.specs.Address.{Network, IsAddr, IsNetwork}
+use Rattle.pf_addr.specs.SpellingLaws.{IsAddr-spelled, IsNetwork-spelled}
 use Rattle.pf_addr.specs.Reading.{net_at, addr_at}
 use Rattle.pf_addr.specs.ReadingLaws.{addr_found, net_found}
 use Rattle.pf_rule.specs.declared.rule.Host.{Host}
@@ -22,8 +22,8 @@ use Rattle.pf_rule.specs.RuleGrammar.{interface, protocol, destination, hosts, r
 
 -- ---- what is read as a network or an address
 
-net_is : (w : Word) (n : Network) → net_at w ≡ Ok n → IsV4Network n
-net_is w n e = IsV4Network-spelled w n (net_found w n e)
+net_is : (w : Word) (n : Network) → net_at w ≡ Ok n → IsNetwork n
+net_is w n e = IsNetwork-spelled w n (net_found w n e)
 
 addr_is : (w : List ℕ) (a : Addr) → addr_at w ≡ Ok a → IsAddr a
 addr_is w a e = IsAddr-spelled w a (addr_found w a e)
@@ -41,7 +41,7 @@ protocol_kept w n e = grind (arith, nat_tests)
 
 abbrev HostIs : Host → Type 0
 HostIs Any = Unit {0}
-HostIs (Net n) = IsV4Network n
+HostIs (Net n) = IsNetwork n
 
 host_kept : (w : Word) (h : Host) → host_of w ≡ Ok h → HostIs h
 host_kept w h e = grind (arith, net_is)

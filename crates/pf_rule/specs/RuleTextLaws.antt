@@ -131,14 +131,15 @@ protocol_written (Some n) is =
 -- ---- hosts
 
 not_any : (w : Word) → All IsNetByte w → bytes_eq w (codes "any") ≡ false
-not_any w bytes = other_bytes w (codes "any") (λ e. let b : IsNetByte 97 = subst (All IsNetByte) e bytes 0 0 (omega arith) in omega (arith, b.1))
+not_any w bytes = other_bytes w (codes "any") (λ e. let n : IsNetByte 110 = subst (All IsNetByte) e bytes 1 0 (omega arith) in elim n [ inl other ↦ omega (arith, other.1) | inr other ↦ omega (arith, other.1) ])
 
 host_read : (f : Option Family) (h : Host) → HostFits f h → host_of (host_word h) ≡ Ok h
 host_read f Any is = refl
 host_read f (Net n) is = rw (not_any (net_text n) (net_text_is_word n is.1).bytes, net_only (net_text n) n (net_text_spells n is.1)) refl
 
 net_byte : (b : ℕ) → IsNetByte b → nat_lt 32 b ≡ true
-net_byte b is = lt-ltb 32 b (omega (arith, is.0))
+net_byte b (inl is) = lt-ltb 32 b (omega (arith, is.0))
+net_byte b (inr is) = lt-ltb 32 b (omega (arith, is.0))
 
 host_good : (f : Option Family) (h : Host) → HostFits f h → is_word (host_word h) ≡ true
 host_good f Any is = refl

@@ -3,7 +3,7 @@ use Rattle.std.specs.Prelude.{◌≡◌, ◌<◌, ◌==◌, ◌&&◌, Bool, true
 use Rattle.std.specs.Str.{bytes_eq}
 use Rattle.pf_addr.specs.declared.addr.Addr.{Addr}
 use Rattle.pf_addr.specs.declared.addr.Family.{Family}
-use Rattle.pf_addr.specs.Address.{family_of, same_family, contains, IsV4Network}
+use Rattle.pf_addr.specs.Address.{family_of, same_family, contains, IsNetwork}
 use Rattle.pf_rule.specs.declared.rule.Direction.{Direction}
 use Rattle.pf_rule.specs.declared.rule.Direction.TheVariants.{In, Out}
 use Rattle.pf_rule.specs.declared.rule.Host.{Host}
@@ -41,10 +41,10 @@ matches r p =
     && host_holds r.source p.source
     && host_holds r.destination p.destination
 
--- a network as a host gives the rule its family; only IPv4 networks have a text so far
+-- a network as a host gives the rule its family
 abbrev pub HostFits : Option Family → Host → Type 0
 HostFits family Any = Unit {0}
-HostFits family (Net n) = (family ≡ Some n.family) × IsV4Network n
+HostFits family (Net n) = (family ≡ Some n.family) × IsNetwork n
 
 -- what has a text, and so is a rule
 pub record IsRule (r : PlainRule) : Type 0 where

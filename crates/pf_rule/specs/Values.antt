@@ -12,7 +12,7 @@ use Rattle.pf_addr.specs.declared.addr.Addr.TheVariants as addr
 use Rattle.pf_addr.specs.declared.fault.AddrFault.{AddrFault}
 use Rattle.pf_addr.specs.Address.{Network}
 use Rattle.pf_form.specs.Numbers.{number_of}
-use Rattle.pf_addr.specs.Reading.{numbers_at, parts_at, part_at, net_at, addr_at}
+use Rattle.pf_addr.specs.Reading.{part_at, pieces_at, v4_at, address_at, net_at, addr_at}
 use Rattle.pf_rule.specs.declared.interface.TheConstants.{INTERFACE_LIMIT}
 use Rattle.pf_rule.specs.declared.protocol.TheConstants.Protocol as protocols
 use Rattle.pf_rule.specs.declared.values.TheConstants.{PROTOCOL_DIGITS, PORT_DIGITS}
@@ -76,7 +76,7 @@ abbrev pub address_of : Word → Result Addr Kind
 address_of w = address_in (addr_at w)
 
 pub address_taken : address_of (codes "0.0.0.0") ≡ Ok (addr.V4 0)
-unfolding numbers_at parts_at part_at
+unfolding part_at pieces_at v4_at address_at
 address_taken = refl
 
 abbrev pub an_address : Form Addr
