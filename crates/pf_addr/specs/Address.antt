@@ -46,7 +46,7 @@ same_family V6 V4 = false
 same_family V6 V6 = true
 
 -- A network contains an address of its family that begins with its front.
-abbrev pub contains : Network → Addr → Bool
+unfoldable pub contains : Network → Addr → Bool
 contains n a = same_family n.family (family_of a) && (first_bits n.len a == n.front)
 
 -- the number of an address fits its family's bits

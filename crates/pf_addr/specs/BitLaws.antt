@@ -39,6 +39,7 @@ same_by_bits size a b p q same = same_from_bits_below size a b p q (λ i lt.
 
 -- a network contains exactly the addresses of its family whose first bits are its front's
 pub contains_by_bits : (net : Network) (a : Addr) → net.len ≤ width net.family → net.front < 2 ^ net.len → IsAddr a → Decides (contains net a) (BeginsAs net a)
+unfolding contains
 contains_by_bits net a le front is =
     let within : family_of a ≡ net.family → net.len ≤ width (family_of a) = λ e. subst (λ (f : Family). net.len ≤ width f) (sym e) le in
     let own : (e : family_of a ≡ net.family) (i : ℕ) → i < net.len → bit net.len i (first_bits net.len a) ≡ bit (width (family_of a)) i (number_in a) =

@@ -94,6 +94,7 @@ impl Net {
     }
 
     /// Whether the address is of the network's family and begins with its shared bits.
+    #[tactic(auto, unfolding(crate::specs::Address::contains))]
     pub fn contains(self, addr: Addr) -> bool
         ensures { result ≡ contains self addr }
     {
