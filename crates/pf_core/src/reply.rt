@@ -51,6 +51,8 @@ pub enum Refusal {
     /// The families of a rule's hosts and its own, or of a packet's addresses, differ. No command was read: all is as
     /// before.
     MixedFamily,
+    /// A rule tests a port, and its protocol isn't TCP or UDP. No command was read: all is as before.
+    PortNeedsProto,
     /// A list without entries, or with more than 64. All is as before.
     BadCount,
     /// The first entry of a commit or a rollback, from 0, that names a ruleset named before it. All is as before, for the

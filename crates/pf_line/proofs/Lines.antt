@@ -9,6 +9,8 @@ use Rattle.pf_form.specs.Words.{Word, is_blank, words_of}
 use Rattle.pf_form.specs.Forms.{Spells, RefusedAt, empties, begins, read_all}
 use Rattle.pf_form.specs.FormLaws.{lawful}
 use Rattle.pf_form.specs.TextLaws.{found, only, refused}
+use Rattle.pf_rule.specs.declared.fault.Mistake.{Mistake}
+use Rattle.pf_rule.specs.declared.fault.Mistake.TheVariants as mistakes
 use Rattle.pf_core.specs.declared.command.Command.{Command}
 use Rattle.pf_core.specs.declared.reply.Refusal.{Refusal}
 use Rattle.pf_core.specs.declared.reply.Refusal.TheVariants as refusals
@@ -38,7 +40,7 @@ no_comment (b ∷ bs) h = by (b == 35) refl where
       let is : b ≡ 35 = grind (arith, nat_tests) in
       absurd (not_both (begins grammar.line (35 ∷ bs)) (no_hash bs) (subst (λ (n : ℕ). begins grammar.line (n ∷ bs) ≡ true) is h))
 
-speaks : (x : Option Command) (ws : List Word) → Spells grammar.line x ws → no_command ws ≡ false
+speaks : (x : Result Command Mistake) (ws : List Word) → Spells grammar.line x ws → no_command ws ≡ false
 speaks x [] h = absurd (not_both (empties grammar.line) some_words ((lawful grammar.line decided).heads x [] h))
 speaks x (w ∷ ws) h = no_comment w ((lawful grammar.line decided).heads x (w ∷ ws) h)
 
@@ -77,9 +79,9 @@ is_quiet line r (inr h) good silent = absurd (not_both (is_silent line) h.0.loud
 abbrev Found : List Word → Answer → Type 0
 Found ws r = IfOk r (λ o. IfSome o (λ c. SpellsLine c ws))
 
-said_found : (ws : List Word) (q : Result (Option Command) (Kind × List Word)) → read_all grammar.line ws ≡ q → Found ws (said (length ws) q)
-said_found ws (Ok (Some c)) e = found (Option Command) grammar.line decided ws (Some c) e
-said_found ws (Ok None) e = tt
+said_found : (ws : List Word) (q : Result (Result Command Mistake) (Kind × List Word)) → read_all grammar.line ws ≡ q → Found ws (said (length ws) q)
+said_found ws (Ok (Ok c)) e = found (Result Command Mistake) grammar.line decided ws (Ok c) e
+said_found ws (Ok (Err mistake)) e = tt
 said_found ws (Err d) e = tt
 
 pub is_found : (line : List ℕ) (r : Answer) → Answers line r → Found (words_of line) r
@@ -94,22 +96,23 @@ is_found line r (inr h) = rw h.1 tt
 pub is_only : (line : List ℕ) (r : Answer) → Answers line r → is_bad_line line ≡ false → (c : Command) → SpellsLine c (words_of line) → Parses r (Ok (Some c))
 unfolding line_at
 is_only line r h good c x =
-    let loud : is_silent line ≡ false = speaks (Some c) (words_of line) x in
-    let there : line_at line ≡ Ok (Some c) = rw (good, loud) (ap (said (length (words_of line))) (only (Option Command) grammar.line decided (words_of line) (Some c) x)) in
+    let loud : is_silent line ≡ false = speaks (Ok c) (words_of line) x in
+    let there : line_at line ≡ Ok (Some c) = rw (good, loud) (ap (said (length (words_of line))) (only (Result Command Mistake) grammar.line decided (words_of line) (Ok c) x)) in
     rw there at (is_exact line r h)
 
 abbrev Fails : List ℕ → Answer → Type 0
 Fails line r = IfErr r (λ e. Refused line e)
 
-at_place : (line : List ℕ) (k : Kind) (at : ℕ) → Speaks line → RefusedAt (Option Command) grammar.line (words_of line) at k → Refused line (refusal_at k at)
+at_place : (line : List ℕ) (k : Kind) (at : ℕ) → Speaks line → RefusedAt (Result Command Mistake) grammar.line (words_of line) at k → Refused line (refusal_at k at)
 at_place line kinds.BadWord at s h = (s, h)
 at_place line kinds.NameTooLong at s h = (s, h)
 at_place line kinds.BadProto at s h = (s, h)
 
-said_refused : (line : List ℕ) → Speaks line → (q : Result (Option Command) (Kind × List Word)) → read_all grammar.line (words_of line) ≡ q → Fails line (said (length (words_of line)) q)
-said_refused line s (Ok (Some c)) e = tt
-said_refused line s (Ok None) e = (s, found (Option Command) grammar.line decided (words_of line) None e)
-said_refused line s (Err (k, rest)) e = at_place line k (length (words_of line) - length rest) s (refused (Option Command) grammar.line decided (words_of line) k rest e)
+said_refused : (line : List ℕ) → Speaks line → (q : Result (Result Command Mistake) (Kind × List Word)) → read_all grammar.line (words_of line) ≡ q → Fails line (said (length (words_of line)) q)
+said_refused line s (Ok (Ok c)) e = tt
+said_refused line s (Ok (Err mistakes.MixedFamily)) e = (s, found (Result Command Mistake) grammar.line decided (words_of line) (Err mistakes.MixedFamily) e)
+said_refused line s (Ok (Err mistakes.PortNeedsProto)) e = (s, found (Result Command Mistake) grammar.line decided (words_of line) (Err mistakes.PortNeedsProto) e)
+said_refused line s (Err (k, rest)) e = at_place line k (length (words_of line) - length rest) s (refused (Result Command Mistake) grammar.line decided (words_of line) k rest e)
 
 pub is_refused : (line : List ℕ) (r : Answer) → Answers line r → Fails line r
 unfolding line_at

@@ -1,11 +1,11 @@
 -- The grammar of lines. Own, with pf(4)'s names of what a client may ask.
 use Rattle.std.specs.Prelude.{◌≡◌, ℕ, true, List, codes, Option, Some, None, Result, Ok, Err}
-use Rattle.std.specs.Option.{option_map}
 use Rattle.std.proofs.Common.{refl}
 use Rattle.pf_form.specs.declared.fault.Kind.{Kind}
 use Rattle.pf_form.specs.declared.fault.Kind.TheVariants.{BadWord}
 use Rattle.pf_form.specs.Words.{Word}
 use Rattle.pf_form.specs.Forms.{Form, nothing, word, key, or, pair, making, one_or_more, is_decided, Spells}
+use Rattle.pf_rule.specs.declared.fault.Mistake.{Mistake}
 use Rattle.pf_rule.specs.Rules.{PlainRule}
 use Rattle.pf_rule.specs.RuleGrammar.{rule, rule_decided}
 use Rattle.pf_rule.specs.PacketGrammar.{packet, packet_decided}
@@ -58,44 +58,48 @@ name = making (λ x. record { kind = x.0; path = x.1 }) (pair kind path)
 abbrev pub entry : Form Entry
 entry = making (λ x. record { name = x.0; ticket = x.1 }) (pair name ticket_text)
 
--- ---- what follows each command's word: a command, or none where families differ
+-- ---- what follows each command's word: a command, or the mistake that its rule or its packet makes
 
-abbrev pub begin_of : List RulesetName → Option Command
-begin_of names = Some (Transact (Begin names))
+abbrev as_command : {A : Type 0} → (A → Command) → Result A Mistake → Result Command Mistake
+as_command make (Ok x) = Ok (make x)
+as_command make (Err mistake) = Err mistake
 
-unfoldable pub begun : Form (Option Command)
+abbrev pub begin_of : List RulesetName → Result Command Mistake
+begin_of names = Ok (Transact (Begin names))
+
+unfoldable pub begun : Form (Result Command Mistake)
 begun = making begin_of (one_or_more name)
 
-abbrev pub add_of : List ℕ × (Ticket × Option PlainRule) → Option Command
-add_of x = option_map (λ r. Transact (Add x.0 x.1.0 r)) x.1.1
+abbrev pub add_of : List ℕ × (Ticket × Result PlainRule Mistake) → Result Command Mistake
+add_of x = as_command (λ r. Transact (Add x.0 x.1.0 r)) x.1.1
 
-unfoldable pub added : Form (Option Command)
+unfoldable pub added : Form (Result Command Mistake)
 added = making add_of (pair path (pair ticket_text rule))
 
-abbrev pub commit_of : List Entry → Option Command
-commit_of entries = Some (Transact (Commit entries))
+abbrev pub commit_of : List Entry → Result Command Mistake
+commit_of entries = Ok (Transact (Commit entries))
 
-unfoldable pub committed : Form (Option Command)
+unfoldable pub committed : Form (Result Command Mistake)
 committed = making commit_of (one_or_more entry)
 
-abbrev pub rollback_of : List Entry → Option Command
-rollback_of entries = Some (Transact (Rollback entries))
+abbrev pub rollback_of : List Entry → Result Command Mistake
+rollback_of entries = Ok (Transact (Rollback entries))
 
-unfoldable pub rolled_back : Form (Option Command)
+unfoldable pub rolled_back : Form (Result Command Mistake)
 rolled_back = making rollback_of (one_or_more entry)
 
-unfoldable pub judged : Form (Option Command)
-judged = making (option_map (λ p. Ask (Judge p))) packet
+unfoldable pub judged : Form (Result Command Mistake)
+judged = making (as_command (λ p. Ask (Judge p))) packet
 
-unfoldable pub shown : Form (Option Command)
-shown = key (codes "rules") (making (λ p. Some (Ask (ShowRules p))) path)
+unfoldable pub shown : Form (Result Command Mistake)
+shown = key (codes "rules") (making (λ p. Ok (Ask (ShowRules p))) path)
 
 -- "judge" PACKET | "show" "rules" PATH
-unfoldable pub question : Form (Option Command)
+unfoldable pub question : Form (Result Command Mistake)
 question = or (codes "judge") judged (key (codes "show") shown)
 
 -- "begin" KIND PATH .. | "add" PATH T RULE | "commit" KIND PATH T .. | "rollback" KIND PATH T .. | a question
-abbrev pub line : Form (Option Command)
+abbrev pub line : Form (Result Command Mistake)
 line = or (codes "begin") begun (or (codes "add") added (or (codes "commit") committed (or (codes "rollback") rolled_back question)))
 
 -- One word of look-ahead decides it.
@@ -105,4 +109,4 @@ decided = rw (rule_decided, packet_decided) refl
 
 -- The words of a line spell the command.
 abbrev pub SpellsLine : Command → List Word → Type 0
-SpellsLine c ws = Spells line (Some c) ws
+SpellsLine c ws = Spells line (Ok c) ws

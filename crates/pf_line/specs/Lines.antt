@@ -7,9 +7,11 @@ use Rattle.pf_form.specs.declared.fault.Kind.{Kind}
 use Rattle.pf_form.specs.declared.fault.Kind.TheVariants as kinds
 use Rattle.pf_form.specs.Words.{Word, words_of}
 use Rattle.pf_form.specs.Forms.{Spells, RefusedAt, read_all}
+use Rattle.pf_rule.specs.declared.fault.Mistake.{Mistake}
+use Rattle.pf_rule.specs.declared.fault.Mistake.TheVariants as mistakes
 use Rattle.pf_core.specs.declared.command.Command.{Command}
 use Rattle.pf_core.specs.declared.reply.Refusal.{Refusal}
-use Rattle.pf_core.specs.declared.reply.Refusal.TheVariants.{BadLine, BadWord, NameTooLong, BadProto, MixedFamily, Memory}
+use Rattle.pf_core.specs.declared.reply.Refusal.TheVariants.{BadLine, BadWord, NameTooLong, BadProto, MixedFamily, PortNeedsProto, Memory}
 use Rattle.pf_line.specs.declared.line.TheConstants.{LINE_LIMIT}
 use Rattle.pf_line.specs.Grammar as grammar
 
@@ -39,10 +41,14 @@ refusal_at kinds.BadWord at = BadWord at
 refusal_at kinds.NameTooLong at = NameTooLong at
 refusal_at kinds.BadProto at = BadProto at
 
+abbrev pub refusal_for : Mistake → Refusal
+refusal_for mistakes.MixedFamily = MixedFamily
+refusal_for mistakes.PortNeedsProto = PortNeedsProto
+
 -- what so many words say, by what was read of them
-abbrev pub said : ℕ → Result (Option Command) (Kind × List Word) → Result (Option Command) Refusal
-said count (Ok (Some c)) = Ok (Some c)
-said count (Ok None) = Err MixedFamily
+abbrev pub said : ℕ → Result (Result Command Mistake) (Kind × List Word) → Result (Option Command) Refusal
+said count (Ok (Ok c)) = Ok (Some c)
+said count (Ok (Err mistake)) = Err (refusal_for mistake)
 said count (Err e) = Err (refusal_at e.0 (count - length e.1))
 
 abbrev pub said_by : List Word → Result (Option Command) Refusal
@@ -66,7 +72,7 @@ abbrev pub Answers : List ℕ → Result (Option Command) Refusal → Type 0
 Answers line r = (r ≡ line_at line) ⊎ (Speaks line × (r ≡ Err Memory))
 
 abbrev IsRefused : List ℕ → ℕ → Kind → Type 0
-IsRefused line at kind = Speaks line × RefusedAt (Option Command) grammar.line (words_of line) at kind
+IsRefused line at kind = Speaks line × RefusedAt (Result Command Mistake) grammar.line (words_of line) at kind
 
 -- A refusal of a line. Its place and its kind are by the grammar alone: the words before it begin a line, with the word at it none does.
 abbrev pub Refused : List ℕ → Refusal → Type 0
@@ -74,7 +80,8 @@ Refused line BadLine = is_bad_line line ≡ true
 Refused line (BadWord at) = IsRefused line at kinds.BadWord
 Refused line (NameTooLong at) = IsRefused line at kinds.NameTooLong
 Refused line (BadProto at) = IsRefused line at kinds.BadProto
-Refused line MixedFamily = Speaks line × Spells grammar.line None (words_of line)
+Refused line MixedFamily = Speaks line × Spells grammar.line (Err mistakes.MixedFamily) (words_of line)
+Refused line PortNeedsProto = Speaks line × Spells grammar.line (Err mistakes.PortNeedsProto) (words_of line)
 Refused line Memory = Speaks line
 Refused line _ = ⊥
 
@@ -85,9 +92,10 @@ pub long_line : (line : List ℕ) → LINE_LIMIT < length line → line_at line 
 unfolding line_at
 long_line line long = let t : nat_lt LINE_LIMIT (length line) ≡ true = lt-ltb LINE_LIMIT (length line) long in rw t refl
 
-no_silence : (count : ℕ) (r : Result (Option Command) (Kind × List Word)) → (said count r ≡ Ok None → ⊥) × (said count r ≡ Err BadLine → ⊥)
-no_silence count (Ok (Some c)) = (λ e. cc, λ e. cc)
-no_silence count (Ok None) = (λ e. cc, λ e. cc)
+no_silence : (count : ℕ) (r : Result (Result Command Mistake) (Kind × List Word)) → (said count r ≡ Ok None → ⊥) × (said count r ≡ Err BadLine → ⊥)
+no_silence count (Ok (Ok c)) = (λ e. cc, λ e. cc)
+no_silence count (Ok (Err mistakes.MixedFamily)) = (λ e. cc, λ e. cc)
+no_silence count (Ok (Err mistakes.PortNeedsProto)) = (λ e. cc, λ e. cc)
 no_silence count (Err (kinds.BadWord, rest)) = (λ e. cc, λ e. cc)
 no_silence count (Err (kinds.NameTooLong, rest)) = (λ e. cc, λ e. cc)
 no_silence count (Err (kinds.BadProto, rest)) = (λ e. cc, λ e. cc)

@@ -48,6 +48,7 @@ refusal_text (refusals.BadWord at) = codes "err word " ++ decimal at
 refusal_text (refusals.NameTooLong at) = codes "err name " ++ decimal at
 refusal_text (refusals.BadProto at) = codes "err proto " ++ decimal at
 refusal_text refusals.MixedFamily = codes "err family"
+refusal_text refusals.PortNeedsProto = codes "err portproto"
 refusal_text refusals.BadCount = codes "err count"
 refusal_text (refusals.Twice at) = codes "err twice " ++ decimal at
 refusal_text (refusals.Busy at) = codes "busy " ++ decimal at

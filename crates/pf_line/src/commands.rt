@@ -8,7 +8,7 @@ use crate::ticket::read_ticket;
 use pf_anchor::Path;
 use pf_core::{Command, Question, Transaction};
 use pf_form::{Stop, Unread, Words, bad_word, each, end, expect, stop, takes};
-use pf_rule::{Packet, Rule};
+use pf_rule::{Mistake, Packet, Rule};
 use pf_ticket::{Entries, Entry, RulesetKind, RulesetName, RulesetNames, Ticket};
 use std::alloc::Global;
 
@@ -66,16 +66,16 @@ fn read_entry<'a>(words: &mut Words<'a>) -> Result<Entry, Stop>
 }
 
 #[tactic(auto, unfolding(crate::specs::Grammar::begun))]
-fn begin(alloc: Global, words: &[&[u8]]) -> Result<Option<Command>, Unread>
+fn begin(alloc: Global, words: &[&[u8]]) -> Result<Result<Command, Mistake>, Unread>
     ensures { ReadsAll (λ x. x) begun result words.now }
 {
     let names = each(alloc, words, read_name)?;
     let step = Transaction::Begin(RulesetNames::new(names));
-    Ok(Some(Command::Transact(step)))
+    Ok(Ok(Command::Transact(step)))
 }
 
 #[tactic(auto, unfolding(crate::specs::Grammar::added))]
-fn add<'a>(words: Words<'a>) -> Result<Option<Command>, Stop>
+fn add<'a>(words: Words<'a>) -> Result<Result<Command, Mistake>, Stop>
     ensures { ReadsWhole (λ x. x) added result words.now }
 {
     let mut rest = words;
@@ -84,59 +84,59 @@ fn add<'a>(words: Words<'a>) -> Result<Option<Command>, Stop>
     let read = Rule::read(&mut rest)?;
     end(rest)?;
     match read {
-        Some(rule) => {
+        Ok(rule) => {
             let step = Transaction::Add { path, ticket, rule };
-            Ok(Some(Command::Transact(step)))
+            Ok(Ok(Command::Transact(step)))
         }
-        None => Ok(None),
+        Err(mistake) => Ok(Err(mistake)),
     }
 }
 
 #[tactic(auto, unfolding(crate::specs::Grammar::committed))]
-fn commit(alloc: Global, words: &[&[u8]]) -> Result<Option<Command>, Unread>
+fn commit(alloc: Global, words: &[&[u8]]) -> Result<Result<Command, Mistake>, Unread>
     ensures { ReadsAll (λ x. x) committed result words.now }
 {
     let entries = each(alloc, words, read_entry)?;
     let step = Transaction::Commit(Entries::new(entries));
-    Ok(Some(Command::Transact(step)))
+    Ok(Ok(Command::Transact(step)))
 }
 
 #[tactic(auto, unfolding(crate::specs::Grammar::rolled_back))]
-fn rollback(alloc: Global, words: &[&[u8]]) -> Result<Option<Command>, Unread>
+fn rollback(alloc: Global, words: &[&[u8]]) -> Result<Result<Command, Mistake>, Unread>
     ensures { ReadsAll (λ x. x) rolled_back result words.now }
 {
     let entries = each(alloc, words, read_entry)?;
     let step = Transaction::Rollback(Entries::new(entries));
-    Ok(Some(Command::Transact(step)))
+    Ok(Ok(Command::Transact(step)))
 }
 
 #[tactic(auto, unfolding(crate::specs::Grammar::judged))]
-fn judge<'a>(words: Words<'a>) -> Result<Option<Command>, Stop>
+fn judge<'a>(words: Words<'a>) -> Result<Result<Command, Mistake>, Stop>
     ensures { ReadsWhole (λ x. x) judged result words.now }
 {
     let mut rest = words;
     let read = Packet::read(&mut rest)?;
     end(rest)?;
     match read {
-        Some(packet) => Ok(Some(Command::Ask(Question::Judge(packet)))),
-        None => Ok(None),
+        Ok(packet) => Ok(Ok(Command::Ask(Question::Judge(packet)))),
+        Err(mistake) => Ok(Err(mistake)),
     }
 }
 
 #[tactic(auto, unfolding(crate::specs::Grammar::shown))]
-fn show<'a>(words: Words<'a>) -> Result<Option<Command>, Stop>
+fn show<'a>(words: Words<'a>) -> Result<Result<Command, Mistake>, Stop>
     ensures { ReadsWhole (λ x. x) shown result words.now }
 {
     let mut rest = words;
     expect(&mut rest, b"rules")?;
     let path = path_word(&mut rest)?;
     end(rest)?;
-    Ok(Some(Command::Ask(Question::ShowRules(path))))
+    Ok(Ok(Command::Ask(Question::ShowRules(path))))
 }
 
 /// A question.
 #[tactic(auto, unfolding(crate::specs::Grammar::question))]
-fn ask<'a>(words: Words<'a>) -> Result<Option<Command>, Stop>
+fn ask<'a>(words: Words<'a>) -> Result<Result<Command, Mistake>, Stop>
     ensures { ReadsWhole (λ x. x) question result words.now }
 {
     let mut rest = words;
@@ -147,8 +147,11 @@ fn ask<'a>(words: Words<'a>) -> Result<Option<Command>, Stop>
     show(rest)
 }
 
-/// The command that the words of a line say; none where the families of its rule or its packet differ.
-pub(crate) fn command<'a>(alloc: Global, words: Words<'a>) -> Result<Option<Command>, Unread>
+/// The command that the words of a line say, or the mistake that its rule or its packet makes.
+pub(crate) fn command<'a>(
+    alloc: Global,
+    words: Words<'a>,
+) -> Result<Result<Command, Mistake>, Unread>
     ensures { ReadsAll (λ x. x) line result words.now }
 {
     let mut rest = words;

@@ -1,9 +1,10 @@
 //! Laws of the texts. Each function does nothing; its contract is the law.
-ghost use Rattle.std.specs.Prelude.{◌≡◌, ℕ, ◌^◌, ◌<◌, List, Option, length, Some, Err};
+ghost use Rattle.std.specs.Prelude.{◌≡◌, ℕ, ◌^◌, ◌<◌, List, Result, length, Some, Err};
 ghost use Rattle.pf_form.specs.declared.fault.Kind.{Kind};
 ghost use Rattle.pf_form.specs.Words.{Word};
 ghost use Rattle.pf_form.specs.Forms.{RefusedAt};
 ghost use Rattle.pf_ticket.specs.declared.ticket.Ticket.{Ticket};
+ghost use Rattle.pf_rule.specs.declared.fault.Mistake.{Mistake};
 ghost use Rattle.pf_core.specs.declared.command.Command.{Command};
 ghost use Rattle.pf_core.specs.declared.reply.Refusal.TheVariants.{BadLine};
 ghost use Rattle.pf_line.specs.declared.line.TheConstants.{LINE_LIMIT};
@@ -26,7 +27,7 @@ pub fn written_ticket_is_read_again()
 
 /// The words of a line are refused at one place, and for one reason.
 pub fn a_refusal_is_one()
-    ensures { (ws : List Word) (m n : ℕ) (j k : Kind) → RefusedAt (Option Command) the_grammar ws m j → RefusedAt (Option Command) the_grammar ws n k → (m ≡ n) × (j ≡ k) }
+    ensures { (ws : List Word) (m n : ℕ) (j k : Kind) → RefusedAt (Result Command Mistake) the_grammar ws m j → RefusedAt (Result Command Mistake) the_grammar ws n k → (m ≡ n) × (j ≡ k) }
 {}
 
 /// A line that is too long is bad, whatever its bytes are.

@@ -5,11 +5,12 @@ ghost use Rattle.pf_form.specs.Words.{is_blank, words_of};
 ghost use Rattle.pf_core.specs.declared.command.Command.{Command};
 ghost use Rattle.pf_core.specs.declared.reply.Refusal.TheVariants.{BadLine};
 ghost use Rattle.pf_line.specs.Grammar.{SpellsLine};
-ghost use Rattle.pf_line.specs.Lines.{is_line_byte, is_bad_line, is_silent, line_at, said_by, refusal_at, Parses, Answers, Refused};
+ghost use Rattle.pf_line.specs.Lines.{is_line_byte, is_bad_line, is_silent, line_at, said_by, refusal_at, refusal_for, Parses, Answers, Refused};
 
 use crate::commands::command;
 use pf_core::{Command, Refusal};
 use pf_form::{Kind, Stop, Unread, is_blank, words};
+use pf_rule::Mistake;
 use std::alloc::Global;
 
 /// How many bytes a line may have, without its newline.
@@ -64,12 +65,21 @@ fn refusal(stop: Stop, count: usize) -> Refusal
     }
 }
 
+fn refusal_for(mistake: Mistake) -> Refusal
+    ensures { result ≡ refusal_for mistake }
+{
+    match mistake {
+        Mistake::MixedFamily => Refusal::MixedFamily,
+        Mistake::PortNeedsProto => Refusal::PortNeedsProto,
+    }
+}
+
 /// Reads one line, without its newline.
 ///
 /// A line of more than 4,096 bytes, or with a byte that is neither printable ASCII nor a blank, is `BadLine`. Of any
 /// other line one without words, or whose first word begins with `#`, says nothing. `BadWord`, `NameTooLong` and
 /// `BadProto` stand at the first word at which no line can go on; words are counted from 0, and a missing word is at
-/// the number of words. `MixedFamily` comes after the last word. `Memory` comes only where memory was refused, and
+/// the number of words. `MixedFamily` and then `PortNeedsProto` come after the last word. `Memory` comes only where memory was refused, and
 /// never for a bad line or one that says nothing.
 pub fn parse_line(alloc: Global, line: &[u8]) -> Result<Option<Command>, Refusal>
     ensures bad { is_bad_line line.now ≡ true → result ≡ Err BadLine }
@@ -103,8 +113,8 @@ fn read(alloc: Global, line: &[u8]) -> Result<Option<Command>, Refusal>
         return Err(Refusal::Memory);
     };
     match command(alloc, &words) {
-        Ok(Some(command)) => Ok(Some(command)),
-        Ok(None) => Err(Refusal::MixedFamily),
+        Ok(Ok(command)) => Ok(Some(command)),
+        Ok(Err(mistake)) => Err(refusal_for(mistake)),
         Err(Unread::Stopped(stop)) => Err(refusal(stop, words.len())),
         Err(Unread::Memory) => Err(Refusal::Memory),
     }

@@ -218,6 +218,7 @@ fn write_refusal<W: Write>(out: &mut W, so_far: io::Result<()>, refusal: Refusal
     match refusal {
         Refusal::BadLine => write_part(out, so_far, b"err line"),
         Refusal::MixedFamily => write_part(out, so_far, b"err family"),
+        Refusal::PortNeedsProto => write_part(out, so_far, b"err portproto"),
         Refusal::BadCount => write_part(out, so_far, b"err count"),
         Refusal::RulesetFull => write_part(out, so_far, b"err ruleset"),
         Refusal::TooManyRulesets => write_part(out, so_far, b"err rulesets"),
