@@ -58,7 +58,7 @@ impl<D: Disk> Journal<D> {
         ensures faults { D.fault_count self.new.disk ≡ D.fault_count self.old.disk + (if is_append_fault result then 1 else 0) }
     {
         let room = self.end - self.gate;
-        if room <= HEADER || room - HEADER - 1 < payload.len() {
+        if room.saturating_sub(HEADER) <= payload.len() {
             return Err(AppendFault::NoRoom);
         }
         let behind = behind_gate(alloc, payload)?;
