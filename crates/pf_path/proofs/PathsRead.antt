@@ -34,7 +34,7 @@ component_faultless c is =
     let dash = (bytes_eq-Decides c (codes "-")).0 in
     grind (arith, nat_tests)
 
-none_parts : (o p : Option Kind) → option_or o p ≡ None → (o ≡ None) × (p ≡ None)
+pub none_parts : (o p : Option Kind) → option_or o p ≡ None → (o ≡ None) × (p ≡ None)
 none_parts (Some k) p e = absurd (cc)
 none_parts None p e = (refl, e)
 
