@@ -1,6 +1,6 @@
 -- A word is read as a reference exactly where the grammar takes it.
 use Rattle.std.proofs.Common.{◌≡◌, inl, inr, ℕ, ◌-◌, ◌<◌, ◌≤◌, ◌⊎◌, ◌||◌, Bool, true, false, List, [], ◌∷◌, ◌++◌, length, take, drop, Some, None, Option, Ok, Err, refl, sym, ap, subst, ◌∙◌, append-nil, arith}
-use Rattle.std.specs.Prelude.{if◌then◌else◌}
+use Rattle.std.specs.Prelude.{if◌then◌else◌, nat_lt}
 use Rattle.std.specs.List.{AllByRecursion, join_with_byte, list_all, slice_index_or}
 use Rattle.std.specs.Option.{option_and_then, option_map_or}
 use Rattle.std.specs.Str.{bytes_eq}
@@ -150,3 +150,19 @@ text_is_read r is =
 pub spelled_is_read : SpelledReferenceIsRead
 spelled_is_read w r (is, inl plain) = rw (plain, not_quoted r.names _ (names_some r.names is.names) (names_bytes r.names is.names)) (text_is_read r is)
 spelled_is_read w r (is, inr marks) = rw (marks, in_quotes (reference_text r)) (text_is_read r is)
+
+-- ---- a reference in quotes is a word: each of its bytes is above a space
+
+above_space : (b : ℕ) → is_path_byte b ≡ true → nat_lt 32 b ≡ true
+above_space b e = grind (arith, nat_tests)
+
+ending_bytes : (wildcard : Bool) → list_all (nat_lt 32) (if wildcard then ending else []) ≡ true
+ending_bytes true = refl
+ending_bytes false = refl
+
+pub quoted_bytes : (r : PlainReference) → IsReference r → list_all (nat_lt 32) (quoted (reference_text r)) ≡ true
+quoted_bytes r is =
+    let bytes = names_bytes r.names is.names in
+    let names : list_all (nat_lt 32) r.names ≡ true = list_all-from_AllPass (nat_lt 32) r.names (λ k d lt. above_space (slice_index_or r.names k d) (AllPass-from_list_all is_path_byte r.names bytes k d lt)) in
+    let text : list_all (nat_lt 32) (reference_text r) ≡ true = rw (list_all-append, names, ending_bytes r.wildcard) refl in
+    rw (list_all-append, list_all-append, text) refl

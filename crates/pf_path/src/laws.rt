@@ -25,7 +25,6 @@ pub fn same_paths_are_equal()
 {}
 
 /// A reference is read from a word exactly where the word spells it.
-#[tactic(auto, using(crate::proofs::ReferencesRead::read_is_spelled, crate::proofs::ReferencesRead::spelled_is_read))]
 pub fn references_are_read_as_spelled()
     ensures read { ReferenceIsSpelled }
     ensures spelled { SpelledReferenceIsRead }

@@ -11,14 +11,19 @@ use Rattle.pf_addr.specs.Address.{Network, IsAddr, IsV4Network}
 use Rattle.pf_addr.specs.SpellingLaws.{IsAddr-spelled, IsV4Network-spelled}
 use Rattle.pf_addr.specs.Reading.{net_at, addr_at}
 use Rattle.pf_addr.specs.ReadingLaws.{addr_found, net_found}
+use Rattle.pf_path.specs.References.{PlainReference, reference_of}
+use Rattle.pf_path.specs.ReferenceGrammar.{IsReference}
+use Rattle.pf_path.proofs.ReferencesRead.{read_is_spelled}
+use Rattle.pf_rule.specs.declared.rule.Opening.{Opening}
+use Rattle.pf_rule.specs.declared.rule.Opening.TheVariants as openings
 use Rattle.pf_rule.specs.declared.rule.Host.{Host}
 use Rattle.pf_rule.specs.declared.rule.Host.TheVariants.{Any, Net}
 use Rattle.pf_rule.specs.Names.{IsInterfaceName}
 use Rattle.pf_rule.specs.Values.{interface_of, protocol_of, host_of, address_of, port_of}
 use Rattle.pf_rule.specs.Packets.{PlainPacket, IsPacket, has_ports}
-use Rattle.pf_rule.specs.Rules.{PlainRule, IsRule}
+use Rattle.pf_rule.specs.Rules.{PlainRule, IsEffect, IsRule}
 use Rattle.pf_rule.specs.PacketGrammar.{packet_with, of_one_family, packet}
-use Rattle.pf_rule.specs.RuleGrammar.{interface, protocol, destination, hosts, rule_with, agreeing, rule, rule_decided}
+use Rattle.pf_rule.specs.RuleGrammar.{opening, effect_of, interface, protocol, destination, hosts, rule_with, agreeing, rule, rule_decided}
 
 -- ---- what is read as a network or an address
 
@@ -55,6 +60,23 @@ port_kept ports w n e = grind (arith, nat_tests)
 
 -- ---- a rule
 
+abbrev OpeningIs : Opening → Type 0
+OpeningIs openings.Pass = Unit {0}
+OpeningIs openings.Block = Unit {0}
+OpeningIs (openings.Anchor r) = IsReference r
+
+reference_kept : (w : Word) (r : PlainReference) → reference_of w ≡ Ok r → IsReference r
+reference_kept w r e = (read_is_spelled w r e).0
+
+opening_is : (o : Opening) (ws : List Word) → Spells opening o ws → OpeningIs o
+unfolding opening
+opening_is o ws h = grind (arith, reference_kept)
+
+effect_is : (o : Opening) (keeps : Bool) → OpeningIs o → IsEffect (effect_of o keeps)
+effect_is openings.Pass keeps is = tt
+effect_is openings.Block keeps is = tt
+effect_is (openings.Anchor r) keeps is = is
+
 interface_is : (i : Option Word) (ws : List Word) → Spells interface i ws → IfSome i IsInterfaceName
 unfolding interface
 interface_is i ws h = grind (arith, interface_kept)
@@ -67,13 +89,13 @@ hosts_are : (h : Host × Host) (ws : List Word) → Spells hosts h ws → HostIs
 unfolding hosts destination
 hosts_are h ws s = grind (arith, host_kept)
 
-agreeing_kept : (x r : PlainRule) → IfSome x.interface IsInterfaceName → IfSome x.protocol IsProtocol → HostIs x.source × HostIs x.destination → Some r ≡ agreeing x → IsRule r
-agreeing_kept x r i p h e = grind arith
+agreeing_kept : (x r : PlainRule) → IsEffect x.effect → IfSome x.interface IsInterfaceName → IfSome x.protocol IsProtocol → HostIs x.source × HostIs x.destination → Some r ≡ agreeing x → IsRule r
+agreeing_kept x r o i p h e = grind arith
 
 pub rule_kept : (r : PlainRule) (ws : List Word) → Spells rule (Some r) ws → IsRule r
 unfolding rule
-rule_kept r ws (x, (y, (a, a', opening, (b, b', direction, (c, c', quick, (d, d', on, (e, e', family, (f, f', proto, (g, g', h, state, eh), ep), ef), eo), eq), ed), all), made), is) =
-    agreeing_kept (rule_with y) r (interface_is y.1.1.1.0 d on) (protocol_is y.1.1.1.1.1.0 f proto) (hosts_are y.1.1.1.1.1.1.0 g h) (is ∙ ap agreeing made)
+rule_kept r ws (x, (y, (a, a', begins, (b, b', direction, (c, c', quick, (d, d', on, (e, e', family, (f, f', proto, (g, g', h, state, eh), ep), ef), eo), eq), ed), all), made), is) =
+    agreeing_kept (rule_with y) r (effect_is y.0 y.1.1.1.1.1.1.1 (opening_is y.0 a begins)) (interface_is y.1.1.1.0 d on) (protocol_is y.1.1.1.1.1.0 f proto) (hosts_are y.1.1.1.1.1.1.0 g h) (is ∙ ap agreeing made)
 
 pub rule_read_kept : (ws rest : List Word) (r : PlainRule) → reads rule ws ≡ Ok (Some r, rest) → IsRule r
 rule_read_kept ws rest r e = let t = (lawful rule rule_decided).takes ws (Some r) rest e in rule_kept r t.0 t.1

@@ -6,18 +6,26 @@ use Rattle.pf_form.specs.Forms.{Form, nothing, key, or, pair, pair_by, making, i
 use Rattle.pf_addr.specs.declared.addr.Family.{Family}
 use Rattle.pf_addr.specs.declared.addr.Family.TheVariants.{V4, V6}
 use Rattle.pf_addr.specs.Address.{same_family}
-use Rattle.pf_rule.specs.declared.rule.Action.{Action}
 use Rattle.pf_rule.specs.declared.rule.Action.TheVariants.{Pass, Block}
+use Rattle.pf_rule.specs.declared.rule.Effect.{Effect}
+use Rattle.pf_rule.specs.declared.rule.Effect.TheVariants.{Decide, Evaluate}
+use Rattle.pf_rule.specs.declared.rule.Opening.{Opening}
+use Rattle.pf_rule.specs.declared.rule.Opening.TheVariants as openings
 use Rattle.pf_rule.specs.declared.rule.Direction.{Direction}
 use Rattle.pf_rule.specs.declared.rule.Direction.TheVariants.{In, Out}
 use Rattle.pf_rule.specs.declared.rule.Host.{Host}
 use Rattle.pf_rule.specs.declared.rule.Host.TheVariants.{Any, Net}
-use Rattle.pf_rule.specs.Values.{an_interface, a_protocol, a_host}
+use Rattle.pf_rule.specs.Values.{a_reference, an_interface, a_protocol, a_host}
 use Rattle.pf_rule.specs.Rules.{PlainRule}
 
--- "pass" | "block" ["drop"], and whether the rule passes
-unfoldable pub opening : Form Bool
-opening = or (codes "pass") (nothing true) (key (codes "block") (or (codes "drop") (nothing false) (nothing false)))
+-- "pass" | "block" ["drop"] | "anchor" reference
+unfoldable pub opening : Form Opening
+opening = or (codes "pass") (nothing openings.Pass) (or (codes "block") (or (codes "drop") (nothing openings.Block) (nothing openings.Block)) (key (codes "anchor") (making openings.Anchor a_reference)))
+
+abbrev pub passes : Opening → Bool
+passes openings.Pass = true
+passes openings.Block = false
+passes (openings.Anchor r) = false
 
 -- ["in" | "out"]
 unfoldable pub direction : Form (Option Direction)
@@ -55,16 +63,17 @@ unfoldable pub state : Bool → Form Bool
 state true = or (codes "keep") (key (codes "state") (nothing true)) (or (codes "no") (key (codes "state") (nothing false)) (nothing true))
 state false = nothing false
 
-abbrev pub action_of : Bool → Bool → Action
-action_of true keeps = Pass keeps
-action_of false keeps = Block
+abbrev pub effect_of : Opening → Bool → Effect
+effect_of openings.Pass keeps = Decide (Pass keeps)
+effect_of openings.Block keeps = Decide Block
+effect_of (openings.Anchor r) keeps = Evaluate r
 
 -- with the family as it is written
-abbrev pub rule_with : Bool × (Option Direction × (Bool × (Option (List ℕ) × (Option Family × (Option ℕ × ((Host × Host) × Bool)))))) → PlainRule
-rule_with (passes, (d, (q, (i, (f, (p, (h, keeps))))))) = record { action = action_of passes keeps; direction = d; quick = q; interface = i; family = f; protocol = p; source = h.0; destination = h.1 }
+abbrev pub rule_with : Opening × (Option Direction × (Bool × (Option (List ℕ) × (Option Family × (Option ℕ × ((Host × Host) × Bool)))))) → PlainRule
+rule_with (o, (d, (q, (i, (f, (p, (h, keeps))))))) = record { effect = effect_of o keeps; direction = d; quick = q; interface = i; family = f; protocol = p; source = h.0; destination = h.1 }
 
 abbrev pub rule_words : Form PlainRule
-rule_words = making rule_with (pair_by opening (λ passes. passes) (λ passes. pair direction (pair quick (pair interface (pair family (pair protocol (pair hosts (state passes))))))))
+rule_words = making rule_with (pair_by opening passes (λ passes. pair direction (pair quick (pair interface (pair family (pair protocol (pair hosts (state passes))))))))
 
 -- ---- after the last word: the families that are written agree
 

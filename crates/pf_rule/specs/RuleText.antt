@@ -5,7 +5,9 @@ use Rattle.pf_addr.specs.declared.addr.Family.{Family}
 use Rattle.pf_addr.specs.declared.addr.Family.TheVariants.{V4, V6}
 use Rattle.pf_addr.specs.Spelling.{net_text}
 use Rattle.pf_rule.specs.declared.protocol.TheConstants.Protocol as protocols
-use Rattle.pf_rule.specs.declared.rule.Action.{Action}
+use Rattle.pf_path.specs.References.{reference_text, quoted}
+use Rattle.pf_rule.specs.declared.rule.Effect.{Effect}
+use Rattle.pf_rule.specs.declared.rule.Effect.TheVariants.{Decide, Evaluate}
 use Rattle.pf_rule.specs.declared.rule.Action.TheVariants.{Pass, Block}
 use Rattle.pf_rule.specs.declared.rule.Direction.{Direction}
 use Rattle.pf_rule.specs.declared.rule.Direction.TheVariants.{In, Out}
@@ -14,9 +16,14 @@ use Rattle.pf_rule.specs.declared.rule.Host.TheVariants.{Any, Net}
 use Rattle.pf_form.specs.Words.{Word}
 use Rattle.pf_rule.specs.Rules.{PlainRule}
 
-abbrev pub action_word : Action → Word
-action_word (Pass keeps) = codes "pass"
-action_word Block = codes "block"
+abbrev pub effect_word : Effect → Word
+effect_word (Decide (Pass keeps)) = codes "pass"
+effect_word (Decide Block) = codes "block"
+effect_word (Evaluate r) = codes "anchor"
+
+abbrev pub reference_words : Effect → List Word
+reference_words (Decide a) = []
+reference_words (Evaluate r) = quoted (reference_text r) ∷ []
 
 abbrev pub direction_words : Option Direction → List Word
 direction_words None = []
@@ -56,15 +63,16 @@ host_words Any Any = codes "all" ∷ []
 host_words Any (Net n) = from_to_words Any (Net n)
 host_words (Net n) destination = from_to_words (Net n) destination
 
-abbrev pub state_words : Action → List Word
-state_words (Pass true) = codes "keep" ∷ codes "state" ∷ []
-state_words (Pass false) = codes "no" ∷ codes "state" ∷ []
-state_words Block = []
+abbrev pub state_words : Effect → List Word
+state_words (Decide (Pass true)) = codes "keep" ∷ codes "state" ∷ []
+state_words (Decide (Pass false)) = codes "no" ∷ codes "state" ∷ []
+state_words (Decide Block) = []
+state_words (Evaluate r) = []
 
 abbrev pub canonical : PlainRule → List Word
 canonical r =
-    action_word r.action ∷ (direction_words r.direction ++ (quick_words r.quick ++ (interface_words r.interface ++ (family_words r.family
-    ++ (protocol_words r.protocol ++ (host_words r.source r.destination ++ state_words r.action))))))
+    effect_word r.effect ∷ (reference_words r.effect ++ (direction_words r.direction ++ (quick_words r.quick ++ (interface_words r.interface ++ (family_words r.family
+    ++ (protocol_words r.protocol ++ (host_words r.source r.destination ++ state_words r.effect)))))))
 
 -- words with a space (32) between two
 unfoldable pub rule_text : PlainRule → List ℕ

@@ -18,7 +18,13 @@ use Rattle.pf_addr.specs.declared.addr.Family.{Family}
 use Rattle.pf_addr.specs.Spelling.{net_text}
 use Rattle.pf_addr.specs.SpellingLaws.{IsNumber-decimal, IsNetByte, net_text_spells, net_text_is_word}
 use Rattle.pf_addr.specs.ReadingLaws.{net_only}
-use Rattle.pf_rule.specs.declared.rule.Action.{Action}
+use Rattle.pf_path.specs.References.{PlainReference, reference_of, reference_text, quoted}
+use Rattle.pf_path.specs.ReferenceGrammar.{IsReference}
+use Rattle.pf_path.proofs.ReferencesRead.{spelled_is_read, quoted_bytes}
+use Rattle.pf_rule.specs.declared.rule.Effect.{Effect}
+use Rattle.pf_rule.specs.declared.rule.Effect.TheVariants.{Decide, Evaluate}
+use Rattle.pf_rule.specs.declared.rule.Opening.{Opening}
+use Rattle.pf_rule.specs.declared.rule.Opening.TheVariants as openings
 use Rattle.pf_rule.specs.declared.rule.Action.TheVariants.{Pass, Block}
 use Rattle.pf_rule.specs.declared.rule.Direction.{Direction}
 use Rattle.pf_rule.specs.declared.rule.Host.{Host}
@@ -26,9 +32,9 @@ use Rattle.pf_rule.specs.declared.rule.Host.TheVariants.{Any, Net}
 use Rattle.pf_path.specs.Names.{is_name_byte}
 use Rattle.pf_rule.specs.Names.{IsInterfaceName}
 use Rattle.pf_rule.specs.Values.{interface_of, protocol_names, number_named, protocol_of, host_of}
-use Rattle.pf_rule.specs.Rules.{PlainRule, IsRule, HostFits}
-use Rattle.pf_rule.specs.RuleGrammar.{opening, direction, quick, interface, family, protocol, destination, hosts, state, action_of, host_family, agreed, agreeing, rule, rule_decided}
-use Rattle.pf_rule.specs.RuleText.{action_word, direction_words, quick_words, interface_words, family_words, protocol_word, protocol_words, host_word, from_to_words, host_words, state_words, canonical, rule_text}
+use Rattle.pf_rule.specs.Rules.{PlainRule, IsEffect, IsRule, HostFits}
+use Rattle.pf_rule.specs.RuleGrammar.{opening, direction, quick, interface, family, protocol, destination, hosts, state, passes, effect_of, host_family, agreed, agreeing, rule, rule_decided}
+use Rattle.pf_rule.specs.RuleText.{effect_word, reference_words, direction_words, quick_words, interface_words, family_words, protocol_word, protocol_words, host_word, from_to_words, host_words, state_words, canonical, rule_text}
 use Rattle.pf_rule.specs.Spacing.{is_word, words_of-join, join_bytes}
 
 -- words that spell a value, each of which is a word of a line
@@ -44,18 +50,32 @@ both {a = a} {b = b} p q = record { spells = (a, b, p.spells, q.spells, refl); w
 
 -- ---- keywords
 
-abbrev passes : Action → Bool
-passes (Pass k) = true
-passes Block = false
+-- how a rule with this effect begins, and whether it keeps state
+abbrev opening_of : Effect → Opening
+opening_of (Decide (Pass k)) = openings.Pass
+opening_of (Decide Block) = openings.Block
+opening_of (Evaluate r) = openings.Anchor r
 
-abbrev keeps : Action → Bool
-keeps (Pass k) = k
-keeps Block = false
+abbrev keeps : Effect → Bool
+keeps (Decide (Pass k)) = k
+keeps (Decide Block) = false
+keeps (Evaluate r) = false
 
-opening_written : (a : Action) → Written opening (passes a) (action_word a ∷ [])
+quoted_word : (r : PlainReference) → IsReference r → is_word (quoted (reference_text r)) ≡ true
+quoted_word r is = rw (lt-ltb 0 (length (quoted (reference_text r))) (omega arith), quoted_bytes r is) refl
+
+-- a reference is read again from its text in quotes
+reference_read : (r : PlainReference) → IsReference r → reference_of (quoted (reference_text r)) ≡ Ok r
+reference_read r is = spelled_is_read (quoted (reference_text r)) r (is, inr refl)
+
+opening_written : (e : Effect) → IsEffect e → Written opening (opening_of e) (effect_word e ∷ reference_words e)
 unfolding opening
-opening_written (Pass k) = record { spells = inl ([], (refl, refl), refl); words = refl }
-opening_written Block = record { spells = inr ([], inr (refl, refl), refl); words = refl }
+opening_written (Decide (Pass k)) is = record { spells = inl ([], (refl, refl), refl); words = refl }
+opening_written (Decide Block) is = record { spells = inr (inl ([], inr (refl, refl), refl)); words = refl }
+opening_written (Evaluate r) is = record {
+  spells = inr (inr (_, (r, (quoted (reference_text r), reference_read r is, refl), refl), refl));
+  words = rw (quoted_word r is) refl;
+}
 
 direction_written : (d : Option Direction) → Written direction d (direction_words d)
 unfolding direction
@@ -69,9 +89,9 @@ family_written : (f : Option Family) → Written family f (family_words f)
 unfolding family
 family_written f = record { spells = grind arith; words = grind arith }
 
-state_written : (a : Action) → Written (state (passes a)) (keeps a) (state_words a)
+state_written : (e : Effect) → Written (state (passes (opening_of e))) (keeps e) (state_words e)
 unfolding state
-state_written a = record { spells = grind arith; words = grind arith }
+state_written e = record { spells = grind arith; words = grind arith }
 
 -- ---- interfaces
 
@@ -166,13 +186,15 @@ agrees f h is = grind arith
 family_again : (r : PlainRule) → IsRule r → agreeing r ≡ Some r
 family_again r is = rw (agrees r.family r.source is.source, agrees r.family r.destination is.destination) refl
 
-action_again : (a : Action) → a ≡ action_of (passes a) (keeps a)
-action_again a = grind arith
+effect_again : (e : Effect) → e ≡ effect_of (opening_of e) (keeps e)
+effect_again (Decide (Pass k)) = refl
+effect_again (Decide Block) = refl
+effect_again (Evaluate r) = refl
 
 rule_written : (r : PlainRule) → IsRule r → Written rule (Some r) (canonical r)
 unfolding rule
 rule_written r is =
-    let first = opening_written r.action in
+    let first = opening_written r.effect is.effect in
     let rest =
     both (direction_written r.direction)
     (both (quick_written r.quick)
@@ -180,8 +202,8 @@ rule_written r is =
     (both (family_written r.family)
     (both (protocol_written r.protocol is.protocol)
     (both (hosts_written r.family r.source r.destination is.source is.destination)
-    (state_written r.action)))))) in
-    let made = ap (λ (a : Action). record r { action = a }) (action_again r.action) in
+    (state_written r.effect)))))) in
+    let made = ap (λ (e : Effect). record r { effect = e }) (effect_again r.effect) in
     record { spells = (r, (_, (_, _, first.spells, rest.spells, refl), made), sym (family_again r is)); words = all_words first rest }
 
 -- ---- the laws

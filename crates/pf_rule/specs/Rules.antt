@@ -4,6 +4,9 @@ use Rattle.std.specs.Str.{bytes_eq}
 use Rattle.pf_addr.specs.declared.addr.Addr.{Addr}
 use Rattle.pf_addr.specs.declared.addr.Family.{Family}
 use Rattle.pf_addr.specs.Address.{family_of, same_family, contains, IsV4Network}
+use Rattle.pf_path.specs.ReferenceGrammar.{IsReference}
+use Rattle.pf_rule.specs.declared.rule.Effect.{Effect}
+use Rattle.pf_rule.specs.declared.rule.Effect.TheVariants.{Decide, Evaluate}
 use Rattle.pf_rule.specs.declared.rule.Direction.{Direction}
 use Rattle.pf_rule.specs.declared.rule.Direction.TheVariants.{In, Out}
 use Rattle.pf_rule.specs.declared.rule.Host.{Host}
@@ -46,8 +49,14 @@ abbrev pub HostFits : Option Family → Host → Type 0
 HostFits family Any = Unit {0}
 HostFits family (Net n) = (family ≡ Some n.family) × IsV4Network n
 
+-- an anchor rule names a reference
+abbrev pub IsEffect : Effect → Type 0
+IsEffect (Decide a) = Unit {0}
+IsEffect (Evaluate r) = IsReference r
+
 -- what has a text, and so is a rule
 pub record IsRule (r : PlainRule) : Type 0 where
+  pub effect : IsEffect r.effect
   pub interface : IfSome r.interface IsInterfaceName
   pub protocol : IfSome r.protocol (λ n. (0 < n) × (n < 256))
   pub source : HostFits r.family r.source

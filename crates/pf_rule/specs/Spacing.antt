@@ -10,7 +10,7 @@ use Rattle.std.proofs.lemmas.List.Folds.{list_all-append}
 use Rattle.pf_form.specs.Words.{Word, is_blank, words_of}
 use Rattle.pf_addr.specs.Writing.{Continues-then}
 use Rattle.pf_rule.specs.Rules.{PlainRule}
-use Rattle.pf_rule.specs.RuleText.{action_word, direction_words, quick_words, interface_words, family_words, protocol_words, host_words, state_words, rule_text, spaced}
+use Rattle.pf_rule.specs.RuleText.{effect_word, reference_words, direction_words, quick_words, interface_words, family_words, protocol_words, host_words, state_words, rule_text, spaced}
 
 first_spaced : (w : Word) (ws : List Word) → join_with_byte 32 (w ∷ ws) ≡ w ++ spaced ws
 first_spaced w [] = sym (append-nil w)
@@ -21,10 +21,10 @@ spaced-append [] b = refl
 spaced-append (w ∷ ws) b = ap (λ (t : List ℕ). 32 ∷ t) (first_spaced w (ws ++ b) ∙ ap (λ (t : List ℕ). w ++ t) (spaced-append ws b) ∙ sym (append_assoc w (spaced ws) (spaced b)) ∙ ap (λ (t : List ℕ). t ++ spaced b) (sym (first_spaced w ws)))
 
 -- a rule's text, part by part
-pub in_order : (r : PlainRule) → rule_text r ≡ action_word r.action ++ (spaced (direction_words r.direction) ++ (spaced (quick_words r.quick) ++ (spaced (interface_words r.interface) ++ (spaced (family_words r.family)
-    ++ (spaced (protocol_words r.protocol) ++ (spaced (host_words r.source r.destination) ++ spaced (state_words r.action)))))))
+pub in_order : (r : PlainRule) → rule_text r ≡ effect_word r.effect ++ (spaced (reference_words r.effect) ++ (spaced (direction_words r.direction) ++ (spaced (quick_words r.quick) ++ (spaced (interface_words r.interface) ++ (spaced (family_words r.family)
+    ++ (spaced (protocol_words r.protocol) ++ (spaced (host_words r.source r.destination) ++ spaced (state_words r.effect))))))))
 unfolding rule_text
-in_order r = first_spaced (action_word r.action) _ ∙ ap (λ (t : List ℕ). action_word r.action ++ t) (simp spaced-append)
+in_order r = first_spaced (effect_word r.effect) _ ∙ ap (λ (t : List ℕ). effect_word r.effect ++ t) (simp spaced-append)
 
 -- one part written behind another
 pub ruleset continuing = (Continues-then)

@@ -1,4 +1,4 @@
--- The words that stand for values: names, protocols, hosts, addresses and ports. Each is a test of a word, and a form.
+-- The words that stand for values: references, names, protocols, hosts, addresses and ports. Each is a test of a word, and a form.
 use Rattle.std.specs.Prelude.{ℕ, ◌&&◌, nat_lt, Bool, true, false, List, [], ◌∷◌, length, codes, Option, Some, None, Result, Ok, Err, if◌then◌else◌}
 use Rattle.std.specs.List.{list_all}
 use Rattle.std.specs.Str.{bytes_eq}
@@ -19,6 +19,12 @@ use Rattle.pf_rule.specs.declared.values.TheConstants.{PROTOCOL_DIGITS, PORT_DIG
 use Rattle.pf_rule.specs.declared.rule.Host.{Host}
 use Rattle.pf_rule.specs.declared.rule.Host.TheVariants.{Any, Net}
 use Rattle.pf_path.specs.Names.{is_name_byte}
+use Rattle.pf_path.specs.References.{PlainReference, refers, reference_of}
+
+-- ---- what an anchor rule names
+
+abbrev pub a_reference : Form PlainReference
+a_reference = word (record { of = reference_of; sample = codes "a"; value = refers (codes "a") false; takes = refl })
 
 -- ---- an interface's name; its length is tested first
 

@@ -20,4 +20,4 @@ pub use laws::{
 };
 pub use packet::Packet;
 pub use protocol::Protocol;
-pub use rule::{Action, Direction, Host, Rule};
+pub use rule::{Action, Direction, Effect, Host, Rule};

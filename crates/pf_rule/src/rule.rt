@@ -2,7 +2,7 @@
 ghost use Rattle.std.specs.Prelude.{◌≡◌};
 ghost use Rattle.pf_form.specs.Readers.{Moves};
 ghost use Rattle.pf_form.specs.Words.{words_of, texts};
-ghost use Rattle.pf_rule.specs.RuleGrammar.{rule, host_family, agreed, one_family, action_of};
+ghost use Rattle.pf_rule.specs.RuleGrammar.{rule, host_family, agreed, one_family, passes, effect_of};
 ghost use Rattle.pf_rule.specs.Refusals.{IsAnswer, reading};
 ghost use Rattle.pf_rule.specs.Rules.{PlainRule, IsRule, holds, host_holds, matches};
 
@@ -16,6 +16,7 @@ use crate::rule_words::{
 };
 use pf_addr::{Addr, Family, Net};
 use pf_form::{Stop, Words, takes, words};
+use pf_path::Reference;
 use std::alloc::Global;
 use std::marker::Model;
 
@@ -26,13 +27,33 @@ pub enum Direction {
     Out,
 }
 
-/// What a matching rule does with a packet.
+/// What a rule that decides does with a packet.
 #[derive(Clone, Copy, Debug, PartialEq, Eq)]
 pub enum Action {
     /// Lets it pass, and keeps state where the rule's state option says nothing else.
     Pass { keeps_state: bool },
     /// Drops it.
     Block,
+}
+
+/// What a rule that matches gives.
+#[derive(Clone, Copy)]
+pub enum Effect {
+    /// It decides on the packet.
+    Decide(Action),
+    /// The rulesets that this names are evaluated in its place (`anchor`; pf.conf(5), Anchors). The rule itself decides nothing.
+    Evaluate(Reference),
+}
+
+/// How a rule's text begins.
+#[derive(Clone, Copy)]
+pub(crate) enum Opening {
+    /// `pass`.
+    Pass,
+    /// `block`.
+    Block,
+    /// `anchor`, and what it names.
+    Anchor(Reference),
 }
 
 /// Which addresses a rule's source or destination takes.
@@ -48,8 +69,8 @@ pub enum Host {
 /// as they see its type. A test that is absent holds for every packet, and a rule matches where all its tests hold.
 #[derive(Clone, Copy)]
 struct RuleParts {
-    /// What a rule that decides does with the packet (`pass`, `block`).
-    action: Action,
+    /// What a match gives (`pass`, `block`, `anchor`).
+    effect: Effect,
     /// The way a packet has to go (`in`, `out`).
     direction: Option<Direction>,
     /// Whether a match ends the evaluation (`quick`).
@@ -82,6 +103,26 @@ impl Model for Rule {
     ghost inverse = { λ r. record { 0 = r } };
 }
 
+impl Opening {
+    /// Whether a rule that begins so passes; no other has a state option.
+    fn passes(&self) -> bool
+        ensures { result ≡ passes self.now }
+    {
+        matches!(self, Opening::Pass)
+    }
+
+    /// What a match with the rule gives, by whether it keeps state.
+    fn effect(&self, keeps_state: bool) -> Effect
+        ensures { result ≡ effect_of self.now keeps_state }
+    {
+        match self {
+            Opening::Pass => Effect::Decide(Action::Pass { keeps_state }),
+            Opening::Block => Effect::Decide(Action::Block),
+            Opening::Anchor(reference) => Effect::Evaluate(*reference),
+        }
+    }
+}
+
 impl Host {
     /// Whether the address is among those that the host takes.
     pub fn holds(self, address: Addr) -> bool
@@ -112,19 +153,19 @@ impl Rule {
     pub fn read<'a>(words: &mut Words<'a>) -> Result<Option<Rule>, Stop>
         ensures { Moves rule result words.old.now words.new.now }
     {
-        let passes = read_opening(words)?;
+        let opening = read_opening(words)?;
         let direction = read_direction(words);
         let quick = takes(words, b"quick");
         let interface = read_interface(words)?;
         let written = read_family(words);
         let protocol = read_protocol(words)?;
         let hosts = read_hosts(words)?;
-        let keeps_state = read_state(passes, words)?;
+        let keeps_state = read_state(opening.passes(), words)?;
         let Some(family) = one_family(written, hosts.0, hosts.1) else {
             return Ok(None);
         };
         Ok(Some(Rule(RuleParts {
-            action: action_of(passes, keeps_state),
+            effect: opening.effect(keeps_state),
             direction,
             quick,
             interface,
@@ -138,8 +179,8 @@ impl Rule {
     /// Reads the text of a rule: its words between blanks.
     ///
     /// `at` is the number of the first word at which no text can go on, from 0, or the number of words where one is missing.
-    /// [`TextFault::NameTooLong`] is for an interface of more than 15 bytes, [`TextFault::BadProto`] for a word that has to be a
-    /// protocol, [`TextFault::BadWord`] for any other. [`TextFault::MixedFamily`] comes after the last word, and
+    /// [`TextFault::NameTooLong`] is for an interface of more than 15 bytes and a reference past its limits,
+    /// [`TextFault::BadProto`] for a word that has to be a protocol, [`TextFault::BadWord`] for any other. [`TextFault::MixedFamily`] comes after the last word, and
     /// [`TextFault::Memory`] where memory for the list of words is refused.
     #[tactic(auto, using(crate::proofs::Answering::is_answer_rule))]
     pub fn parse(alloc: Global, text: &str) -> Result<Rule, TextFault>
@@ -171,13 +212,13 @@ impl Rule {
             && rule.destination.holds(packet.destination())
     }
 
-    /// What the rule does with a packet that it decides.
-    pub fn action(&self) -> Action
-        ensures action { result ≡ self.now.action }
+    /// What a match with the rule gives.
+    pub fn effect(&self) -> Effect
+        ensures effect { result ≡ self.now.effect }
         // what each rule keeps
         ensures kept { IsRule self.now }
     {
-        self.0.action
+        self.0.effect
     }
 
     /// Whether a match with the rule ends the evaluation.
@@ -247,16 +288,6 @@ fn one_family(written: Option<Family>, source: Host, destination: Host) -> Optio
 {
     let family = agreed(written, source.family())?;
     agreed(family, destination.family())
-}
-
-fn action_of(passes: bool, keeps_state: bool) -> Action
-    ensures { result ≡ action_of passes keeps_state }
-{
-    if passes {
-        Action::Pass { keeps_state }
-    } else {
-        Action::Block
-    }
 }
 
 /// Whether a value is the one that a test wants. A test that is absent holds.

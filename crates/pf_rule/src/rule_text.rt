@@ -2,11 +2,11 @@
 ghost use Rattle.std.specs.Prelude.{◌≡◌, ◌≢◌, IfErr};
 ghost use Rattle.std.specs.IoError.{error_kind};
 ghost use Rattle.pf_addr.specs.Writing.{Writes, Continues};
-ghost use Rattle.pf_rule.specs.RuleText.{action_word, direction_words, quick_words, interface_words, family_words, protocol_words, host_word, host_words, state_words, spaced, rule_text};
+ghost use Rattle.pf_rule.specs.RuleText.{effect_word, reference_words, direction_words, quick_words, interface_words, family_words, protocol_words, host_word, host_words, state_words, spaced, rule_text};
 
 use crate::interface::Interface;
 use crate::protocol::Protocol;
-use crate::rule::{Action, Direction, Host, Rule};
+use crate::rule::{Action, Direction, Effect, Host, Rule};
 use pf_addr::{Family, write_more, write_more_net, write_more_number, write_text};
 use std::io::{self, ErrorKind, Write};
 
@@ -20,27 +20,29 @@ impl Rule {
         ensures text { Writes result (W.contents out.old) (W.contents out.new) (rule_text self.now) }
         ensures retried { IfErr result (λ e. error_kind e ≢ ErrorKind.Interrupted) }
     {
-        let so_far = write_text(out, action_text(self.action()));
+        let so_far = write_text(out, effect_text(self.effect()));
+        let so_far = write_reference(out, so_far, self.effect());
         let so_far = write_more(out, so_far, direction_text(self.direction()));
         let so_far = write_more(out, so_far, quick_text(self.is_quick()));
         let so_far = write_interface(out, so_far, self.interface());
         let so_far = write_more(out, so_far, family_text(self.family()));
         let so_far = write_protocol(out, so_far, self.protocol());
         let so_far = write_hosts(out, so_far, self.source(), self.destination());
-        write_more(out, so_far, state_text(self.action()))
+        write_more(out, so_far, state_text(self.effect()))
     }
 }
 
-fn action_text(action: Action) -> &'static [u8]
-    ensures { result.now ≡ action_word action }
+fn effect_text(effect: Effect) -> &'static [u8]
+    ensures { result.now ≡ effect_word effect }
 {
-    match action {
-        Action::Pass { .. } => b"pass",
-        Action::Block => b"block",
+    match effect {
+        Effect::Decide(Action::Pass { .. }) => b"pass",
+        Effect::Decide(Action::Block) => b"block",
+        Effect::Evaluate(_) => b"anchor",
     }
 }
 
-// The texts of the parts behind the action, with a space before each word.
+// The texts of the parts behind the first word, with a space before each word.
 
 fn direction_text(direction: Option<Direction>) -> &'static [u8]
     ensures { result.now ≡ spaced (direction_words direction) }
@@ -68,14 +70,32 @@ fn family_text(family: Option<Family>) -> &'static [u8]
     }
 }
 
-fn state_text(action: Action) -> &'static [u8]
-    ensures { result.now ≡ spaced (state_words action) }
+fn state_text(effect: Effect) -> &'static [u8]
+    ensures { result.now ≡ spaced (state_words effect) }
 {
-    match action {
-        Action::Pass { keeps_state: true } => b" keep state",
-        Action::Pass { keeps_state: false } => b" no state",
-        Action::Block => b"",
+    match effect {
+        Effect::Decide(Action::Pass { keeps_state: true }) => b" keep state",
+        Effect::Decide(Action::Pass { keeps_state: false }) => b" no state",
+        Effect::Decide(Action::Block) | Effect::Evaluate(_) => b"",
     }
+}
+
+/// Writes what an anchor rule names, in quotes.
+#[tactic(auto, using(crate::specs::Spacing::continuing))]
+fn write_reference<W: Write>(out: &mut W, so_far: io::Result<()>, effect: Effect) -> io::Result<()>
+    ensures { Continues so_far (W.contents out.old) result (W.contents out.new) (spaced (reference_words effect)) }
+{
+    let Effect::Evaluate(reference) = effect else {
+        return write_more(out, so_far, b"");
+    };
+    let so_far = write_more(out, so_far, b" \"");
+    let so_far = write_more(out, so_far, reference.names());
+    let end: &[u8] = if reference.is_wildcard() {
+        b"/*\""
+    } else {
+        b"\""
+    };
+    write_more(out, so_far, end)
 }
 
 #[tactic(auto, using(crate::specs::Spacing::continuing))]

@@ -7,22 +7,25 @@ ghost use Rattle.pf_rule.specs.RuleGrammar.{opening, direction, interface, famil
 
 use crate::interface::Interface;
 use crate::protocol::Protocol;
-use crate::rule::{Direction, Host};
-use crate::value_words::{host_word, interface_word, protocol_word};
+use crate::rule::{Direction, Host, Opening};
+use crate::value_words::{host_word, interface_word, protocol_word, reference_word};
 use pf_addr::Family;
 use pf_form::{Stop, Words, expect, takes};
 
-/// Whether a rule passes.
+/// How a rule begins.
 #[tactic(auto, unfolding(crate::specs::RuleGrammar::opening))]
-pub(crate) fn read_opening<'a>(words: &mut Words<'a>) -> Result<bool, Stop>
+pub(crate) fn read_opening<'a>(words: &mut Words<'a>) -> Result<Opening, Stop>
     ensures { Moves opening result words.old.now words.new.now }
 {
     if takes(words, b"pass") {
-        return Ok(true);
+        return Ok(Opening::Pass);
     }
-    expect(words, b"block")?;
-    let _drops = takes(words, b"drop");
-    Ok(false)
+    if takes(words, b"block") {
+        let _drops = takes(words, b"drop");
+        return Ok(Opening::Block);
+    }
+    expect(words, b"anchor")?;
+    Ok(Opening::Anchor(reference_word(words)?))
 }
 
 #[tactic(auto, unfolding(crate::specs::RuleGrammar::direction))]

@@ -1,6 +1,6 @@
 //! Reading the words that stand for values, each from the front of those that are left.
 ghost use Rattle.pf_form.specs.Readers.{Moves};
-ghost use Rattle.pf_rule.specs.Values.{an_interface, a_protocol, a_host, an_address, a_port};
+ghost use Rattle.pf_rule.specs.Values.{a_reference, an_interface, a_protocol, a_host, an_address, a_port};
 
 use crate::interface::Interface;
 use crate::protocol::Protocol;
@@ -8,6 +8,7 @@ use crate::rule::Host;
 use crate::values::{address_of, host_of, interface_of, port_of, protocol_of};
 use pf_addr::Addr;
 use pf_form::{Stop, Words, bad_word, stop};
+use pf_path::Reference;
 
 /// Takes the first word where it reads as a value.
 macro_rules! take_word {
@@ -23,6 +24,12 @@ macro_rules! take_word {
             [] => Err(bad_word($words)),
         }
     };
+}
+
+pub(crate) fn reference_word<'a>(words: &mut Words<'a>) -> Result<Reference, Stop>
+    ensures { Moves a_reference result words.old.now words.new.now }
+{
+    take_word!(words, word => Reference::from_ascii(word))
 }
 
 pub(crate) fn interface_word<'a>(words: &mut Words<'a>) -> Result<Interface, Stop>

@@ -6,12 +6,13 @@ use Rattle.pf_rule.proofs.rule.Rule.write.Goals as goal
 pub returns-clause-text : goal.returns-clause-text
 returns-clause-text g c =
     let rest =
-    Continues-then c.write_more-so_far.ensures
+    Continues-then c.write_reference-so_far.ensures
+    (Continues-then c.write_more-so_far.ensures
     (Continues-then c.write_more-so_far-2.ensures
     (Continues-then c.write_interface-so_far.ensures
     (Continues-then c.write_more-so_far-3.ensures
     (Continues-then c.write_protocol-so_far.ensures
-    (Continues-then c.write_hosts-so_far.ensures c.write_more.ensures))))) in
-    let whole = rest.behind (g.W.Write.contents c.args.out.now) c.action_text.result.now (c.write_text-so_far.ensures.text, c.write_text-so_far.ensures.retried) in
+    (Continues-then c.write_hosts-so_far.ensures c.write_more.ensures)))))) in
+    let whole = rest.behind (g.W.Write.contents c.args.out.now) c.effect_text.result.now (c.write_text-so_far.ensures.text, c.write_text-so_far.ensures.retried) in
     subst (Writes c.write_more.result (g.W.Write.contents c.args.out.now) (g.W.Write.contents c.write_more.new.out)) (sym (in_order c.args.self.now))
-    (rw (c.action_text.ensures, c.direction_text.ensures, c.quick_text.ensures, c.family_text.ensures, c.state_text.ensures, c.action.ensures.action, c.direction.ensures, c.is_quick.ensures, c.interface.ensures, c.family.ensures, c.protocol.ensures, c.source.ensures, c.destination.ensures, c.action-2.ensures.action) at whole.0)
+    (rw (c.effect_text.ensures, c.direction_text.ensures, c.quick_text.ensures, c.family_text.ensures, c.state_text.ensures, c.effect.ensures.effect, c.direction.ensures, c.is_quick.ensures, c.interface.ensures, c.family.ensures, c.protocol.ensures, c.source.ensures, c.destination.ensures, c.effect-2.ensures.effect, c.effect-3.ensures.effect) at whole.0)
