@@ -11,10 +11,10 @@ use Rattle.std.proofs.lemmas.Slice.Eq.{bytes_eq-Decides}
 use Rattle.pf_form.specs.declared.fault.Kind.{Kind}
 use Rattle.pf_path.specs.declared.limits.TheConstants.{DEPTH_LIMIT}
 use Rattle.pf_path.specs.Paths.{is_slash, components, first_fault, depth_fault, path_fault}
-use Rattle.pf_path.specs.Nested.{depth, front, within, is_single, is_child}
-use Rattle.pf_path.specs.NestedLaws.{LeadsDeeper, ChildHasOneMore, EachIsAChild}
+use Rattle.pf_path.specs.Nested.{depth, front, within, path_within, is_single, is_child}
+use Rattle.pf_path.specs.NestedLaws.{NoDeeper, LeadsDeeper, ChildHasOneMore, EachIsAChild}
 use Rattle.pf_path.proofs.PathTexts.{count_components}
-use Rattle.pf_path.proofs.PathsRead.{none_parts}
+use Rattle.pf_path.proofs.PathsRead.{none_parts, none_of}
 
 -- ---- one component more
 
@@ -92,7 +92,12 @@ faultless_few (b ∷ bs) none =
     let few = (none_parts (first_fault (components (b ∷ bs))) (depth_fault (length (components (b ∷ bs)))) tests).1 in
     grind (arith, nat_tests)
 
+pub path_few : NoDeeper
+path_few [] is = omega arith
+path_few (b ∷ bs) is = faultless_few (b ∷ bs) (none_of (path_fault (b ∷ bs)) is)
+
 pub leads_deeper : LeadsDeeper
+unfolding path_within
 leads_deeper p names q is = by (path_fault (within p names)) refl is where
   by : (fault : Option Kind) → path_fault (within p names) ≡ fault → (if is_none fault then Some (within p names) else None) ≡ Some q → (depth p < depth q) × (depth q ≤ DEPTH_LIMIT)
   by None none e =

@@ -113,7 +113,7 @@ written_is_read w p e = elim (read_is_spelled w p e) [
   | inr is ↦ rw is.1 (faultless_path w (faultless_found w is.0))
 ]
 
-none_of : (o : Option Kind) → is_none o ≡ true → o ≡ None
+pub none_of : (o : Option Kind) → is_none o ≡ true → o ≡ None
 none_of None e = refl
 none_of (Some k) e = absurd (cc)
 

@@ -20,7 +20,7 @@ abbrev pub within : List ℕ → List ℕ → List ℕ
 within p names = front p ++ names
 
 -- the path that names lead to from a path; past the limits they lead nowhere
-abbrev pub path_within : List ℕ → List ℕ → Option (List ℕ)
+unfoldable pub path_within : List ℕ → List ℕ → Option (List ℕ)
 path_within p names = if is_none (path_fault (within p names)) then Some (within p names) else None
 
 -- one component: some bytes, and no slash among them

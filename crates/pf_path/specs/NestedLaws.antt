@@ -1,7 +1,12 @@
 -- What follows from the definitions of paths within one another, as law functions promise it.
 use Rattle.std.specs.Prelude.{◌≡◌, ℕ, ◌<◌, ◌≤◌, ◌+◌, true, List, Some}
 use Rattle.pf_path.specs.declared.limits.TheConstants.{DEPTH_LIMIT}
+use Rattle.pf_path.specs.Paths.{is_path}
 use Rattle.pf_path.specs.Nested.{depth, within, path_within, is_single, is_child}
+
+-- a path has no more components than it may have
+abbrev pub NoDeeper : Type 0
+NoDeeper = (p : List ℕ) → is_path p ≡ true → depth p ≤ DEPTH_LIMIT
 
 -- where names lead to is deeper, and no deeper than a path may be
 abbrev pub LeadsDeeper : Type 0

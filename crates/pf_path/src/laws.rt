@@ -1,7 +1,7 @@
 //! What follows from the definitions that contracts cite: functions that do nothing, whose contracts are the laws.
 ghost use Rattle.pf_path.specs.PathLaws.{ReadsWhatIsSpelled, ReadsAllThatIsSpelled, WritesWhatWasRead, ReadsWhatIsWritten, SamePathIsEqual};
 ghost use Rattle.pf_path.specs.ReferenceLaws.{ReferenceIsSpelled, SpelledReferenceIsRead};
-ghost use Rattle.pf_path.specs.NestedLaws.{LeadsDeeper, ChildHasOneMore, EachIsAChild};
+ghost use Rattle.pf_path.specs.NestedLaws.{NoDeeper, LeadsDeeper, ChildHasOneMore, EachIsAChild};
 
 /// A path is read from a word exactly where the word spells it.
 #[tactic(auto, using(crate::proofs::PathsRead::read_is_spelled, crate::proofs::PathsRead::spelled_is_read))]
@@ -30,10 +30,10 @@ pub fn references_are_read_as_spelled()
     ensures spelled { SpelledReferenceIsRead }
 {}
 
-/// Names lead to a deeper path, and to none past 16 components. The children of a path are the paths that have one
+/// No path has more than 16 components, and names lead to a deeper path. The children of a path are the paths that have one
 /// component more.
-#[tactic(auto, using(crate::proofs::Nesting::leads_deeper, crate::proofs::Nesting::has_one_more, crate::proofs::Nesting::each_is_child))]
 pub fn paths_stand_within_one_another()
+    ensures limit { NoDeeper }
     ensures deeper { LeadsDeeper }
     ensures one_more { ChildHasOneMore }
     ensures each { EachIsAChild }

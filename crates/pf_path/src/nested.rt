@@ -1,8 +1,8 @@
 //! Paths within one another.
-ghost use Rattle.std.specs.Prelude.{◌≡◌, ◌≢◌, ℕ, List, ◌≤◌, ◌+◌, ◌++◌, length, take, if◌then◌else◌, Some, None};
+ghost use Rattle.std.specs.Prelude.{◌≡◌, ◌≢◌, true, ℕ, List, ◌≤◌, ◌+◌, ◌++◌, length, take, if◌then◌else◌, Some, None};
 ghost use Rattle.std.specs.List.{list_any};
 ghost use Rattle.std.specs.Option.{is_none, MatchOption};
-ghost use Rattle.pf_path.specs.Paths.{is_slash, path_fault};
+ghost use Rattle.pf_path.specs.Paths.{is_slash, path_fault, is_path};
 ghost use Rattle.pf_path.specs.Nested.{path_within, is_single, is_child};
 
 use crate::limits::PATH_LIMIT;
@@ -50,6 +50,7 @@ fn append(bytes: &mut [u8; PATH_LIMIT], len: usize, more: &[u8])
 impl Path {
     /// The path that names lead to from this one: its bytes, a slash and the names, or the names alone from the main
     /// ruleset's (pf.conf(5), Anchors). None where that is no path, as past 255 bytes or 16 components. It takes no memory.
+    #[tactic(auto, unfolding(crate::specs::Nested::path_within))]
     pub fn joined(&self, names: &[u8]) -> Option<Path>
         ensures { result ≡ path_within self.now names.now }
     {
@@ -71,13 +72,15 @@ impl Path {
 
     /// Whether this path has one component more than another, and begins with it.
     pub fn is_child_of(&self, parent: &Path) -> bool
-        ensures { result ≡ is_child parent.now self.now }
+        ensures value { result ≡ is_child parent.now self.now }
+        ensures path { is_path self.now ≡ true }
     {
+        let bytes = self.as_bytes();
         let outer = parent.as_bytes();
         if outer.is_empty() {
-            return is_single(self.as_bytes());
+            return is_single(bytes);
         }
-        let Some(rest) = behind(self.as_bytes(), outer) else {
+        let Some(rest) = behind(bytes, outer) else {
             return false;
         };
         let Some(name) = behind(rest, b"/") else {
