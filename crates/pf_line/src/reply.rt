@@ -82,7 +82,7 @@ fn write_rule_text<W: Write>(out: &mut W, so_far: io::Result<()>, rule: &Rule) -
     ensures { GoesOn so_far (W.contents out.old) result (W.contents out.new) (rule_text rule.now) }
 {
     // The call says what each rule keeps (`kept`), and so that the rule's text has no newline.
-    let _kept = rule.action();
+    let _kept = rule.effect();
     match so_far {
         Ok(()) => rule.write(out),
         Err(e) => Err(e),
