@@ -1,78 +1,126 @@
--- Which rule an evaluation finds.
-use Rattle.std.proofs.Common.{◌≡◌, ◌⊎◌, inl, inr, ℕ, suc, ◌+◌, Bool, true, false, not, ◌&&◌, cond, List, [], ◌∷◌, Some, None, refl, sym, ap, subst, ◌∙◌, arith}
-use Rattle.std.specs.List.{list_all, list_any}
-use Rattle.std.proofs.lemmas.Bool.{and_parts}
+-- The equation of evaluation has one solution.
+use Rattle.std.proofs.Common.{◌≡◌, ℕ, zero, suc, ◌+◌, ◌-◌, ◌<◌, ◌≤◌, Bool, true, false, cond, List, [], ◌∷◌, Option, Some, None, refl, sym, ap, ◌∙◌, arith}
+use Rattle.std.specs.Option.{option_map_or}
+use Rattle.pf_path.specs.declared.limits.TheConstants.{DEPTH_LIMIT}
+use Rattle.pf_path.specs.Paths.{main}
+use Rattle.pf_path.specs.Nested.{depth, path_within}
+use Rattle.pf_path.specs.References.{PlainReference}
+use Rattle.pf_path.proofs.PathsRead.{same_path_is}
+use Rattle.pf_path.proofs.Nesting.{leads_deeper, has_one_more}
+use Rattle.pf_rule.specs.Packets.{PlainPacket}
 use Rattle.pf_rule.specs.Rules.{PlainRule}
-use Rattle.pf_rule.specs.declared.rule.Action.{Action}
 use Rattle.pf_rule.specs.declared.rule.Effect.{Effect}
 use Rattle.pf_rule.specs.declared.rule.Effect.TheVariants.{Decide, Evaluate}
 use Rattle.pf_anchor.specs.declared.evaluated.Evaluated.{Evaluated}
 use Rattle.pf_anchor.specs.declared.evaluated.Evaluated.TheVariants.{Open, Ended}
-use Rattle.pf_anchor.specs.declared.evaluated.Decision.{Decision}
-use Rattle.pf_anchor.specs.Evaluation.{and_then, settled, rules_from, decision, effected, decides, matching, last_of, verdict_by}
-use Rattle.pf_anchor.specs.EvaluationLaws.{IsDeciding, is_deciding, TellsWhatDecides}
-use Rattle.pf_path.specs.Paths.{main}
-use Rattle.pf_anchor.specs.Rulesets.{rules_at}
+use Rattle.pf_anchor.specs.declared.verdict.RuleVerdict.TheVariants.{Default}
+use Rattle.pf_anchor.specs.Matches.{PlainMatch}
+use Rattle.pf_anchor.specs.Rulesets.{Ruled, ruled, rules_at, leads_from, leads_to, targets}
+use Rattle.pf_anchor.specs.Evaluation.{Tests, and_then, in_turn, last_of, effected, rules_from, evaluate_with, levels, evaluation, matching, verdict_by, judged}
+use Rattle.pf_anchor.specs.EvaluationLaws.{Unrolls, IsTheOnly, DepthIsEnough}
+
+-- ---- evaluations one after the other
 
 pub none_and_then : {M : Type 0} (x : Evaluated M) → and_then (Open None) x ≡ x
 none_and_then (Ended m) = refl
 none_and_then (Open None) = refl
 none_and_then (Open (Some m)) = refl
 
--- the rule decides, and this is told of it
-abbrev Told : ℕ → PlainRule → Evaluated Decision → Type 0
-Told n r x = (a : Action) × ((r.effect ≡ Decide a) × (last_of x ≡ Some (decision n a)))
+pub and_then_none : {M : Type 0} (x : Evaluated M) → and_then x (Open None) ≡ x
+and_then_none (Ended m) = refl
+and_then_none (Open last) = refl
 
--- what rules give from a number on: nothing, or the rule that decides
-abbrev Found : (PlainRule → Bool) → ℕ → List PlainRule → Evaluated Decision → Type 0
-Found test k rules x =
-    ((list_any test rules ≡ false) × (x ≡ Open None))
-    ⊎ ((n : ℕ) × ((r : PlainRule) × (IsDeciding test rules n r × Told (k + n) r x)))
+pub and_then_assoc : {M : Type 0} (x y z : Evaluated M) → and_then (and_then x y) z ≡ and_then x (and_then y z)
+and_then_assoc (Ended m) y z = refl
+and_then_assoc (Open last) (Ended m) z = refl
+and_then_assoc (Open last) (Open None) (Ended m) = refl
+and_then_assoc (Open last) (Open None) (Open None) = refl
+and_then_assoc (Open last) (Open None) (Open (Some m)) = refl
+and_then_assoc (Open last) (Open (Some m)) (Ended n) = refl
+and_then_assoc (Open last) (Open (Some m)) (Open None) = refl
+and_then_assoc (Open last) (Open (Some m)) (Open (Some n)) = refl
 
--- a rule that decides, and is the first
-here : (test : PlainRule → Bool) (k : ℕ) (r : PlainRule) (rs : List PlainRule) (x : Evaluated Decision) → test r ≡ true → (r.quick ≡ true) ⊎ (list_any test rs ≡ false) → Told k r x → Found test k (r ∷ rs) x
-here test k r rs x m stands told =
-    let at : k ≡ k + 0 = omega arith in
-    inr (0, (r, (record { before = []; behind = rs; all = refl; numbered = refl; matches = m; not_ended = refl; stands = stands }, subst (λ (n : ℕ). Told n r x) at told)))
+-- ---- what a rule leads to is deeper
 
--- a rule that decides behind one that doesn't end the evaluation
-further : (test : PlainRule → Bool) (k : ℕ) (x : PlainRule) (xs : List PlainRule) (n : ℕ) (r : PlainRule) (y : Evaluated Decision) → not (test x && x.quick) ≡ true → IsDeciding test xs n r → Told (k + 1 + n) r y → Found test k (x ∷ xs) y
-further test k x xs n r y passed is told =
-    let at : k + 1 + n ≡ k + suc n = omega arith in
-    inr (suc n, (r, (record { before = x ∷ is.before; behind = is.behind; all = ap (λ rs. x ∷ rs) is.all; numbered = ap suc is.numbered; matches = is.matches; not_ended = rw passed is.not_ended; stands = is.stands }, subst (λ (m : ℕ). Told m r y) at told)))
+from_deeper : (base : List ℕ) (wildcard : Bool) (q : List ℕ) → leads_from base wildcard q ≡ true → depth base ≤ depth q
+from_deeper base true q is = let more = (has_one_more base q is).1.2 in omega (arith, more)
+from_deeper base false q is = let same = ap depth (same_path_is base q is) in omega (arith, same)
 
--- what has a match stands behind another match
-then_stands : (m d : Decision) (y : Evaluated Decision) → last_of y ≡ Some d → last_of (and_then (Open (Some m)) y) ≡ Some d
-then_stands m d (Ended e) h = h
-then_stands m d (Open None) h = absurd (cc (h))
-then_stands m d (Open (Some e)) h = h
+pub deeper : (p : List ℕ) (s : PlainReference) (q : List ℕ) → leads_to p s q ≡ true → (depth p < depth q) × (depth p < DEPTH_LIMIT)
+deeper p s q is = by (path_within p s.names) refl is where
+  by : (base : Option (List ℕ)) → path_within p s.names ≡ base → option_map_or (λ b. leads_from b s.wildcard q) base false ≡ true → (depth p < depth q) × (depth p < DEPTH_LIMIT)
+  by None at h = absurd (cc (h))
+  by (Some base) at h =
+      let leads = leads_deeper p s.names base at in
+      let from = from_deeper base s.wildcard q h in
+      (omega (arith, leads.0, from), omega (arith, leads.0, leads.1))
 
-step : (test : PlainRule → Bool) (k : ℕ) (x : PlainRule) (xs : List PlainRule) (y : Evaluated Decision) (m q : Bool) (a : Action) → test x ≡ m → x.quick ≡ q → x.effect ≡ Decide a → Found test (k + 1) xs y → Found test k (x ∷ xs) (and_then (cond m (settled q (effected k (Decide a))) (Open None)) y)
-step test k x xs y true true a m q e rest = here test k x xs (Ended (decision k a)) m (inl q) (a, (e, refl))
-step test k x xs y true false a m q e (inl none) = here test k x xs (and_then (Open (Some (decision k a))) y) m (inr none.0) (a, (e, ap (λ z. last_of (and_then (Open (Some (decision k a))) z)) none.1))
-step test k x xs y true false a m q e (inr is) =
-    let told = is.1.1.1 in
-    further test k x xs is.0 is.1.0 (and_then (Open (Some (decision k a))) y) (rw (m, q) refl) is.1.1.0 (told.0, (told.1.0, then_stands (decision k a) _ y told.1.1))
-step test k x xs y false q a m w e (inl none) = inl (rw m none.0, none_and_then y ∙ none.1)
-step test k x xs y false q a m w e (inr is) =
-    let told = is.1.1.1 in
-    further test k x xs is.0 is.1.0 (and_then (Open None) y) (rw m refl) is.1.1.0 (told.0, (told.1.0, ap last_of (none_and_then y) ∙ told.1.1))
+-- ---- evaluations that agree on what is deeper agree
 
-deciding : (e : Effect) → is_deciding e ≡ true → (a : Action) × (e ≡ Decide a)
-deciding (Decide a) is = (a, refl)
-deciding (Evaluate r) is = absurd (cc)
+one_agrees : (f g : Ruled → Evaluated PlainMatch) (e : Ruled) (b : Bool) (es : List Ruled) → (b ≡ true → f e ≡ g e) → in_turn f es ≡ in_turn g es → in_turn f (cond b (e ∷ es) es) ≡ in_turn g (cond b (e ∷ es) es)
+one_agrees f g e true es h rest = let here = h refl in cc
+one_agrees f g e false es h rest = rest
 
-found : (test : PlainRule → Bool) (k : ℕ) (rules : List PlainRule) → list_all (λ r. is_deciding r.effect) rules ≡ true → Found test k rules (rules_from decides test k rules)
-found test k [] all = inl (refl, refl)
-found test k (x ∷ xs) all =
-    let both = and_parts (is_deciding x.effect) (list_all (λ r. is_deciding r.effect) xs) all in
-    let is = deciding x.effect both.0 in
-    let rest = found test (k + 1) xs both.1 in
-    subst (λ (e : Effect). Found test k (x ∷ xs) (and_then (cond (test x) (settled x.quick (effected k e)) (Open None)) (rules_from decides test (k + 1) xs))) (sym is.1)
-    (step test k x xs (rules_from decides test (k + 1) xs) (test x) x.quick is.0 refl refl is.1 rest)
+pub targets_agree : (f g : Ruled → Evaluated PlainMatch) (p : List ℕ) (s : PlainReference) (c : List Ruled) → ((t : Ruled) → leads_to p s t.0 ≡ true → f t ≡ g t) → in_turn f (targets c p s) ≡ in_turn g (targets c p s)
+targets_agree f g p s [] h = refl
+targets_agree f g p s (e ∷ es) h = one_agrees f g e (leads_to p s e.0) (targets es p s) (h e) (targets_agree f g p s es h)
 
-pub tells_what_decides : TellsWhatDecides
-tells_what_decides c packet all = elim (found (matching packet) 0 (rules_at main c) all) [
-  | inl none ↦ inl (none.0, ap (λ x. verdict_by main (last_of x)) none.1)
-  | inr is ↦ let told = is.1.1.1 in inr (is.0, (is.1.0, (is.1.1.0, (told.0, (told.1.0, ap (λ d. verdict_by main d) told.1.1 ∙ ap (λ (n : ℕ). verdict_by main (Some (decision n told.0))) (let at : 0 + is.0 ≡ is.0 = omega arith in at))))))
-]
+effects_agree : (f g : Ruled → Evaluated PlainMatch) (c : List Ruled) (p : List ℕ) → ((s : PlainReference) (t : Ruled) → leads_to p s t.0 ≡ true → f t ≡ g t) → (n : ℕ) (e : Effect) → effected f c p n e ≡ effected g c p n e
+effects_agree f g c p h n (Decide a) = refl
+effects_agree f g c p h n (Evaluate s) = targets_agree f g p s c (h s)
+
+rules_agree : {M : Type 0} (f g : ℕ → PlainRule → Evaluated M) (test : PlainRule → Bool) → ((n : ℕ) (r : PlainRule) → f n r ≡ g n r) → (n : ℕ) (rs : List PlainRule) → rules_from f test n rs ≡ rules_from g test n rs
+rules_agree f g test h n [] = refl
+rules_agree f g test h n (r ∷ rs) =
+    let here = h n r in
+    let rest = rules_agree f g test h (n + 1) rs in
+    cc
+
+pub agree : (f g : Ruled → Evaluated PlainMatch) (c : List Ruled) (tests : Tests) (e : Ruled) → ((s : PlainReference) (t : Ruled) → leads_to e.0 s t.0 ≡ true → f t ≡ g t) → evaluate_with f c tests e ≡ evaluate_with g c tests e
+agree f g c tests e h = rules_agree (λ n r. effected f c e.0 n r.effect) (λ n r. effected g c e.0 n r.effect) (tests e.0) (λ n r. effects_agree f g c e.0 h n r.effect) 0 e.1
+
+-- ---- one solution
+
+no_level : (f : Ruled → Evaluated PlainMatch) (c : List Ruled) (tests : Tests) (e : Ruled) → DEPTH_LIMIT ≤ depth e.0 + 0 → evaluate_with f c tests e ≡ evaluate_with (λ t. Open None) c tests e
+no_level f c tests e far = agree f (λ t. Open None) c tests e (λ s t is. let leads = deeper e.0 s t.0 is in absurd (omega (arith, leads.1)))
+
+same_levels : (d k : ℕ) (c : List Ruled) (tests : Tests) (e : Ruled) → DEPTH_LIMIT ≤ depth e.0 + d → DEPTH_LIMIT ≤ depth e.0 + k → levels d c tests e ≡ levels k c tests e
+unfolding levels
+same_levels zero zero c tests e far near = refl
+same_levels zero (suc k) c tests e far near = sym (no_level (levels k c tests) c tests e far)
+same_levels (suc d) zero c tests e far near = no_level (levels d c tests) c tests e near
+same_levels (suc d) (suc k) c tests e far near =
+    agree (levels d c tests) (levels k c tests) c tests e (λ s t is. let leads = deeper e.0 s t.0 is in same_levels d k c tests t (omega (arith, leads.0)) (omega (arith, leads.0)))
+
+opened : (d : ℕ) (c : List Ruled) (tests : Tests) (e : Ruled) → DEPTH_LIMIT ≤ depth e.0 + d → levels d c tests e ≡ evaluate_with (evaluation c tests) c tests e
+unfolding levels evaluation
+opened zero c tests e far = sym (no_level (evaluation c tests) c tests e far)
+opened (suc d) c tests e far =
+    agree (levels d c tests) (evaluation c tests) c tests e (λ s t is. let leads = deeper e.0 s t.0 is in same_levels d (DEPTH_LIMIT - depth t.0) c tests t (omega (arith, leads.0)) (omega arith))
+
+pub unrolled : Unrolls
+unfolding evaluation
+unrolled c tests e = opened (DEPTH_LIMIT - depth e.0) c tests e (omega arith)
+
+only : (d : ℕ) (c : List Ruled) (tests : Tests) (f : Ruled → Evaluated PlainMatch) → ((e : Ruled) → f e ≡ evaluate_with f c tests e) → (e : Ruled) → DEPTH_LIMIT ≤ depth e.0 + d → f e ≡ levels d c tests e
+unfolding levels
+only zero c tests f solves e far = solves e ∙ no_level f c tests e far
+only (suc d) c tests f solves e far =
+    solves e ∙ agree f (levels d c tests) c tests e (λ s t is. let leads = deeper e.0 s t.0 is in only d c tests f solves t (omega (arith, leads.0)))
+
+pub only_solution : IsTheOnly
+unfolding evaluation
+only_solution c tests f solves e = only (DEPTH_LIMIT - depth e.0) c tests f solves e (omega arith)
+
+pub depth_is_enough : DepthIsEnough
+unfolding evaluation
+depth_is_enough c tests e k enough = same_levels k (DEPTH_LIMIT - depth e.0) c tests e (omega (arith, enough)) (omega arith)
+
+-- ---- no rules
+
+pub no_rules : (c : List Ruled) (tests : Tests) (p : List ℕ) → evaluation c tests (ruled p []) ≡ Open None
+no_rules c tests p = unrolled c tests (ruled p [])
+
+pub default_judged : (c : List Ruled) (packet : PlainPacket) → rules_at main c ≡ [] → Default ≡ judged c packet
+default_judged c packet none =
+    sym (ap (λ (rs : List PlainRule). verdict_by (last_of (evaluation c (matching packet) (ruled main rs)))) none ∙ ap (λ (x : Evaluated PlainMatch). verdict_by (last_of x)) (no_rules c (matching packet) main))

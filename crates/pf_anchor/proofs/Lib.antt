@@ -2,3 +2,8 @@ pub mod Maps
 pub mod RulesetMaps
 pub mod Pages
 pub mod Evaluations
+pub mod PlainRules
+pub mod Turns
+pub mod AnchorRules
+pub mod Deciding
+pub mod Unreached

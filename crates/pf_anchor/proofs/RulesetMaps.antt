@@ -1,11 +1,12 @@
 -- The map of rulesets: what a commit leaves of it.
 use Rattle.std.proofs.Common.{◌≡◌, ◌≢◌, ◌==◌, ℕ, ◌+◌, ◌≤◌, Bool, true, false, cond, List, [], ◌∷◌, length, refl, sym, ap, subst, ◌∙◌, Option, Some, None, arith}
-use Rattle.std.specs.Prelude.{fold}
+use Rattle.std.specs.Prelude.{fold, map, filter}
 use Rattle.std.specs.FinMap.{find, slice_cmp-IsAntisymmetric, nat_cmp-IsAntisymmetric}
-use Rattle.std.specs.FinMap.Entries.{same_entries}
+use Rattle.std.specs.FinMap.Entries.{same_entries, find-where_key, is_sorted-where_key}
 use Rattle.std.proofs.lemmas.Cmp.{eq_by_cmp_equiv, nat_list_cmp_total}
+use Rattle.pf_path.specs.Nested.{is_child}
 use Rattle.pf_rule.specs.Rules.{PlainRule}
-use Rattle.pf_anchor.specs.Laws.{rules_by, ReplacesInTurn, StaysMap, OneMap}
+use Rattle.pf_anchor.specs.Laws.{rules_by, ReplacesInTurn, StaysMap, OneMap, ChildrenAreAMap}
 use Rattle.pf_path.specs.Paths.{path_order, same_path}
 use Rattle.pf_anchor.specs.Rulesets.{Ruled, unless_empty, rules_in, rules_at, with_rules, IsMap}
 use Rattle.pf_anchor.proofs.Maps.{replaces_the_key, stays_sorted, with_grows}
@@ -64,3 +65,37 @@ one_map a b left right same =
 pub all_grow : (items es : List Ruled) → length (fold with_rules es items) ≤ length es + length items
 all_grow [] es = omega arith
 all_grow (i ∷ items) es = omega (arith, all_grow items (with_rules es i), with_grows path_order es i.0 (unless_empty i.1))
+
+-- ---- children
+
+paths_kept : (test : List ℕ → Bool) (c : List Ruled) → filter test (map (λ (e : Ruled). e.0) c) ≡ map (λ (e : Ruled). e.0) (filter (λ e. test e.0) c)
+paths_kept test [] = refl
+paths_kept test (e ∷ c) = by (test e.0) (paths_kept test c) where
+  by : (b : Bool) → filter test (map (λ (x : Ruled). x.0) c) ≡ map (λ (x : Ruled). x.0) (filter (λ x. test x.0) c) →
+      cond b (e.0 ∷ filter test (map (λ (x : Ruled). x.0) c)) (filter test (map (λ (x : Ruled). x.0) c)) ≡ map (λ (x : Ruled). x.0) (cond b (e ∷ filter (λ x. test x.0) c) (filter (λ x. test x.0) c))
+  by true rest = ap (λ (paths : List (List ℕ)). e.0 ∷ paths) rest
+  by false rest = rest
+
+found_kept_of : (test : List ℕ → Bool) (c : List Ruled) (q : List ℕ) → find path_order q (filter (λ e. test e.0) c) ≡ cond (test q) (find path_order q c) None
+found_kept_of test c q = find-where_key path_order test q (λ x tied. ap test (sym (slice_cmp-IsAntisymmetric nat_cmp-IsAntisymmetric q x tied))) c
+
+never_empty_of : (b : Bool) (v : Option (List PlainRule)) → v ≢ Some [] → cond b v None ≢ Some []
+never_empty_of true v h = h
+never_empty_of false v h = λ e. absurd (cc (e))
+
+rules_kept_of : (b : Bool) (v : Option (List PlainRule)) → rules_in (cond b v None) ≡ cond b (rules_in v) []
+rules_kept_of true v = refl
+rules_kept_of false v = refl
+
+pub children_are_a_map : ChildrenAreAMap
+children_are_a_map c p is = (
+  filter (λ e. is_child p e.0) c,
+  (
+    paths_kept (is_child p) c,
+    record {
+      sorted = is_sorted-where_key path_order (is_child p) c is.sorted;
+      ruled = λ q. subst (λ v. v ≢ Some []) (sym (found_kept_of (is_child p) c q)) (never_empty_of (is_child p q) (find path_order q c) (is.ruled q));
+    },
+    λ q. ap rules_in (found_kept_of (is_child p) c q) ∙ rules_kept_of (is_child p q) (find path_order q c),
+  ),
+)

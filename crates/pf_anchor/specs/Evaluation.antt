@@ -1,17 +1,20 @@
--- Evaluation of rules (pf.conf(5), PACKET FILTERING): the last that matches, or the first quick one that does.
-use Rattle.std.specs.Prelude.{ℕ, ◌+◌, Bool, cond, List, [], ◌∷◌, Option, Some, None}
+-- Evaluation of rulesets (pf.conf(5), PACKET FILTERING and ANCHORS): the last rule that matches decides, or the first quick one. Quick anchor rules are own.
+use Rattle.std.specs.Prelude.{ℕ, zero, suc, ◌+◌, ◌-◌, Bool, cond, List, [], ◌∷◌, Option, Some, None}
+use Rattle.pf_path.specs.declared.limits.TheConstants.{DEPTH_LIMIT}
+use Rattle.pf_path.specs.Paths.{main}
+use Rattle.pf_path.specs.Nested.{depth}
 use Rattle.pf_rule.specs.Packets.{PlainPacket}
 use Rattle.pf_rule.specs.Rules.{PlainRule, matches}
-use Rattle.pf_rule.specs.declared.rule.Action.{Action}
 use Rattle.pf_rule.specs.declared.rule.Effect.{Effect}
 use Rattle.pf_rule.specs.declared.rule.Effect.TheVariants.{Decide, Evaluate}
 use Rattle.pf_anchor.specs.declared.evaluated.Evaluated.{Evaluated}
 use Rattle.pf_anchor.specs.declared.evaluated.Evaluated.TheVariants.{Open, Ended}
-use Rattle.pf_anchor.specs.declared.evaluated.Decision.{Decision}
 use Rattle.pf_anchor.specs.declared.verdict.RuleVerdict.{RuleVerdict}
 use Rattle.pf_anchor.specs.declared.verdict.RuleVerdict.TheVariants as by
-use Rattle.pf_path.specs.Paths.{main}
-use Rattle.pf_anchor.specs.Rulesets.{Ruled, rules_at}
+use Rattle.pf_anchor.specs.Matches.{PlainMatch, found}
+use Rattle.pf_anchor.specs.Rulesets.{Ruled, ruled, rules_at, targets}
+
+-- ---- one after the other
 
 -- two evaluations one after the other: the later match stands, and what has ended ends all
 abbrev pub and_then : {M : Type 0} → Evaluated M → Evaluated M → Evaluated M
@@ -35,33 +38,49 @@ abbrev pub rules_from : {M : Type 0} → (ℕ → PlainRule → Evaluated M) →
 rules_from effect test n [] = Open None
 rules_from effect test n (r ∷ rs) = and_then (said effect test n r) (rules_from effect test (n + 1) rs)
 
-abbrev pub decision : ℕ → Action → Decision
-decision n a = record { number = n; action = a }
-
--- the effect of a rule: it decides. What an anchor rule names isn't evaluated yet
-abbrev pub effected : ℕ → Effect → Evaluated Decision
-effected n (Decide a) = Open (Some (decision n a))
-effected n (Evaluate r) = Open None
-
-abbrev pub decides : ℕ → PlainRule → Evaluated Decision
-decides n r = effected n r.effect
-
-abbrev pub matching : PlainPacket → PlainRule → Bool
-matching packet r = matches r packet
-
--- the rules of a ruleset
-abbrev pub evaluation : List PlainRule → PlainPacket → Evaluated Decision
-evaluation rules packet = rules_from decides (matching packet) 0 rules
+-- rulesets in turn, by what each gives
+abbrev pub in_turn : {M : Type 0} → (Ruled → Evaluated M) → List Ruled → Evaluated M
+in_turn f [] = Open None
+in_turn f (e ∷ es) = and_then (f e) (in_turn f es)
 
 abbrev pub last_of : {M : Type 0} → Evaluated M → Option M
 last_of (Open last) = last
 last_of (Ended m) = Some m
 
+-- ---- rulesets that lead to one another
+
+-- whether a rule of the ruleset at a path matches
+abbrev pub Tests : Type 0
+Tests = List ℕ → PlainRule → Bool
+
+-- what rule n of the ruleset at p does where it matches: it decides, or the rulesets that it leads to are evaluated
+abbrev pub effected : (Ruled → Evaluated PlainMatch) → List Ruled → List ℕ → ℕ → Effect → Evaluated PlainMatch
+effected f c p n (Decide a) = Open (Some (found p n a))
+effected f c p n (Evaluate r) = in_turn f (targets c p r)
+
+-- a ruleset, by what each gives that its rules lead to
+abbrev pub evaluate_with : (Ruled → Evaluated PlainMatch) → List Ruled → Tests → Ruled → Evaluated PlainMatch
+evaluate_with f c tests e = rules_from (λ n r. effected f c e.0 n r.effect) (tests e.0) 0 e.1
+
+-- a ruleset with so many levels of rulesets within one another below it
+unfoldable pub levels : ℕ → List Ruled → Tests → Ruled → Evaluated PlainMatch
+levels zero c tests e = evaluate_with (λ t. Open None) c tests e
+levels (suc d) c tests e = evaluate_with (levels d c tests) c tests e
+
+-- a ruleset: below a path there are as many levels as it may have further components
+unfoldable pub evaluation : List Ruled → Tests → Ruled → Evaluated PlainMatch
+evaluation c tests e = levels (DEPTH_LIMIT - depth e.0) c tests e
+
+-- ---- verdicts
+
+abbrev pub matching : PlainPacket → Tests
+matching packet p r = matches r packet
+
 -- the rule that decides, or the default pass
-abbrev pub verdict_by : List ℕ → Option Decision → RuleVerdict
-verdict_by p None = by.Default
-verdict_by p (Some d) = by.Rule p d.number d.action
+abbrev pub verdict_by : Option PlainMatch → RuleVerdict
+verdict_by None = by.Default
+verdict_by (Some m) = by.Rule m.path m.number m.action
 
 -- a packet is judged by the main ruleset
 abbrev pub judged : List Ruled → PlainPacket → RuleVerdict
-judged c packet = verdict_by main (last_of (evaluation (rules_at main c) packet))
+judged c packet = verdict_by (last_of (evaluation c (matching packet) (ruled main (rules_at main c))))

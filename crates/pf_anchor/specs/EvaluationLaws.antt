@@ -1,15 +1,39 @@
--- What evaluation gives for rules that decide, in words (pf.conf(5), PACKET FILTERING).
-use Rattle.std.specs.Prelude.{◌≡◌, ◌⊎◌, ℕ, Bool, true, false, not, ◌&&◌, List, ◌∷◌, ◌++◌, length}
+-- What follows from the definition of evaluation, in words (pf.conf(5), PACKET FILTERING and ANCHORS).
+use Rattle.std.specs.Prelude.{◌≡◌, ◌⊎◌, ℕ, zero, suc, ◌+◌, ◌≤◌, Bool, true, false, not, cond, ◌&&◌, List, [], ◌∷◌, ◌++◌, length, Option, Some, None}
 use Rattle.std.specs.List.{list_all, list_any}
+use Rattle.pf_path.specs.declared.limits.TheConstants.{DEPTH_LIMIT}
+use Rattle.pf_path.specs.Paths.{main, same_path}
+use Rattle.pf_path.specs.References.{PlainReference}
 use Rattle.pf_rule.specs.Packets.{PlainPacket}
 use Rattle.pf_rule.specs.Rules.{PlainRule}
 use Rattle.pf_rule.specs.declared.rule.Action.{Action}
-use Rattle.pf_rule.specs.declared.rule.Effect.{Effect}
 use Rattle.pf_rule.specs.declared.rule.Effect.TheVariants.{Decide, Evaluate}
+use Rattle.pf_anchor.specs.declared.evaluated.Evaluated.{Evaluated}
+use Rattle.pf_anchor.specs.declared.evaluated.Evaluated.TheVariants.{Open, Ended}
 use Rattle.pf_anchor.specs.declared.verdict.RuleVerdict.TheVariants as by
-use Rattle.pf_anchor.specs.Evaluation.{matching, judged}
-use Rattle.pf_path.specs.Paths.{main}
-use Rattle.pf_anchor.specs.Rulesets.{Ruled, rules_at}
+use Rattle.pf_anchor.specs.Matches.{PlainMatch}
+use Rattle.pf_anchor.specs.Rulesets.{Ruled, IsMap, rules_at, with_rules, leads_to, targets}
+use Rattle.pf_anchor.specs.Evaluation.{Tests, and_then, rules_from, in_turn, effected, evaluate_with, levels, evaluation, matching, judged}
+
+-- ---- one solution
+
+-- a ruleset is its rules in order, where each ruleset that they lead to is so itself
+abbrev pub Unrolls : Type 0
+Unrolls = (c : List Ruled) (tests : Tests) (e : Ruled) → evaluation c tests e ≡ evaluate_with (evaluation c tests) c tests e
+
+-- nothing else is
+abbrev pub IsTheOnly : Type 0
+IsTheOnly = (c : List Ruled) (tests : Tests) (f : Ruled → Evaluated PlainMatch) → ((e : Ruled) → f e ≡ evaluate_with f c tests e) → (e : Ruled) → f e ≡ evaluation c tests e
+
+-- more levels than a path may have components change nothing
+abbrev pub DepthIsEnough : Type 0
+DepthIsEnough = (c : List Ruled) (tests : Tests) (e : Ruled) (k : ℕ) → DEPTH_LIMIT ≤ k → levels k c tests e ≡ evaluation c tests e
+
+-- ---- rules that decide
+
+-- whether a rule is no anchor rule
+abbrev pub decides : PlainRule → Bool
+decides r = elim r.effect [ Decide _ ↦ true | Evaluate _ ↦ false ]
 
 -- the rule with this number matches, no quick rule before it does, and it is quick or no later rule matches
 pub record IsDeciding (test : PlainRule → Bool) (rules : List PlainRule) (number : ℕ) (rule : PlainRule) : Type 0 where
@@ -21,13 +45,75 @@ pub record IsDeciding (test : PlainRule → Bool) (rules : List PlainRule) (numb
   pub not_ended : list_all (λ r. not (test r && r.quick)) before ≡ true
   pub stands : (rule.quick ≡ true) ⊎ (list_any test behind ≡ false)
 
--- whether a rule is one that decides
-abbrev pub is_deciding : Effect → Bool
-is_deciding (Decide a) = true
-is_deciding (Evaluate r) = false
-
--- where all rules of the main ruleset are such: none matches, and the default is told; or one decides, and its number is told with what it does
+-- where the main ruleset has no anchor rule: none of its rules matches, and the default is told; or one decides, and its number is told with what it does
 abbrev pub TellsWhatDecides : Type 0
-TellsWhatDecides = (c : List Ruled) (packet : PlainPacket) → list_all (λ r. is_deciding r.effect) (rules_at main c) ≡ true →
-    ((list_any (matching packet) (rules_at main c) ≡ false) × (judged c packet ≡ by.Default))
-    ⊎ ((n : ℕ) × ((r : PlainRule) × (IsDeciding (matching packet) (rules_at main c) n r × ((a : Action) × ((r.effect ≡ Decide a) × (judged c packet ≡ by.Rule main n a))))))
+TellsWhatDecides = (c : List Ruled) (packet : PlainPacket) → list_all decides (rules_at main c) ≡ true →
+    ((list_any (matching packet main) (rules_at main c) ≡ false) × (judged c packet ≡ by.Default))
+    ⊎ ((n : ℕ) × ((r : PlainRule) × ((a : Action) × (IsDeciding (matching packet main) (rules_at main c) n r × (r.effect ≡ Decide a) × (judged c packet ≡ by.Rule main n a)))))
+
+-- ---- an anchor rule that matches, before other rules; f is what each ruleset gives
+
+abbrev pub IsAnchor : Tests → List ℕ → PlainRule → PlainReference → Type 0
+IsAnchor tests p r s = (tests p r ≡ true) × (r.effect ≡ Evaluate s)
+
+abbrev pub rules_at_path : (Ruled → Evaluated PlainMatch) → List Ruled → Tests → List ℕ → ℕ → List PlainRule → Evaluated PlainMatch
+rules_at_path f c tests p n rs = rules_from (λ k r. effected f c p k r.effect) (tests p) n rs
+
+-- what ends within ends all
+abbrev pub EndsOutside : Type 0
+EndsOutside = (f : Ruled → Evaluated PlainMatch) (c : List Ruled) (tests : Tests) (p : List ℕ) (n : ℕ) (r : PlainRule) (s : PlainReference) (rs : List PlainRule) (m : PlainMatch) →
+    IsAnchor tests p r s → in_turn f (targets c p s) ≡ Ended m → rules_at_path f c tests p n (r ∷ rs) ≡ Ended m
+
+-- where nothing within matched it is as if the rule weren't there, quick or not
+abbrev pub NothingWithin : Type 0
+NothingWithin = (f : Ruled → Evaluated PlainMatch) (c : List Ruled) (tests : Tests) (p : List ℕ) (n : ℕ) (r : PlainRule) (s : PlainReference) (rs : List PlainRule) →
+    IsAnchor tests p r s → in_turn f (targets c p s) ≡ Open None → rules_at_path f c tests p n (r ∷ rs) ≡ rules_at_path f c tests p (n + 1) rs
+
+-- a quick one ends where something within matched, and else the match stands until a later one
+abbrev pub MatchWithin : Type 0
+MatchWithin = (f : Ruled → Evaluated PlainMatch) (c : List Ruled) (tests : Tests) (p : List ℕ) (n : ℕ) (r : PlainRule) (s : PlainReference) (rs : List PlainRule) (m : PlainMatch) →
+    IsAnchor tests p r s → in_turn f (targets c p s) ≡ Open (Some m) → rules_at_path f c tests p n (r ∷ rs) ≡ cond r.quick (Ended m) (and_then (Open (Some m)) (rules_at_path f c tests p (n + 1) rs))
+
+-- ---- what decides
+
+abbrev pub IsIn : Ruled → List Ruled → Type 0
+IsIn e [] = ⊥
+IsIn e (x ∷ xs) = (x ≡ e) ⊎ IsIn e xs
+
+abbrev pub rule_numbered : List PlainRule → ℕ → Option PlainRule
+rule_numbered [] n = None
+rule_numbered (r ∷ rs) zero = Some r
+rule_numbered (r ∷ rs) (suc n) = rule_numbered rs n
+
+-- this match is a rule of the ruleset that matches and is no anchor rule
+abbrev pub IsDecidedBy : Tests → PlainMatch → Ruled → Type 0
+IsDecidedBy tests m e = (r : PlainRule) × ((e.0 ≡ m.path) × (rule_numbered e.1 m.number ≡ Some r) × (tests e.0 r ≡ true) × (r.effect ≡ Decide m.action))
+
+abbrev pub Holds : (PlainMatch → Type 0) → Evaluated PlainMatch → Type 0
+Holds P (Ended m) = P m
+Holds P (Open None) = Unit {0}
+Holds P (Open (Some m)) = P m
+
+-- what is found is a rule that decides, of a ruleset that is there
+abbrev pub AnchorsNeverDecide : Type 0
+AnchorsNeverDecide = (c : List Ruled) (tests : Tests) (e : Ruled) → IsIn e c → Holds (λ m. (t : Ruled) × (IsIn t c × IsDecidedBy tests m t)) (evaluation c tests e)
+
+-- ---- a ruleset that no rule leads to
+
+abbrev pub NoneLeadsTo : List ℕ → List Ruled → Type 0
+NoneLeadsTo q c = (e : Ruled) (n : ℕ) (r : PlainRule) (s : PlainReference) → IsIn e c → rule_numbered e.1 n ≡ Some r → r.effect ≡ Evaluate s → leads_to e.0 s q ≡ false
+
+-- it may be replaced by any other and no verdict changes, where it isn't the main ruleset
+abbrev pub UnreachedIsNothing : Type 0
+UnreachedIsNothing = (c : List Ruled) (new : Ruled) (packet : PlainPacket) → IsMap c → NoneLeadsTo new.0 c → same_path new.0 main ≡ false → judged (with_rules c new) packet ≡ judged c packet
+
+-- ---- parts
+
+-- rules in two parts, the second's numbers going on from the first's
+abbrev pub InTwoParts : Type 0
+InTwoParts = (f : Ruled → Evaluated PlainMatch) (c : List Ruled) (tests : Tests) (p : List ℕ) (n : ℕ) (front back : List PlainRule) →
+    rules_at_path f c tests p n (front ++ back) ≡ and_then (rules_at_path f c tests p n front) (rules_at_path f c tests p (n + length front) back)
+
+-- rules that don't match say nothing
+abbrev pub PassedOver : Type 0
+PassedOver = (f : Ruled → Evaluated PlainMatch) (c : List Ruled) (tests : Tests) (p : List ℕ) (n : ℕ) (rs : List PlainRule) → list_any (tests p) rs ≡ false → rules_at_path f c tests p n rs ≡ Open None

@@ -1,12 +1,13 @@
 -- What follows from the definitions of maps, as law functions promise it.
-use Rattle.std.specs.Prelude.{◌≡◌, ℕ, T, cond, List, [], ◌∷◌, Option, fold}
+use Rattle.std.specs.Prelude.{◌≡◌, ℕ, T, cond, List, [], ◌∷◌, Option, fold, map}
 use Rattle.std.specs.declared.cmp.Ordering.{Ordering}
 use Rattle.std.specs.FinMap.{IsAntisymmetric, find, is_sorted}
 use Rattle.std.specs.Ordering.{eq_by_cmp}
 use Rattle.pf_rule.specs.Rules.{PlainRule}
 use Rattle.pf_anchor.specs.Maps.{with_value}
 use Rattle.pf_path.specs.Paths.{same_path}
-use Rattle.pf_anchor.specs.Rulesets.{Ruled, rules_at, with_rules, IsMap}
+use Rattle.pf_anchor.specs.Rulesets.{Ruled, rules_at, with_rules, children, IsMap}
+use Rattle.pf_path.specs.Nested.{is_child}
 
 -- ---- any map, under keys in a total order
 
@@ -40,3 +41,9 @@ StaysMap = (items es : List Ruled) → IsMap es → IsMap (fold with_rules es it
 -- two maps of which the same is read at each path are one
 abbrev pub OneMap : Type 0
 OneMap = (a b : List Ruled) → IsMap a → IsMap b → ((q : List ℕ) → rules_at q a ≡ rules_at q b) → a ≡ b
+
+-- ---- children
+
+-- the children of a path are the paths, in order, of the map that keeps of a map the rulesets of one component more, and no other
+abbrev pub ChildrenAreAMap : Type 0
+ChildrenAreAMap = (c : List Ruled) (p : List ℕ) → IsMap c → (es : List Ruled) × ((children c p ≡ map (λ e. e.0) es) × IsMap es × ((q : List ℕ) → rules_at q es ≡ cond (is_child p q) (rules_at q c) []))

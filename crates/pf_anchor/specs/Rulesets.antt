@@ -1,7 +1,10 @@
 -- Rulesets at paths (pf.conf(5), ANCHORS): a finite map. That an empty ruleset doesn't exist is own.
-use Rattle.std.specs.Prelude.{◌≢◌, ℕ, T, List, [], ◌∷◌, Option, Some, None}
+use Rattle.std.specs.Prelude.{◌≢◌, ℕ, T, Bool, false, cond, List, [], ◌∷◌, Option, Some, None, map, filter}
+use Rattle.std.specs.Option.{option_map_or}
 use Rattle.std.specs.FinMap.{find, is_sorted}
-use Rattle.pf_path.specs.Paths.{path_order}
+use Rattle.pf_path.specs.Paths.{path_order, same_path}
+use Rattle.pf_path.specs.Nested.{path_within, is_child}
+use Rattle.pf_path.specs.References.{PlainReference}
 use Rattle.pf_rule.specs.Rules.{PlainRule}
 use Rattle.pf_anchor.specs.Maps.{with_value}
 
@@ -33,3 +36,21 @@ rules_at p es = rules_in (find path_order p es)
 pub record IsMap (es : List Ruled) : Type 0 where
   pub sorted : T (is_sorted path_order es)
   pub ruled : (p : List ℕ) → find path_order p es ≢ Some []
+
+-- ---- rulesets that others lead to
+
+-- the children of a path: the paths of one component more that have rules, in order
+abbrev pub children : List Ruled → List ℕ → List (List ℕ)
+children c p = filter (is_child p) (map (λ e. e.0) c)
+
+-- to the ruleset at a path, or by a wildcard to its children
+abbrev pub leads_from : List ℕ → Bool → List ℕ → Bool
+leads_from base wildcard q = cond wildcard (is_child base q) (same_path base q)
+
+-- whether a rule of the ruleset at p leads to q by a reference, which is relative to p; past the limits it leads nowhere
+abbrev pub leads_to : List ℕ → PlainReference → List ℕ → Bool
+leads_to p r q = option_map_or (λ base. leads_from base r.wildcard q) (path_within p r.names) false
+
+-- the rulesets that it leads to, in order
+abbrev pub targets : List Ruled → List ℕ → PlainReference → List Ruled
+targets c p r = filter (λ e. leads_to p r e.0) c

@@ -1,11 +1,14 @@
 //! The active rulesets.
-ghost use Rattle.std.specs.Prelude.{◌≡◌, ◌≤◌, ◌<◌, [], ◌++◌, length, IfOk, OnOk, fold, nat_lt};
+ghost use Rattle.std.specs.Prelude.{◌≡◌, ◌≤◌, ◌<◌, Err, [], ◌++◌, length, IfOk, OnOk, fold, nat_lt};
 ghost use Rattle.std.specs.Option.{MatchOption};
 ghost use Rattle.pf_path.specs.Paths.{path_order};
-ghost use Rattle.pf_anchor.specs.Rulesets.{Ruled, rules_at, with_rules, IsMap};
+ghost use Rattle.pf_anchor.specs.Rulesets.{Ruled, ruled, rules_at, with_rules, children, IsMap};
+ghost use Rattle.pf_anchor.specs.declared.fault.ConfigFault.TheVariants.{TooManyRulesets};
 ghost use Rattle.pf_anchor.specs.Evaluation.{judged};
 ghost use Rattle.pf_anchor.specs.Pages.{joined, starts_behind, page_before, IsPlace};
 
+use crate::evaluate::evaluate;
+use crate::fault::ConfigFault;
 use crate::limits::RULESET_LIMIT;
 use crate::page::{PAGE_LIMIT, Page, push_page, replaced};
 use crate::placed::Placed;
@@ -102,7 +105,7 @@ fn replace(alloc: Global, pages: &mut Vec<Page>, new: &Placed) -> Result<(), All
 
 // The first ruleset at a path.
 fn find<'a>(entries: &'a [Placed], path: &Path) -> Option<&'a Placed>
-    ensures { MatchOption result (rules_at path.now entries.now ≡ []) (λ p. p.now.1 ≡ rules_at path.now entries.now) }
+    ensures { MatchOption result (rules_at path.now entries.now ≡ []) (λ p. p.now ≡ ruled path.now (rules_at path.now entries.now)) }
 {
     for placed in entries {
         if path.same(placed.path()) {
@@ -125,6 +128,18 @@ fn are_more_than(pages: &[Page], limit: usize) -> bool
         left -= count;
     }
     false
+}
+
+// Adds the paths of those rulesets that are children of a path.
+fn push_children(found: &mut Vec<Path>, entries: &[Placed], path: &Path) -> Result<(), AllocError>
+    ensures { OnOk result (found.new.items ≡ found.old.items ++ children entries.now path.now) }
+{
+    for placed in entries {
+        if placed.path().is_child_of(path) {
+            found.push(placed.path().copied())?;
+        }
+    }
+    Ok(())
 }
 
 impl Config {
@@ -163,9 +178,42 @@ impl Config {
         Ok(are_more_than(&after.pages, RULESET_LIMIT))
     }
 
-    // The ruleset at a path.
-    fn placed_at(&self, path: &Path) -> Option<&Placed>
-        ensures rules { MatchOption result (rules_at path.now self.now ≡ []) (λ p. p.now.1 ≡ rules_at path.now self.now) }
+    /// The rulesets with the rules at one path replaced, or taken out where there are none. All others are shared. On an
+    /// error nothing is made.
+    pub fn with_ruleset(
+        &self,
+        alloc: Global,
+        path: &Path,
+        rules: &RuleList,
+    ) -> Result<Config, ConfigFault>
+        ensures whole { IfOk result (λ c. c ≡ with_rules self.now (ruled path.now rules.now)) }
+        ensures few { IfOk result (λ c. length c ≤ RULESET_LIMIT) }
+        ensures many { result ≡ Err TooManyRulesets → RULESET_LIMIT < length (with_rules self.now (ruled path.now rules.now)) }
+    {
+        let items = [Placed::new(alloc, path.copied(), rules.shared()?)?];
+        let after = self.with_rulesets(alloc, &items)?;
+        if are_more_than(&after.pages, RULESET_LIMIT) {
+            return Err(ConfigFault::TooManyRulesets);
+        }
+        Ok(after)
+    }
+
+    /// The children of a path: the paths of one component more that have rules, in the order of their bytes (pf.conf(5),
+    /// Anchors). `AllocError`: nothing is made.
+    pub fn children(&self, alloc: Global, path: &Path) -> Result<Vec<Path>, AllocError>
+        ensures { IfOk result (λ v. v.items ≡ children self.now path.now) }
+    {
+        let mut found = Vec::new(alloc);
+        let pages = self.pages();
+        for page in pages {
+            push_children(&mut found, page.as_slice(), path)?;
+        }
+        Ok(found)
+    }
+
+    /// The ruleset at a path.
+    pub(crate) fn placed_at(&self, path: &Path) -> Option<&Placed>
+        ensures rules { MatchOption result (rules_at path.now self.now ≡ []) (λ p. p.now ≡ ruled path.now (rules_at path.now self.now)) }
         ensures map { IsMap self.now }
     {
         let pages = self.pages.as_slice();
@@ -184,19 +232,27 @@ impl Config {
         }
     }
 
-    /// What the rules say of a packet: the main ruleset's rule that decides, or the default pass. It takes no memory.
+    /// Its pages, in order.
+    pub(crate) fn pages(&self) -> &[Page]
+        ensures { joined result.now ≡ self.now }
+    {
+        self.pages.as_slice()
+    }
+
+    /// What the rules say of a packet: the rule that decides by the main ruleset's evaluation (pf.conf(5), Packet Filtering
+    /// and Anchors), with its ruleset's path and its number there, or the default pass. It takes no memory.
+    #[tactic(auto, using(crate::proofs::Evaluations::default_judged))]
     pub fn judge(&self, packet: &Packet) -> RuleVerdict
         ensures { result ≡ judged self.now packet.now }
     {
-        let main = Path::main();
-        let Some(placed) = self.placed_at(&main) else {
+        let Some(main) = self.placed_at(&Path::main()) else {
             return RuleVerdict::Default;
         };
-        match placed.rules().evaluate(packet).last() {
-            Some(decision) => RuleVerdict::Rule {
-                path: main,
-                number: decision.number,
-                action: decision.action,
+        match evaluate(self, main, packet).last() {
+            Some(found) => RuleVerdict::Rule {
+                path: found.placed.path().copied(),
+                number: found.number,
+                action: found.action,
             },
             None => RuleVerdict::Default,
         }

@@ -1,6 +1,6 @@
 //! What follows from the definitions that contracts cite: functions that do nothing, whose contracts are the laws.
-ghost use Rattle.pf_anchor.specs.Laws.{ReplacesTheKey, StaysSorted, OneList, ReplacesInTurn, StaysMap, OneMap};
-ghost use Rattle.pf_anchor.specs.EvaluationLaws.{TellsWhatDecides};
+ghost use Rattle.pf_anchor.specs.Laws.{ReplacesTheKey, StaysSorted, OneList, ReplacesInTurn, StaysMap, OneMap, ChildrenAreAMap};
+ghost use Rattle.pf_anchor.specs.EvaluationLaws.{TellsWhatDecides, Unrolls, IsTheOnly, DepthIsEnough, EndsOutside, NothingWithin, MatchWithin, AnchorsNeverDecide, UnreachedIsNothing, InTwoParts, PassedOver};
 
 /// In a map under any keys in a total order, a key that was replaced has the new value, or none, all else stays, and the
 /// keys stay in order. A map is what is read of it.
@@ -23,9 +23,49 @@ pub fn one_map()
     ensures { OneMap }
 {}
 
-/// Where all rules of the main ruleset decide: the default is told where none of them matches; else the number of a rule that matches, with no quick
-/// rule that matches before it, and that is quick or has no later rule that matches.
-#[tactic(auto, using(crate::proofs::Evaluations::tells_what_decides))]
+/// The children of a path are, in the order of their bytes, the paths of one component more that have rules.
+#[tactic(auto, using(crate::proofs::RulesetMaps::children_are_a_map))]
+pub fn children_are_those_with_rules()
+    ensures { ChildrenAreAMap }
+{}
+
+/// Where the main ruleset has no anchor rule: the default is told where none of its rules matches; else the number of one that
+/// matches, with no quick rule that matches before it, and that is quick or has no later rule that matches.
+#[tactic(auto, using(crate::proofs::PlainRules::tells_what_decides))]
 pub fn the_last_or_quick_rule_decides()
     ensures { TellsWhatDecides }
+{}
+
+/// Evaluation is the one solution of its equation: a ruleset is its rules in order, and each ruleset that they lead to is so
+/// itself. More levels than a path may have components change nothing.
+pub fn evaluation_is_the_one_solution()
+    ensures unrolls { Unrolls }
+    ensures only { IsTheOnly }
+    ensures depth { DepthIsEnough }
+{}
+
+/// What ends within an anchor ends outside. A quick anchor rule ends the evaluation where something within matched, and where
+/// nothing did it is as if the rule weren't there.
+pub fn anchor_rules_stand_among_rules()
+    ensures ends { EndsOutside }
+    ensures nothing { NothingWithin }
+    ensures some { MatchWithin }
+{}
+
+/// An anchor rule never decides: what is found is a rule that matches and decides, by its number in a ruleset that is there.
+#[tactic(auto, using(crate::proofs::Deciding::anchors_never_decide))]
+pub fn no_anchor_rule_decides()
+    ensures { AnchorsNeverDecide }
+{}
+
+/// A ruleset to which no rule leads, and that isn't the main one, may be replaced by any other, and no verdict changes.
+#[tactic(auto, using(crate::proofs::Unreached::unreached_is_nothing))]
+pub fn unreached_rulesets_change_nothing()
+    ensures { UnreachedIsNothing }
+{}
+
+/// Rules may be evaluated in parts, one after the other, and those that don't match may be left out.
+pub fn rules_are_evaluated_in_parts()
+    ensures parts { InTwoParts }
+    ensures passed { PassedOver }
 {}

@@ -2,7 +2,9 @@
 #![tactic(auto)]
 
 mod config;
+mod evaluate;
 mod evaluated;
+mod fault;
 pub mod laws;
 mod limits;
 mod page;
@@ -11,7 +13,8 @@ mod rule_list;
 mod verdict;
 
 pub use config::Config;
-pub use evaluated::{Decision, Evaluated};
+pub use evaluated::{Evaluated, Match};
+pub use fault::ConfigFault;
 pub use limits::{RULE_LIMIT, RULESET_LIMIT};
 pub use pf_path::{COMPONENT_LIMIT, DEPTH_LIMIT, PATH_LIMIT, Path};
 pub use placed::Placed;

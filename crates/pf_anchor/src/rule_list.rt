@@ -1,11 +1,9 @@
 //! Rules that are shared.
-ghost use Rattle.std.specs.Prelude.{◌≡◌, ◌<◌, [], ◌∷◌, ◌++◌, length, IfOk, OnOk, OnErr};
+ghost use Rattle.std.specs.Prelude.{◌≡◌, ◌<◌, ◌≤◌, [], ◌∷◌, ◌++◌, length, IfOk, OnOk, OnErr};
 ghost use Rattle.std.specs.Arc.{arc_value};
-ghost use Rattle.pf_anchor.specs.Evaluation.{evaluation};
 
-use crate::evaluated::{Decision, Evaluated, evaluate};
 use crate::limits::RULE_LIMIT;
-use pf_rule::{Packet, Rule};
+use pf_rule::Rule;
 use std::alloc::{AllocError, Global};
 use std::marker::Model;
 use std::sync::Arc;
@@ -64,20 +62,10 @@ impl RuleList {
         })
     }
 
-    /// What the rules give for a packet: the last that matches, or the first quick one that does (pf.conf(5), Packet
-    /// Filtering). It takes no memory.
-    pub fn evaluate(&self, packet: &Packet) -> Evaluated<Decision>
-        ensures { result ≡ evaluation self.now packet.now }
-    {
-        match &self.rules {
-            Some(rules) => evaluate(rules.as_slice(), packet),
-            None => Evaluated::Open(None),
-        }
-    }
-
     /// The rules in order.
     pub fn as_slice(&self) -> &[Rule]
-        ensures { result.now ≡ self.now }
+        ensures value { result.now ≡ self.now }
+        ensures few { length self.now ≤ RULE_LIMIT }
     {
         match &self.rules {
             Some(rules) => rules.as_slice(),

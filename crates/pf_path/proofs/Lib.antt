@@ -1,3 +1,4 @@
 mod PathTexts
 pub mod PathsRead
 pub mod ReferencesRead
+pub mod Nesting

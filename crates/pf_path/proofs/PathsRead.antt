@@ -34,7 +34,7 @@ component_faultless c is =
     let dash = (bytes_eq-Decides c (codes "-")).0 in
     grind (arith, nat_tests)
 
-none_parts : (o p : Option Kind) → option_or o p ≡ None → (o ≡ None) × (p ≡ None)
+pub none_parts : (o p : Option Kind) → option_or o p ≡ None → (o ≡ None) × (p ≡ None)
 none_parts (Some k) p e = absurd (cc)
 none_parts None p e = (refl, e)
 
@@ -113,7 +113,7 @@ written_is_read w p e = elim (read_is_spelled w p e) [
   | inr is ↦ rw is.1 (faultless_path w (faultless_found w is.0))
 ]
 
-none_of : (o : Option Kind) → is_none o ≡ true → o ≡ None
+pub none_of : (o : Option Kind) → is_none o ≡ true → o ≡ None
 none_of None e = refl
 none_of (Some k) e = absurd (cc)
 

@@ -6,3 +6,5 @@ pub mod References
 pub mod ReferenceGrammar
 pub mod ReferenceLaws
 pub mod KeptReferences
+pub mod Nested
+pub mod NestedLaws

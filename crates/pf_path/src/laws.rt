@@ -1,6 +1,7 @@
 //! What follows from the definitions that contracts cite: functions that do nothing, whose contracts are the laws.
 ghost use Rattle.pf_path.specs.PathLaws.{ReadsWhatIsSpelled, ReadsAllThatIsSpelled, WritesWhatWasRead, ReadsWhatIsWritten, SamePathIsEqual};
 ghost use Rattle.pf_path.specs.ReferenceLaws.{ReferenceIsSpelled, SpelledReferenceIsRead};
+ghost use Rattle.pf_path.specs.NestedLaws.{NoDeeper, LeadsDeeper, ChildHasOneMore, EachIsAChild};
 
 /// A path is read from a word exactly where the word spells it.
 #[tactic(auto, using(crate::proofs::PathsRead::read_is_spelled, crate::proofs::PathsRead::spelled_is_read))]
@@ -27,4 +28,13 @@ pub fn same_paths_are_equal()
 pub fn references_are_read_as_spelled()
     ensures read { ReferenceIsSpelled }
     ensures spelled { SpelledReferenceIsRead }
+{}
+
+/// No path has more than 16 components, and names lead to a deeper path. The children of a path are the paths that have one
+/// component more.
+pub fn paths_stand_within_one_another()
+    ensures limit { NoDeeper }
+    ensures deeper { LeadsDeeper }
+    ensures one_more { ChildHasOneMore }
+    ensures each { EachIsAChild }
 {}

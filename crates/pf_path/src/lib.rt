@@ -4,6 +4,7 @@
 pub mod laws;
 mod limits;
 mod names;
+mod nested;
 mod path;
 mod path_text;
 mod reference;

@@ -57,8 +57,8 @@ impl Path {
         }
     }
 
-    // The path that a word without a fault is.
-    fn holding(text: &[u8]) -> Path
+    /// The path that a word without a fault is.
+    pub(crate) fn holding(text: &[u8]) -> Path
         requires { path_fault text.now ≡ None }
         ensures { result ≡ text.now }
     {

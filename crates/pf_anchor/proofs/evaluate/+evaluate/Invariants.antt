@@ -1,0 +1,41 @@
+use Rattle.std.proofs.Common.{◌≡◌, ◌+◌, ◌-◌, ◌*◌, drop}
+use Rattle.std.specs.Prelude.{filter}
+use Rattle.pf_path.specs.declared.limits.TheConstants.{DEPTH_LIMIT}
+use Rattle.pf_path.specs.Nested.{depth, is_child}
+use Rattle.pf_anchor.specs.declared.evaluated.Evaluated.TheVariants.{Open}
+use Rattle.pf_anchor.specs.Pages.{joined}
+use Rattle.pf_anchor.specs.Evaluation.{and_then, in_turn, effected, rules_from, evaluation, matching}
+use Rattle.pf_anchor.proofs.evaluate.+evaluate.Given as goal
+
+-- what a ruleset leads to is deeper
+abbrev pub decreases-evaluate : goal.decreases-evaluate
+decreases-evaluate l = 3 * (DEPTH_LIMIT - depth l.placed.now.0) + 2
+
+abbrev pub decreases-effected : goal.decreases-effected
+decreases-effected l = 3 * (DEPTH_LIMIT - depth l.placed.now.0) + 1
+
+abbrev pub decreases-evaluate_targets : goal.decreases-evaluate_targets
+decreases-evaluate_targets l = 3 * (DEPTH_LIMIT - depth l.path.now)
+
+abbrev pub decreases-evaluate_children : goal.decreases-evaluate_children
+decreases-evaluate_children l = 3 * (DEPTH_LIMIT - depth l.path.now) + 1
+
+abbrev pub decreases-evaluate_among : goal.decreases-evaluate_among
+decreases-evaluate_among l = 3 * (DEPTH_LIMIT - depth l.path.now)
+
+-- what the rules left give comes after the last match so far
+abbrev pub invariant-evaluate-loop-number : goal.invariant-evaluate-loop-number
+invariant-evaluate-loop-number l =
+    evaluation l.config (matching l.packet) l.placed
+    ≡ and_then (Open l.last) (rules_from (λ n r. effected (evaluation l.config (matching l.packet)) l.config l.placed.0 n r.effect) (matching l.packet l.placed.0) l.number (drop l.number l.placed.1))
+
+-- and so does what the rulesets left give
+abbrev pub invariant-evaluate_children-loop-page : goal.invariant-evaluate_children-loop-page
+invariant-evaluate_children-loop-page l =
+    in_turn (evaluation l.config (matching l.packet)) (filter (λ e. is_child l.path e.0) l.config)
+    ≡ and_then (Open l.last) (in_turn (evaluation l.config (matching l.packet)) (filter (λ e. is_child l.path e.0) (joined (drop l.page-index l.pages))))
+
+abbrev pub invariant-evaluate_among-loop-placed : goal.invariant-evaluate_among-loop-placed
+invariant-evaluate_among-loop-placed l =
+    in_turn (evaluation l.config (matching l.packet)) (filter (λ e. is_child l.path e.0) l.entries)
+    ≡ and_then (Open l.last) (in_turn (evaluation l.config (matching l.packet)) (filter (λ e. is_child l.path e.0) (drop l.placed-index l.entries)))
