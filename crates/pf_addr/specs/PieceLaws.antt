@@ -11,35 +11,35 @@ use Rattle.pf_addr.specs.PlaceLaws.{first_none, split_none}
 use Rattle.pf_addr.specs.Reading.{One, Last, single, pieces_at, has}
 
 -- what a piece has to be for a number, and the last for some
-abbrev pub Writes : Type 1
-Writes = List ℕ → ℕ → Type 0
+abbrev pub OfNumber : Type 1
+OfNumber = List ℕ → ℕ → Type 0
 
-abbrev pub Ends : Type 1
-Ends = List ℕ → List ℕ → Type 0
+abbrev pub OfNumbers : Type 1
+OfNumbers = List ℕ → List ℕ → Type 0
 
-abbrev pub Alone : Writes → Ends
+abbrev pub Alone : OfNumber → OfNumbers
 Alone R p ns = (n : ℕ) × R p n × (ns ≡ n ∷ [])
 
 -- ---- lists side by side
 
-pub zip_length : (R : Writes) (ps : List (List ℕ)) (ns : List ℕ) → AllZip R ps ns → length ps ≡ length ns
+pub zip_length : (R : OfNumber) (ps : List (List ℕ)) (ns : List ℕ) → AllZip R ps ns → length ps ≡ length ns
 zip_length R [] [] z = refl
 zip_length R [] (n ∷ ns) z = absurd z
 zip_length R (p ∷ ps) [] z = absurd z
 zip_length R (p ∷ ps) (n ∷ ns) z = let rest = zip_length R ps ns z.1 in omega arith
 
-pub zip_push : (R : Writes) (ps : List (List ℕ)) (ns : List ℕ) (p : List ℕ) (n : ℕ) → AllZip R ps ns → R p n → AllZip R (ps ++ p ∷ []) (ns ++ n ∷ [])
+pub zip_push : (R : OfNumber) (ps : List (List ℕ)) (ns : List ℕ) (p : List ℕ) (n : ℕ) → AllZip R ps ns → R p n → AllZip R (ps ++ p ∷ []) (ns ++ n ∷ [])
 zip_push R [] [] p n z r = (r, tt)
 zip_push R [] (m ∷ ns) p n z r = absurd z
 zip_push R (q ∷ ps) [] p n z r = absurd z
 zip_push R (q ∷ ps) (m ∷ ns) p n z r = (z.0, zip_push R ps ns p n z.1 r)
 
-pub zip_all : (R : Writes) (P : List ℕ → Type 0) (ps : List (List ℕ)) (ns : List ℕ) → ((p : List ℕ) (n : ℕ) → R p n → P p) → AllZip R ps ns → All P ps
+pub zip_all : (R : OfNumber) (P : List ℕ → Type 0) (ps : List (List ℕ)) (ns : List ℕ) → ((p : List ℕ) (n : ℕ) → R p n → P p) → AllZip R ps ns → All P ps
 zip_all R P [] ns is z = All-nil P
 zip_all R P (p ∷ ps) [] is z = absurd z
 zip_all R P (p ∷ ps) (n ∷ ns) is z = All-cons P p ps (is p n z.0) (zip_all R P ps ns is z.1)
 
-pub zip_numbers : (R : Writes) (P : ℕ → Type 0) (ps : List (List ℕ)) (ns : List ℕ) → ((p : List ℕ) (n : ℕ) → R p n → P n) → AllZip R ps ns → All P ns
+pub zip_numbers : (R : OfNumber) (P : ℕ → Type 0) (ps : List (List ℕ)) (ns : List ℕ) → ((p : List ℕ) (n : ℕ) → R p n → P n) → AllZip R ps ns → All P ns
 zip_numbers R P [] [] is z = All-nil P
 zip_numbers R P [] (n ∷ ns) is z = absurd z
 zip_numbers R P (p ∷ ps) [] is z = absurd z
@@ -47,7 +47,7 @@ zip_numbers R P (p ∷ ps) (n ∷ ns) is z = All-cons P n ns (is p n z.0) (zip_n
 
 -- ---- reading what is written
 
-pub all_read : (R : Writes) (one : One) (last : Last) → ((at : ℕ) (p : List ℕ) (n : ℕ) → R p n → one at p ≡ Ok n) → ((at : ℕ) (p : List ℕ) (n : ℕ) → R p n → last at p ≡ Ok (n ∷ [])) → (at : ℕ) (ps : List (List ℕ)) (ns : List ℕ) → AllZip R ps ns → pieces_at one last at ps ≡ Ok ns
+pub all_read : (R : OfNumber) (one : One) (last : Last) → ((at : ℕ) (p : List ℕ) (n : ℕ) → R p n → one at p ≡ Ok n) → ((at : ℕ) (p : List ℕ) (n : ℕ) → R p n → last at p ≡ Ok (n ∷ [])) → (at : ℕ) (ps : List (List ℕ)) (ns : List ℕ) → AllZip R ps ns → pieces_at one last at ps ≡ Ok ns
 unfolding pieces_at
 all_read R one last reads ends at [] [] z = refl
 all_read R one last reads ends at [] (n ∷ ns) z = absurd z
@@ -57,7 +57,7 @@ all_read R one last reads ends at (p ∷ []) (n ∷ m ∷ ns) z = absurd z.1
 all_read R one last reads ends at (p ∷ q ∷ ps) [] z = absurd z
 all_read R one last reads ends at (p ∷ q ∷ ps) (n ∷ ns) z = rw (reads at p n z.0, all_read R one last reads ends (at + length p + 1) (q ∷ ps) ns z.1) refl
 
-pub run_read : (R : Writes) (E : Ends) (one : One) (last : Last) → ((at : ℕ) (p : List ℕ) (n : ℕ) → R p n → one at p ≡ Ok n) → ((at : ℕ) (p : List ℕ) (ns : List ℕ) → E p ns → last at p ≡ Ok ns) → (at : ℕ) (front : List (List ℕ)) (p : List ℕ) (ns ms : List ℕ) → AllZip R front ns → E p ms → pieces_at one last at (front ++ p ∷ []) ≡ Ok (ns ++ ms)
+pub run_read : (R : OfNumber) (E : OfNumbers) (one : One) (last : Last) → ((at : ℕ) (p : List ℕ) (n : ℕ) → R p n → one at p ≡ Ok n) → ((at : ℕ) (p : List ℕ) (ns : List ℕ) → E p ns → last at p ≡ Ok ns) → (at : ℕ) (front : List (List ℕ)) (p : List ℕ) (ns ms : List ℕ) → AllZip R front ns → E p ms → pieces_at one last at (front ++ p ∷ []) ≡ Ok (ns ++ ms)
 unfolding pieces_at
 run_read R E one last reads ends at [] p [] ms z e = ends at p ms e
 run_read R E one last reads ends at [] p (n ∷ ns) ms z e = absurd z
@@ -68,7 +68,7 @@ run_read R E one last reads ends at (f ∷ g ∷ fs) p (n ∷ ns) ms z e = rw (r
 
 -- ---- what is read was written
 
-pub record Run (R : Writes) (E : Ends) (ps : List (List ℕ)) (ns : List ℕ) : Type 0 where
+pub record Run (R : OfNumber) (E : OfNumbers) (ps : List (List ℕ)) (ns : List ℕ) : Type 0 where
   pub front : List (List ℕ)
   pub last : List ℕ
   pub before : List ℕ
@@ -78,36 +78,39 @@ pub record Run (R : Writes) (E : Ends) (ps : List (List ℕ)) (ns : List ℕ) : 
   pub end : E last rest
   pub value : ns ≡ before ++ rest
 
-pub run_found : (R : Writes) (E : Ends) (one : One) (last : Last) → ((at : ℕ) (p : List ℕ) (n : ℕ) → one at p ≡ Ok n → R p n) → ((at : ℕ) (p : List ℕ) (ns : List ℕ) → last at p ≡ Ok ns → E p ns) → (at : ℕ) (p : List ℕ) (ps : List (List ℕ)) (ns : List ℕ) → pieces_at one last at (p ∷ ps) ≡ Ok ns → Run R E (p ∷ ps) ns
+-- one piece more, before the others
+longer : (R : OfNumber) (E : OfNumbers) (p : List ℕ) (n : ℕ) (ps : List (List ℕ)) (ms ns : List ℕ) → R p n → Run R E ps ms → ns ≡ n ∷ ms → Run R E (p ∷ ps) ns
+longer R E p n ps ms ns is run value = record {
+  front = p ∷ run.front;
+  last = run.last;
+  before = n ∷ run.before;
+  rest = run.rest;
+  cut = ap (λ (l : List (List ℕ)). p ∷ l) run.cut;
+  zip = (is, run.zip);
+  end = run.end;
+  value = value ∙ ap (λ (l : List ℕ). n ∷ l) run.value;
+}
+
+pub run_found : (R : OfNumber) (E : OfNumbers) (one : One) (last : Last) → ((at : ℕ) (p : List ℕ) (n : ℕ) → one at p ≡ Ok n → R p n) → ((at : ℕ) (p : List ℕ) (ns : List ℕ) → last at p ≡ Ok ns → E p ns) → (at : ℕ) (p : List ℕ) (ps : List (List ℕ)) (ns : List ℕ) → pieces_at one last at (p ∷ ps) ≡ Ok ns → Run R E (p ∷ ps) ns
 unfolding pieces_at
 run_found R E one last finds ends at p [] ns e = record { front = []; last = p; before = []; rest = ns; cut = refl; zip = tt; end = ends at p ns e; value = refl }
 run_found R E one last finds ends at p (q ∷ ps) ns e =
     let others = pieces_at one last (at + length p + 1) (q ∷ ps) in
-    let first = bind_ok (one at p) (λ n. others >>= λ ks. Ok (n ∷ ks)) ns e in
-    let more = bind_ok others (λ ks. Ok (first.0 ∷ ks)) ns first.2 in
-    let run = run_found R E one last finds ends (at + length p + 1) q ps more.0 more.1 in
-    let is : ns ≡ first.0 ∷ more.0 = cc in
-    record {
-      front = p ∷ run.front;
-      last = run.last;
-      before = first.0 ∷ run.before;
-      rest = run.rest;
-      cut = ap (λ (l : List (List ℕ)). p ∷ l) run.cut;
-      zip = (finds at p first.0 first.1, run.zip);
-      end = run.end;
-      value = is ∙ ap (λ (l : List ℕ). first.0 ∷ l) run.value;
-    }
+    let (n, first, rest) = bind_ok (one at p) (λ n. others >>= λ ks. Ok (n ∷ ks)) ns e in
+    let (ms, more, made) = bind_ok others (λ ks. Ok (n ∷ ks)) ns rest in
+    let value : ns ≡ n ∷ ms = cc in
+    longer R E p n (q ∷ ps) ms ns (finds at p n first) (run_found R E one last finds ends (at + length p + 1) q ps ms more) value
 
-pub alone_found : (R : Writes) (one : One) → ((at : ℕ) (p : List ℕ) (n : ℕ) → one at p ≡ Ok n → R p n) → (at : ℕ) (p : List ℕ) (ns : List ℕ) → single one at p ≡ Ok ns → Alone R p ns
+pub alone_found : (R : OfNumber) (one : One) → ((at : ℕ) (p : List ℕ) (n : ℕ) → one at p ≡ Ok n → R p n) → (at : ℕ) (p : List ℕ) (ns : List ℕ) → single one at p ≡ Ok ns → Alone R p ns
 alone_found R one finds at p ns e =
     let only = bind_ok (one at p) (λ n. Ok (n ∷ [])) ns e in
     let is : ns ≡ only.0 ∷ [] = cc in
     (only.0, finds at p only.0 only.1, is)
 
-pub run_alone : (R : Writes) (ps : List (List ℕ)) (ns : List ℕ) → Run R (Alone R) ps ns → AllZip R ps ns
+pub run_alone : (R : OfNumber) (ps : List (List ℕ)) (ns : List ℕ) → Run R (Alone R) ps ns → AllZip R ps ns
 run_alone R ps ns run = rw (run.cut, run.value, run.end.2) (zip_push R run.front run.before run.last run.end.0 run.zip run.end.1)
 
-pub all_found : (R : Writes) (one : One) → ((at : ℕ) (p : List ℕ) (n : ℕ) → one at p ≡ Ok n → R p n) → (at : ℕ) (ps : List (List ℕ)) (ns : List ℕ) → pieces_at one (single one) at ps ≡ Ok ns → AllZip R ps ns
+pub all_found : (R : OfNumber) (one : One) → ((at : ℕ) (p : List ℕ) (n : ℕ) → one at p ≡ Ok n → R p n) → (at : ℕ) (ps : List (List ℕ)) (ns : List ℕ) → pieces_at one (single one) at ps ≡ Ok ns → AllZip R ps ns
 unfolding pieces_at
 all_found R one finds at [] ns e = let none : [] ≡ ns = cc in subst (AllZip R []) none tt
 all_found R one finds at (p ∷ ps) ns e = run_alone R (p ∷ ps) ns (run_found R (Alone R) one (single one) finds (alone_found R one finds) at p ps ns e)

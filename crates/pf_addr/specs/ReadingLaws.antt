@@ -167,17 +167,18 @@ ended_found at text groups e = by (pieces 58 text) refl e where
         | inr v4 ↦ inr (record { front = run.front; last = run.last; before = run.before; number = v4.0; cut = h ∙ run.cut; grouped = run.zip; v4 = v4.1; value = run.value ∙ ap (λ (l : List ℕ). run.before ++ l) v4.2 })
       ]
 
-group_clean : (p : List ℕ) (n : ℕ) → IsGroup p n → Clean p
-group_clean p n is = record { some = is.digits.0; without_colon = none_in_digits 16 58 p (omega arith) is.digits.1 }
-
-grouped_clean : (text groups : List ℕ) → Grouped groups text → All Clean (pieces 58 text)
-grouped_clean text groups is = zip_all IsGroup Clean (pieces 58 text) groups group_clean is
+-- what holds of groups and of V4 addresses holds of each piece
+ended_all : (P : List ℕ → Type 0) → ((p : List ℕ) (n : ℕ) → IsGroup p n → P p) → ((p : List ℕ) (n : ℕ) → SpellsV4 4 p n → P p) → (text groups : List ℕ) → EndGrouped groups text → All P (pieces 58 text)
+ended_all P group v4 text groups (inl is) = zip_all IsGroup P (pieces 58 text) groups group is
+ended_all P group v4 text groups (inr is) = rw is.cut (All-append P is.front (is.last ∷ []) (zip_all IsGroup P is.front is.before group is.grouped) (All-cons P is.last [] (v4 is.last is.number is.v4) (All-nil P)))
 
 ended_clean : (text groups : List ℕ) → EndGrouped groups text → All Clean (pieces 58 text)
-ended_clean text groups (inl is) = grouped_clean text groups is
-ended_clean text groups (inr is) =
-    let last : Clean is.last = record { some = v4_some 4 is.last is.number (omega arith) is.v4; without_colon = v4_without 58 4 is.last is.number refl (omega arith) is.v4 } in
-    rw is.cut (All-append Clean is.front (is.last ∷ []) (zip_all IsGroup Clean is.front is.before group_clean is.grouped) (All-cons Clean is.last [] last (All-nil Clean)))
+ended_clean = ended_all Clean
+    (λ p n is. record { some = is.digits.0; without_colon = none_in_digits 16 58 p (omega arith) is.digits.1 })
+    (λ p n is. record { some = v4_some 4 p n (omega arith) is; without_colon = v4_without 58 4 p n refl (omega arith) is })
+
+ended_no_slash : (text groups : List ℕ) → EndGrouped groups text → without 47 text
+ended_no_slash text groups is = pieces_bytes (λ b. (b == 47) ≡ false) 58 text refl (ended_all (without 47) (λ p n group. none_in_digits 16 47 p (omega arith) group.digits.1) (λ p n v4. v4_without 47 4 p n refl (omega arith) v4) text groups is)
 
 -- what stands behind a text and so many bytes more
 abbrev at_gap : List ℕ → List ℕ → List ℕ
@@ -196,7 +197,7 @@ v6_read text n is = by is.spelled where
       let few : length short.before + length short.behind ≤ 7 = omega (arith, size, is.eight, short.some) in
       let zeros : short.zeros ≡ 8 - (length short.before + length short.behind) = omega (arith, size, is.eight) in
       let number : n ≡ v6_number (short.before ++ replicate (8 - (length short.before + length short.behind)) 0 ++ short.behind) = is.value ∙ ap v6_number short.value ∙ ap (λ (k : ℕ). v6_number (short.before ++ replicate k 0 ++ short.behind)) zeros in
-      rw (short.cut, gap_after short.front short.back (grouped_clean short.front short.before short.grouped), take_at short.front (58 ∷ 58 ∷ short.back) (length short.front) refl, behind_gap short.front short.back, grouped_read false 0 short.front short.before short.grouped, ended_read (length short.front + 2) short.back short.behind short.ended, le-leb (length short.before + length short.behind) 7 few) (ap (λ (k : ℕ). Ok k) (sym number))
+      rw (short.cut, gap_after short.front short.back (ended_clean short.front short.before (inl short.grouped)), take_at short.front (58 ∷ 58 ∷ short.back) (length short.front) refl, behind_gap short.front short.back, grouped_read false 0 short.front short.before short.grouped, ended_read (length short.front + 2) short.back short.behind short.ended, le-leb (length short.before + length short.behind) 7 few) (ap (λ (k : ℕ). Ok k) (sym number))
 
 v6_found : (text : List ℕ) (n : ℕ) → v6_at text ≡ Ok n → SpellsV6 text n
 unfolding v6_at
@@ -288,18 +289,6 @@ addr_only text a is = address_read 4 text a (omega arith) is
 
 -- ---- a network
 
-no_slash_in_group : (p : List ℕ) (n : ℕ) → IsGroup p n → without 47 p
-no_slash_in_group p n is = none_in_digits 16 47 p (omega arith) is.digits.1
-
-grouped_no_slash : (text groups : List ℕ) → Grouped groups text → without 47 text
-grouped_no_slash text groups is = pieces_bytes (λ b. (b == 47) ≡ false) 58 text refl (zip_all IsGroup (without 47) (pieces 58 text) groups no_slash_in_group is)
-
-ended_no_slash : (text groups : List ℕ) → EndGrouped groups text → without 47 text
-ended_no_slash text groups (inl is) = grouped_no_slash text groups is
-ended_no_slash text groups (inr is) =
-    let last = v4_without 47 4 is.last is.number refl (omega arith) is.v4 in
-    pieces_bytes (λ b. (b == 47) ≡ false) 58 text refl (rw is.cut (All-append (without 47) is.front (is.last ∷ []) (zip_all IsGroup (without 47) is.front is.before no_slash_in_group is.grouped) (All-cons (without 47) is.last [] last (All-nil (without 47)))))
-
 no_slash : (fewest : ℕ) (text : List ℕ) (a : Addr) → Spells fewest text a → without 47 text
 no_slash fewest text (addr.V4 n) is = v4_without 47 fewest text n refl (omega arith) is
 no_slash fewest text (addr.V6 n) is = by is.spelled where
@@ -307,7 +296,7 @@ no_slash fewest text (addr.V6 n) is = by is.spelled where
   by (inl whole) = ended_no_slash text is.groups whole
   by (inr short) =
       let others = All-cons (λ b. (b == 47) ≡ false) 58 (58 ∷ short.back) refl (All-cons (λ b. (b == 47) ≡ false) 58 short.back refl (ended_no_slash short.back short.behind short.ended)) in
-      rw short.cut (All-append (λ b. (b == 47) ≡ false) short.front (58 ∷ 58 ∷ short.back) (grouped_no_slash short.front short.before short.grouped) others)
+      rw short.cut (All-append (λ b. (b == 47) ≡ false) short.front (58 ∷ 58 ∷ short.back) (ended_no_slash short.front short.before (inl short.grouped)) others)
 
 front_found : (text : List ℕ) (i : ℕ) (net : Network) → position is_slash text ≡ Some i → cut_at text (Some i) ≡ Ok net → SpellsFront text net
 front_found text i net p e =
