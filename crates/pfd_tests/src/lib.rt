@@ -13,4 +13,6 @@ mod starting;
 #[cfg(test)]
 mod streams;
 #[cfg(test)]
+mod tickets;
+#[cfg(test)]
 mod values;
