@@ -5,6 +5,8 @@
 #[cfg(test)]
 mod addresses;
 #[cfg(test)]
+mod anchors;
+#[cfg(test)]
 mod memory;
 #[cfg(test)]
 mod sessions;
