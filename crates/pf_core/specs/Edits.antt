@@ -1,4 +1,4 @@
--- What is kept, what a change does to it (pf(4), DIOCXCOMMIT), and what it says of a packet (pf.conf(5), PACKET FILTERING).
+-- What is kept, what a change does to it (pf(4), DIOCXCOMMIT), and what it says of a packet (pf.conf(5), PACKET FILTERING and ANCHORS).
 use Rattle.std.specs.Prelude.{ℕ, List, [], ◌∷◌, fold, map}
 use Rattle.pf_rule.specs.Packets.{PlainPacket}
 use Rattle.pf_anchor.specs.Evaluation.{judged}
@@ -41,6 +41,6 @@ name_of (item.Rules r) = filter_at r.0
 abbrev pub voided_by : Edit → List RulesetName
 voided_by (commits items) = map name_of items
 
--- a packet is judged by the main ruleset
+-- a packet is judged by the main ruleset, and where its anchor rules match by what they lead to
 abbrev pub verdict : Kept → PlainPacket → Verdict
 verdict d packet = Rules (judged d.rulesets packet)

@@ -61,7 +61,8 @@ impl Durable {
         &self.rulesets
     }
 
-    /// What happens to a packet: the main ruleset decides, or the packet passes. It takes no memory.
+    /// What happens to a packet: the rule decides that the evaluation of the main ruleset finds, there or in an anchor, or the packet
+    /// passes. It takes no memory.
     pub fn verdict(&self, packet: &Packet) -> Verdict
         ensures { result ≡ verdict self.now packet.now }
     {
