@@ -37,7 +37,7 @@ pub enum TextFault {
     #[error("addresses, networks or a family that differ in family")]
     MixedFamily,
     /// All words can stand, and a port is tested where the protocol isn't TCP or UDP. Only a rule's text has it.
-    #[error("a port test without a protocol that has ports")]
+    #[error("ports are tested, and the protocol has none")]
     PortNeedsProto,
     /// Memory was refused.
     #[error("no memory")]
