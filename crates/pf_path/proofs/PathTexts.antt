@@ -8,7 +8,9 @@ use Rattle.std.proofs.lemmas.Bool.Decides.{nat_tests}
 use Rattle.std.proofs.lemmas.List.Splits.{length-slice_split, slice_split_first, slice_split_none}
 use Rattle.std.proofs.lemmas.List.Sums.{prefix_len-le-length, fails_before_first}
 use Rattle.pf_form.specs.declared.fault.Kind.{Kind}
-use Rattle.pf_path.specs.Paths.{is_slash, components, component_fault, first_fault}
+use Rattle.std.specs.Str.{bytes_eq}
+use Rattle.std.proofs.lemmas.Map.Text.{is_eq-slice_cmp}
+use Rattle.pf_path.specs.Paths.{is_slash, components, component_fault, first_fault, same_path}
 
 -- ---- cut at the first slash
 
@@ -46,3 +48,9 @@ fault_some w i o e f =
 
 pub fault_none : (w : List ℕ) → position is_slash w ≡ None → first_fault (components w) ≡ component_fault w
 fault_none w e = ap first_fault (split_none w e) ∙ none_else (component_fault w)
+
+-- ---- one path
+
+-- paths that have the same bytes are the same
+pub same_bytes : (p q : List ℕ) → bytes_eq p q ≡ same_path p q
+same_bytes p q = sym (is_eq-slice_cmp p q)

@@ -67,7 +67,7 @@ impl Path {
         append(&mut bytes, 0, outer);
         append(&mut bytes, outer.len(), b"/");
         append(&mut bytes, start, names);
-        faultless(&bytes[..start + names.len()])
+        Path::kept(bytes, start + names.len())
     }
 
     /// Whether this path has one component more than another, and begins with it.

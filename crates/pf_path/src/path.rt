@@ -1,5 +1,6 @@
 //! Paths of rulesets.
-ghost use Rattle.std.specs.Prelude.{◌≡◌, [], true};
+ghost use Rattle.std.specs.Prelude.{◌≡◌, ◌≤◌, [], true, take, if◌then◌else◌, Some, None};
+ghost use Rattle.std.specs.Option.{is_none};
 ghost use Rattle.pf_path.specs.Paths.{path_of, path_fault, is_path, path_order, same_path};
 
 use crate::limits::PATH_LIMIT;
@@ -70,6 +71,21 @@ impl Path {
         }
     }
 
+    // So many of these bytes, where they are a path's text.
+    pub(crate) fn kept(bytes: [u8; PATH_LIMIT], len: usize) -> Option<Path>
+        requires { len ≤ PATH_LIMIT }
+        ensures { result ≡ if is_none (path_fault (take len bytes)) then Some (take len bytes) else None }
+    {
+        let text = &bytes[..len];
+        match fault_in(PATH_LIMIT, text, text) {
+            None => Some(Path {
+                bytes,
+                len: len as u8,
+            }),
+            Some(_) => None,
+        }
+    }
+
     /// The same path. It takes no memory.
     pub fn copied(&self) -> Path
         ensures { result ≡ self.now }
@@ -96,9 +112,11 @@ impl Path {
     }
 
     /// Whether both are one path.
+    #[tactic(auto, using(crate::proofs::PathTexts::same_bytes))]
     pub fn same(&self, other: &Path) -> bool
         ensures { result ≡ same_path self.now other.now }
     {
-        self.order(other).is_eq()
+        // other than their order this asks for their lengths first
+        self.as_bytes() == other.as_bytes()
     }
 }
