@@ -1,4 +1,4 @@
--- What follows from the definition of evaluation, in words (pf.conf(5), PACKET FILTERING and ANCHORS).
+-- What follows from the definition of evaluation (pf.conf(5), PACKET FILTERING and ANCHORS): laws that say it without the levels, or without the recursion.
 use Rattle.std.specs.Prelude.{◌≡◌, ◌⊎◌, ℕ, zero, suc, ◌+◌, ◌≤◌, Bool, true, false, not, cond, ◌&&◌, List, [], ◌∷◌, ◌++◌, length, Option, Some, None}
 use Rattle.std.specs.List.{list_all, list_any}
 use Rattle.pf_path.specs.declared.limits.TheConstants.{DEPTH_LIMIT}
@@ -11,8 +11,8 @@ use Rattle.pf_rule.specs.declared.rule.Effect.TheVariants.{Decide, Evaluate}
 use Rattle.pf_anchor.specs.declared.evaluated.Evaluated.{Evaluated}
 use Rattle.pf_anchor.specs.declared.evaluated.Evaluated.TheVariants.{Open, Ended}
 use Rattle.pf_anchor.specs.declared.verdict.RuleVerdict.TheVariants as by
-use Rattle.pf_anchor.specs.Matches.{PlainMatch}
-use Rattle.pf_anchor.specs.Rulesets.{Ruled, IsMap, rules_at, with_rules, leads_to, targets}
+use Rattle.pf_anchor.specs.Matches.{PlainMatch, found}
+use Rattle.pf_anchor.specs.Rulesets.{Ruled, ruled, IsMap, rules_at, with_rules, leads_to, targets}
 use Rattle.pf_anchor.specs.Evaluation.{Tests, and_then, rules_from, in_turn, effected, evaluate_with, levels, evaluation, matching, judged}
 
 -- ---- one solution
@@ -51,15 +51,21 @@ TellsWhatDecides = (c : List Ruled) (packet : PlainPacket) → list_all decides 
     ((list_any (matching packet main) (rules_at main c) ≡ false) × (judged c packet ≡ by.Default))
     ⊎ ((n : ℕ) × ((r : PlainRule) × ((a : Action) × (IsDeciding (matching packet main) (rules_at main c) n r × (r.effect ≡ Decide a) × (judged c packet ≡ by.Rule main n a)))))
 
--- ---- an anchor rule that matches, before other rules; f is what each ruleset gives
+-- ---- a rule that matches, before other rules; f is what each ruleset gives
+
+-- the rules from this number on, as those of a path
+abbrev pub rules_at_path : (Ruled → Evaluated PlainMatch) → List Ruled → Tests → List ℕ → ℕ → List PlainRule → Evaluated PlainMatch
+rules_at_path f c tests p n rs = rules_from (λ k r. effected f c p k r.effect) (tests p) n rs
+
+-- of a rule that decides a quick one ends, and else its match stands until a later one
+abbrev pub OwnMatch : Type 0
+OwnMatch = (f : Ruled → Evaluated PlainMatch) (c : List Ruled) (tests : Tests) (p : List ℕ) (n : ℕ) (r : PlainRule) (a : Action) (rs : List PlainRule) →
+    tests p r ≡ true → r.effect ≡ Decide a → rules_at_path f c tests p n (r ∷ rs) ≡ cond r.quick (Ended (found p n a)) (and_then (Open (Some (found p n a))) (rules_at_path f c tests p (n + 1) rs))
 
 abbrev pub IsAnchor : Tests → List ℕ → PlainRule → PlainReference → Type 0
 IsAnchor tests p r s = (tests p r ≡ true) × (r.effect ≡ Evaluate s)
 
-abbrev pub rules_at_path : (Ruled → Evaluated PlainMatch) → List Ruled → Tests → List ℕ → ℕ → List PlainRule → Evaluated PlainMatch
-rules_at_path f c tests p n rs = rules_from (λ k r. effected f c p k r.effect) (tests p) n rs
-
--- what ends within ends all
+-- what ends within an anchor rule ends the rule's ruleset too, and so all outside
 abbrev pub EndsOutside : Type 0
 EndsOutside = (f : Ruled → Evaluated PlainMatch) (c : List Ruled) (tests : Tests) (p : List ℕ) (n : ℕ) (r : PlainRule) (s : PlainReference) (rs : List PlainRule) (m : PlainMatch) →
     IsAnchor tests p r s → in_turn f (targets c p s) ≡ Ended m → rules_at_path f c tests p n (r ∷ rs) ≡ Ended m
@@ -73,6 +79,19 @@ NothingWithin = (f : Ruled → Evaluated PlainMatch) (c : List Ruled) (tests : T
 abbrev pub MatchWithin : Type 0
 MatchWithin = (f : Ruled → Evaluated PlainMatch) (c : List Ruled) (tests : Tests) (p : List ℕ) (n : ℕ) (r : PlainRule) (s : PlainReference) (rs : List PlainRule) (m : PlainMatch) →
     IsAnchor tests p r s → in_turn f (targets c p s) ≡ Open (Some m) → rules_at_path f c tests p n (r ∷ rs) ≡ cond r.quick (Ended m) (and_then (Open (Some m)) (rules_at_path f c tests p (n + 1) rs))
+
+-- ---- a quick end, over a whole ruleset
+
+-- a quick rule that decides ends its ruleset's evaluation where no rule before it did, at any path: no rule behind it is looked at
+abbrev pub QuickEnds : Type 0
+QuickEnds = (c : List Ruled) (tests : Tests) (p : List ℕ) (front back : List PlainRule) (r : PlainRule) (a : Action) (last : Option PlainMatch) →
+    rules_at_path (evaluation c tests) c tests p 0 front ≡ Open last → tests p r ≡ true → r.effect ≡ Decide a → r.quick ≡ true → evaluation c tests (ruled p (front ++ r ∷ back)) ≡ Ended (found p (length front) a)
+
+-- what ends within an anchor rule of the main ruleset is told, whatever stands behind that rule
+abbrev pub EndsTheVerdict : Type 0
+EndsTheVerdict = (c : List Ruled) (packet : PlainPacket) (front back : List PlainRule) (r : PlainRule) (s : PlainReference) (last : Option PlainMatch) (m : PlainMatch) →
+    rules_at main c ≡ front ++ r ∷ back → rules_at_path (evaluation c (matching packet)) c (matching packet) main 0 front ≡ Open last → IsAnchor (matching packet) main r s →
+    in_turn (evaluation c (matching packet)) (targets c main s) ≡ Ended m → judged c packet ≡ by.Rule m.path m.number m.action
 
 -- ---- what decides
 

@@ -1,6 +1,6 @@
 //! What follows from the definitions that contracts cite: functions that do nothing, whose contracts are the laws.
 ghost use Rattle.pf_anchor.specs.Laws.{ReplacesTheKey, StaysSorted, OneList, ReplacesInTurn, StaysMap, OneMap, ChildrenAreAMap};
-ghost use Rattle.pf_anchor.specs.EvaluationLaws.{TellsWhatDecides, Unrolls, IsTheOnly, DepthIsEnough, EndsOutside, NothingWithin, MatchWithin, AnchorsNeverDecide, UnreachedIsNothing, InTwoParts, PassedOver};
+ghost use Rattle.pf_anchor.specs.EvaluationLaws.{TellsWhatDecides, Unrolls, IsTheOnly, DepthIsEnough, OwnMatch, EndsOutside, NothingWithin, MatchWithin, QuickEnds, EndsTheVerdict, AnchorsNeverDecide, UnreachedIsNothing, InTwoParts, PassedOver};
 
 /// In a map under any keys in a total order, a key that was replaced has the new value, or none, all else stays, and the
 /// keys stay in order. A map is what is read of it.
@@ -42,6 +42,14 @@ pub fn evaluation_is_the_one_solution()
     ensures unrolls { Unrolls }
     ensures only { IsTheOnly }
     ensures depth { DepthIsEnough }
+{}
+
+/// A rule that decides ends its ruleset's evaluation if it is quick, at any path, and no rule behind it is looked at; else its
+/// match stands until a later one. What ends within an anchor rule of the main ruleset is the verdict.
+pub fn quick_rules_end_the_evaluation()
+    ensures own { OwnMatch }
+    ensures ends { QuickEnds }
+    ensures verdict { EndsTheVerdict }
 {}
 
 /// What ends within an anchor ends outside. A quick anchor rule ends the evaluation where something within matched, and where
