@@ -7,3 +7,4 @@ pub mod Turns
 pub mod AnchorRules
 pub mod Deciding
 pub mod Unreached
+pub mod Entries

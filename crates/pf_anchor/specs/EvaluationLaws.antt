@@ -117,6 +117,11 @@ Holds P (Open (Some m)) = P m
 abbrev pub AnchorsNeverDecide : Type 0
 AnchorsNeverDecide = (c : List Ruled) (tests : Tests) (e : Ruled) → IsIn e c → Holds (λ m. (t : Ruled) × (IsIn t c × IsDecidedBy tests m t)) (evaluation c tests e)
 
+-- the rule that a verdict tells stands at that path under that number, matches the packet, and does what is told
+abbrev pub ToldRuleDecides : Type 0
+ToldRuleDecides = (c : List Ruled) (packet : PlainPacket) (p : List ℕ) (n : ℕ) (a : Action) →
+    IsMap c → judged c packet ≡ by.Rule p n a → (r : PlainRule) × ((rule_numbered (rules_at p c) n ≡ Some r) × (matching packet p r ≡ true) × (r.effect ≡ Decide a))
+
 -- ---- a ruleset that no rule leads to
 
 abbrev pub NoneLeadsTo : List ℕ → List Ruled → Type 0

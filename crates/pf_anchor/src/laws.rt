@@ -1,6 +1,6 @@
 //! What follows from the definitions that contracts cite: functions that do nothing, whose contracts are the laws.
 ghost use Rattle.pf_anchor.specs.Laws.{ReplacesTheKey, StaysSorted, OneList, ReplacesInTurn, StaysMap, OneMap, ChildrenAreAMap};
-ghost use Rattle.pf_anchor.specs.EvaluationLaws.{TellsWhatDecides, Unrolls, IsTheOnly, DepthIsEnough, OwnMatch, EndsOutside, NothingWithin, MatchWithin, QuickEnds, EndsTheVerdict, AnchorsNeverDecide, UnreachedIsNothing, InTwoParts, PassedOver};
+ghost use Rattle.pf_anchor.specs.EvaluationLaws.{TellsWhatDecides, Unrolls, IsTheOnly, DepthIsEnough, OwnMatch, EndsOutside, NothingWithin, MatchWithin, QuickEnds, EndsTheVerdict, AnchorsNeverDecide, ToldRuleDecides, UnreachedIsNothing, InTwoParts, PassedOver};
 
 /// In a map under any keys in a total order, a key that was replaced has the new value, or none, all else stays, and the
 /// keys stay in order. A map is what is read of it.
@@ -60,10 +60,11 @@ pub fn anchor_rules_stand_among_rules()
     ensures some { MatchWithin }
 {}
 
-/// An anchor rule never decides: what is found is a rule that matches and decides, by its number in a ruleset that is there.
-#[tactic(auto, using(crate::proofs::Deciding::anchors_never_decide))]
+/// The rule that a verdict tells stands at its path under its number, matches, and decides; an anchor rule never does. So it is
+/// with what any ruleset's evaluation finds.
 pub fn no_anchor_rule_decides()
-    ensures { AnchorsNeverDecide }
+    ensures told { ToldRuleDecides }
+    ensures found { AnchorsNeverDecide }
 {}
 
 /// A ruleset to which no rule leads, and that isn't the main one, may be replaced by any other, and no verdict changes.
