@@ -8,3 +8,4 @@ pub mod AnchorRules
 pub mod Deciding
 pub mod Unreached
 pub mod Entries
+pub mod Leading

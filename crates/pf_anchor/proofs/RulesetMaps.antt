@@ -68,7 +68,7 @@ all_grow (i ∷ items) es = omega (arith, all_grow items (with_rules es i), with
 
 -- ---- children
 
-paths_kept : (test : List ℕ → Bool) (c : List Ruled) → filter test (map (λ (e : Ruled). e.0) c) ≡ map (λ (e : Ruled). e.0) (filter (λ e. test e.0) c)
+pub paths_kept : (test : List ℕ → Bool) (c : List Ruled) → filter test (map (λ (e : Ruled). e.0) c) ≡ map (λ (e : Ruled). e.0) (filter (λ e. test e.0) c)
 paths_kept test [] = refl
 paths_kept test (e ∷ c) = by (test e.0) (paths_kept test c) where
   by : (b : Bool) → filter test (map (λ (x : Ruled). x.0) c) ≡ map (λ (x : Ruled). x.0) (filter (λ x. test x.0) c) →

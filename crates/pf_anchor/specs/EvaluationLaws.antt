@@ -1,8 +1,9 @@
 -- What follows from the definition of evaluation (pf.conf(5), PACKET FILTERING and ANCHORS): laws that say it without the levels, or without the recursion.
-use Rattle.std.specs.Prelude.{◌≡◌, ◌⊎◌, ℕ, zero, suc, ◌+◌, ◌≤◌, Bool, true, false, not, cond, ◌&&◌, List, [], ◌∷◌, ◌++◌, length, Option, Some, None}
+use Rattle.std.specs.Prelude.{◌≡◌, ◌⊎◌, ℕ, zero, suc, ◌+◌, ◌≤◌, Bool, true, false, not, cond, ◌&&◌, List, [], ◌∷◌, ◌++◌, length, ◌==◌, map, Option, Some, None}
 use Rattle.std.specs.List.{list_all, list_any}
 use Rattle.pf_path.specs.declared.limits.TheConstants.{DEPTH_LIMIT}
 use Rattle.pf_path.specs.Paths.{main, same_path}
+use Rattle.pf_path.specs.Nested.{path_within}
 use Rattle.pf_path.specs.References.{PlainReference}
 use Rattle.pf_rule.specs.Packets.{PlainPacket}
 use Rattle.pf_rule.specs.Rules.{PlainRule}
@@ -12,7 +13,7 @@ use Rattle.pf_anchor.specs.declared.evaluated.Evaluated.{Evaluated}
 use Rattle.pf_anchor.specs.declared.evaluated.Evaluated.TheVariants.{Open, Ended}
 use Rattle.pf_anchor.specs.declared.verdict.RuleVerdict.TheVariants as by
 use Rattle.pf_anchor.specs.Matches.{PlainMatch, found}
-use Rattle.pf_anchor.specs.Rulesets.{Ruled, ruled, IsMap, rules_at, with_rules, leads_to, targets}
+use Rattle.pf_anchor.specs.Rulesets.{Ruled, ruled, IsMap, rules_at, with_rules, children, leads_to, targets}
 use Rattle.pf_anchor.specs.Evaluation.{Tests, and_then, rules_from, in_turn, effected, evaluate_with, levels, evaluation, matching, judged}
 
 -- ---- one solution
@@ -79,6 +80,25 @@ NothingWithin = (f : Ruled → Evaluated PlainMatch) (c : List Ruled) (tests : T
 abbrev pub MatchWithin : Type 0
 MatchWithin = (f : Ruled → Evaluated PlainMatch) (c : List Ruled) (tests : Tests) (p : List ℕ) (n : ℕ) (r : PlainRule) (s : PlainReference) (rs : List PlainRule) (m : PlainMatch) →
     IsAnchor tests p r s → in_turn f (targets c p s) ≡ Open (Some m) → rules_at_path f c tests p n (r ∷ rs) ≡ cond r.quick (Ended m) (and_then (Open (Some m)) (rules_at_path f c tests p (n + 1) rs))
+
+-- ---- what a rule leads to
+
+-- of rulesets in turn the first that ends ends all, and else the latest match stands
+abbrev pub InTurn : Type 0
+InTurn = (f : Ruled → Evaluated PlainMatch) (front back : List Ruled) → in_turn f (front ++ back) ≡ and_then (in_turn f front) (in_turn f back)
+
+-- the rulesets at some paths
+abbrev pub rulesets_at : List Ruled → List (List ℕ) → List Ruled
+rulesets_at c paths = map (λ q. ruled q (rules_at q c)) paths
+
+-- a rule leads to the ruleset at its path if there is one, by a wildcard to those at its children in their order, and past the limits to none
+pub record LeadsThere (c : List Ruled) (p : List ℕ) (s : PlainReference) : Type 0 where
+  pub by_wildcard : (base : List ℕ) → path_within p s.names ≡ Some base → s.wildcard ≡ true → targets c p s ≡ rulesets_at c (children c base)
+  pub one : (base : List ℕ) → path_within p s.names ≡ Some base → s.wildcard ≡ false → targets c p s ≡ cond (length (rules_at base c) == 0) [] (rulesets_at c (base ∷ []))
+  pub none : path_within p s.names ≡ None → targets c p s ≡ []
+
+abbrev pub LeadsToTheseAlone : Type 0
+LeadsToTheseAlone = (c : List Ruled) (p : List ℕ) (s : PlainReference) → IsMap c → LeadsThere c p s
 
 -- ---- a quick end, over a whole ruleset
 

@@ -1,6 +1,6 @@
 //! What follows from the definitions that contracts cite: functions that do nothing, whose contracts are the laws.
 ghost use Rattle.pf_anchor.specs.Laws.{ReplacesTheKey, StaysSorted, OneList, ReplacesInTurn, StaysMap, OneMap, ChildrenAreAMap};
-ghost use Rattle.pf_anchor.specs.EvaluationLaws.{TellsWhatDecides, Unrolls, IsTheOnly, DepthIsEnough, OwnMatch, EndsOutside, NothingWithin, MatchWithin, QuickEnds, EndsTheVerdict, AnchorsNeverDecide, ToldRuleDecides, UnreachedIsNothing, InTwoParts, PassedOver};
+ghost use Rattle.pf_anchor.specs.EvaluationLaws.{TellsWhatDecides, Unrolls, IsTheOnly, DepthIsEnough, OwnMatch, EndsOutside, NothingWithin, MatchWithin, InTurn, LeadsToTheseAlone, QuickEnds, EndsTheVerdict, AnchorsNeverDecide, ToldRuleDecides, UnreachedIsNothing, InTwoParts, PassedOver};
 
 /// In a map under any keys in a total order, a key that was replaced has the new value, or none, all else stays, and the
 /// keys stay in order. A map is what is read of it.
@@ -58,6 +58,13 @@ pub fn anchor_rules_stand_among_rules()
     ensures ends { EndsOutside }
     ensures nothing { NothingWithin }
     ensures some { MatchWithin }
+{}
+
+/// An anchor rule leads to the ruleset at its path if there is one, or by a wildcard to those at the path's children, in the order
+/// of their bytes; past the limits to none. Of these in turn the first that ends ends all, and else the latest match stands.
+pub fn rules_lead_to_rulesets_in_turn()
+    ensures turn { InTurn }
+    ensures leads { LeadsToTheseAlone }
 {}
 
 /// The rule that a verdict tells stands at its path under its number, matches, and decides; an anchor rule never does. So it is
