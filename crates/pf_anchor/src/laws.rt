@@ -1,5 +1,5 @@
 //! What follows from the definitions that contracts cite: functions that do nothing, whose contracts are the laws.
-ghost use Rattle.pf_anchor.specs.Laws.{ReplacesTheKey, StaysSorted, OneList, ReplacesInTurn, StaysMap, OneMap, ChildrenAreAMap};
+ghost use Rattle.pf_anchor.specs.Laws.{ReplacesTheKey, StaysSorted, OneList, ReplacesInTurn, StaysMap, OneMap, ChildrenHaveRules};
 ghost use Rattle.pf_anchor.specs.EvaluationLaws.{TellsWhatDecides, Unrolls, IsTheOnly, DepthIsEnough, OwnMatch, EndsOutside, NothingWithin, MatchWithin, InTurn, LeadsToTheseAlone, QuickEnds, EndsTheVerdict, AnchorsNeverDecide, ToldRuleDecides, UnreachedIsNothing, InTwoParts, PassedOver};
 
 /// In a map under any keys in a total order, a key that was replaced has the new value, or none, all else stays, and the
@@ -24,9 +24,8 @@ pub fn one_map()
 {}
 
 /// The children of a path are, in the order of their bytes, the paths of one component more that have rules.
-#[tactic(auto, using(crate::proofs::RulesetMaps::children_are_a_map))]
 pub fn children_are_those_with_rules()
-    ensures { ChildrenAreAMap }
+    ensures { ChildrenHaveRules }
 {}
 
 /// Where the main ruleset has no anchor rule: the default is told where none of its rules matches; else the number of one that
