@@ -1,4 +1,4 @@
--- Evaluation of rulesets (pf.conf(5), PACKET FILTERING and ANCHORS): the last rule that matches decides, or the first quick one. Quick anchor rules are own.
+-- Evaluation of rulesets (pf.conf(5), PACKET FILTERING and ANCHORS): the last rule that matches decides, or the first quick one. Quick anchor rules, the order of children by bytes and the limits of paths are own.
 use Rattle.std.specs.Prelude.{ℕ, zero, suc, ◌+◌, ◌-◌, Bool, cond, List, [], ◌∷◌, Option, Some, None}
 use Rattle.pf_path.specs.declared.limits.TheConstants.{DEPTH_LIMIT}
 use Rattle.pf_path.specs.Paths.{main}
@@ -81,6 +81,6 @@ abbrev pub verdict_by : Option PlainMatch → RuleVerdict
 verdict_by None = by.Default
 verdict_by (Some m) = by.Rule m.path m.number m.action
 
--- a packet is judged by the main ruleset
+-- a packet is judged by the main ruleset, and where its anchor rules match by what they lead to
 abbrev pub judged : List Ruled → PlainPacket → RuleVerdict
 judged c packet = verdict_by (last_of (evaluation c (matching packet) (ruled main (rules_at main c))))

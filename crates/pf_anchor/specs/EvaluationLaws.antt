@@ -147,7 +147,7 @@ ToldRuleDecides = (c : List Ruled) (packet : PlainPacket) (p : List ℕ) (n : �
 abbrev pub NoneLeadsTo : List ℕ → List Ruled → Type 0
 NoneLeadsTo q c = (e : Ruled) (n : ℕ) (r : PlainRule) (s : PlainReference) → IsIn e c → rule_numbered e.1 n ≡ Some r → r.effect ≡ Evaluate s → leads_to e.0 s q ≡ false
 
--- it may be replaced by any other and no verdict changes, where it isn't the main ruleset
+-- it may be replaced by any other and no verdict changes, where it isn't the main ruleset; rulesets that lead only to one another are taken out one by one, the outermost first
 abbrev pub UnreachedIsNothing : Type 0
 UnreachedIsNothing = (c : List Ruled) (new : Ruled) (packet : PlainPacket) → IsMap c → NoneLeadsTo new.0 c → same_path new.0 main ≡ false → judged (with_rules c new) packet ≡ judged c packet
 
