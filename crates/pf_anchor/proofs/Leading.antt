@@ -8,10 +8,11 @@ use Rattle.pf_path.specs.Nested.{path_within, is_child}
 use Rattle.pf_path.specs.References.{PlainReference}
 use Rattle.pf_rule.specs.Rules.{PlainRule}
 use Rattle.pf_anchor.specs.Rulesets.{Ruled, ruled, rules_in, rules_at, children, targets, IsMap}
-use Rattle.pf_anchor.specs.EvaluationLaws.{IsIn, rulesets_at, LeadsToTheseAlone}
+use Rattle.pf_anchor.specs.EvaluationLaws.{IsIn, InTurn, rulesets_at, LeadsToTheseAlone}
+use Rattle.pf_anchor.proofs.Evaluations.{and_then_none}
 use Rattle.pf_anchor.proofs.Entries.{entry_is}
 use Rattle.pf_anchor.proofs.RulesetMaps.{paths_kept}
-use Rattle.pf_anchor.proofs.Turns.{alone, one_there, no_targets, targets_from}
+use Rattle.pf_anchor.proofs.Turns.{alone, one_there, no_targets, targets_from, turns_append}
 
 -- entries that are kept of a map, each as it is found there
 found_again : (c : List Ruled) (test : List ℕ → Bool) (es : List Ruled) → ((e : Ruled) → IsIn e es → e ≡ ruled e.0 (rules_at e.0 c)) →
@@ -39,3 +40,6 @@ leads_to_one c p s is base at plain = targets_from c p s base false at plain ∙
 
 pub leads_to_these_alone : LeadsToTheseAlone
 leads_to_these_alone c p s is = record { by_wildcard = leads_to_children c p s is; one = leads_to_one c p s is; none = no_targets c p s }
+
+pub taken_in_turn : InTurn
+taken_in_turn f = record { none = refl; one = λ e. and_then_none (f e); more = turns_append f }

@@ -16,8 +16,8 @@ use Rattle.pf_anchor.specs.declared.evaluated.Evaluated.TheVariants.{Open}
 use Rattle.pf_anchor.specs.Maps.{without}
 use Rattle.pf_anchor.specs.Matches.{PlainMatch}
 use Rattle.pf_anchor.specs.Rulesets.{Ruled, ruled, rules_in, rules_at, with_rules, leads_to, targets}
-use Rattle.pf_anchor.specs.Evaluation.{Tests, in_turn, effected, evaluate_with, levels, evaluation, matching, verdict_by, last_of}
-use Rattle.pf_anchor.specs.EvaluationLaws.{IsIn, rule_numbered, rules_at_path, NoneLeadsTo, UnreachedIsNothing}
+use Rattle.pf_anchor.specs.Evaluation.{Tests, in_turn, effected, evaluate_with, levels, evaluation, matching, verdict_by, last_of, rules_at_path}
+use Rattle.pf_anchor.specs.EvaluationLaws.{IsIn, rule_numbered, NoneLeadsTo, UnreachedIsNothing}
 use Rattle.pf_anchor.proofs.RulesetMaps.{replaced_in_turn}
 use Rattle.pf_anchor.proofs.Entries.{found_is_in}
 

@@ -14,7 +14,7 @@ use Rattle.pf_anchor.specs.declared.evaluated.Evaluated.TheVariants.{Open, Ended
 use Rattle.pf_anchor.specs.declared.verdict.RuleVerdict.TheVariants as by
 use Rattle.pf_anchor.specs.Matches.{PlainMatch, found}
 use Rattle.pf_anchor.specs.Rulesets.{Ruled, ruled, IsMap, rules_at, with_rules, children, leads_to, targets}
-use Rattle.pf_anchor.specs.Evaluation.{Tests, and_then, rules_from, in_turn, effected, evaluate_with, levels, evaluation, matching, judged}
+use Rattle.pf_anchor.specs.Evaluation.{Tests, and_then, in_turn, rules_at_path, evaluate_with, levels, evaluation, matching, judged}
 
 -- ---- one solution
 
@@ -54,10 +54,6 @@ TellsWhatDecides = (c : List Ruled) (packet : PlainPacket) → list_all decides 
 
 -- ---- a rule that matches, before other rules; f is what each ruleset gives
 
--- the rules from this number on, as those of a path
-abbrev pub rules_at_path : (Ruled → Evaluated PlainMatch) → List Ruled → Tests → List ℕ → ℕ → List PlainRule → Evaluated PlainMatch
-rules_at_path f c tests p n rs = rules_from (λ k r. effected f c p k r.effect) (tests p) n rs
-
 -- of a rule that decides a quick one ends, and else its match stands until a later one
 abbrev pub OwnMatch : Type 0
 OwnMatch = (f : Ruled → Evaluated PlainMatch) (c : List Ruled) (tests : Tests) (p : List ℕ) (n : ℕ) (r : PlainRule) (a : Action) (rs : List PlainRule) →
@@ -84,8 +80,13 @@ MatchWithin = (f : Ruled → Evaluated PlainMatch) (c : List Ruled) (tests : Tes
 -- ---- what a rule leads to
 
 -- of rulesets in turn the first that ends ends all, and else the latest match stands
+pub record TakesInTurn (f : Ruled → Evaluated PlainMatch) : Type 0 where
+  pub none : in_turn f [] ≡ Open None
+  pub one : (e : Ruled) → in_turn f (e ∷ []) ≡ f e
+  pub more : (front back : List Ruled) → in_turn f (front ++ back) ≡ and_then (in_turn f front) (in_turn f back)
+
 abbrev pub InTurn : Type 0
-InTurn = (f : Ruled → Evaluated PlainMatch) (front back : List Ruled) → in_turn f (front ++ back) ≡ and_then (in_turn f front) (in_turn f back)
+InTurn = (f : Ruled → Evaluated PlainMatch) → TakesInTurn f
 
 -- the rulesets at some paths
 abbrev pub rulesets_at : List Ruled → List (List ℕ) → List Ruled
