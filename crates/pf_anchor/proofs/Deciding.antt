@@ -1,5 +1,7 @@
--- What is found is a rule that decides.
-use Rattle.std.proofs.Common.{◌≡◌, ℕ, zero, suc, ◌+◌, inl, inr, Bool, true, false, cond, List, [], ◌∷◌, Some, None, refl, sym, ap, ◌∙◌, subst, arith}
+-- What is found is a rule that decides, and a verdict tells which.
+use Rattle.std.proofs.Common.{◌≡◌, ℕ, T, zero, suc, ◌+◌, inl, inr, Bool, true, false, cond, List, [], ◌∷◌, Option, Some, None, refl, sym, ap, ◌∙◌, subst, arith}
+use Rattle.std.specs.FinMap.{find, is_sorted}
+use Rattle.pf_path.specs.Paths.{main, path_order}
 use Rattle.pf_path.specs.References.{PlainReference}
 use Rattle.pf_rule.specs.Rules.{PlainRule}
 use Rattle.pf_rule.specs.declared.rule.Action.{Action}
@@ -7,10 +9,13 @@ use Rattle.pf_rule.specs.declared.rule.Effect.{Effect}
 use Rattle.pf_rule.specs.declared.rule.Effect.TheVariants.{Decide, Evaluate}
 use Rattle.pf_anchor.specs.declared.evaluated.Evaluated.{Evaluated}
 use Rattle.pf_anchor.specs.declared.evaluated.Evaluated.TheVariants.{Open, Ended}
+use Rattle.pf_anchor.specs.declared.verdict.RuleVerdict.TheVariants as by
 use Rattle.pf_anchor.specs.Matches.{PlainMatch, found}
-use Rattle.pf_anchor.specs.Rulesets.{Ruled, targets, leads_to}
-use Rattle.pf_anchor.specs.Evaluation.{Tests, and_then, settled, in_turn, effected, evaluate_with, levels, evaluation}
-use Rattle.pf_anchor.specs.EvaluationLaws.{IsIn, rule_numbered, IsDecidedBy, Holds, AnchorsNeverDecide, rules_at_path}
+use Rattle.pf_anchor.specs.Rulesets.{Ruled, ruled, rules_in, rules_at, targets, leads_to}
+use Rattle.pf_anchor.specs.Evaluation.{Tests, and_then, settled, in_turn, effected, evaluate_with, levels, evaluation, matching, verdict_by, last_of, judged, rules_at_path}
+use Rattle.pf_anchor.specs.EvaluationLaws.{IsIn, rule_numbered, IsDecidedBy, Holds, AnchorsNeverDecide, ToldRuleDecides}
+use Rattle.pf_anchor.proofs.Evaluations.{default_judged}
+use Rattle.pf_anchor.proofs.Entries.{found_is_in, entry_is}
 
 both_hold : (P : PlainMatch → Type 0) (a b : Evaluated PlainMatch) → Holds P a → Holds P b → Holds P (and_then a b)
 both_hold P (Ended m) b h k = h
@@ -68,3 +73,33 @@ levels_hold (suc d) c tests e i = one_level_holds c tests (levels d c tests) e i
 pub anchors_never_decide : AnchorsNeverDecide
 unfolding evaluation
 anchors_never_decide c tests e i = levels_hold _ c tests e i
+
+-- ---- the rule that a verdict tells
+
+told_is : (m : PlainMatch) (p : List ℕ) (n : ℕ) (a : Action) → verdict_by (Some m) ≡ by.Rule p n a → m ≡ found p n a
+told_is m p n a told =
+    let path : m.path ≡ p = cc in
+    let number : m.number ≡ n = cc in
+    let action : m.action ≡ a = cc in
+    ap (λ (q : List ℕ). found q m.number m.action) path ∙ ap (λ (k : ℕ). found p k m.action) number ∙ ap (found p n) action
+
+told_holds : (P : PlainMatch → Type 0) (x : Evaluated PlainMatch) (p : List ℕ) (n : ℕ) (a : Action) → Holds P x → verdict_by (last_of x) ≡ by.Rule p n a → P (found p n a)
+told_holds P (Ended m) p n a h told = let same : m ≡ found p n a = told_is m p n a told in subst P same h
+told_holds P (Open None) p n a h told = absurd (cc (told))
+told_holds P (Open (Some m)) p n a h told = let same : m ≡ found p n a = told_is m p n a told in subst P same h
+
+entry_decides : (c : List Ruled) (tests : Tests) (p : List ℕ) (n : ℕ) (a : Action) (t : Ruled) → T (is_sorted path_order c) → IsIn t c → IsDecidedBy tests (found p n a) t →
+    (r : PlainRule) × ((rule_numbered (rules_at p c) n ≡ Some r) × (tests p r ≡ true) × (r.effect ≡ Decide a))
+entry_decides c tests p n a t sorted i is =
+    let rules : rules_at p c ≡ t.1 = sym (ap (λ (e : Ruled). e.1) (entry_is c t sorted i) ∙ ap (λ (q : List ℕ). rules_at q c) is.1.0) in
+    (is.0, (ap (λ (rs : List PlainRule). rule_numbered rs n) rules ∙ is.1.1, ap (λ (q : List ℕ). tests q is.0) (sym is.1.0) ∙ is.1.2, is.1.3))
+
+pub told_rule_decides : ToldRuleDecides
+told_rule_decides c packet p n a is told = by (find path_order main c) refl where
+  by : (v : Option (List PlainRule)) → find path_order main c ≡ v → (r : PlainRule) × ((rule_numbered (rules_at p c) n ≡ Some r) × (matching packet p r ≡ true) × (r.effect ≡ Decide a))
+  by None none = absurd (cc (default_judged c packet (ap rules_in none), told))
+  by (Some rs) some =
+      let e = ruled main rs in
+      let there : judged c packet ≡ verdict_by (last_of (evaluation c (matching packet) e)) = ap (λ (v : Option (List PlainRule)). verdict_by (last_of (evaluation c (matching packet) (ruled main (rules_in v))))) some in
+      let decided = told_holds (λ m. (t : Ruled) × (IsIn t c × IsDecidedBy (matching packet) m t)) (evaluation c (matching packet) e) p n a (anchors_never_decide c (matching packet) e (found_is_in main c rs some)) (sym there ∙ told) in
+      entry_decides c (matching packet) p n a decided.0 is.sorted decided.1.0 decided.1.1

@@ -16,7 +16,7 @@ use Rattle.pf_anchor.specs.declared.evaluated.Evaluated.TheVariants.{Open, Ended
 use Rattle.pf_anchor.specs.declared.verdict.RuleVerdict.TheVariants.{Default}
 use Rattle.pf_anchor.specs.Matches.{PlainMatch}
 use Rattle.pf_anchor.specs.Rulesets.{Ruled, ruled, rules_at, leads_from, leads_to, targets}
-use Rattle.pf_anchor.specs.Evaluation.{Tests, and_then, in_turn, last_of, effected, rules_from, evaluate_with, levels, evaluation, matching, verdict_by, judged}
+use Rattle.pf_anchor.specs.Evaluation.{Tests, and_then, in_turn, last_of, effected, rules_give, evaluate_with, levels, evaluation, matching, verdict_by, judged}
 use Rattle.pf_anchor.specs.EvaluationLaws.{Unrolls, IsTheOnly, DepthIsEnough}
 
 -- ---- evaluations one after the other
@@ -69,7 +69,7 @@ effects_agree : (f g : Ruled → Evaluated PlainMatch) (c : List Ruled) (p : Lis
 effects_agree f g c p h n (Decide a) = refl
 effects_agree f g c p h n (Evaluate s) = targets_agree f g p s c (h s)
 
-rules_agree : {M : Type 0} (f g : ℕ → PlainRule → Evaluated M) (test : PlainRule → Bool) → ((n : ℕ) (r : PlainRule) → f n r ≡ g n r) → (n : ℕ) (rs : List PlainRule) → rules_from f test n rs ≡ rules_from g test n rs
+rules_agree : {M : Type 0} (f g : ℕ → PlainRule → Evaluated M) (test : PlainRule → Bool) → ((n : ℕ) (r : PlainRule) → f n r ≡ g n r) → (n : ℕ) (rs : List PlainRule) → rules_give f test n rs ≡ rules_give g test n rs
 rules_agree f g test h n [] = refl
 rules_agree f g test h n (r ∷ rs) =
     let here = h n r in

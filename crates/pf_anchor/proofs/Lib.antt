@@ -7,3 +7,5 @@ pub mod Turns
 pub mod AnchorRules
 pub mod Deciding
 pub mod Unreached
+pub mod Entries
+pub mod Leading

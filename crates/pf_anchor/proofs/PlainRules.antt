@@ -10,7 +10,7 @@ use Rattle.pf_anchor.specs.declared.evaluated.Evaluated.{Evaluated}
 use Rattle.pf_anchor.specs.declared.evaluated.Evaluated.TheVariants.{Open, Ended}
 use Rattle.pf_anchor.specs.Matches.{PlainMatch, found}
 use Rattle.pf_anchor.specs.Rulesets.{Ruled, ruled, rules_at}
-use Rattle.pf_anchor.specs.Evaluation.{and_then, settled, effected, rules_from, evaluation, matching, last_of, verdict_by}
+use Rattle.pf_anchor.specs.Evaluation.{and_then, settled, effected, rules_give, evaluation, matching, last_of, verdict_by}
 use Rattle.pf_anchor.specs.EvaluationLaws.{IsDeciding, TellsWhatDecides, decides}
 use Rattle.pf_anchor.proofs.Evaluations.{none_and_then, unrolled}
 
@@ -54,11 +54,11 @@ both : (a b : Bool) → (a && b) ≡ true → (a ≡ true) × (b ≡ true)
 both true b h = (refl, h)
 both false b h = absurd (cc (h))
 
-finds : (f : Ruled → Evaluated PlainMatch) (c : List Ruled) (test : PlainRule → Bool) (p : List ℕ) (k : ℕ) (rules : List PlainRule) → list_all decides rules ≡ true → Found test p k rules (rules_from (λ n r. effected f c p n r.effect) test k rules)
+finds : (f : Ruled → Evaluated PlainMatch) (c : List Ruled) (test : PlainRule → Bool) (p : List ℕ) (k : ℕ) (rules : List PlainRule) → list_all decides rules ≡ true → Found test p k rules (rules_give (λ n r. effected f c p n r.effect) test k rules)
 finds f c test p k [] plain = inl (refl, refl)
 finds f c test p k (x ∷ xs) plain =
     let parts = both (decides x) (list_all decides xs) plain in
-    step f c test p k x xs (rules_from (λ n r. effected f c p n r.effect) test (k + 1) xs) (test x) x.quick x.effect refl refl refl parts.0 (finds f c test p (k + 1) xs parts.1)
+    step f c test p k x xs (rules_give (λ n r. effected f c p n r.effect) test (k + 1) xs) (test x) x.quick x.effect refl refl refl parts.0 (finds f c test p (k + 1) xs parts.1)
 
 pub tells_what_decides : TellsWhatDecides
 tells_what_decides c packet plain =

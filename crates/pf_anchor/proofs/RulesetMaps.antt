@@ -1,14 +1,17 @@
 -- The map of rulesets: what a commit leaves of it.
-use Rattle.std.proofs.Common.{◌≡◌, ◌≢◌, ◌==◌, ℕ, ◌+◌, ◌≤◌, Bool, true, false, cond, List, [], ◌∷◌, length, refl, sym, ap, subst, ◌∙◌, Option, Some, None, arith}
-use Rattle.std.specs.Prelude.{fold, map, filter}
-use Rattle.std.specs.FinMap.{find, slice_cmp-IsAntisymmetric, nat_cmp-IsAntisymmetric}
-use Rattle.std.specs.FinMap.Entries.{same_entries, find-where_key, is_sorted-where_key}
+use Rattle.std.proofs.Common.{◌≡◌, ◌≢◌, ◌==◌, ◌&&◌, not, T, ℕ, ◌+◌, ◌≤◌, Bool, true, false, cond, List, [], ◌∷◌, length, refl, sym, ap, subst, ◌∙◌, Option, Some, None, arith}
+use Rattle.std.specs.Prelude.{fold, map, filter, is_some}
+use Rattle.std.specs.FinMap.{find, is_sorted, slice_cmp-IsAntisymmetric, nat_cmp-IsAntisymmetric}
+use Rattle.std.specs.FinMap.Entries.{same_entries, below_all, is_some-find, is_sorted-where_key}
+use Rattle.std.proofs.lemmas.Bool.Decides.{nat_tests}
+use Rattle.std.proofs.lemmas.Map.Views.{any-filter_same}
 use Rattle.std.proofs.lemmas.Cmp.{eq_by_cmp_equiv, nat_list_cmp_total}
+use Rattle.pf_path.proofs.PathsRead.{same_path_is}
 use Rattle.pf_path.specs.Nested.{is_child}
 use Rattle.pf_rule.specs.Rules.{PlainRule}
-use Rattle.pf_anchor.specs.Laws.{rules_by, ReplacesInTurn, StaysMap, OneMap, ChildrenAreAMap}
+use Rattle.pf_anchor.specs.Laws.{rules_by, ReplacesInTurn, StaysMap, OneMap, in_order, ChildrenHaveRules}
 use Rattle.pf_path.specs.Paths.{path_order, same_path}
-use Rattle.pf_anchor.specs.Rulesets.{Ruled, unless_empty, rules_in, rules_at, with_rules, IsMap}
+use Rattle.pf_anchor.specs.Rulesets.{Ruled, ruled, unless_empty, rules_in, rules_at, with_rules, IsMap}
 use Rattle.pf_anchor.proofs.Maps.{replaces_the_key, stays_sorted, with_grows}
 
 -- ---- replaced
@@ -68,7 +71,7 @@ all_grow (i ∷ items) es = omega (arith, all_grow items (with_rules es i), with
 
 -- ---- children
 
-paths_kept : (test : List ℕ → Bool) (c : List Ruled) → filter test (map (λ (e : Ruled). e.0) c) ≡ map (λ (e : Ruled). e.0) (filter (λ e. test e.0) c)
+pub paths_kept : (test : List ℕ → Bool) (c : List Ruled) → filter test (map (λ (e : Ruled). e.0) c) ≡ map (λ (e : Ruled). e.0) (filter (λ e. test e.0) c)
 paths_kept test [] = refl
 paths_kept test (e ∷ c) = by (test e.0) (paths_kept test c) where
   by : (b : Bool) → filter test (map (λ (x : Ruled). x.0) c) ≡ map (λ (x : Ruled). x.0) (filter (λ x. test x.0) c) →
@@ -76,26 +79,36 @@ paths_kept test (e ∷ c) = by (test e.0) (paths_kept test c) where
   by true rest = ap (λ (paths : List (List ℕ)). e.0 ∷ paths) rest
   by false rest = rest
 
-found_kept_of : (test : List ℕ → Bool) (c : List Ruled) (q : List ℕ) → find path_order q (filter (λ e. test e.0) c) ≡ cond (test q) (find path_order q c) None
-found_kept_of test c q = find-where_key path_order test q (λ x tied. ap test (sym (slice_cmp-IsAntisymmetric nat_cmp-IsAntisymmetric q x tied))) c
+both_hold : (a b : Bool) → T a → T b → T (a && b)
+both_hold true b p q = q
+both_hold false b p q = p
 
-never_empty_of : (b : Bool) (v : Option (List PlainRule)) → v ≢ Some [] → cond b v None ≢ Some []
-never_empty_of true v h = h
-never_empty_of false v h = λ e. absurd (cc (e))
+first_holds : (a b : Bool) → T (a && b) → T a
+first_holds true b p = tt
+first_holds false b p = p
 
-rules_kept_of : (b : Bool) (v : Option (List PlainRule)) → rules_in (cond b v None) ≡ cond b (rules_in v) []
-rules_kept_of true v = refl
-rules_kept_of false v = refl
+second_holds : (a b : Bool) → T (a && b) → T b
+second_holds true b p = p
+second_holds false b p = absurd p
 
-pub children_are_a_map : ChildrenAreAMap
-children_are_a_map c p is = (
-  filter (λ e. is_child p e.0) c,
-  (
-    paths_kept (is_child p) c,
-    record {
-      sorted = is_sorted-where_key path_order (is_child p) c is.sorted;
-      ruled = λ q. subst (λ v. v ≢ Some []) (sym (found_kept_of (is_child p) c q)) (never_empty_of (is_child p q) (find path_order q c) (is.ruled q));
-    },
-    λ q. ap rules_in (found_kept_of (is_child p) c q) ∙ rules_kept_of (is_child p q) (find path_order q c),
-  ),
-)
+-- the paths of a map stand in its order
+below_keys : (k : List ℕ) (es : List Ruled) → T (below_all path_order k es) → T (below_all path_order k (map (λ q. ruled q []) (map (λ (e : Ruled). e.0) es)))
+below_keys k [] h = h
+below_keys k (e ∷ es) h = both_hold _ _ (first_holds _ _ h) (below_keys k es (second_holds _ _ h))
+
+keys_sorted : (es : List Ruled) → T (is_sorted path_order es) → T (in_order (map (λ (e : Ruled). e.0) es))
+keys_sorted [] h = h
+keys_sorted (e ∷ es) h = both_hold _ _ (below_keys e.0 es (first_holds _ _ h)) (keys_sorted es (second_holds _ _ h))
+
+has_rules : (v : Option (List PlainRule)) → v ≢ Some [] → is_some v ≡ not (length (rules_in v) == 0)
+has_rules None some = refl
+has_rules (Some []) some = absurd (some refl)
+has_rules (Some (r ∷ rs)) some = let filled : (length (r ∷ rs) == 0) ≡ false = grind (arith, nat_tests) in sym (ap not filled)
+
+pub children_have_rules : ChildrenHaveRules
+children_have_rules c p is = record {
+  ordered = subst (λ (paths : List (List ℕ)). T (in_order paths)) (sym (paths_kept (is_child p) c)) (keys_sorted (filter (λ e. is_child p e.0) c) (is_sorted-where_key path_order (is_child p) c is.sorted));
+  each = λ q.
+      any-filter_same (same_path q) (is_child p) (is_child p q) (λ k same. ap (is_child p) (sym (same_path_is q k same))) (map (λ (e : Ruled). e.0) c)
+      ∙ ap (λ (b : Bool). is_child p q && b) (sym (is_some-find path_order q c) ∙ has_rules (find path_order q c) (is.ruled q));
+}

@@ -19,7 +19,7 @@ use Rattle.pf_anchor.specs.declared.evaluated.Evaluated.{Evaluated}
 use Rattle.pf_anchor.specs.declared.evaluated.Evaluated.TheVariants.{Open}
 use Rattle.pf_anchor.specs.Pages.{joined}
 use Rattle.pf_anchor.specs.Rulesets.{Ruled, ruled, rules_in, rules_at, leads_from, targets, children}
-use Rattle.pf_anchor.specs.Evaluation.{and_then, settled, rules_from, in_turn}
+use Rattle.pf_anchor.specs.Evaluation.{and_then, settled, rules_give, in_turn}
 use Rattle.pf_anchor.proofs.Evaluations.{none_and_then, and_then_none, and_then_assoc}
 
 pub placed_is : (e : Ruled) (p : List ℕ) (es rest : List Ruled) → same_path p e.0 ≡ true → rules_at p es ≡ rules_at p (e ∷ rest) → e ≡ ruled p (rules_at p es)
@@ -43,19 +43,19 @@ page_turn f test page pages = ap (in_turn f) (filter-append test page (joined pa
 
 -- a rule before others: it matches and the evaluation goes on, or it doesn't match
 pub rule_goes_on : {M : Type 0} (effect : ℕ → PlainRule → Evaluated M) (test : PlainRule → Bool) (last latest : Option M) (n : ℕ) (rules : List PlainRule) (r : PlainRule) (rest : List PlainRule) →
-    rules ≡ r ∷ rest → test r ≡ true → Open latest ≡ settled r.quick (effect n r) → and_then (Open last) (rules_from effect test n rules) ≡ and_then (Open (option_or latest last)) (rules_from effect test (n + 1) rest)
+    rules ≡ r ∷ rest → test r ≡ true → Open latest ≡ settled r.quick (effect n r) → and_then (Open last) (rules_give effect test n rules) ≡ and_then (Open (option_or latest last)) (rules_give effect test (n + 1) rest)
 rule_goes_on {M} effect test last latest n rules r rest left is settles =
-    ap (λ (rs : List PlainRule). and_then (Open last) (rules_from effect test n rs)) left
-    ∙ ap (λ (b : Bool). and_then (Open last) (and_then (cond b (settled r.quick (effect n r)) (Open None)) (rules_from effect test (n + 1) rest))) is
-    ∙ ap (λ (x : Evaluated M). and_then (Open last) (and_then x (rules_from effect test (n + 1) rest))) (sym settles)
-    ∙ then_open last latest (rules_from effect test (n + 1) rest)
+    ap (λ (rs : List PlainRule). and_then (Open last) (rules_give effect test n rs)) left
+    ∙ ap (λ (b : Bool). and_then (Open last) (and_then (cond b (settled r.quick (effect n r)) (Open None)) (rules_give effect test (n + 1) rest))) is
+    ∙ ap (λ (x : Evaluated M). and_then (Open last) (and_then x (rules_give effect test (n + 1) rest))) (sym settles)
+    ∙ then_open last latest (rules_give effect test (n + 1) rest)
 
 pub rule_passed : {M : Type 0} (effect : ℕ → PlainRule → Evaluated M) (test : PlainRule → Bool) (last : Option M) (n : ℕ) (rules : List PlainRule) (r : PlainRule) (rest : List PlainRule) →
-    rules ≡ r ∷ rest → test r ≡ false → and_then (Open last) (rules_from effect test n rules) ≡ and_then (Open last) (rules_from effect test (n + 1) rest)
+    rules ≡ r ∷ rest → test r ≡ false → and_then (Open last) (rules_give effect test n rules) ≡ and_then (Open last) (rules_give effect test (n + 1) rest)
 rule_passed effect test last n rules r rest left is =
-    ap (λ (rs : List PlainRule). and_then (Open last) (rules_from effect test n rs)) left
-    ∙ ap (λ (b : Bool). and_then (Open last) (and_then (cond b (settled r.quick (effect n r)) (Open None)) (rules_from effect test (n + 1) rest))) is
-    ∙ ap (and_then (Open last)) (none_and_then (rules_from effect test (n + 1) rest))
+    ap (λ (rs : List PlainRule). and_then (Open last) (rules_give effect test n rs)) left
+    ∙ ap (λ (b : Bool). and_then (Open last) (and_then (cond b (settled r.quick (effect n r)) (Open None)) (rules_give effect test (n + 1) rest))) is
+    ∙ ap (and_then (Open last)) (none_and_then (rules_give effect test (n + 1) rest))
 
 -- a page before others
 pub page_step : {M : Type 0} (f : Ruled → Evaluated M) (test : Ruled → Bool) (last : Option M) (pages : List (List Ruled)) (page : List Ruled) (rest : List (List Ruled)) (x : Evaluated M) →

@@ -16,9 +16,10 @@ use Rattle.pf_anchor.specs.declared.evaluated.Evaluated.TheVariants.{Open}
 use Rattle.pf_anchor.specs.Maps.{without}
 use Rattle.pf_anchor.specs.Matches.{PlainMatch}
 use Rattle.pf_anchor.specs.Rulesets.{Ruled, ruled, rules_in, rules_at, with_rules, leads_to, targets}
-use Rattle.pf_anchor.specs.Evaluation.{Tests, in_turn, effected, evaluate_with, levels, evaluation, matching, verdict_by, last_of}
-use Rattle.pf_anchor.specs.EvaluationLaws.{IsIn, rule_numbered, rules_at_path, NoneLeadsTo, UnreachedIsNothing}
+use Rattle.pf_anchor.specs.Evaluation.{Tests, in_turn, effected, evaluate_with, levels, evaluation, matching, verdict_by, last_of, rules_at_path}
+use Rattle.pf_anchor.specs.EvaluationLaws.{IsIn, rule_numbered, NoneLeadsTo, UnreachedIsNothing}
 use Rattle.pf_anchor.proofs.RulesetMaps.{replaced_in_turn}
+use Rattle.pf_anchor.proofs.Entries.{found_is_in}
 
 -- ---- entries of other paths stay
 
@@ -91,13 +92,6 @@ unfolding evaluation
 evaluations_agree c new tests e none avoids = levels_agree _ c new tests e none avoids
 
 -- ---- the main ruleset
-
-found_is_in : (p : List ℕ) (c : List Ruled) (rs : List PlainRule) → find path_order p c ≡ Some rs → IsIn (ruled p rs) c
-found_is_in p [] rs h = absurd (cc (h))
-found_is_in p (e ∷ c) rs h = by (same_path p e.0) refl h (found_is_in p c rs) where
-  by : (b : Bool) → same_path p e.0 ≡ b → cond b (Some e.1) (find path_order p c) ≡ Some rs → (find path_order p c ≡ Some rs → IsIn (ruled p rs) c) → IsIn (ruled p rs) (e ∷ c)
-  by true is there rest = let rules : e.1 ≡ rs = cc in inl (ap (λ (q : List ℕ). ruled q e.1) (sym (same_path_is p e.0 is)) ∙ ap (λ (x : List PlainRule). ruled p x) rules)
-  by false is there rest = inr (rest there)
 
 main_avoids : (c : List Ruled) (q : List ℕ) → NoneLeadsTo q c → Avoids q (ruled main (rules_at main c))
 main_avoids c q none = by (find path_order main c) refl where

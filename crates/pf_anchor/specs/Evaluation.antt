@@ -1,4 +1,4 @@
--- Evaluation of rulesets (pf.conf(5), PACKET FILTERING and ANCHORS): the last rule that matches decides, or the first quick one. Quick anchor rules are own.
+-- Evaluation of rulesets (pf.conf(5), PACKET FILTERING and ANCHORS): the last rule that matches decides, or the first quick one. Quick anchor rules, the order of children by bytes and the limits of paths are own.
 use Rattle.std.specs.Prelude.{ℕ, zero, suc, ◌+◌, ◌-◌, Bool, cond, List, [], ◌∷◌, Option, Some, None}
 use Rattle.pf_path.specs.declared.limits.TheConstants.{DEPTH_LIMIT}
 use Rattle.pf_path.specs.Paths.{main}
@@ -30,13 +30,13 @@ settled quick (Open None) = Open None
 settled quick (Open (Some m)) = cond quick (Ended m) (Open (Some m))
 
 -- one rule, by what its effect gives and which rules match
-abbrev pub said : {M : Type 0} → (ℕ → PlainRule → Evaluated M) → (PlainRule → Bool) → ℕ → PlainRule → Evaluated M
-said effect test n r = cond (test r) (settled r.quick (effect n r)) (Open None)
+abbrev pub rule_gives : {M : Type 0} → (ℕ → PlainRule → Evaluated M) → (PlainRule → Bool) → ℕ → PlainRule → Evaluated M
+rule_gives effect test n r = cond (test r) (settled r.quick (effect n r)) (Open None)
 
 -- the rules from this number on
-abbrev pub rules_from : {M : Type 0} → (ℕ → PlainRule → Evaluated M) → (PlainRule → Bool) → ℕ → List PlainRule → Evaluated M
-rules_from effect test n [] = Open None
-rules_from effect test n (r ∷ rs) = and_then (said effect test n r) (rules_from effect test (n + 1) rs)
+abbrev pub rules_give : {M : Type 0} → (ℕ → PlainRule → Evaluated M) → (PlainRule → Bool) → ℕ → List PlainRule → Evaluated M
+rules_give effect test n [] = Open None
+rules_give effect test n (r ∷ rs) = and_then (rule_gives effect test n r) (rules_give effect test (n + 1) rs)
 
 -- rulesets in turn, by what each gives
 abbrev pub in_turn : {M : Type 0} → (Ruled → Evaluated M) → List Ruled → Evaluated M
@@ -58,9 +58,13 @@ abbrev pub effected : (Ruled → Evaluated PlainMatch) → List Ruled → List �
 effected f c p n (Decide a) = Open (Some (found p n a))
 effected f c p n (Evaluate r) = in_turn f (targets c p r)
 
--- a ruleset, by what each gives that its rules lead to
+-- the rules of the ruleset at p from this number on, by what each ruleset gives that they lead to
+abbrev pub rules_at_path : (Ruled → Evaluated PlainMatch) → List Ruled → Tests → List ℕ → ℕ → List PlainRule → Evaluated PlainMatch
+rules_at_path f c tests p n rs = rules_give (λ k r. effected f c p k r.effect) (tests p) n rs
+
+-- a whole ruleset
 abbrev pub evaluate_with : (Ruled → Evaluated PlainMatch) → List Ruled → Tests → Ruled → Evaluated PlainMatch
-evaluate_with f c tests e = rules_from (λ n r. effected f c e.0 n r.effect) (tests e.0) 0 e.1
+evaluate_with f c tests e = rules_at_path f c tests e.0 0 e.1
 
 -- a ruleset with so many levels of rulesets within one another below it
 unfoldable pub levels : ℕ → List Ruled → Tests → Ruled → Evaluated PlainMatch
@@ -81,6 +85,6 @@ abbrev pub verdict_by : Option PlainMatch → RuleVerdict
 verdict_by None = by.Default
 verdict_by (Some m) = by.Rule m.path m.number m.action
 
--- a packet is judged by the main ruleset
+-- a packet is judged by the main ruleset, and where its anchor rules match by what they lead to
 abbrev pub judged : List Ruled → PlainPacket → RuleVerdict
 judged c packet = verdict_by (last_of (evaluation c (matching packet) (ruled main (rules_at main c))))

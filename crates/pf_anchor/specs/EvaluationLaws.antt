@@ -1,8 +1,9 @@
--- What follows from the definition of evaluation, in words (pf.conf(5), PACKET FILTERING and ANCHORS).
-use Rattle.std.specs.Prelude.{◌≡◌, ◌⊎◌, ℕ, zero, suc, ◌+◌, ◌≤◌, Bool, true, false, not, cond, ◌&&◌, List, [], ◌∷◌, ◌++◌, length, Option, Some, None}
+-- What follows from the definition of evaluation (pf.conf(5), PACKET FILTERING and ANCHORS): laws that say it without the levels, or without the recursion.
+use Rattle.std.specs.Prelude.{◌≡◌, ◌⊎◌, ℕ, zero, suc, ◌+◌, ◌≤◌, Bool, true, false, not, cond, ◌&&◌, List, [], ◌∷◌, ◌++◌, length, ◌==◌, map, Option, Some, None}
 use Rattle.std.specs.List.{list_all, list_any}
 use Rattle.pf_path.specs.declared.limits.TheConstants.{DEPTH_LIMIT}
 use Rattle.pf_path.specs.Paths.{main, same_path}
+use Rattle.pf_path.specs.Nested.{path_within}
 use Rattle.pf_path.specs.References.{PlainReference}
 use Rattle.pf_rule.specs.Packets.{PlainPacket}
 use Rattle.pf_rule.specs.Rules.{PlainRule}
@@ -11,9 +12,9 @@ use Rattle.pf_rule.specs.declared.rule.Effect.TheVariants.{Decide, Evaluate}
 use Rattle.pf_anchor.specs.declared.evaluated.Evaluated.{Evaluated}
 use Rattle.pf_anchor.specs.declared.evaluated.Evaluated.TheVariants.{Open, Ended}
 use Rattle.pf_anchor.specs.declared.verdict.RuleVerdict.TheVariants as by
-use Rattle.pf_anchor.specs.Matches.{PlainMatch}
-use Rattle.pf_anchor.specs.Rulesets.{Ruled, IsMap, rules_at, with_rules, leads_to, targets}
-use Rattle.pf_anchor.specs.Evaluation.{Tests, and_then, rules_from, in_turn, effected, evaluate_with, levels, evaluation, matching, judged}
+use Rattle.pf_anchor.specs.Matches.{PlainMatch, found}
+use Rattle.pf_anchor.specs.Rulesets.{Ruled, ruled, IsMap, rules_at, with_rules, children, leads_to, targets}
+use Rattle.pf_anchor.specs.Evaluation.{Tests, and_then, in_turn, rules_at_path, evaluate_with, levels, evaluation, matching, judged}
 
 -- ---- one solution
 
@@ -51,15 +52,17 @@ TellsWhatDecides = (c : List Ruled) (packet : PlainPacket) → list_all decides 
     ((list_any (matching packet main) (rules_at main c) ≡ false) × (judged c packet ≡ by.Default))
     ⊎ ((n : ℕ) × ((r : PlainRule) × ((a : Action) × (IsDeciding (matching packet main) (rules_at main c) n r × (r.effect ≡ Decide a) × (judged c packet ≡ by.Rule main n a)))))
 
--- ---- an anchor rule that matches, before other rules; f is what each ruleset gives
+-- ---- a rule that matches, before other rules; f is what each ruleset gives
+
+-- of a rule that decides a quick one ends, and else its match stands until a later one
+abbrev pub OwnMatch : Type 0
+OwnMatch = (f : Ruled → Evaluated PlainMatch) (c : List Ruled) (tests : Tests) (p : List ℕ) (n : ℕ) (r : PlainRule) (a : Action) (rs : List PlainRule) →
+    tests p r ≡ true → r.effect ≡ Decide a → rules_at_path f c tests p n (r ∷ rs) ≡ cond r.quick (Ended (found p n a)) (and_then (Open (Some (found p n a))) (rules_at_path f c tests p (n + 1) rs))
 
 abbrev pub IsAnchor : Tests → List ℕ → PlainRule → PlainReference → Type 0
 IsAnchor tests p r s = (tests p r ≡ true) × (r.effect ≡ Evaluate s)
 
-abbrev pub rules_at_path : (Ruled → Evaluated PlainMatch) → List Ruled → Tests → List ℕ → ℕ → List PlainRule → Evaluated PlainMatch
-rules_at_path f c tests p n rs = rules_from (λ k r. effected f c p k r.effect) (tests p) n rs
-
--- what ends within ends all
+-- what ends within an anchor rule ends the rule's ruleset too, and so all outside
 abbrev pub EndsOutside : Type 0
 EndsOutside = (f : Ruled → Evaluated PlainMatch) (c : List Ruled) (tests : Tests) (p : List ℕ) (n : ℕ) (r : PlainRule) (s : PlainReference) (rs : List PlainRule) (m : PlainMatch) →
     IsAnchor tests p r s → in_turn f (targets c p s) ≡ Ended m → rules_at_path f c tests p n (r ∷ rs) ≡ Ended m
@@ -73,6 +76,43 @@ NothingWithin = (f : Ruled → Evaluated PlainMatch) (c : List Ruled) (tests : T
 abbrev pub MatchWithin : Type 0
 MatchWithin = (f : Ruled → Evaluated PlainMatch) (c : List Ruled) (tests : Tests) (p : List ℕ) (n : ℕ) (r : PlainRule) (s : PlainReference) (rs : List PlainRule) (m : PlainMatch) →
     IsAnchor tests p r s → in_turn f (targets c p s) ≡ Open (Some m) → rules_at_path f c tests p n (r ∷ rs) ≡ cond r.quick (Ended m) (and_then (Open (Some m)) (rules_at_path f c tests p (n + 1) rs))
+
+-- ---- what a rule leads to
+
+-- of rulesets in turn the first that ends ends all, and else the latest match stands
+pub record TakesInTurn (f : Ruled → Evaluated PlainMatch) : Type 0 where
+  pub none : in_turn f [] ≡ Open None
+  pub one : (e : Ruled) → in_turn f (e ∷ []) ≡ f e
+  pub more : (front back : List Ruled) → in_turn f (front ++ back) ≡ and_then (in_turn f front) (in_turn f back)
+
+abbrev pub InTurn : Type 0
+InTurn = (f : Ruled → Evaluated PlainMatch) → TakesInTurn f
+
+-- the rulesets at some paths
+abbrev pub rulesets_at : List Ruled → List (List ℕ) → List Ruled
+rulesets_at c paths = map (λ q. ruled q (rules_at q c)) paths
+
+-- a rule leads to the ruleset at its path if there is one, by a wildcard to those at its children in their order, and past the limits to none
+pub record LeadsThere (c : List Ruled) (p : List ℕ) (s : PlainReference) : Type 0 where
+  pub by_wildcard : (base : List ℕ) → path_within p s.names ≡ Some base → s.wildcard ≡ true → targets c p s ≡ rulesets_at c (children c base)
+  pub one : (base : List ℕ) → path_within p s.names ≡ Some base → s.wildcard ≡ false → targets c p s ≡ cond (length (rules_at base c) == 0) [] (rulesets_at c (base ∷ []))
+  pub none : path_within p s.names ≡ None → targets c p s ≡ []
+
+abbrev pub LeadsToTheseAlone : Type 0
+LeadsToTheseAlone = (c : List Ruled) (p : List ℕ) (s : PlainReference) → IsMap c → LeadsThere c p s
+
+-- ---- a quick end, over a whole ruleset
+
+-- a quick rule that decides ends its ruleset's evaluation where no rule before it did, at any path: no rule behind it is looked at
+abbrev pub QuickEnds : Type 0
+QuickEnds = (c : List Ruled) (tests : Tests) (p : List ℕ) (front back : List PlainRule) (r : PlainRule) (a : Action) (last : Option PlainMatch) →
+    rules_at_path (evaluation c tests) c tests p 0 front ≡ Open last → tests p r ≡ true → r.effect ≡ Decide a → r.quick ≡ true → evaluation c tests (ruled p (front ++ r ∷ back)) ≡ Ended (found p (length front) a)
+
+-- what ends within an anchor rule of the main ruleset is told, whatever stands behind that rule
+abbrev pub EndsTheVerdict : Type 0
+EndsTheVerdict = (c : List Ruled) (packet : PlainPacket) (front back : List PlainRule) (r : PlainRule) (s : PlainReference) (last : Option PlainMatch) (m : PlainMatch) →
+    rules_at main c ≡ front ++ r ∷ back → rules_at_path (evaluation c (matching packet)) c (matching packet) main 0 front ≡ Open last → IsAnchor (matching packet) main r s →
+    in_turn (evaluation c (matching packet)) (targets c main s) ≡ Ended m → judged c packet ≡ by.Rule m.path m.number m.action
 
 -- ---- what decides
 
@@ -98,12 +138,17 @@ Holds P (Open (Some m)) = P m
 abbrev pub AnchorsNeverDecide : Type 0
 AnchorsNeverDecide = (c : List Ruled) (tests : Tests) (e : Ruled) → IsIn e c → Holds (λ m. (t : Ruled) × (IsIn t c × IsDecidedBy tests m t)) (evaluation c tests e)
 
+-- the rule that a verdict tells stands at that path under that number, matches the packet, and does what is told
+abbrev pub ToldRuleDecides : Type 0
+ToldRuleDecides = (c : List Ruled) (packet : PlainPacket) (p : List ℕ) (n : ℕ) (a : Action) →
+    IsMap c → judged c packet ≡ by.Rule p n a → (r : PlainRule) × ((rule_numbered (rules_at p c) n ≡ Some r) × (matching packet p r ≡ true) × (r.effect ≡ Decide a))
+
 -- ---- a ruleset that no rule leads to
 
 abbrev pub NoneLeadsTo : List ℕ → List Ruled → Type 0
 NoneLeadsTo q c = (e : Ruled) (n : ℕ) (r : PlainRule) (s : PlainReference) → IsIn e c → rule_numbered e.1 n ≡ Some r → r.effect ≡ Evaluate s → leads_to e.0 s q ≡ false
 
--- it may be replaced by any other and no verdict changes, where it isn't the main ruleset
+-- it may be replaced by any other and no verdict changes, where it isn't the main ruleset; rulesets that lead only to one another are taken out one by one, the outermost first
 abbrev pub UnreachedIsNothing : Type 0
 UnreachedIsNothing = (c : List Ruled) (new : Ruled) (packet : PlainPacket) → IsMap c → NoneLeadsTo new.0 c → same_path new.0 main ≡ false → judged (with_rules c new) packet ≡ judged c packet
 

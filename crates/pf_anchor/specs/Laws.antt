@@ -1,12 +1,13 @@
 -- What follows from the definitions of maps, as law functions promise it.
-use Rattle.std.specs.Prelude.{◌≡◌, ℕ, T, cond, List, [], ◌∷◌, Option, fold, map}
+use Rattle.std.specs.Prelude.{◌≡◌, ℕ, ◌==◌, ◌&&◌, T, Bool, not, cond, List, [], ◌∷◌, length, Option, fold, map}
+use Rattle.std.specs.List.{list_any}
 use Rattle.std.specs.declared.cmp.Ordering.{Ordering}
 use Rattle.std.specs.FinMap.{IsAntisymmetric, find, is_sorted}
 use Rattle.std.specs.Ordering.{eq_by_cmp}
 use Rattle.pf_rule.specs.Rules.{PlainRule}
 use Rattle.pf_anchor.specs.Maps.{with_value}
-use Rattle.pf_path.specs.Paths.{same_path}
-use Rattle.pf_anchor.specs.Rulesets.{Ruled, rules_at, with_rules, children, IsMap}
+use Rattle.pf_path.specs.Paths.{path_order, same_path}
+use Rattle.pf_anchor.specs.Rulesets.{Ruled, ruled, rules_at, with_rules, children, IsMap}
 use Rattle.pf_path.specs.Nested.{is_child}
 
 -- ---- any map, under keys in a total order
@@ -44,6 +45,14 @@ OneMap = (a b : List Ruled) → IsMap a → IsMap b → ((q : List ℕ) → rule
 
 -- ---- children
 
--- the children of a path are the paths, in order, of the map that keeps of a map the rulesets of one component more, and no other
-abbrev pub ChildrenAreAMap : Type 0
-ChildrenAreAMap = (c : List Ruled) (p : List ℕ) → IsMap c → (es : List Ruled) × ((children c p ≡ map (λ e. e.0) es) × IsMap es × ((q : List ℕ) → rules_at q es ≡ cond (is_child p q) (rules_at q c) []))
+-- paths in order, none of them twice
+abbrev pub in_order : List (List ℕ) → Bool
+in_order paths = is_sorted path_order (map (λ q. ruled q []) paths)
+
+-- the children of a path, in order: the paths of one component more that have rules
+pub record AreChildren (c : List Ruled) (p : List ℕ) (paths : List (List ℕ)) : Type 0 where
+  pub ordered : T (in_order paths)
+  pub each : (q : List ℕ) → list_any (same_path q) paths ≡ (is_child p q && not (length (rules_at q c) == 0))
+
+abbrev pub ChildrenHaveRules : Type 0
+ChildrenHaveRules = (c : List Ruled) (p : List ℕ) → IsMap c → AreChildren c p (children c p)

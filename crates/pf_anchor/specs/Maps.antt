@@ -1,4 +1,4 @@
--- Finite maps, as the list of their entries in the order of their keys. `put`, `where_key`, `find` and `is_sorted` are std's.
+-- Finite maps, as the list of their entries in the order of their keys. `put`, `where_key`, `find` and `is_sorted` are std's. Own.
 use Rattle.std.specs.Prelude.{List, Option, Some, None, not}
 use Rattle.std.specs.declared.cmp.Ordering.{Ordering}
 use Rattle.std.specs.FinMap.{put}

@@ -178,8 +178,9 @@ impl Config {
         Ok(are_more_than(&after.pages, RULESET_LIMIT))
     }
 
-    /// The rulesets with the rules at one path replaced, or taken out where there are none. All others are shared. On an
-    /// error nothing is made.
+    /// The rulesets with the rules at one path replaced, or taken out where there are none. All others are shared.
+    /// `TooManyRulesets`: there would be more than 1,024 after it, which is counted once the old rules are out. On an error
+    /// nothing is made.
     pub fn with_ruleset(
         &self,
         alloc: Global,

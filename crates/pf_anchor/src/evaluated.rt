@@ -9,7 +9,7 @@ use std::marker::Model;
 /// A rule that decides: the ruleset that it stands in, its number there, and what it does. The path stays where it is, since
 /// most matches are passed over. Contracts see it as a `PlainMatch`.
 #[derive(Drop)]
-pub struct Match<'a> {
+pub(crate) struct Match<'a> {
     /// The rule's ruleset.
     pub placed: &'a Placed,
     /// The rule's place there, from 0 to 1,023.
@@ -28,14 +28,14 @@ impl<'a> Model for Match<'a> {
 
 /// What an evaluation has found: the last match so far, if any; or that it has ended, at a match.
 #[derive(Drop)]
-pub enum Evaluated<M> {
+pub(crate) enum Evaluated<M> {
     Open(Option<M>),
     Ended(M),
 }
 
 impl<M: Drop> Evaluated<M> {
     /// The same, ended where a quick rule found a match.
-    pub fn settled(self, quick: bool) -> Evaluated<M>
+    pub(crate) fn settled(self, quick: bool) -> Evaluated<M>
         ensures { result ≡ settled quick self }
     {
         match self {
@@ -45,7 +45,7 @@ impl<M: Drop> Evaluated<M> {
     }
 
     /// The last match, if any.
-    pub fn last(self) -> Option<M>
+    pub(crate) fn last(self) -> Option<M>
         ensures { result ≡ last_of self }
     {
         match self {

@@ -1,6 +1,6 @@
 //! What follows from the definitions that contracts cite: functions that do nothing, whose contracts are the laws.
-ghost use Rattle.pf_anchor.specs.Laws.{ReplacesTheKey, StaysSorted, OneList, ReplacesInTurn, StaysMap, OneMap, ChildrenAreAMap};
-ghost use Rattle.pf_anchor.specs.EvaluationLaws.{TellsWhatDecides, Unrolls, IsTheOnly, DepthIsEnough, EndsOutside, NothingWithin, MatchWithin, AnchorsNeverDecide, UnreachedIsNothing, InTwoParts, PassedOver};
+ghost use Rattle.pf_anchor.specs.Laws.{ReplacesTheKey, StaysSorted, OneList, ReplacesInTurn, StaysMap, OneMap, ChildrenHaveRules};
+ghost use Rattle.pf_anchor.specs.EvaluationLaws.{TellsWhatDecides, Unrolls, IsTheOnly, DepthIsEnough, OwnMatch, EndsOutside, NothingWithin, MatchWithin, InTurn, LeadsToTheseAlone, QuickEnds, EndsTheVerdict, AnchorsNeverDecide, ToldRuleDecides, UnreachedIsNothing, InTwoParts, PassedOver};
 
 /// In a map under any keys in a total order, a key that was replaced has the new value, or none, all else stays, and the
 /// keys stay in order. A map is what is read of it.
@@ -24,9 +24,8 @@ pub fn one_map()
 {}
 
 /// The children of a path are, in the order of their bytes, the paths of one component more that have rules.
-#[tactic(auto, using(crate::proofs::RulesetMaps::children_are_a_map))]
 pub fn children_are_those_with_rules()
-    ensures { ChildrenAreAMap }
+    ensures { ChildrenHaveRules }
 {}
 
 /// Where the main ruleset has no anchor rule: the default is told where none of its rules matches; else the number of one that
@@ -44,6 +43,14 @@ pub fn evaluation_is_the_one_solution()
     ensures depth { DepthIsEnough }
 {}
 
+/// A rule that decides ends its ruleset's evaluation if it is quick, at any path, and no rule behind it is looked at; else its
+/// match stands until a later one. What ends within an anchor rule of the main ruleset is the verdict.
+pub fn quick_rules_end_the_evaluation()
+    ensures own { OwnMatch }
+    ensures ends { QuickEnds }
+    ensures verdict { EndsTheVerdict }
+{}
+
 /// What ends within an anchor ends outside. A quick anchor rule ends the evaluation where something within matched, and where
 /// nothing did it is as if the rule weren't there.
 pub fn anchor_rules_stand_among_rules()
@@ -52,10 +59,18 @@ pub fn anchor_rules_stand_among_rules()
     ensures some { MatchWithin }
 {}
 
-/// An anchor rule never decides: what is found is a rule that matches and decides, by its number in a ruleset that is there.
-#[tactic(auto, using(crate::proofs::Deciding::anchors_never_decide))]
+/// An anchor rule leads to the ruleset at its path if there is one, or by a wildcard to those at the path's children, in the order
+/// of their bytes; past the limits to none. Of these in turn the first that ends ends all, and else the latest match stands.
+pub fn rules_lead_to_rulesets_in_turn()
+    ensures turn { InTurn }
+    ensures leads { LeadsToTheseAlone }
+{}
+
+/// The rule that a verdict tells stands at its path under its number, matches, and decides; an anchor rule never does. So it is
+/// with what any ruleset's evaluation finds.
 pub fn no_anchor_rule_decides()
-    ensures { AnchorsNeverDecide }
+    ensures told { ToldRuleDecides }
+    ensures found { AnchorsNeverDecide }
 {}
 
 /// A ruleset to which no rule leads, and that isn't the main one, may be replaced by any other, and no verdict changes.

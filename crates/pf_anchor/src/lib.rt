@@ -13,7 +13,6 @@ mod rule_list;
 mod verdict;
 
 pub use config::Config;
-pub use evaluated::{Evaluated, Match};
 pub use fault::ConfigFault;
 pub use limits::{RULE_LIMIT, RULESET_LIMIT};
 pub use pf_path::{COMPONENT_LIMIT, DEPTH_LIMIT, PATH_LIMIT, Path};

@@ -73,6 +73,7 @@ impl Path {
     /// Whether this path has one component more than another, and begins with it.
     pub fn is_child_of(&self, parent: &Path) -> bool
         ensures value { result ≡ is_child parent.now self.now }
+        // what each path keeps
         ensures path { is_path self.now ≡ true }
     {
         let bytes = self.as_bytes();

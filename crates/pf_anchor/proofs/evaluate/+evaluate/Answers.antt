@@ -9,7 +9,7 @@ use Rattle.pf_anchor.specs.declared.evaluated.Evaluated.TheVariants.{Open, Ended
 use Rattle.pf_anchor.specs.Matches.{PlainMatch}
 use Rattle.pf_anchor.specs.Pages.{joined}
 use Rattle.pf_anchor.specs.Rulesets.{Ruled, ruled}
-use Rattle.pf_anchor.specs.Evaluation.{and_then, settled, rules_from, effected, in_turn, evaluation, evaluate_with, matching}
+use Rattle.pf_anchor.specs.Evaluation.{and_then, settled, rules_give, effected, in_turn, evaluation, evaluate_with, matching}
 use Rattle.pf_anchor.proofs.Evaluations.{unrolled, none_and_then, no_rules}
 use Rattle.pf_anchor.proofs.Turns.{rule_goes_on, rule_passed, child_deeper, then_open, page_step, no_targets, targets_from, plain_turn}
 use Rattle.pf_anchor.proofs.evaluate.+evaluate.Goals as goal
@@ -25,7 +25,7 @@ evaluate-loop-number-preserved t c =
     let effect : ℕ → PlainRule → Evaluated PlainMatch = λ n r. effected (evaluation c.args.config.now (matching c.args.packet.now)) c.args.config.now c.args.placed.now.0 n r.effect in
     let test = matching c.args.packet.now c.args.placed.now.0 in
     let rest = drop (c.loop-number.number + 1) c.args.placed.now.1 in
-    let later : Option PlainMatch → Evaluated PlainMatch = λ o. and_then (Open o) (rules_from effect test (c.loop-number.number + 1) rest) in
+    let later : Option PlainMatch → Evaluated PlainMatch = λ o. and_then (Open o) (rules_give effect test (c.loop-number.number + 1) rest) in
     let items = c.as_slice-rule-items.ensures.value ∙ c.rules.ensures in
     let left : drop c.loop-number.number c.as_slice-rule-items.result.now ≡ c.rule-item.result ∷ drop (c.loop-number.number + 1) c.as_slice-rule-items.result.now = grind (arith, common_steps) in
     let here = ap (drop c.loop-number.number) (sym items) ∙ left ∙ ap (λ (rs : List PlainRule). c.rule-item.result ∷ drop (c.loop-number.number + 1) rs) items in

@@ -4,7 +4,7 @@ use Rattle.pf_path.specs.declared.limits.TheConstants.{DEPTH_LIMIT}
 use Rattle.pf_path.specs.Nested.{depth, is_child}
 use Rattle.pf_anchor.specs.declared.evaluated.Evaluated.TheVariants.{Open}
 use Rattle.pf_anchor.specs.Pages.{joined}
-use Rattle.pf_anchor.specs.Evaluation.{and_then, in_turn, effected, rules_from, evaluation, matching}
+use Rattle.pf_anchor.specs.Evaluation.{and_then, in_turn, effected, rules_give, evaluation, matching}
 use Rattle.pf_anchor.proofs.evaluate.+evaluate.Given as goal
 
 -- what a ruleset leads to is deeper
@@ -27,7 +27,7 @@ decreases-evaluate_among l = 3 * (DEPTH_LIMIT - depth l.path.now)
 abbrev pub invariant-evaluate-loop-number : goal.invariant-evaluate-loop-number
 invariant-evaluate-loop-number l =
     evaluation l.config (matching l.packet) l.placed
-    ≡ and_then (Open l.last) (rules_from (λ n r. effected (evaluation l.config (matching l.packet)) l.config l.placed.0 n r.effect) (matching l.packet l.placed.0) l.number (drop l.number l.placed.1))
+    ≡ and_then (Open l.last) (rules_give (λ n r. effected (evaluation l.config (matching l.packet)) l.config l.placed.0 n r.effect) (matching l.packet l.placed.0) l.number (drop l.number l.placed.1))
 
 -- and so does what the rulesets left give
 abbrev pub invariant-evaluate_children-loop-page : goal.invariant-evaluate_children-loop-page
