@@ -143,7 +143,7 @@ ranged = making test_with (pair_by a_start is_number range_end)
 unfoldable pub compared : Comparison → Form PortTest
 compared operator = making (λ n. Compared operator n) number
 
--- an operator of order and a number, or a test that begins with none
+-- an operator of order and a number, or a test that begins with no operator as a word of its own
 unfoldable pub ordered : Form PortTest
 ordered = or (codes "<") (compared Less) (or (codes "<=") (compared AtMost) (or (codes ">") (compared Greater) (or (codes ">=") (compared AtLeast) ranged)))
 
