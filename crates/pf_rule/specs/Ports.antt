@@ -53,7 +53,7 @@ abbrev pub IsPortTest : PortTest → Type 0
 IsPortTest (Compared operator n) = n < 65536
 IsPortTest (Ranged range a b) = (a < 65536) × (b < 65536)
 
--- ---- how they are spelled
+-- ---- how their first word is spelled
 
 abbrev pub operator_word : Comparison → Word
 operator_word Equal = codes "="
@@ -75,10 +75,7 @@ SpellsStart w (Test (Ranged Including a b)) = (first last : Word) × (w ≡ firs
 SpellsStart w (Test (Ranged Excluding a b)) = ⊥
 SpellsStart w (Test (Ranged Except a b)) = ⊥
 
--- ---- how they are read
-
-abbrev pub number : Form ℕ
-number = a_port true
+-- ---- how it is read
 
 -- with these operators
 abbrev pub split_by : List (Word × Comparison) → Word → Option (Comparison × Word)
@@ -120,6 +117,11 @@ start_of w = start_at w (position is_colon w)
 
 abbrev pub a_start : Form PortStart
 a_start = word (record { of = start_of; sample = codes "0"; value = Number 0; takes = refl })
+
+-- ---- how they are spelled
+
+abbrev pub number : Form ℕ
+number = a_port true
 
 -- ["><" number | "<>" number], behind a number that stands alone
 unfoldable pub range_end : Bool → Form (Option (PortRange × ℕ))
