@@ -7,7 +7,7 @@ use Rattle.std.proofs.lemmas.List.Elements.{All-head, All-tail}
 use Rattle.std.proofs.lemmas.List.Splits.{join_with_byte-slice_split}
 use Rattle.pf_addr.specs.Grammar.{pieces}
 use Rattle.pf_addr.specs.PlaceLaws.{without}
-use Rattle.pf_addr.specs.Reading.{gap, later, begins_with}
+use Rattle.pf_addr.specs.Reading.{gap, later, begins_with_byte}
 
 later_twice : (m n : ℕ) (o : Option ℕ) → later m (later n o) ≡ later (m + n) o
 later_twice m n (Some i) = ap (λ (k : ℕ). Some k) (omega arith)
@@ -17,7 +17,7 @@ later_twice m n None = refl
 abbrev pub colons : List ℕ → ℕ → Bool
 colons text i = (get_or text i 0 == 58) && (get_or text (i + 1) 0 == 58)
 
-begins_there : (text : List ℕ) (i : ℕ) → i < length text → begins_with 58 (drop i text) ≡ (get_or text i 0 == 58)
+begins_there : (text : List ℕ) (i : ℕ) → i < length text → begins_with_byte 58 (drop i text) ≡ (get_or text i 0 == 58)
 begins_there text i lt = rw (drop-cons text i 0) refl
 
 cut_off : (text : List ℕ) (i : ℕ) → i < length text → drop i text ≡ get_or text i 0 ∷ drop (i + 1) text
@@ -67,7 +67,7 @@ past_piece (b ∷ bs) rest none =
     let size : 1 + length bs ≡ length (b ∷ bs) = omega arith in
     rw (here, others) (later_twice 1 (length bs) (gap rest) ∙ ap (λ (k : ℕ). later k (gap rest)) size)
 
-begins_clean : (piece : List ℕ) (others : List (List ℕ)) (rest : List ℕ) → Clean piece → begins_with 58 (join_with_byte 58 (piece ∷ others) ++ rest) ≡ false
+begins_clean : (piece : List ℕ) (others : List (List ℕ)) (rest : List ℕ) → Clean piece → begins_with_byte 58 (join_with_byte 58 (piece ∷ others) ++ rest) ≡ false
 begins_clean [] others rest clean = absurd (omega (arith, clean.some))
 begins_clean (b ∷ bs) [] rest clean = All-head (λ x. (x == 58) ≡ false) b bs clean.without_colon
 begins_clean (b ∷ bs) (o ∷ others) rest clean = All-head (λ x. (x == 58) ≡ false) b bs clean.without_colon
@@ -107,7 +107,7 @@ one_less : (o : Option ℕ) (i : ℕ) → later 1 o ≡ Some i → (j : ℕ) × 
 one_less (Some j) i e = let is : 1 + j ≡ i = cc in (j, refl, sym is)
 one_less None i e = absurd cc
 
-gap_begins : (bs : List ℕ) → begins_with 58 bs ≡ true → bs ≡ 58 ∷ drop 1 bs
+gap_begins : (bs : List ℕ) → begins_with_byte 58 bs ≡ true → bs ≡ 58 ∷ drop 1 bs
 gap_begins [] e = absurd cc
 gap_begins (b ∷ bs) e = let is : b ≡ 58 = grind (arith, nat_tests) in ap (λ (x : ℕ). x ∷ bs) is
 
@@ -120,10 +120,10 @@ next_cut b bs j i e cut =
 pub gap_cut : (text : List ℕ) (i : ℕ) → gap text ≡ Some i → text ≡ take i text ++ 58 ∷ 58 ∷ drop (i + 2) text
 unfolding gap
 gap_cut [] i e = absurd cc
-gap_cut (b ∷ bs) i e = by (gap_cut bs) ((b == 58) && begins_with 58 bs) refl where
-  by : ((j : ℕ) → gap bs ≡ Some j → bs ≡ take j bs ++ 58 ∷ 58 ∷ drop (j + 2) bs) → (t : Bool) → ((b == 58) && begins_with 58 bs) ≡ t → b ∷ bs ≡ take i (b ∷ bs) ++ 58 ∷ 58 ∷ drop (i + 2) (b ∷ bs)
+gap_cut (b ∷ bs) i e = by (gap_cut bs) ((b == 58) && begins_with_byte 58 bs) refl where
+  by : ((j : ℕ) → gap bs ≡ Some j → bs ≡ take j bs ++ 58 ∷ 58 ∷ drop (j + 2) bs) → (t : Bool) → ((b == 58) && begins_with_byte 58 bs) ≡ t → b ∷ bs ≡ take i (b ∷ bs) ++ 58 ∷ 58 ∷ drop (i + 2) (b ∷ bs)
   by others true h =
-      let parts = and_parts (b == 58) (begins_with 58 bs) h in
+      let parts = and_parts (b == 58) (begins_with_byte 58 bs) h in
       let none : 0 ≡ i = let found = rw h at e in cc in
       let first : b ≡ 58 = let p = parts.0 in grind (arith, nat_tests) in
       rw (← none, first) (ap (λ (l : List ℕ). 58 ∷ l) (gap_begins bs parts.1))

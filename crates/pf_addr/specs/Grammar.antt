@@ -12,7 +12,7 @@ use Rattle.pf_addr.specs.declared.reading.TheConstants.{NUMBER_DIGITS}
 use Rattle.pf_addr.specs.declared.groups.TheConstants.{GROUP_DIGITS, GROUPS}
 use Rattle.pf_addr.specs.Address.{Network, width, family_of, network_from, network_of}
 
--- the pieces of a text between such bytes; no text has none
+-- the pieces of a text between such bytes; the empty text has no pieces
 abbrev pub pieces : ℕ → List ℕ → List (List ℕ)
 pieces c [] = []
 pieces c (b ∷ bs) = slice_split (λ x. x == c) (b ∷ bs)
@@ -105,7 +105,7 @@ abbrev pub Spells : ℕ → List ℕ → Addr → Type 0
 Spells fewest text (addr.V4 n) = SpellsV4 fewest text n
 Spells fewest text (addr.V6 n) = SpellsV6 text n
 
--- A V4 address has four parts.
+-- an address: of V4 with all four parts
 unfoldable pub SpellsAddr : List ℕ → Addr → Type 0
 SpellsAddr text a = Spells 4 text a
 

@@ -1,4 +1,4 @@
--- Which fault of a text is answered. Several faults may stand in one text, and the format fixes their order (pieces
+-- Which fault of a text is answered. Several faults may stand in one text, and their order is own (pieces
 -- from left to right; in a piece the first byte that is no digit before its length and value; then the number of
 -- pieces; then a network's length). So the fault and its place are a function of the text.
 use Rattle.std.specs.Prelude.{ℕ, ◌+◌, ◌-◌, ◌==◌, not, nat_le, Bool, true, false, ◌&&◌, List, [], ◌∷◌, ◌++◌, length, take, drop, replicate, Option, Some, None, is_some, Result, Ok, Err, if◌then◌else◌}
@@ -101,14 +101,14 @@ abbrev pub later : ℕ → Option ℕ → Option ℕ
 later n (Some i) = Some (n + i)
 later n None = None
 
-abbrev pub begins_with : ℕ → List ℕ → Bool
-begins_with c [] = false
-begins_with c (b ∷ bs) = b == c
+abbrev pub begins_with_byte : ℕ → List ℕ → Bool
+begins_with_byte c [] = false
+begins_with_byte c (b ∷ bs) = b == c
 
 -- the place of the first `::`
 unfoldable pub gap : List ℕ → Option ℕ
 gap [] = None
-gap (b ∷ bs) = if (b == 58) && begins_with 58 bs then Some 0 else later 1 (gap bs)
+gap (b ∷ bs) = if (b == 58) && begins_with_byte 58 bs then Some 0 else later 1 (gap bs)
 
 -- with the place of its first `::`
 abbrev pub v6_by : List ℕ → Option ℕ → Result ℕ AddrFault

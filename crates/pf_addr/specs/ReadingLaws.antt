@@ -177,8 +177,14 @@ ended_clean = ended_all Clean
     (λ p n is. record { some = is.digits.0; without_colon = none_in_digits 16 58 p (omega arith) is.digits.1 })
     (λ p n is. record { some = v4_some 4 p n (omega arith) is; without_colon = v4_without 58 4 p n refl (omega arith) is })
 
-ended_no_slash : (text groups : List ℕ) → EndGrouped groups text → without 47 text
-ended_no_slash text groups is = pieces_bytes (λ b. (b == 47) ≡ false) 58 text refl (ended_all (without 47) (λ p n group. none_in_digits 16 47 p (omega arith) group.digits.1) (λ p n v4. v4_without 47 4 p n refl (omega arith) v4) text groups is)
+-- a byte that is no digit of a group, and that stands between no two pieces
+pub record Outside (c : ℕ) : Type 0 where
+  pub digit : 16 ≤ digit_value c
+  pub dot : (46 == c) ≡ false
+  pub colon : (58 == c) ≡ false
+
+ended_without : (c : ℕ) (text groups : List ℕ) → Outside c → EndGrouped groups text → without c text
+ended_without c text groups out is = pieces_bytes (λ b. (b == c) ≡ false) 58 text out.colon (ended_all (without c) (λ p n group. none_in_digits 16 c p out.digit group.digits.1) (λ p n v4. v4_without c 4 p n out.dot (omega (arith, out.digit)) v4) text groups is)
 
 -- what stands behind a text and so many bytes more
 abbrev at_gap : List ℕ → List ℕ → List ℕ
@@ -289,14 +295,25 @@ addr_only text a is = address_read 4 text a (omega arith) is
 
 -- ---- a network
 
-no_slash : (fewest : ℕ) (text : List ℕ) (a : Addr) → Spells fewest text a → without 47 text
-no_slash fewest text (addr.V4 n) is = v4_without 47 fewest text n refl (omega arith) is
-no_slash fewest text (addr.V6 n) is = by is.spelled where
-  by : EndGrouped is.groups text ⊎ Shortened is.groups text → without 47 text
-  by (inl whole) = ended_no_slash text is.groups whole
+addr_without : (c fewest : ℕ) (text : List ℕ) (a : Addr) → Outside c → Spells fewest text a → without c text
+addr_without c fewest text (addr.V4 n) out is = v4_without c fewest text n out.dot (omega (arith, out.digit)) is
+addr_without c fewest text (addr.V6 n) out is = by is.spelled where
+  by : EndGrouped is.groups text ⊎ Shortened is.groups text → without c text
+  by (inl whole) = ended_without c text is.groups out whole
   by (inr short) =
-      let others = All-cons (λ b. (b == 47) ≡ false) 58 (58 ∷ short.back) refl (All-cons (λ b. (b == 47) ≡ false) 58 short.back refl (ended_no_slash short.back short.behind short.ended)) in
-      rw short.cut (All-append (λ b. (b == 47) ≡ false) short.front (58 ∷ 58 ∷ short.back) (ended_no_slash short.front short.before (inl short.grouped)) others)
+      let others = All-cons (λ b. (b == c) ≡ false) 58 (58 ∷ short.back) out.colon (All-cons (λ b. (b == c) ≡ false) 58 short.back out.colon (ended_without c short.back short.behind out short.ended)) in
+      rw short.cut (All-append (λ b. (b == c) ≡ false) short.front (58 ∷ 58 ∷ short.back) (ended_without c short.front short.before out (inl short.grouped)) others)
+
+no_slash : (fewest : ℕ) (text : List ℕ) (a : Addr) → Spells fewest text a → without 47 text
+no_slash fewest text a is = addr_without 47 fewest text a (record { digit = omega arith; dot = refl; colon = refl }) is
+
+-- a byte that stands in no network's text
+pub net_without : (c : ℕ) (text : List ℕ) (net : Network) → Outside c → ((47 == c) ≡ false) → SpellsNet text net → without c text
+unfolding SpellsNet SpellsAddr
+net_without c text net out slash (inl (a, spelled, is)) = addr_without c 4 text a out spelled
+net_without c text net out slash (inr is) =
+    let digits = none_in_digits 10 c is.digits (omega (arith, out.digit)) is.number.number.digits.1 in
+    rw is.cut (All-append (λ b. (b == c) ≡ false) is.front (47 ∷ is.digits) (addr_without c 1 is.front is.first out is.address) (All-cons (λ b. (b == c) ≡ false) 47 is.digits slash digits))
 
 front_found : (text : List ℕ) (i : ℕ) (net : Network) → position is_slash text ≡ Some i → cut_at text (Some i) ≡ Ok net → SpellsFront text net
 front_found text i net p e =

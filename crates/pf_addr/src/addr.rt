@@ -54,13 +54,13 @@ impl Addr {
     }
 
     /// Reads an address (RFC 4291 section 2.2 for V6). With a colon it is V6: eight groups of one to four hexadecimal
-    /// digits in either case between colons, where `::` once stands for one zero group or more, and a V4 address may
-    /// stand for the last two groups. Else it is V4: four decimal numbers of one byte between dots, each of one to three
+    /// digits in either case between colons, where `::` may stand once for one zero group or more, and a V4 address
+    /// for the last two groups. Else it is V4: four decimal numbers of one byte between dots, each of one to three
     /// digits.
     ///
-    /// The fault is the first in this order: [`AddrFault::Empty`] of no text; in the parts or groups from left to right
-    /// [`AddrFault::BadDigit`], and then [`AddrFault::TooBig`]; [`AddrFault::BadGroups`], of a V4 address within a V6
-    /// address as its last piece. It takes no memory.
+    /// The fault is the first in this order: no text ([`AddrFault::Empty`]); the parts or groups from left to right, in each
+    /// [`AddrFault::BadDigit`] before [`AddrFault::TooBig`]; their number ([`AddrFault::BadGroups`]). A V4 address that
+    /// ends a V6 address has all its faults in that piece's turn. It takes no memory.
     #[tactic(auto, using(crate::specs::ReadingLaws::addr_if_ok, crate::specs::ReadingLaws::addr_only))]
     pub fn from_ascii(text: &[u8]) -> Result<Addr, AddrFault>
         ensures found { IfOk result (λ a. SpellsAddr text.now a) }

@@ -20,7 +20,8 @@ pub enum AddrFault {
     /// The length is not one to three digits of a value of at most the family's width. The place is the byte after the
     /// slash.
     BadLength { at: usize },
-    /// A wrong number of pieces. The place is 0, or where a V4 address at the end of a V6 address begins.
+    /// Not four parts (before a network's slash: more than four), not eight groups, or beside `::` more than seven. A V4
+    /// address that ends a V6 address is two groups, and has four parts. The place is 0, or where that V4 address begins.
     BadGroups { at: usize },
 }
 

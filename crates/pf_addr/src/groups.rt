@@ -87,8 +87,8 @@ fn colons_at(text: &[u8], i: usize) -> bool
     text[i] == b':' && text[i + 1] == b':'
 }
 
-/// Reads the groups of a text with a colon between each two; no text has none. Where the address ends with the text,
-/// the last piece may be a V4 address.
+/// Reads the groups of a text with a colon between each two; the empty text has no pieces. Where the address
+/// ends with the text, the last piece may be a V4 address.
 fn read_groups(at: usize, text: &[u8], ends: bool) -> Result<Groups, AddrFault>
     requires { at + length text.now < 2 ^ 64 - 2 }
     ensures { result ≡ groups_kept ends at text.now }

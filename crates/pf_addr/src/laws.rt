@@ -1,8 +1,9 @@
 //! Laws of networks and of texts. Each function's contract is the law, and its body does nothing.
-ghost use Rattle.std.specs.Prelude.{◌≡◌, ◌↔◌, ℕ, ◌^◌, ◌<◌, ◌≤◌, true, List};
+ghost use Rattle.std.specs.Prelude.{◌≡◌, ◌↔◌, ℕ, ◌^◌, ◌<◌, ◌≤◌, true, List, Ok};
 ghost use Rattle.pf_addr.specs.declared.addr.Addr.{Addr};
 ghost use Rattle.pf_addr.specs.Address.{Network, width, family_of, network_from, contains, IsAddr, BeginsAs, Agree};
 ghost use Rattle.pf_addr.specs.Grammar.{SpellsAddr, SpellsNet};
+ghost use Rattle.pf_addr.specs.Reading.{addr_at, net_at};
 ghost use Rattle.pf_addr.specs.Spelling.{addr_text, net_text};
 ghost use Rattle.pf_addr.specs.SpellingLaws.{IsNetwork, IsNetWord};
 
@@ -26,6 +27,20 @@ pub fn written_addr_is_read_again()
 #[tactic(auto, using(crate::specs::SpellingLaws::net_text_spells))]
 pub fn written_net_is_read_again()
     ensures { (net : Network) → IsNetwork net → SpellsNet (net_text net) net }
+{}
+
+/// An address is read from a text exactly where the text spells it.
+#[tactic(auto, using(crate::specs::ReadingLaws::addr_found, crate::specs::ReadingLaws::addr_only))]
+pub fn addrs_are_read_as_spelled()
+    ensures read { (text : List ℕ) (a : Addr) → addr_at text ≡ Ok a → SpellsAddr text a }
+    ensures spelled { (text : List ℕ) (a : Addr) → SpellsAddr text a → addr_at text ≡ Ok a }
+{}
+
+/// A network is read from a text exactly where the text spells it.
+#[tactic(auto, using(crate::specs::ReadingLaws::net_found, crate::specs::ReadingLaws::net_only))]
+pub fn nets_are_read_as_spelled()
+    ensures read { (text : List ℕ) (net : Network) → net_at text ≡ Ok net → SpellsNet text net }
+    ensures spelled { (text : List ℕ) (net : Network) → SpellsNet text net → net_at text ≡ Ok net }
 {}
 
 /// A text spells at most one address.

@@ -63,7 +63,7 @@ pub(crate) fn read_v4(fewest: usize, at: usize, text: &[u8]) -> Result<u32, Addr
     Ok(u32::from_be_bytes(parts.bytes))
 }
 
-/// Reads the numbers of a text with a dot between each two; no text has none.
+/// Reads the numbers of a text with a dot between each two; the empty text has no pieces.
 fn read_parts(at: usize, text: &[u8]) -> Result<Parts, AddrFault>
     requires { at + length text.now < 2 ^ 64 - 2 }
     ensures { result ≡ parts_kept at text.now }

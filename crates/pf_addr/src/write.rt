@@ -61,7 +61,7 @@ fn write_some<W: Write>(out: &mut W, text: &[u8]) -> io::Result<usize>
 }
 
 /// Writes an address: V4 as four decimal numbers between dots, V6 as eight groups between colons, in lower-case
-/// hexadecimal with no leading zeros (RFC 4291 section 2.2, form 1).
+/// hexadecimal with no leading zeros (RFC 4291 section 2.2, form 1). Errors as [`write_text`]'s.
 #[tactic(auto, using(crate::specs::Writing::behind_nothing))]
 pub fn write_addr<W: Write>(out: &mut W, addr: Addr) -> io::Result<()>
     ensures { Wrote result (W.contents out.old) (W.contents out.new) (addr_text addr) }
@@ -70,7 +70,7 @@ pub fn write_addr<W: Write>(out: &mut W, addr: Addr) -> io::Result<()>
 }
 
 /// Writes a network: its first address, and unless it has no other address a slash and how many bits its addresses
-/// share.
+/// share. Errors as [`write_text`]'s.
 #[tactic(auto, using(crate::specs::Writing::behind_nothing))]
 pub fn write_net<W: Write>(out: &mut W, net: Net) -> io::Result<()>
     ensures { Wrote result (W.contents out.old) (W.contents out.new) (net_text net) }
@@ -80,7 +80,8 @@ pub fn write_net<W: Write>(out: &mut W, net: Net) -> io::Result<()>
 
 // Texts in a row. Each call is given what became of the earlier ones, so that only the last one's answer counts.
 
-/// Writes the text behind what was written so far, unless that failed: then the error stays.
+/// Writes the text behind what was written so far, unless that failed: then the error stays. Errors of its own as
+/// [`write_text`]'s.
 pub fn write_more<W: Write>(out: &mut W, so_far: io::Result<()>, text: &[u8]) -> io::Result<()>
     ensures { Continues so_far (W.contents out.old) result (W.contents out.new) text.now }
 {
@@ -90,7 +91,7 @@ pub fn write_more<W: Write>(out: &mut W, so_far: io::Result<()>, text: &[u8]) ->
     }
 }
 
-/// The same of a number in decimal digits.
+/// The same of a number in decimal digits, errors among it.
 pub fn write_more_number<W: Write>(
     out: &mut W,
     so_far: io::Result<()>,
@@ -102,7 +103,7 @@ pub fn write_more_number<W: Write>(
     write_more(out, so_far, buffer.format(number).as_bytes())
 }
 
-/// The same of a network, as [`write_net`].
+/// The same of a network, written as by [`write_net`], errors among it.
 pub fn write_more_net<W: Write>(out: &mut W, so_far: io::Result<()>, net: Net) -> io::Result<()>
     ensures { Continues so_far (W.contents out.old) result (W.contents out.new) (net_text net) }
 {

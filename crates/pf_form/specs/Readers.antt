@@ -22,6 +22,7 @@ MovesBy read (Err s) before after = Fails s (read (texts before))
 abbrev pub Moves : {A : Type 0} → Form A → Result A Stop → List (Bor Word) → List (Bor Word) → Type 0
 Moves f = MovesBy (reads f)
 
+-- a keyword that may be left out, and whether it stands there
 abbrev pub if_there : Word → Form Bool
 if_there k = or k (nothing true) (nothing false)
 

@@ -9,7 +9,7 @@ use std::alloc::AllocFailed;
 pub enum Kind {
     /// The word can't stand where it stands, or is missing.
     BadWord,
-    /// A name is longer than its limit.
+    /// A name, a path or a reference past its limits: of bytes, or of components.
     NameTooLong,
     /// The word is no protocol.
     BadProto,

@@ -17,7 +17,7 @@ use Rattle.pf_path.specs.declared.limits.TheConstants.{REFERENCE_LIMIT}
 use Rattle.pf_path.specs.Names.{is_name_byte}
 use Rattle.pf_path.specs.Paths.{is_slash}
 use Rattle.pf_path.specs.PathGrammar.{IsComponent, IsNames}
-use Rattle.pf_path.specs.References.{PlainReference, refers, quote, ending, behind, before, unquoted, referred, reference_fault, reference_in, reference_text, quoted}
+use Rattle.pf_path.specs.References.{PlainReference, refers, quote, ending, behind, before, unquoted, split_wildcard, reference_fault, reference_in, reference_text, quoted}
 use Rattle.pf_path.specs.ReferenceGrammar.{IsReference, SpellsReference}
 use Rattle.pf_path.specs.ReferenceLaws.{ReferenceIsSpelled, SpelledReferenceIsRead}
 use Rattle.pf_path.proofs.PathsRead.{names_only, names_found}
@@ -77,8 +77,8 @@ names_some w is = by is.parts is.each is.some is.joined where
 
 -- ---- the text of a reference
 
-text_of_referred : (text : Word) → reference_text (referred text) ≡ text
-text_of_referred text = by (before ending text) refl where
+text_of_split : (text : Word) → reference_text (split_wildcard text) ≡ text
+text_of_split text = by (before ending text) refl where
   by : (o : Option Word) → before ending text ≡ o → reference_text (option_map_or (λ names. refers names true) o (refers text false)) ≡ text
   by (Some names) is = sym (before_is ending text names is)
   by None is = append-nil text
@@ -94,9 +94,9 @@ no_ending w bytes = by (before ending w) refl where
       let end = (and_parts (list_all is_path_byte front) (list_all is_path_byte ending) both).1 in
       absurd (cc (end))
 
-referred_text : (r : PlainReference) → list_all is_path_byte r.names ≡ true → referred (reference_text r) ≡ r
-referred_text r bytes = by r.wildcard refl where
-  by : (b : Bool) → r.wildcard ≡ b → referred (r.names ++ (if b then ending else [])) ≡ refers r.names b
+split_text : (r : PlainReference) → list_all is_path_byte r.names ≡ true → split_wildcard (reference_text r) ≡ r
+split_text r bytes = by r.wildcard refl where
+  by : (b : Bool) → r.wildcard ≡ b → split_wildcard (r.names ++ (if b then ending else [])) ≡ refers r.names b
   by true is = rw (before_end r.names ending) refl
   by false is = rw (append-nil r.names, no_ending r.names bytes) refl
 
@@ -123,28 +123,28 @@ unquoted_is w = by (behind quote w) refl where
   by None front = inl refl
   by (Some rest) front = within rest (before quote rest) front refl
 
-faultless : (text : Word) (r : PlainReference) → reference_in text ≡ Ok r → (reference_fault text ≡ None) × (r ≡ referred text)
+faultless : (text : Word) (r : PlainReference) → reference_in text ≡ Ok r → (reference_fault text ≡ None) × (r ≡ split_wildcard text)
 faultless text r e = by (reference_fault text) e where
-  by : (o : Option Kind) → option_map_or (λ k. Err k) o (Ok (referred text)) ≡ Ok r → (o ≡ None) × (r ≡ referred text)
-  by None e = let same : r ≡ referred text = cc in (refl, same)
+  by : (o : Option Kind) → option_map_or (λ k. Err k) o (Ok (split_wildcard text)) ≡ Ok r → (o ≡ None) × (r ≡ split_wildcard text)
+  by None e = let same : r ≡ split_wildcard text = cc in (refl, same)
   by (Some k) e = absurd (cc)
 
-pub referred_is : (text : Word) → reference_fault text ≡ None → IsReference (referred text)
-referred_is text none =
-    let names = names_only REFERENCE_LIMIT text (referred text).names none in
-    record { names = names.0; short = subst (λ (t : Word). length t ≤ REFERENCE_LIMIT) (sym (text_of_referred text)) names.1 }
+pub split_is_reference : (text : Word) → reference_fault text ≡ None → IsReference (split_wildcard text)
+split_is_reference text none =
+    let names = names_only REFERENCE_LIMIT text (split_wildcard text).names none in
+    record { names = names.0; short = subst (λ (t : Word). length t ≤ REFERENCE_LIMIT) (sym (text_of_split text)) names.1 }
 
 pub read_is_spelled : ReferenceIsSpelled
 read_is_spelled w r e =
     let text : Word = unquoted w in
     let none = faultless text r e in
-    let spelled : (w ≡ reference_text (referred text)) ⊎ (w ≡ quoted (reference_text (referred text))) = rw (text_of_referred text) (unquoted_is w) in
-    subst (λ (p : PlainReference). SpellsReference w p) (sym none.1) (referred_is text none.0, spelled)
+    let spelled : (w ≡ reference_text (split_wildcard text)) ⊎ (w ≡ quoted (reference_text (split_wildcard text))) = rw (text_of_split text) (unquoted_is w) in
+    subst (λ (p : PlainReference). SpellsReference w p) (sym none.1) (split_is_reference text none.0, spelled)
 
 text_is_read : (r : PlainReference) → IsReference r → reference_in (reference_text r) ≡ Ok r
 text_is_read r is =
-    let same = referred_text r (names_bytes r.names is.names) in
-    let none : reference_fault (reference_text r) ≡ None = names_found REFERENCE_LIMIT (reference_text r) (referred (reference_text r)).names (subst (λ (p : PlainReference). IsNames p.names) (sym same) is.names) is.short in
+    let same = split_text r (names_bytes r.names is.names) in
+    let none : reference_fault (reference_text r) ≡ None = names_found REFERENCE_LIMIT (reference_text r) (split_wildcard (reference_text r)).names (subst (λ (p : PlainReference). IsNames p.names) (sym same) is.names) is.short in
     rw (none, same) refl
 
 pub spelled_is_read : SpelledReferenceIsRead

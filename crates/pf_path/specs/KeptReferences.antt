@@ -1,4 +1,4 @@
--- How a reference is kept: its names, then zeros up to the limit.
+-- How a reference is kept: its names, then zeros up to the limit. Own.
 use Rattle.std.specs.Prelude.{◌≡◌, ℕ, ◌-◌, ◌≤◌, ◌++◌, Bool, List, take, length, replicate}
 use Rattle.std.proofs.Common.{ap, ◌∙◌, sym, arith}
 use Rattle.std.proofs.lemmas.List.{length-take-le}

@@ -34,15 +34,15 @@ abbrev pub unquoted : Word → Word
 unquoted w = option_map_or (λ text. text) (option_and_then (before quote) (behind quote w)) w
 
 -- the names before "/*", or else the whole text
-abbrev pub referred : Word → PlainReference
-referred text = option_map_or (λ names. refers names true) (before ending text) (refers text false)
+abbrev pub split_wildcard : Word → PlainReference
+split_wildcard text = option_map_or (λ names. refers names true) (before ending text) (refers text false)
 
 -- why a text is no reference: its whole length first, then its names as a path's
 abbrev pub reference_fault : Word → Option Kind
-reference_fault text = fault_within REFERENCE_LIMIT text (referred text).names
+reference_fault text = fault_within REFERENCE_LIMIT text (split_wildcard text).names
 
 abbrev pub reference_in : Word → Result PlainReference Kind
-reference_in text = option_map_or (λ k. Err k) (reference_fault text) (Ok (referred text))
+reference_in text = option_map_or (λ k. Err k) (reference_fault text) (Ok (split_wildcard text))
 
 -- a reference as a word of a rule
 abbrev pub reference_of : Word → Result PlainReference Kind

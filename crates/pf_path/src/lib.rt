@@ -1,4 +1,4 @@
-//! Paths of rulesets, and the bytes that names may have.
+//! Paths of rulesets, references to them, and the bytes that names may have.
 #![tactic(auto)]
 
 pub mod laws;

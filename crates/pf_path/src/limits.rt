@@ -1,4 +1,4 @@
-//! How long paths may be. Definitions cite these constants.
+//! How long paths and references may be. Definitions cite these constants.
 
 /// How many bytes a path may have.
 pub const PATH_LIMIT: usize = 255;

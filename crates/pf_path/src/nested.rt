@@ -70,7 +70,7 @@ impl Path {
         Path::kept(bytes, start + names.len())
     }
 
-    /// Whether this path has one component more than another, and begins with it.
+    /// Whether this path is another's with one component more behind it (pf.conf(5), Anchors: attached to it).
     pub fn is_child_of(&self, parent: &Path) -> bool
         ensures value { result ≡ is_child parent.now self.now }
         // what each path keeps

@@ -1,6 +1,6 @@
 //! References to rulesets.
 ghost use Rattle.std.specs.Prelude.{◌≡◌, ◌≤◌, length, None};
-ghost use Rattle.pf_path.specs.References.{refers, unquoted, referred, reference_in, reference_of};
+ghost use Rattle.pf_path.specs.References.{refers, unquoted, split_wildcard, reference_in, reference_of};
 ghost use Rattle.pf_path.specs.ReferenceGrammar.{IsReference};
 
 use crate::limits::REFERENCE_LIMIT;
@@ -94,8 +94,8 @@ fn unquoted(word: &[u8]) -> &[u8]
 
 // The names before `/*`, and whether it is there.
 fn split(text: &[u8]) -> (&[u8], bool)
-    ensures names { result.0.now ≡ (referred text.now).names }
-    ensures wildcard { result.1 ≡ (referred text.now).wildcard }
+    ensures names { result.0.now ≡ (split_wildcard text.now).names }
+    ensures wildcard { result.1 ≡ (split_wildcard text.now).wildcard }
 {
     match text.strip_suffix(b"/*".as_slice()) {
         Some(names) => (names, true),

@@ -9,6 +9,7 @@ pub mod RuleGrammar
 pub mod RuleText
 pub mod Spacing
 pub mod Written
+pub mod ReadingLaws
 pub mod PortLaws
 pub mod RuleTextLaws
 pub mod Refusals

@@ -1,18 +1,13 @@
 -- The words that a port test is written as spell it.
-use Rattle.std.proofs.Common.{◌≡◌, ℕ, ◌+◌, ◌<◌, ◌==◌, true, false, List, [], ◌∷◌, ◌++◌, length, drop, decimal, Option, Some, None, Ok, inl, inr, refl, sym, ap, ◌∙◌, append_assoc, arith}
+use Rattle.std.proofs.Common.{◌≡◌, ℕ, ◌<◌, true, List, [], ◌∷◌, ◌++◌, length, decimal, Option, Some, None, Ok, inl, inr, refl, arith}
 use Rattle.std.specs.Prelude.{IfSome, nat_lt}
 use Rattle.std.specs.List.{list_all}
 use Rattle.std.proofs.lemmas.Bool.{and_parts, lt-ltb}
-use Rattle.std.proofs.lemmas.Bool.Decides.{nat_tests}
 use Rattle.std.proofs.lemmas.Fmt.{decimal_is_IsNumeral, length-decimal-le}
-use Rattle.std.proofs.lemmas.List.{take_at, drop_at, length-append}
-use Rattle.std.proofs.lemmas.List.Elements.{All-from_get_or}
+use Rattle.std.proofs.lemmas.List.{length-append}
 use Rattle.std.proofs.lemmas.List.Folds.{list_all-append}
-use Rattle.std.proofs.lemmas.Str.Parse.{digit_at}
-use Rattle.pf_addr.specs.PlaceLaws.{without, no_place, place_after}
 use Rattle.pf_form.specs.Words.{Word}
 use Rattle.pf_form.specs.Forms.{Spells}
-use Rattle.pf_form.specs.Numbers.{IsNumber, number_of}
 use Rattle.pf_form.specs.NumberLaws.{number_only}
 use Rattle.pf_rule.specs.declared.ports.Comparison.{Comparison}
 use Rattle.pf_rule.specs.declared.ports.Comparison.TheVariants.{Equal, NotEqual, Less, AtMost, Greater, AtLeast}
@@ -21,41 +16,31 @@ use Rattle.pf_rule.specs.declared.ports.PortTest.{PortTest}
 use Rattle.pf_rule.specs.declared.ports.PortTest.TheVariants.{Compared, Ranged}
 use Rattle.pf_rule.specs.declared.ports.PortStart.TheVariants.{Test, Number}
 use Rattle.pf_rule.specs.Values.{port_of}
-use Rattle.pf_rule.specs.Ports.{IsPortTest, start_of, range_end, ranged, compared, ordered, port_test, port, operator_word, test_words, port_words}
+use Rattle.pf_rule.specs.ReadingLaws.{port_read, start_only}
+use Rattle.pf_rule.specs.Ports.{IsPort, IsPortTest, start_of, range_end, ranged, compared, ordered, port_test, port, operator_word, test_words, port_words}
 use Rattle.pf_rule.specs.Spacing.{is_word}
 use Rattle.pf_rule.specs.Written.{Written, number_word}
 
 -- ---- one number
 
-is_number : (n : ℕ) → n < 65536 → IsNumber 5 (decimal n) n
-is_number n lt =
+is_port : (n : ℕ) → n < 65536 → IsPort (decimal n) n
+is_port n lt =
     let is = decimal_is_IsNumeral n (omega (arith, lt)) in
-    record { digits = is.0; few = length-decimal-le 5 n (omega arith) (omega (arith, lt)) (omega (arith, lt)); value = is.1 }
-
-number_found : (n : ℕ) → n < 65536 → number_of 5 (decimal n) ≡ Some n
-number_found n lt = number_only 5 (decimal n) n (is_number n lt)
+    (record { digits = is.0; few = length-decimal-le 5 n (omega arith) (omega (arith, lt)) (omega (arith, lt)); value = is.1 }, lt)
 
 number_read : (n : ℕ) → n < 65536 → port_of true (decimal n) ≡ Ok n
-number_read n lt = rw (number_found n lt, lt-ltb n 65536 lt) refl
+number_read n lt = port_read (decimal n) n (is_port n lt)
 
 number_good : (n : ℕ) → n < 65536 → is_word (decimal n) ≡ true
-number_good n lt = number_word 5 (decimal n) n (number_found n lt)
-
-no_colon : (n : ℕ) → n < 65536 → without 58 (decimal n)
-no_colon n lt = All-from_get_or (λ b. (b == 58) ≡ false) (decimal n) 0 (λ i le. let d = digit_at (decimal n) i (is_number n lt).digits.1 le in grind (arith, nat_tests))
+number_good n lt = number_word 5 (decimal n) n (number_only 5 (decimal n) n (is_port n lt).0)
 
 start_alone : (n : ℕ) → n < 65536 → start_of (decimal n) ≡ Ok (Number n)
-start_alone n lt = rw (no_place 58 (decimal n) (no_colon n lt), number_read n lt) refl
+start_alone n lt = start_only (decimal n) (Number n) (is_port n lt)
 
 -- ---- two numbers in one word
 
-behind : (xs ys : List ℕ) → drop (length xs + 1) (xs ++ 58 ∷ ys) ≡ ys
-behind xs ys =
-    let joined : xs ++ 58 ∷ ys ≡ (xs ++ 58 ∷ []) ++ ys = sym (append_assoc xs (58 ∷ []) ys) in
-    ap (drop (length xs + 1)) joined ∙ drop_at (xs ++ 58 ∷ []) ys (length xs + 1) (length-append xs (58 ∷ []))
-
 start_range : (a b : ℕ) → a < 65536 → b < 65536 → start_of (decimal a ++ 58 ∷ decimal b) ≡ Ok (Test (Ranged Including a b))
-start_range a b p q = rw (place_after 58 (decimal a) (decimal b) (no_colon a p), take_at (decimal a) (58 ∷ decimal b) (length (decimal a)) refl, behind (decimal a) (decimal b), number_read a p, number_read b q) refl
+start_range a b p q = start_only (decimal a ++ 58 ∷ decimal b) (Test (Ranged Including a b)) (decimal a, decimal b, refl, is_port a p, is_port b q)
 
 range_good : (a b : Word) → is_word a ≡ true → is_word b ≡ true → is_word (a ++ 58 ∷ b) ≡ true
 range_good a b p q =

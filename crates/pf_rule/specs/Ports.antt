@@ -1,11 +1,13 @@
 -- Tests of ports: which ports they take, and how they are spelled (pf.conf(5), PARAMETERS and GRAMMAR).
 use Rattle.std.specs.Prelude.{ℕ, ◌+◌, ◌<◌, ◌==◌, ◌&&◌, ◌||◌, not, nat_lt, nat_le, Bool, true, false, List, [], ◌∷◌, ◌++◌, take, drop, length, codes, decimal, Option, Some, None, is_none, Result, Ok, Err, if◌then◌else◌}
 use Rattle.std.specs.List.{position}
-use Rattle.std.proofs.Common.{refl}
+use Rattle.std.proofs.Common.{◌≡◌, refl}
 use Rattle.pf_form.specs.declared.fault.Kind.{Kind}
 use Rattle.pf_form.specs.declared.fault.Kind.TheVariants.{BadWord}
 use Rattle.pf_form.specs.Words.{Word}
 use Rattle.pf_form.specs.Forms.{Form, nothing, word, or, pair_by, making, ◌>>=◌}
+use Rattle.pf_form.specs.Numbers.{IsNumber}
+use Rattle.pf_rule.specs.declared.values.TheConstants.{PORT_DIGITS}
 use Rattle.pf_rule.specs.declared.ports.Comparison.{Comparison}
 use Rattle.pf_rule.specs.declared.ports.Comparison.TheVariants.{Equal, NotEqual, Less, AtMost, Greater, AtLeast}
 use Rattle.pf_rule.specs.declared.ports.PortRange.{PortRange}
@@ -51,20 +53,41 @@ abbrev pub IsPortTest : PortTest → Type 0
 IsPortTest (Compared operator n) = n < 65536
 IsPortTest (Ranged range a b) = (a < 65536) × (b < 65536)
 
--- ---- how they are spelled
+-- ---- how their first word is spelled
 
--- a port in 1 to 5 decimal digits
-abbrev pub number : Form ℕ
-number = a_port true
+abbrev pub operator_word : Comparison → Word
+operator_word Equal = codes "="
+operator_word NotEqual = codes "!="
+operator_word Less = codes "<"
+operator_word AtMost = codes "<="
+operator_word Greater = codes ">"
+operator_word AtLeast = codes ">="
+
+-- a port: its number in 1 to 5 decimal digits
+abbrev pub IsPort : Word → ℕ → Type 0
+IsPort w n = IsNumber PORT_DIGITS w n × (n < 65536)
+
+-- The first word of a test: a number, a unary operator joined to its number, or two numbers with a colon (58) between them.
+abbrev pub SpellsStart : Word → PortStart → Type 0
+SpellsStart w (Number n) = IsPort w n
+SpellsStart w (Test (Compared operator n)) = (digits : Word) × (w ≡ operator_word operator ++ digits) × IsPort digits n
+SpellsStart w (Test (Ranged Including a b)) = (first last : Word) × (w ≡ first ++ 58 ∷ last) × IsPort first a × IsPort last b
+SpellsStart w (Test (Ranged Excluding a b)) = ⊥
+SpellsStart w (Test (Ranged Except a b)) = ⊥
+
+-- ---- how it is read
 
 -- with these operators
 abbrev pub split_by : List (Word × Comparison) → Word → Option (Comparison × Word)
 split_by [] w = None
 split_by (o ∷ os) w = if begins_with o.0 w then Some (o.1, drop (length o.0) w) else split_by os w
 
+abbrev pub operators : List (Word × Comparison)
+operators = (codes "=", Equal) ∷ (codes "!=", NotEqual) ∷ (codes "<=", AtMost) ∷ (codes "<", Less) ∷ (codes ">=", AtLeast) ∷ (codes ">", Greater) ∷ []
+
 -- a word that begins with a unary operator: the operator, the longest that it begins with, and what stands behind it
 abbrev pub split_operator : Word → Option (Comparison × Word)
-split_operator = split_by ((codes "=", Equal) ∷ (codes "!=", NotEqual) ∷ (codes "<=", AtMost) ∷ (codes "<", Less) ∷ (codes ">=", AtLeast) ∷ (codes ">", Greater) ∷ [])
+split_operator = split_by operators
 
 -- an operator joined to its number
 abbrev pub joined : Option (Comparison × Word) → Result PortStart Kind
@@ -95,6 +118,11 @@ start_of w = start_at w (position is_colon w)
 abbrev pub a_start : Form PortStart
 a_start = word (record { of = start_of; sample = codes "0"; value = Number 0; takes = refl })
 
+-- ---- how they are spelled
+
+abbrev pub number : Form ℕ
+number = a_port true
+
 -- ["><" number | "<>" number], behind a number that stands alone
 unfoldable pub range_end : Bool → Form (Option (PortRange × ℕ))
 range_end true = or (codes "><") (making (λ n. Some (Excluding, n)) number) (or (codes "<>") (making (λ n. Some (Except, n)) number) (nothing None))
@@ -113,14 +141,15 @@ test_with (Test t, end) = t
 unfoldable pub ranged : Form PortTest
 ranged = making test_with (pair_by a_start is_number range_end)
 
+-- a number, behind this operator
 unfoldable pub compared : Comparison → Form PortTest
 compared operator = making (λ n. Compared operator n) number
 
--- one of these, or behind an operator of order a number
+-- an operator of order and a number, or a test that begins with no operator as a word of its own
 unfoldable pub ordered : Form PortTest
 ordered = or (codes "<") (compared Less) (or (codes "<=") (compared AtMost) (or (codes ">") (compared Greater) (or (codes ">=") (compared AtLeast) ranged)))
 
--- one of these, or behind an operator of equality a number
+-- an operator of equality and a number, or one of the above
 unfoldable pub port_test : Form PortTest
 port_test = or (codes "=") (compared Equal) (or (codes "!=") (compared NotEqual) ordered)
 
@@ -129,14 +158,6 @@ unfoldable pub port : Form (Option PortTest)
 port = or (codes "port") (making (λ t. Some t) port_test) (nothing None)
 
 -- ---- how they are written
-
-abbrev pub operator_word : Comparison → Word
-operator_word Equal = codes "="
-operator_word NotEqual = codes "!="
-operator_word Less = codes "<"
-operator_word AtMost = codes "<="
-operator_word Greater = codes ">"
-operator_word AtLeast = codes ">="
 
 -- a range with its boundaries is one word, with a colon (58) in it
 abbrev pub test_words : PortTest → List Word

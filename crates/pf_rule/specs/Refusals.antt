@@ -1,4 +1,4 @@
--- What reading a text answers: a value, or the one refusal.
+-- What reading a text answers: a value, or the one refusal. Own.
 use Rattle.std.specs.Prelude.{◌≡◌, ℕ, ◌-◌, List, length, Result, Ok, Err, IfOk, IfErr}
 use Rattle.pf_form.specs.declared.fault.Kind.{Kind}
 use Rattle.pf_form.specs.declared.fault.Kind.TheVariants as kinds

@@ -2,7 +2,7 @@
 use Rattle.std.specs.Prelude.{◌≡◌, ℕ, Bool, true, false, List, codes, Option, Some, None, Result, Ok, Err, if◌then◌else◌}
 use Rattle.std.specs.Option.{option_and_then}
 use Rattle.std.proofs.Common.{refl}
-use Rattle.pf_form.specs.Words.{Word}
+use Rattle.pf_form.specs.Readers.{if_there}
 use Rattle.pf_form.specs.Forms.{Form, nothing, key, or, pair, pair_by, making, is_decided}
 use Rattle.pf_addr.specs.declared.addr.Family.{Family}
 use Rattle.pf_addr.specs.declared.addr.Family.TheVariants.{V4, V6}
@@ -35,10 +35,6 @@ passes (openings.Anchor r) = false
 -- ["in" | "out"]
 unfoldable pub direction : Form (Option Direction)
 direction = or (codes "in") (nothing (Some In)) (or (codes "out") (nothing (Some Out)) (nothing None))
-
--- a keyword that may be left out, and whether it stands there
-abbrev pub optional : Word → Form Bool
-optional keyword = or keyword (nothing true) (nothing false)
 
 -- ["on" interface]
 unfoldable pub interface : Form (Option (List ℕ))
@@ -89,7 +85,7 @@ abbrev pub rule_with : Opening × (Option Direction × (Bool × (Option (List �
 rule_with (o, (d, (q, (i, (f, (p, (h, keeps))))))) = record { effect = effect_of o keeps; direction = d; quick = q; interface = i; family = f; protocol = p; source = h.0.0; source_port = h.0.1; destination = h.1.0; destination_port = h.1.1 }
 
 abbrev pub rule_words : Form PlainRule
-rule_words = making rule_with (pair_by opening passes (λ passes. pair direction (pair (optional (codes "quick")) (pair interface (pair family (pair protocol (pair hosts (state passes))))))))
+rule_words = making rule_with (pair_by opening passes (λ passes. pair direction (pair (if_there (codes "quick")) (pair interface (pair family (pair protocol (pair hosts (state passes))))))))
 
 -- ---- after the last word: the families that are written agree, and ports are tested of a protocol that has them
 

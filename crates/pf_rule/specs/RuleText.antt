@@ -1,4 +1,5 @@
--- The one text that a rule is written as: its words, with one space between two. As pfctl(8) shows rules; own where it differs.
+-- The one text that a rule is written as: its words, with one space between two. As pfctl(8) shows rules. Own are: a port that equals
+-- a number as `port = n`, a reference in quotes, IPv6 in eight groups, no `flags`, and the `!` apart from what it negates.
 use Rattle.std.specs.Prelude.{ℕ, Bool, true, false, List, [], ◌∷◌, ◌++◌, Option, Some, None, codes, decimal, ◌==◌, if◌then◌else◌}
 use Rattle.std.specs.List.{join_with_byte}
 use Rattle.pf_addr.specs.declared.addr.Family.{Family}
@@ -44,7 +45,7 @@ family_words None = []
 family_words (Some V4) = codes "inet" ∷ []
 family_words (Some V6) = codes "inet6" ∷ []
 
--- the four protocols that have a name, and the numbers of the others
+-- the names of four protocols (`icmp6`, of the two names of 58), and the numbers of the others
 abbrev pub protocol_word : ℕ → Word
 protocol_word n = if n == protocols.ICMP then codes "icmp" else (if n == protocols.TCP then codes "tcp" else (if n == protocols.UDP then codes "udp" else (if n == protocols.ICMP6 then codes "icmp6" else decimal n)))
 

@@ -13,6 +13,7 @@ use Rattle.pf_form.specs.NumberLaws.{number_only}
 use Rattle.pf_form.specs.declared.fault.Kind.{Kind}
 use Rattle.pf_form.specs.Words.{Word, words_of}
 use Rattle.pf_form.specs.Forms.{Spells, read_all}
+use Rattle.pf_form.specs.Readers.{if_there}
 use Rattle.pf_form.specs.TextLaws.{only}
 use Rattle.pf_addr.specs.declared.addr.Family.{Family}
 use Rattle.pf_addr.specs.Address.{Network, IsNetwork}
@@ -36,7 +37,7 @@ use Rattle.pf_rule.specs.Names.{IsInterfaceName}
 use Rattle.pf_rule.specs.Values.{interface_of, protocol_names, number_named, protocol_of, net_of, begins_with, a_negated_network, host_of, a_host}
 use Rattle.pf_rule.specs.Ports.{IsPortTest}
 use Rattle.pf_rule.specs.Rules.{PlainRule, IsEffect, IsRule, HostFits, End}
-use Rattle.pf_rule.specs.RuleGrammar.{opening, direction, optional, interface, family, protocol, host, end, destination, hosts, state, passes, effect_of, host_family, agreed, agreeing, rule, rule_decided}
+use Rattle.pf_rule.specs.RuleGrammar.{opening, direction, interface, family, protocol, host, end, destination, hosts, state, passes, effect_of, host_family, agreed, agreeing, rule, rule_decided}
 use Rattle.pf_rule.specs.RuleText.{effect_word, reference_words, direction_words, quick_words, interface_words, family_words, protocol_word, protocol_words, host_words, end_words, from_to_words, ends_words, state_words, canonical, rule_text}
 use Rattle.pf_rule.specs.Spacing.{is_word, words_of-join, join_bytes}
 use Rattle.pf_rule.specs.Written.{Written, all_words, both, tested_word, number_word}
@@ -75,7 +76,7 @@ direction_written : (d : Option Direction) → Written direction d (direction_wo
 unfolding direction
 direction_written d = record { spells = grind arith; words = grind arith }
 
-quick_written : (q : Bool) → Written (optional (codes "quick")) q (quick_words q)
+quick_written : (q : Bool) → Written (if_there (codes "quick")) q (quick_words q)
 quick_written q = record { spells = grind arith; words = grind arith }
 
 family_written : (f : Option Family) → Written family f (family_words f)

@@ -36,7 +36,7 @@ same_direction In Out = false
 same_direction Out In = false
 same_direction Out Out = true
 
--- `!` turns the test of a network
+-- `!` inverts the test of a network
 abbrev pub host_holds : Host → Addr → Bool
 host_holds Any a = true
 host_holds (Net n negated) a = if negated then not (contains n a) else contains n a

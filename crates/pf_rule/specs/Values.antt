@@ -11,13 +11,14 @@ use Rattle.pf_addr.specs.declared.addr.Addr.{Addr}
 use Rattle.pf_addr.specs.declared.addr.Addr.TheVariants as addr
 use Rattle.pf_addr.specs.declared.fault.AddrFault.{AddrFault}
 use Rattle.pf_addr.specs.Address.{Network, network_of}
+use Rattle.pf_addr.specs.Grammar.{SpellsNet}
 use Rattle.pf_form.specs.Numbers.{number_of}
 use Rattle.pf_addr.specs.Reading.{part_at, pieces_at, v4_at, address_at, net_at, addr_at}
 use Rattle.pf_rule.specs.declared.interface.TheConstants.{INTERFACE_LIMIT}
 use Rattle.pf_rule.specs.declared.protocol.TheConstants.Protocol as protocols
 use Rattle.pf_rule.specs.declared.values.TheConstants.{PROTOCOL_DIGITS, PORT_DIGITS}
 use Rattle.pf_rule.specs.declared.rule.Host.{Host}
-use Rattle.pf_rule.specs.declared.rule.Host.TheVariants.{Net}
+use Rattle.pf_rule.specs.declared.rule.Host.TheVariants.{Any, Net}
 use Rattle.pf_path.specs.Names.{is_name_byte}
 use Rattle.pf_path.specs.References.{PlainReference, refers, reference_of}
 
@@ -84,6 +85,12 @@ a_negated_network = word (record { of = marked true; sample = codes "0.0.0.0"; v
 
 abbrev pub begins_with : Word → Word → Bool
 begins_with front w = bytes_eq (take (length front) w) front
+
+-- "!" (33) and a network, or a network alone
+abbrev pub SpellsHost : Word → Host → Type 0
+SpellsHost w Any = ⊥
+SpellsHost w (Net n true) = (text : Word) × (w ≡ 33 ∷ text) × SpellsNet text n
+SpellsHost w (Net n false) = SpellsNet w n
 
 abbrev pub host_of : Word → Result Host Kind
 host_of w = if begins_with (codes "!") w then marked true (drop 1 w) else marked false w

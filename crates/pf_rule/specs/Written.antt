@@ -1,4 +1,4 @@
--- Words that spell a value and stand in a text.
+-- Words that spell a value and stand in a text. Own.
 use Rattle.std.proofs.Common.{◌≡◌, ℕ, Bool, true, List, ◌++◌, length, Some, refl, arith}
 use Rattle.std.specs.Prelude.{nat_lt}
 use Rattle.std.specs.List.{list_all, slice_index_or}

@@ -27,7 +27,7 @@ pub enum TextFault {
     /// The first word that can't stand where it stands.
     #[error("a word that can't stand there, or is missing, at word {at}")]
     BadWord { at: usize },
-    /// A name that is longer than its limit.
+    /// A name or a reference past its limits: of bytes, or of components.
     #[error("a name past its limit at word {at}")]
     NameTooLong { at: usize },
     /// A word that has to be a protocol and is none.

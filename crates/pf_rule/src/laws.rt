@@ -1,11 +1,15 @@
 //! Laws of texts. Each function does nothing; its clauses are what is proved.
-ghost use Rattle.std.specs.Prelude.{◌≡◌, ℕ, List, Result, Ok};
+ghost use Rattle.std.specs.Prelude.{◌≡◌, ◌↔◌, ℕ, List, Result, Ok};
 ghost use Rattle.pf_form.specs.declared.fault.Kind.{Kind};
 ghost use Rattle.pf_form.specs.Forms.{Spells, RefusedAt, read_all};
 ghost use Rattle.pf_form.specs.Words.{Word, words_of};
 ghost use Rattle.pf_rule.specs.declared.fault.Mistake.{Mistake};
+ghost use Rattle.pf_rule.specs.declared.ports.PortStart.{PortStart};
+ghost use Rattle.pf_rule.specs.declared.rule.Host.{Host};
 ghost use Rattle.pf_rule.specs.Rules.{PlainRule, IsRule};
 ghost use Rattle.pf_rule.specs.Packets.{PlainPacket, IsPacket};
+ghost use Rattle.pf_rule.specs.Values.{SpellsHost, host_of};
+ghost use Rattle.pf_rule.specs.Ports.{SpellsStart, start_of};
 ghost use Rattle.pf_rule.specs.RuleGrammar.{rule};
 ghost use Rattle.pf_rule.specs.PacketGrammar.{packet};
 ghost use Rattle.pf_rule.specs.RuleText.{canonical, rule_text};
@@ -34,4 +38,25 @@ pub fn what_is_spelled_is_kept()
 pub fn a_refusal_is_one()
     ensures rules { (ws : List Word) (m n : ℕ) (j k : Kind) → RefusedAt (Result PlainRule Mistake) rule ws m j → RefusedAt (Result PlainRule Mistake) rule ws n k → (m ≡ n) × (j ≡ k) }
     ensures packets { (ws : List Word) (m n : ℕ) (j k : Kind) → RefusedAt (Result PlainPacket Mistake) packet ws m j → RefusedAt (Result PlainPacket Mistake) packet ws n k → (m ≡ n) × (j ≡ k) }
+{}
+
+/// Words are read as a rule or a packet, or as the mistake that they make, exactly where they spell it. So they spell one at most.
+pub fn rules_and_packets_are_read_as_spelled()
+    ensures rules { (ws : List Word) (r : Result PlainRule Mistake) → (read_all rule ws ≡ Ok r) ↔ Spells rule r ws }
+    ensures packets { (ws : List Word) (p : Result PlainPacket Mistake) → (read_all packet ws ≡ Ok p) ↔ Spells packet p ws }
+{}
+
+/// A word is read as a host exactly where it spells a network, or a network with a `!` joined to it.
+#[tactic(auto, using(crate::specs::ReadingLaws::host_found, crate::specs::ReadingLaws::host_only))]
+pub fn host_words_are_read_as_spelled()
+    ensures read { (w : Word) (h : Host) → host_of w ≡ Ok h → SpellsHost w h }
+    ensures spelled { (w : Word) (h : Host) → SpellsHost w h → host_of w ≡ Ok h }
+{}
+
+/// The first word of a port test is read exactly where it spells a number, a unary operator joined to one, or a range with its
+/// boundaries.
+#[tactic(auto, using(crate::specs::ReadingLaws::start_found, crate::specs::ReadingLaws::start_only))]
+pub fn port_words_are_read_as_spelled()
+    ensures read { (w : Word) (s : PortStart) → start_of w ≡ Ok s → SpellsStart w s }
+    ensures spelled { (w : Word) (s : PortStart) → SpellsStart w s → start_of w ≡ Ok s }
 {}

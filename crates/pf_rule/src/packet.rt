@@ -55,7 +55,9 @@ impl Model for Packet {
 impl Packet {
     /// Reads a packet from the front of the words that are left. It takes no memory.
     ///
-    /// A refusal stands at the first word at which no packet can go on. The mistake is that the addresses differ in family.
+    /// A refusal stands at the first word at which no packet's text can go on. Its kind is the one that [`Packet::parse`] names, and
+    /// it says how many words were left, with the one at fault. Which words are left after a refusal isn't said. The mistake is that
+    /// the addresses differ in family.
     #[tactic(auto, unfolding(crate::specs::PacketGrammar::packet))]
     pub fn read<'a>(words: &mut Words<'a>) -> Result<Result<Packet, Mistake>, Stop>
         ensures { Moves packet result words.old.now words.new.now }
@@ -84,7 +86,7 @@ impl Packet {
 
     /// Reads the text of a packet: its words between blanks.
     ///
-    /// `at` is the number of the first word at which no text can go on, from 0, or the number of words where one is missing.
+    /// `at` is the number of the first word at which no packet's text can go on, from 0, or the number of words where one is missing.
     /// [`TextFault::NameTooLong`] is for an interface of more than 15 bytes, [`TextFault::BadProto`] for a word that has to be a
     /// protocol, [`TextFault::BadWord`] for any other. [`TextFault::MixedFamily`] comes after the last word, and
     /// [`TextFault::Memory`] where memory for the list of words is refused.

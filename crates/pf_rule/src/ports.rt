@@ -28,25 +28,26 @@ pub enum Comparison {
     AtLeast,
 }
 
-/// How a port lies to a first and a last number.
+/// Where a port has to lie, by a first and a last number (pf.conf(5), PARAMETERS).
 #[derive(Clone, Copy)]
 pub enum PortRange {
-    /// `:`, the range with its boundaries.
+    /// `:`, the ports from the first number to the last.
     Including,
-    /// `><`, the range without its boundaries.
+    /// `><`, the ports above the first number and below the last.
     Excluding,
-    /// `<>`, what is neither in the range nor a boundary of it.
+    /// `<>`, the ports below the first number and those above the last.
     Except,
 }
 
 /// A test of a packet's port: by a unary operator with its number, or by a binary one between two numbers.
 #[derive(Clone, Copy)]
 pub enum PortTest {
+    /// What the port has to be compared as, and with which number, 0 to 65535.
     Compared {
         operator: Comparison,
         port: u16,
     },
-    /// A range whose first number is past its last holds no port.
+    /// By an operator between two numbers. Where the first is past the last, `:` and `><` hold for no port, and `<>` for every one.
     Ranged {
         range: PortRange,
         first: u16,

@@ -74,7 +74,7 @@ struct RuleParts {
     effect: Effect,
     /// The way a packet has to go (`in`, `out`).
     direction: Option<Direction>,
-    /// Whether a match ends the evaluation (`quick`).
+    /// Whether a match that the rule gives ends the evaluation (`quick`).
     quick: bool,
     /// The interface that a packet has to go through (`on`), as the 1 to 15 bytes of its name.
     interface: Option<Interface>,
@@ -153,7 +153,9 @@ impl Host {
 impl Rule {
     /// Reads a rule from the front of the words that are left. It takes no memory.
     ///
-    /// A refusal stands at the first word at which no rule can go on. Of two mistakes that the families differ is told first.
+    /// A refusal stands at the first word at which no rule's text can go on. Its kind is the one that [`Rule::parse`] names, and it
+    /// says how many words were left, with the one at fault. Which words are left after a refusal isn't said. Of two mistakes that
+    /// the families differ is told first.
     #[tactic(auto, unfolding(crate::specs::RuleGrammar::rule))]
     pub fn read<'a>(words: &mut Words<'a>) -> Result<Result<Rule, Mistake>, Stop>
         ensures { Moves rule result words.old.now words.new.now }
@@ -186,7 +188,7 @@ impl Rule {
 
     /// Reads the text of a rule: its words between blanks.
     ///
-    /// `at` is the number of the first word at which no text can go on, from 0, or the number of words where one is missing.
+    /// `at` is the number of the first word at which no rule's text can go on, from 0, or the number of words where one is missing.
     /// [`TextFault::NameTooLong`] is for an interface of more than 15 bytes and a reference past its limits,
     /// [`TextFault::BadProto`] for a word that has to be a protocol, [`TextFault::BadWord`] for any other.
     /// [`TextFault::MixedFamily`] and then [`TextFault::PortNeedsProto`] come after the last word, and [`TextFault::Memory`] where
@@ -229,7 +231,8 @@ impl Rule {
         self.0.effect
     }
 
-    /// Whether a match with the rule ends the evaluation.
+    /// Whether the rule is quick (`quick`): a match that decides ends the evaluation. An anchor rule decides nothing itself; a quick
+    /// one ends the evaluation where some rule within matched.
     pub fn is_quick(&self) -> bool
         ensures { result ≡ self.now.quick }
     {

@@ -1,0 +1,187 @@
+-- A host's word and the first word of a port test are read exactly where they spell one.
+use Rattle.std.proofs.Common.{◌≡◌, ℕ, ◌+◌, ◌<◌, ◌==◌, Bool, true, false, List, [], ◌∷◌, ◌++◌, length, take, drop, Option, Some, None, Result, Ok, Err, refl, sym, ap, ◌∙◌, subst, append_assoc, arith}
+use Rattle.std.specs.Prelude.{nat_lt, if◌then◌else◌, codes}
+use Rattle.std.specs.List.{position}
+use Rattle.std.proofs.lemmas.Bool.{lt-ltb, ltb-true}
+use Rattle.std.proofs.lemmas.Bool.Decides.{nat_tests}
+use Rattle.std.proofs.lemmas.List.{take_at, drop_at, length-append, take-append-drop}
+use Rattle.std.proofs.lemmas.List.Elements.{All-append, All-head, All-from_get_or}
+use Rattle.std.proofs.lemmas.Str.Parse.{digit_at}
+use Rattle.pf_addr.specs.declared.fault.AddrFault.{AddrFault}
+use Rattle.pf_addr.specs.Address.{Network}
+use Rattle.pf_addr.specs.Grammar.{SpellsNet}
+use Rattle.pf_addr.specs.Reading.{net_at}
+use Rattle.pf_addr.specs.ReadingLaws.{net_found, net_only, net_without}
+use Rattle.pf_addr.specs.PlaceLaws.{without, no_place, place_after, cut_there}
+use Rattle.pf_form.specs.declared.fault.Kind.{Kind}
+use Rattle.pf_form.specs.declared.fault.Kind.TheVariants.{BadWord}
+use Rattle.pf_form.specs.Words.{Word}
+use Rattle.pf_form.specs.Forms.{◌>>=◌}
+use Rattle.pf_form.specs.Laws.{bind_ok, word_is}
+use Rattle.pf_form.specs.Numbers.{is_digit, number_of}
+use Rattle.pf_form.specs.NumberLaws.{number_only, number_found}
+use Rattle.pf_rule.specs.declared.rule.Host.{Host}
+use Rattle.pf_rule.specs.declared.rule.Host.TheVariants.{Any, Net}
+use Rattle.pf_rule.specs.declared.ports.Comparison.{Comparison}
+use Rattle.pf_rule.specs.declared.ports.Comparison.TheVariants.{Equal, NotEqual, Less, AtMost, Greater, AtLeast}
+use Rattle.pf_rule.specs.declared.ports.PortRange.TheVariants.{Including, Excluding, Except}
+use Rattle.pf_rule.specs.declared.ports.PortTest.TheVariants.{Compared, Ranged}
+use Rattle.pf_rule.specs.declared.ports.PortStart.{PortStart}
+use Rattle.pf_rule.specs.declared.ports.PortStart.TheVariants.{Test, Number}
+use Rattle.pf_rule.specs.Values.{net_in, net_of, marked, begins_with, SpellsHost, host_of, port_numbered, port_of}
+use Rattle.pf_rule.specs.Ports.{operator_word, IsPort, SpellsStart, split_by, operators, split_operator, joined, number_or, range_of, is_colon, start_at, start_of}
+
+-- a word that begins so, taken apart
+front_is : (front w : Word) → begins_with front w ≡ true → w ≡ front ++ drop (length front) w
+front_is front w e = sym (take-append-drop (length front) w) ∙ ap (λ (f : Word). f ++ drop (length front) w) (word_is (take (length front) w) front e)
+
+-- ---- a host
+
+net_given : (r : Result Network AddrFault) (n : Network) → net_in r ≡ Ok n → r ≡ Ok n
+net_given (Ok m) n e = cc
+net_given (Err f) n e = absurd cc
+
+marked_found : (negated : Bool) (w : Word) (h : Host) → marked negated w ≡ Ok h → (n : Network) × (Net n negated ≡ h) × SpellsNet w n
+marked_found negated w h e =
+    let (n, read, made) = bind_ok (net_of w) (λ n. Ok (Net n negated)) h e in
+    let is : Net n negated ≡ h = cc in
+    (n, is, net_found w n (net_given (net_at w) n read))
+
+marked_read : (negated : Bool) (w : Word) (n : Network) → SpellsNet w n → marked negated w ≡ Ok (Net n negated)
+marked_read negated w n is = rw (net_only w n is) refl
+
+pub host_found : (w : Word) (h : Host) → host_of w ≡ Ok h → SpellsHost w h
+host_found w h e = by (begins_with (codes "!") w) refl e where
+  by : (t : Bool) → begins_with (codes "!") w ≡ t → (if t then marked true (drop 1 w) else marked false w) ≡ Ok h → SpellsHost w h
+  by true b e = let (n, is, net) = marked_found true (drop 1 w) h e in subst (SpellsHost w) is (drop 1 w, front_is (codes "!") w b, net)
+  by false b e = let (n, is, net) = marked_found false w h e in subst (SpellsHost w) is net
+
+-- no network's text has a `!` (33)
+net_unmarked : (w : Word) (n : Network) → SpellsNet w n → begins_with (codes "!") w ≡ false
+net_unmarked w n is = by w (net_without 33 w n (record { digit = omega arith; dot = refl; colon = refl }) refl is) where
+  by : (w : Word) → without 33 w → begins_with (codes "!") w ≡ false
+  by [] all = refl
+  by (b ∷ bs) all = let other : (b == 33) ≡ false = All-head (λ b. (b == 33) ≡ false) b bs all in rw other refl
+
+pub host_only : (w : Word) (h : Host) → SpellsHost w h → host_of w ≡ Ok h
+host_only w Any is = absurd is
+host_only w (Net n true) (text, is, net) = ap host_of is ∙ marked_read true text n net
+host_only w (Net n false) is = rw (net_unmarked w n is) (marked_read false w n is)
+
+-- ---- one number
+
+pub port_read : (w : Word) (n : ℕ) → IsPort w n → port_of true w ≡ Ok n
+port_read w n is = rw (number_only 5 w n is.0, lt-ltb n 65536 is.1) refl
+
+port_found : (w : Word) (n : ℕ) → port_of true w ≡ Ok n → IsPort w n
+port_found w n e = by (number_of 5 w) refl e where
+  by : (o : Option ℕ) → number_of 5 w ≡ o → port_numbered true o ≡ Ok n → IsPort w n
+  by None h e = absurd cc
+  by (Some m) h e = kept (nat_lt m 65536) refl e where
+    kept : (t : Bool) → nat_lt m 65536 ≡ t → (if t then Ok m else Err BadWord) ≡ Ok n → IsPort w n
+    kept true small e =
+        let is : m ≡ n = cc in
+        (number_found 5 w n (h ∙ ap (λ (k : ℕ). Some k) is), subst (λ (k : ℕ). k < 65536) is (ltb-true m 65536 small))
+    kept false big e = absurd cc
+
+no_colon : (w : Word) (n : ℕ) → IsPort w n → without 58 w
+no_colon w n is = All-from_get_or (λ b. (b == 58) ≡ false) w 0 (λ i le. let d = digit_at w i is.0.digits.1 le in grind (arith, nat_tests))
+
+-- ---- two numbers
+
+behind : (xs ys : List ℕ) → drop (length xs + 1) (xs ++ 58 ∷ ys) ≡ ys
+behind xs ys =
+    let joined : xs ++ 58 ∷ ys ≡ (xs ++ 58 ∷ []) ++ ys = sym (append_assoc xs (58 ∷ []) ys) in
+    ap (drop (length xs + 1)) joined ∙ drop_at (xs ++ 58 ∷ []) ys (length xs + 1) (length-append xs (58 ∷ []))
+
+range_read : (c d : Word) (a b : ℕ) → IsPort c a → IsPort d b → start_of (c ++ 58 ∷ d) ≡ Ok (Test (Ranged Including a b))
+range_read c d a b p q = rw (place_after 58 c d (no_colon c a p), take_at c (58 ∷ d) (length c) refl, behind c d, port_read c a p, port_read d b q) refl
+
+range_found : (w : Word) (i : ℕ) (s : PortStart) → position is_colon w ≡ Some i → range_of (take i w) (drop (i + 1) w) ≡ Ok s → SpellsStart w s
+range_found w i s p e =
+    let (a, first, f) = bind_ok (port_of true (take i w)) (λ a. port_of true (drop (i + 1) w) >>= λ b. Ok (Test (Ranged Including a b))) s e in
+    let (b, last, g) = bind_ok (port_of true (drop (i + 1) w)) (λ b. Ok (Test (Ranged Including a b))) s f in
+    let is : Test (Ranged Including a b) ≡ s = cc in
+    subst (SpellsStart w) is (take i w, drop (i + 1) w, cut_there 58 w i p, port_found (take i w) a first, port_found (drop (i + 1) w) b last)
+
+-- ---- an operator and a number
+
+no_number : (b : ℕ) (bs : Word) → is_digit b ≡ false → port_of true (b ∷ bs) ≡ Err BadWord
+no_number b bs e = grind arith
+
+-- the operators' words
+abbrev Named : List (Word × Comparison) → Type 0
+Named [] = Unit {0}
+Named (o ∷ os) = (o.0 ≡ operator_word o.1) × Named os
+
+split_found : (os : List (Word × Comparison)) (w : Word) (x : Comparison × Word) → Named os → split_by os w ≡ Some x → w ≡ operator_word x.0 ++ x.1
+split_found [] w x named e = absurd cc
+split_found (o ∷ os) w x named e = by (split_found os w x named.1) (begins_with o.0 w) refl e where
+  by : (split_by os w ≡ Some x → w ≡ operator_word x.0 ++ x.1) → (t : Bool) → begins_with o.0 w ≡ t → (if t then Some (o.1, drop (length o.0) w) else split_by os w) ≡ Some x → w ≡ operator_word x.0 ++ x.1
+  by others true h e =
+      let is : (o.1, drop (length o.0) w) ≡ x = cc in
+      subst (λ (y : Comparison × Word). w ≡ operator_word y.0 ++ y.1) is (front_is o.0 w h ∙ ap (λ (f : Word). f ++ drop (length o.0) w) named.0)
+  by others false h e = others e
+
+joined_found : (w : Word) (s : PortStart) → joined (split_operator w) ≡ Ok s → SpellsStart w s
+joined_found w s e = by (split_operator w) refl e where
+  by : (o : Option (Comparison × Word)) → split_operator w ≡ o → joined o ≡ Ok s → SpellsStart w s
+  by None h e = absurd cc
+  by (Some x) h e =
+      let (n, read, f) = bind_ok (port_of true x.1) (λ n. Ok (Test (Compared x.0 n))) s e in
+      let is : Test (Compared x.0 n) ≡ s = cc in
+      subst (SpellsStart w) is (x.1, split_found operators w x (refl, (refl, (refl, (refl, (refl, (refl, tt)))))) h, port_found x.1 n read)
+
+operator_clear : (operator : Comparison) → without 58 (operator_word operator)
+operator_clear Equal = grind (arith, nat_tests)
+operator_clear NotEqual = grind (arith, nat_tests)
+operator_clear Less = grind (arith, nat_tests)
+operator_clear AtMost = grind (arith, nat_tests)
+operator_clear Greater = grind (arith, nat_tests)
+operator_clear AtLeast = grind (arith, nat_tests)
+
+operator_alone : (operator : Comparison) (digits : Word) → port_of true (operator_word operator ++ digits) ≡ Err BadWord
+operator_alone Equal digits = no_number 61 digits refl
+operator_alone NotEqual digits = no_number 33 (61 ∷ digits) refl
+operator_alone Less digits = no_number 60 digits refl
+operator_alone AtMost digits = no_number 60 (61 ∷ digits) refl
+operator_alone Greater digits = no_number 62 digits refl
+operator_alone AtLeast digits = no_number 62 (61 ∷ digits) refl
+
+-- a digit is no "="
+first_differs : (d : ℕ) (ds : Word) (n : ℕ) → IsPort (d ∷ ds) n → (d == 61) ≡ false
+first_differs d ds n is = let digit = digit_at (d ∷ ds) 0 is.0.digits.1 (omega arith) in grind (arith, nat_tests)
+
+split_word : (operator : Comparison) (digits : Word) (n : ℕ) → IsPort digits n → split_operator (operator_word operator ++ digits) ≡ Some (operator, digits)
+split_word Equal digits n is = refl
+split_word NotEqual digits n is = refl
+split_word AtMost digits n is = refl
+split_word AtLeast digits n is = refl
+split_word Less [] n is = absurd (omega (arith, is.0.digits.0))
+split_word Less (d ∷ ds) n is = rw (first_differs d ds n is) refl
+split_word Greater [] n is = absurd (omega (arith, is.0.digits.0))
+split_word Greater (d ∷ ds) n is = rw (first_differs d ds n is) refl
+
+operator_read : (operator : Comparison) (digits : Word) (n : ℕ) → IsPort digits n → start_of (operator_word operator ++ digits) ≡ Ok (Test (Compared operator n))
+operator_read operator digits n is =
+    let clear : without 58 (operator_word operator ++ digits) = All-append (λ b. (b == 58) ≡ false) (operator_word operator) digits (operator_clear operator) (no_colon digits n is) in
+    rw (no_place 58 (operator_word operator ++ digits) clear, operator_alone operator digits, split_word operator digits n is, port_read digits n is) refl
+
+-- ---- the first word
+
+pub start_only : (w : Word) (s : PortStart) → SpellsStart w s → start_of w ≡ Ok s
+start_only w (Number n) is = rw (no_place 58 w (no_colon w n is), port_read w n is) refl
+start_only w (Test (Compared operator n)) (digits, is, port) = ap start_of is ∙ operator_read operator digits n port
+start_only w (Test (Ranged Including a b)) (first, last, is, p, q) = ap start_of is ∙ range_read first last a b p q
+start_only w (Test (Ranged Excluding a b)) is = absurd is
+start_only w (Test (Ranged Except a b)) is = absurd is
+
+pub start_found : (w : Word) (s : PortStart) → start_of w ≡ Ok s → SpellsStart w s
+start_found w s e = by (position is_colon w) refl e where
+  alone : (r : Result ℕ Kind) → port_of true w ≡ r → number_or r (joined (split_operator w)) ≡ Ok s → SpellsStart w s
+  alone (Ok n) h e = let is : Number n ≡ s = cc in subst (SpellsStart w) is (port_found w n h)
+  alone (Err k) h e = joined_found w s e
+
+  by : (o : Option ℕ) → position is_colon w ≡ o → start_at w o ≡ Ok s → SpellsStart w s
+  by (Some i) p e = range_found w i s p e
+  by None p e = alone (port_of true w) refl e
