@@ -13,8 +13,9 @@ use std::marker::Model;
 /// A network: the addresses of one family that begin with the same bits. The bits past the front are zero.
 #[derive(Clone, Copy, Debug, PartialEq, Eq)]
 pub struct Net {
-    family: Family,
+    // the widest first, so that no place is lost between the fields
     number: u128,
+    family: Family,
     len: u8,
 }
 

@@ -67,29 +67,30 @@ pub enum Host {
 }
 
 /// What a rule says (pf.conf(5), Packet Filtering and its Parameters). Contracts see a [`Rule`] as these fields (`PlainRule`), each
-/// as they see its type. A test that is absent holds for every packet, and a rule matches where all its tests hold.
+/// as they see its type. A test that is absent holds for every packet, and a rule matches where all its tests hold. The widest
+/// fields stand first, so that no place is lost between them.
 #[derive(Clone, Copy)]
 struct RuleParts {
+    /// The addresses that a packet has to come from (`from`).
+    source: Host,
+    /// The addresses that a packet has to go to (`to`).
+    destination: Host,
     /// What a match gives (`pass`, `block`, `anchor`).
     effect: Effect,
+    /// The interface that a packet has to go through (`on`), as the 1 to 15 bytes of its name.
+    interface: Option<Interface>,
+    /// The ports that a packet has to come from (`port`). Only a rule of TCP or UDP tests ports.
+    source_port: Option<PortTest>,
+    /// The ports that a packet has to go to, as `source_port`.
+    destination_port: Option<PortTest>,
     /// The way a packet has to go (`in`, `out`).
     direction: Option<Direction>,
     /// Whether a match that the rule gives ends the evaluation (`quick`).
     quick: bool,
-    /// The interface that a packet has to go through (`on`), as the 1 to 15 bytes of its name.
-    interface: Option<Interface>,
     /// The family that a packet's addresses have to be of (`inet`, `inet6`): the one written, or that of a host's network.
     family: Option<Family>,
     /// The protocol that a packet has to be of (`proto`), as its number, 1 to 255.
     protocol: Option<Protocol>,
-    /// The addresses that a packet has to come from (`from`).
-    source: Host,
-    /// The ports that a packet has to come from (`port`). Only a rule of TCP or UDP tests ports.
-    source_port: Option<PortTest>,
-    /// The addresses that a packet has to go to (`to`).
-    destination: Host,
-    /// The ports that a packet has to go to, as `source_port`.
-    destination_port: Option<PortTest>,
 }
 
 /// A filter rule (pf.conf(5), Packet Filtering). A rule is exactly what some text spells.
