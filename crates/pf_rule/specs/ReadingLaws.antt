@@ -1,8 +1,8 @@
--- A host's word and the first word of a port test are read exactly where they spell one.
-use Rattle.std.proofs.Common.{◌≡◌, ℕ, ◌+◌, ◌<◌, ◌==◌, Bool, true, false, List, [], ◌∷◌, ◌++◌, length, take, drop, Option, Some, None, Result, Ok, Err, refl, sym, ap, ◌∙◌, subst, append_assoc, arith}
-use Rattle.std.specs.Prelude.{nat_lt, if◌then◌else◌, codes}
+-- A host's word, a protocol's and the first word of a port test are read exactly where they spell one.
+use Rattle.std.proofs.Common.{◌≡◌, ℕ, ◌+◌, ◌<◌, ◌==◌, Bool, true, false, List, [], ◌∷◌, ◌++◌, length, take, drop, Option, Some, None, Result, Ok, Err, inl, inr, refl, sym, ap, ◌∙◌, subst, append_assoc, arith}
+use Rattle.std.specs.Prelude.{◌&&◌, bytes_eq, nat_lt, if◌then◌else◌, codes}
 use Rattle.std.specs.List.{position}
-use Rattle.std.proofs.lemmas.Bool.{lt-ltb, ltb-true}
+use Rattle.std.proofs.lemmas.Bool.{and_parts, lt-ltb, ltb-true}
 use Rattle.std.proofs.lemmas.Bool.Decides.{nat_tests}
 use Rattle.std.proofs.lemmas.List.{take_at, drop_at, length-append, take-append-drop}
 use Rattle.std.proofs.lemmas.List.Elements.{All-append, All-head, All-from_get_or}
@@ -14,12 +14,13 @@ use Rattle.pf_addr.specs.Reading.{net_at}
 use Rattle.pf_addr.specs.ReadingLaws.{net_found, net_only, net_without}
 use Rattle.pf_addr.specs.PlaceLaws.{without, no_place, place_after, cut_there}
 use Rattle.pf_form.specs.declared.fault.Kind.{Kind}
-use Rattle.pf_form.specs.declared.fault.Kind.TheVariants.{BadWord}
+use Rattle.pf_form.specs.declared.fault.Kind.TheVariants.{BadWord, BadProto}
 use Rattle.pf_form.specs.Words.{Word}
 use Rattle.pf_form.specs.Forms.{◌>>=◌}
 use Rattle.pf_form.specs.Laws.{bind_ok, word_is}
-use Rattle.pf_form.specs.Numbers.{is_digit, number_of}
+use Rattle.pf_form.specs.Numbers.{IsNumber, is_digit, number_of}
 use Rattle.pf_form.specs.NumberLaws.{number_only, number_found}
+use Rattle.pf_rule.specs.declared.protocol.TheConstants.Protocol as protocols
 use Rattle.pf_rule.specs.declared.rule.Host.{Host}
 use Rattle.pf_rule.specs.declared.rule.Host.TheVariants.{Any, Net}
 use Rattle.pf_rule.specs.declared.ports.Comparison.{Comparison}
@@ -28,7 +29,7 @@ use Rattle.pf_rule.specs.declared.ports.PortRange.TheVariants.{Including, Exclud
 use Rattle.pf_rule.specs.declared.ports.PortTest.TheVariants.{Compared, Ranged}
 use Rattle.pf_rule.specs.declared.ports.PortStart.{PortStart}
 use Rattle.pf_rule.specs.declared.ports.PortStart.TheVariants.{Test, Number}
-use Rattle.pf_rule.specs.Values.{net_in, net_of, marked, begins_with, SpellsHost, host_of, port_numbered, port_of}
+use Rattle.pf_rule.specs.Values.{protocol_names, IsNamed, SpellsProtocol, number_named, protocol_numbered, named_or, protocol_of, net_in, net_of, marked, begins_with, SpellsHost, host_of, port_numbered, port_of}
 use Rattle.pf_rule.specs.Ports.{operator_word, IsPort, SpellsStart, split_by, operators, split_operator, joined, number_or, range_of, is_colon, start_at, start_of}
 
 -- a word that begins so, taken apart
@@ -67,6 +68,55 @@ pub host_only : (w : Word) (h : Host) → SpellsHost w h → host_of w ≡ Ok h
 host_only w Any is = absurd is
 host_only w (Net n true) (text, is, net) = ap host_of is ∙ marked_read true text n net
 host_only w (Net n false) is = rw (net_unmarked w n is) (marked_read false w n is)
+
+-- ---- a protocol
+
+name_found : (names : List (Word × ℕ)) (w : Word) (n : ℕ) → number_named names w ≡ Some n → IsNamed names w n
+name_found [] w n e = absurd cc
+name_found (x ∷ xs) w n e = by (name_found xs w n) (bytes_eq w x.0) refl e where
+  by : (number_named xs w ≡ Some n → IsNamed xs w n) → (t : Bool) → bytes_eq w x.0 ≡ t → (if t then Some x.1 else number_named xs w) ≡ Some n → IsNamed (x ∷ xs) w n
+  by others true h e = let is : x.1 ≡ n = cc in inl (word_is w x.0 h, is)
+  by others false h e = inr (others e)
+
+numbered_found : (w : Word) (n : ℕ) → protocol_numbered (number_of 3 w) ≡ Ok n → IsNumber 3 w n × (0 < n) × (n < 256)
+numbered_found w n e = by (number_of 3 w) refl e where
+  by : (o : Option ℕ) → number_of 3 w ≡ o → protocol_numbered o ≡ Ok n → IsNumber 3 w n × (0 < n) × (n < 256)
+  by None h e = absurd cc
+  by (Some m) h e = kept (nat_lt 0 m && nat_lt m 256) refl e where
+    kept : (t : Bool) → (nat_lt 0 m && nat_lt m 256) ≡ t → (if t then Ok m else Err BadProto) ≡ Ok n → IsNumber 3 w n × (0 < n) × (n < 256)
+    kept true small e =
+        let is : m ≡ n = cc in
+        let within = and_parts (nat_lt 0 m) (nat_lt m 256) small in
+        (number_found 3 w n (h ∙ ap (λ (k : ℕ). Some k) is), subst (λ (k : ℕ). 0 < k) is (ltb-true 0 m within.0), subst (λ (k : ℕ). k < 256) is (ltb-true m 256 within.1))
+    kept false big e = absurd cc
+
+pub protocol_found : (w : Word) (n : ℕ) → protocol_of w ≡ Ok n → SpellsProtocol w n
+protocol_found w n e = by (number_named protocol_names w) refl e where
+  by : (o : Option ℕ) → number_named protocol_names w ≡ o → named_or o (protocol_numbered (number_of 3 w)) ≡ Ok n → SpellsProtocol w n
+  by (Some m) h e = let is : m ≡ n = cc in inl (name_found protocol_names w n (h ∙ ap (λ (k : ℕ). Some k) is))
+  by None h e = inr (numbered_found w n e)
+
+-- a number is no name
+unnamed : (w : Word) (n : ℕ) → IsNumber 3 w n → number_named protocol_names w ≡ None
+unnamed [] n is = refl
+unnamed (d ∷ ds) n is =
+    let digit = digit_at (d ∷ ds) 0 is.digits.1 (omega arith) in
+    let t : (d == 116) ≡ false = grind (arith, nat_tests) in
+    let u : (d == 117) ≡ false = grind (arith, nat_tests) in
+    let i : (d == 105) ≡ false = grind (arith, nat_tests) in
+    rw (t, u, i) refl
+
+named_read : (w name : Word) (number n : ℕ) → protocol_of name ≡ Ok number → (w ≡ name) × (number ≡ n) → protocol_of w ≡ Ok n
+named_read w name number n read is = ap protocol_of is.0 ∙ read ∙ ap (λ (k : ℕ). Ok k) is.1
+
+pub protocol_only : (w : Word) (n : ℕ) → SpellsProtocol w n → protocol_of w ≡ Ok n
+protocol_only w n (inl (inl is)) = named_read w (codes "tcp") protocols.TCP n refl is
+protocol_only w n (inl (inr (inl is))) = named_read w (codes "udp") protocols.UDP n refl is
+protocol_only w n (inl (inr (inr (inl is)))) = named_read w (codes "icmp") protocols.ICMP n refl is
+protocol_only w n (inl (inr (inr (inr (inl is))))) = named_read w (codes "icmp6") protocols.ICMP6 n refl is
+protocol_only w n (inl (inr (inr (inr (inr (inl is)))))) = named_read w (codes "ipv6-icmp") protocols.ICMP6 n refl is
+protocol_only w n (inl (inr (inr (inr (inr (inr none)))))) = absurd none
+protocol_only w n (inr (number, some, few)) = rw (unnamed w n number, number_only 3 w n number, lt-ltb 0 n some, lt-ltb n 256 few) refl
 
 -- ---- one number
 

@@ -1,5 +1,5 @@
 -- The words that stand for values: references, names, protocols, hosts, addresses and ports. Each is a test of a word, and a form.
-use Rattle.std.specs.Prelude.{ℕ, ◌&&◌, nat_lt, Bool, true, false, List, [], ◌∷◌, take, drop, length, codes, Option, Some, None, Result, Ok, Err, if◌then◌else◌}
+use Rattle.std.specs.Prelude.{ℕ, ◌<◌, ◌⊎◌, ◌&&◌, nat_lt, Bool, true, false, List, [], ◌∷◌, take, drop, length, codes, Option, Some, None, Result, Ok, Err, if◌then◌else◌}
 use Rattle.std.specs.List.{list_all}
 use Rattle.std.specs.Str.{bytes_eq}
 use Rattle.std.proofs.Common.{◌≡◌, refl}
@@ -12,7 +12,7 @@ use Rattle.pf_addr.specs.declared.addr.Addr.TheVariants as addr
 use Rattle.pf_addr.specs.declared.fault.AddrFault.{AddrFault}
 use Rattle.pf_addr.specs.Address.{Network, network_of}
 use Rattle.pf_addr.specs.Grammar.{SpellsNet}
-use Rattle.pf_form.specs.Numbers.{number_of}
+use Rattle.pf_form.specs.Numbers.{IsNumber, number_of}
 use Rattle.pf_addr.specs.Reading.{part_at, pieces_at, v4_at, address_at, net_at, addr_at}
 use Rattle.pf_rule.specs.declared.interface.TheConstants.{INTERFACE_LIMIT}
 use Rattle.pf_rule.specs.declared.protocol.TheConstants.Protocol as protocols
@@ -42,6 +42,15 @@ an_interface = word (record { of = interface_of; sample = codes "a"; value = cod
 
 abbrev pub protocol_names : List (Word × ℕ)
 protocol_names = (codes "tcp", protocols.TCP) ∷ (codes "udp", protocols.UDP) ∷ (codes "icmp", protocols.ICMP) ∷ (codes "icmp6", protocols.ICMP6) ∷ (codes "ipv6-icmp", protocols.ICMP6) ∷ []
+
+-- the name stands in the table with the number
+abbrev pub IsNamed : List (Word × ℕ) → Word → ℕ → Type 0
+IsNamed [] w n = ⊥
+IsNamed (x ∷ xs) w n = ((w ≡ x.0) × (x.1 ≡ n)) ⊎ IsNamed xs w n
+
+-- a name, or 1 to 3 decimal digits of a number from 1 to 255
+abbrev pub SpellsProtocol : Word → ℕ → Type 0
+SpellsProtocol w n = IsNamed protocol_names w n ⊎ (IsNumber PROTOCOL_DIGITS w n × (0 < n) × (n < 256))
 
 abbrev pub number_named : List (Word × ℕ) → Word → Option ℕ
 number_named [] w = None

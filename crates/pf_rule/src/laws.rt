@@ -8,7 +8,7 @@ ghost use Rattle.pf_rule.specs.declared.ports.PortStart.{PortStart};
 ghost use Rattle.pf_rule.specs.declared.rule.Host.{Host};
 ghost use Rattle.pf_rule.specs.Rules.{PlainRule, IsRule};
 ghost use Rattle.pf_rule.specs.Packets.{PlainPacket, IsPacket};
-ghost use Rattle.pf_rule.specs.Values.{SpellsHost, host_of};
+ghost use Rattle.pf_rule.specs.Values.{SpellsProtocol, SpellsHost, protocol_of, host_of};
 ghost use Rattle.pf_rule.specs.Ports.{SpellsStart, start_of};
 ghost use Rattle.pf_rule.specs.RuleGrammar.{rule};
 ghost use Rattle.pf_rule.specs.PacketGrammar.{packet};
@@ -44,6 +44,12 @@ pub fn a_refusal_is_one()
 pub fn rules_and_packets_are_read_as_spelled()
     ensures rules { (ws : List Word) (r : Result PlainRule Mistake) → (read_all rule ws ≡ Ok r) ↔ Spells rule r ws }
     ensures packets { (ws : List Word) (p : Result PlainPacket Mistake) → (read_all packet ws ≡ Ok p) ↔ Spells packet p ws }
+{}
+
+/// A word is read as a protocol exactly where it spells its name or its number.
+pub fn protocol_words_are_read_as_spelled()
+    ensures read { (w : Word) (n : ℕ) → protocol_of w ≡ Ok n → SpellsProtocol w n }
+    ensures spelled { (w : Word) (n : ℕ) → SpellsProtocol w n → protocol_of w ≡ Ok n }
 {}
 
 /// A word is read as a host exactly where it spells a network, or a network with a `!` joined to it.
