@@ -67,13 +67,15 @@ fn evaluate_targets<'a>(
 ) -> Evaluated<Match<'a>>
     ensures { result ≡ in_turn (evaluation config.now (matching packet.now)) (targets config.now path.now reference.now) }
 {
-    let Some(base) = path.joined(reference.names()) else {
+    // looked at where it is, since a path is long to move
+    let reached = path.joined(reference.names());
+    let Some(base) = &reached else {
         return Evaluated::Open(None);
     };
     if reference.is_wildcard() {
-        return evaluate_children(config, &base, packet);
+        return evaluate_children(config, base, packet);
     }
-    match config.placed_at(&base) {
+    match config.placed_at(base) {
         Some(placed) => evaluate(config, placed, packet),
         None => Evaluated::Open(None),
     }

@@ -62,24 +62,24 @@ evaluate_children-loop-page-preserved t c =
 
 pub evaluate_targets-returns-in_default : goal.evaluate_targets-returns-in_default
 evaluate_targets-returns-in_default t c =
-    let none = sym (ap (path_within c.args.path.now) c.names.ensures.value) ∙ sym c.joined.ensures ∙ c.in_default.is in
+    let none = sym (ap (path_within c.args.path.now) c.names.ensures.value) ∙ sym c.joined-reached.ensures ∙ c.in_default.is in
     sym (ap (in_turn (evaluation c.args.config.now (matching c.args.packet.now))) (no_targets c.args.config.now c.args.path.now c.args.reference.now none))
 
 pub evaluate_targets-evaluate_children-requires : goal.evaluate_targets-evaluate_children-requires
 evaluate_targets-evaluate_children-requires t c =
-    let at = sym (ap (path_within c.args.path.now) c.names.ensures.value) ∙ sym c.joined.ensures ∙ c.in-Some.is in
+    let at = sym (ap (path_within c.args.path.now) c.names.ensures.value) ∙ sym c.joined-reached.ensures ∙ c.in-Some.is in
     let deeper = leads_deeper c.args.path.now c.args.reference.now.names c.in-Some.base at in
     (omega (arith, c.decreases, deeper.0, deeper.1), tt)
 
 pub evaluate_targets-returns-then-is_wildcard : goal.evaluate_targets-returns-then-is_wildcard
 evaluate_targets-returns-then-is_wildcard t c =
-    let at = sym (ap (path_within c.args.path.now) c.names.ensures.value) ∙ sym c.joined.ensures ∙ c.in-Some.is in
+    let at = sym (ap (path_within c.args.path.now) c.names.ensures.value) ∙ sym c.joined-reached.ensures ∙ c.in-Some.is in
     let wildcard = sym c.is_wildcard.ensures ∙ c.if-is_wildcard.true in
     c.evaluate_children.ensures ∙ sym (ap (in_turn (evaluation c.args.config.now (matching c.args.packet.now))) (targets_from c.args.config.now c.args.path.now c.args.reference.now c.in-Some.base true at wildcard))
 
 pub evaluate_targets-evaluate-requires : goal.evaluate_targets-evaluate-requires
 evaluate_targets-evaluate-requires t c =
-    let at = sym (ap (path_within c.args.path.now) c.names.ensures.value) ∙ sym c.joined.ensures ∙ c.in-Some.is in
+    let at = sym (ap (path_within c.args.path.now) c.names.ensures.value) ∙ sym c.joined-reached.ensures ∙ c.in-Some.is in
     let deeper = leads_deeper c.args.path.now c.args.reference.now.names c.in-Some.base at in
     let same = ap (λ (e : Ruled). depth e.0) c.in-Some-placed_at.ensures.rules in
     (omega (arith, c.decreases, deeper.0, deeper.1, same), tt)
@@ -87,7 +87,7 @@ evaluate_targets-evaluate-requires t c =
 pub evaluate_targets-returns-in-Some-placed_at : goal.evaluate_targets-returns-in-Some-placed_at
 evaluate_targets-returns-in-Some-placed_at t c =
     let f = evaluation c.args.config.now (matching c.args.packet.now) in
-    let at = sym (ap (path_within c.args.path.now) c.names.ensures.value) ∙ sym c.joined.ensures ∙ c.in-Some.is in
+    let at = sym (ap (path_within c.args.path.now) c.names.ensures.value) ∙ sym c.joined-reached.ensures ∙ c.in-Some.is in
     let plain = sym c.is_wildcard.ensures ∙ c.if-is_wildcard.false in
     c.evaluate.ensures ∙ ap f c.in-Some-placed_at.ensures.rules
     ∙ sym (ap (in_turn f) (targets_from c.args.config.now c.args.path.now c.args.reference.now c.in-Some.base false at plain)
@@ -96,7 +96,7 @@ evaluate_targets-returns-in-Some-placed_at t c =
 pub evaluate_targets-returns-in-None : goal.evaluate_targets-returns-in-None
 evaluate_targets-returns-in-None t c =
     let f = evaluation c.args.config.now (matching c.args.packet.now) in
-    let at = sym (ap (path_within c.args.path.now) c.names.ensures.value) ∙ sym c.joined.ensures ∙ c.in-Some.is in
+    let at = sym (ap (path_within c.args.path.now) c.names.ensures.value) ∙ sym c.joined-reached.ensures ∙ c.in-Some.is in
     let plain = sym c.is_wildcard.ensures ∙ c.if-is_wildcard.false in
     let nothing = no_rules c.args.config.now (matching c.args.packet.now) c.in-Some.base in
     sym (ap (in_turn f) (targets_from c.args.config.now c.args.path.now c.args.reference.now c.in-Some.base false at plain)
