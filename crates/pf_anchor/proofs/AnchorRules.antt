@@ -85,6 +85,7 @@ quick_ends c tests p front back r a last goes_on is decides quick =
 
 pub ends_the_verdict : EndsTheVerdict
 ends_the_verdict c packet front back r s last m rules goes_on is ended =
-    let f = evaluation c (matching packet) in
+    let tests = matching c.tables packet in
+    let f = evaluation c.rulesets tests in
     ap (λ (rs : List PlainRule). verdict_by (last_of (f (ruled main rs)))) rules
-    ∙ ap (λ (x : Evaluated PlainMatch). verdict_by (last_of x)) (ended_at c (matching packet) main front back r last m goes_on (ends_outside f c (matching packet) main (length front) r s back m is ended))
+    ∙ ap (λ (x : Evaluated PlainMatch). verdict_by (last_of x)) (ended_at c.rulesets tests main front back r last m goes_on (ends_outside f c.rulesets tests main (length front) r s back m is ended))

@@ -95,11 +95,13 @@ entry_decides c tests p n a t sorted i is =
     (is.0, (ap (λ (rs : List PlainRule). rule_numbered rs n) rules ∙ is.1.1, ap (λ (q : List ℕ). tests q is.0) (sym is.1.0) ∙ is.1.2, is.1.3))
 
 pub told_rule_decides : ToldRuleDecides
-told_rule_decides c packet p n a is told = by (find path_order main c) refl where
-  by : (v : Option (List PlainRule)) → find path_order main c ≡ v → (r : PlainRule) × ((rule_numbered (rules_at p c) n ≡ Some r) × (matching packet p r ≡ true) × (r.effect ≡ Decide a))
+told_rule_decides c packet p n a is told = by (find path_order main c.rulesets) refl where
+  by : (v : Option (List PlainRule)) → find path_order main c.rulesets ≡ v → (r : PlainRule) × ((rule_numbered (rules_at p c.rulesets) n ≡ Some r) × (matching c.tables packet p r ≡ true) × (r.effect ≡ Decide a))
   by None none = absurd (cc (default_judged c packet (ap rules_in none), told))
   by (Some rs) some =
+      let rulesets = c.rulesets in
+      let tests = matching c.tables packet in
       let e = ruled main rs in
-      let there : judged c packet ≡ verdict_by (last_of (evaluation c (matching packet) e)) = ap (λ (v : Option (List PlainRule)). verdict_by (last_of (evaluation c (matching packet) (ruled main (rules_in v))))) some in
-      let decided = told_holds (λ m. (t : Ruled) × (IsIn t c × IsDecidedBy (matching packet) m t)) (evaluation c (matching packet) e) p n a (anchors_never_decide c (matching packet) e (found_is_in main c rs some)) (sym there ∙ told) in
-      entry_decides c (matching packet) p n a decided.0 is.sorted decided.1.0 decided.1.1
+      let there : judged c packet ≡ verdict_by (last_of (evaluation rulesets tests e)) = ap (λ (v : Option (List PlainRule)). verdict_by (last_of (evaluation rulesets tests (ruled main (rules_in v))))) some in
+      let decided = told_holds (λ m. (t : Ruled) × (IsIn t rulesets × IsDecidedBy tests m t)) (evaluation rulesets tests e) p n a (anchors_never_decide rulesets tests e (found_is_in main rulesets rs some)) (sym there ∙ told) in
+      entry_decides rulesets tests p n a decided.0 is.sorted decided.1.0 decided.1.1

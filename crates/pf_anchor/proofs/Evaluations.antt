@@ -16,6 +16,7 @@ use Rattle.pf_anchor.specs.declared.evaluated.Evaluated.TheVariants.{Open, Ended
 use Rattle.pf_anchor.specs.declared.verdict.RuleVerdict.TheVariants.{Default}
 use Rattle.pf_anchor.specs.Matches.{PlainMatch}
 use Rattle.pf_anchor.specs.Rulesets.{Ruled, ruled, rules_at, leads_from, leads_to, targets}
+use Rattle.pf_anchor.specs.Configurations.{Configuration}
 use Rattle.pf_anchor.specs.Evaluation.{Tests, and_then, in_turn, last_of, effected, rules_give, evaluate_with, levels, evaluation, matching, verdict_by, judged}
 use Rattle.pf_anchor.specs.EvaluationLaws.{Unrolls, IsTheOnly, DepthIsEnough}
 
@@ -121,6 +122,7 @@ depth_is_enough c tests e k enough = same_levels k (DEPTH_LIMIT - depth e.0) c t
 pub no_rules : (c : List Ruled) (tests : Tests) (p : List ℕ) → evaluation c tests (ruled p []) ≡ Open None
 no_rules c tests p = unrolled c tests (ruled p [])
 
-pub default_judged : (c : List Ruled) (packet : PlainPacket) → rules_at main c ≡ [] → Default ≡ judged c packet
+pub default_judged : (c : Configuration) (packet : PlainPacket) → rules_at main c.rulesets ≡ [] → Default ≡ judged c packet
 default_judged c packet none =
-    sym (ap (λ (rs : List PlainRule). verdict_by (last_of (evaluation c (matching packet) (ruled main rs)))) none ∙ ap (λ (x : Evaluated PlainMatch). verdict_by (last_of x)) (no_rules c (matching packet) main))
+    let tests = matching c.tables packet in
+    sym (ap (λ (rs : List PlainRule). verdict_by (last_of (evaluation c.rulesets tests (ruled main rs)))) none ∙ ap (λ (x : Evaluated PlainMatch). verdict_by (last_of x)) (no_rules c.rulesets tests main))

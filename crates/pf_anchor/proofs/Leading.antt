@@ -36,7 +36,7 @@ alone_or_none p (Some []) some = absurd (some refl)
 alone_or_none p (Some (r ∷ rs)) some = let filled : (length (r ∷ rs) == 0) ≡ false = grind (arith, nat_tests) in sym (ap (λ (b : Bool). cond b [] (ruled p (r ∷ rs) ∷ [])) filled)
 
 leads_to_one : (c : List Ruled) (p : List ℕ) (s : PlainReference) → IsMap c → (base : List ℕ) → path_within p s.names ≡ Some base → s.wildcard ≡ false → targets c p s ≡ cond (length (rules_at base c) == 0) [] (rulesets_at c (base ∷ []))
-leads_to_one c p s is base at plain = targets_from c p s base false at plain ∙ one_there c base is.sorted ∙ alone_or_none base (find path_order base c) (is.ruled base)
+leads_to_one c p s is base at plain = targets_from c p s base false at plain ∙ one_there c base is.sorted ∙ alone_or_none base (find path_order base c) (is.filled base)
 
 pub leads_to_these_alone : LeadsToTheseAlone
 leads_to_these_alone c p s is = record { by_wildcard = leads_to_children c p s is; one = leads_to_one c p s is; none = no_targets c p s }

@@ -1,6 +1,6 @@
-pub mod Maps
 pub mod RulesetMaps
-pub mod Pages
+pub mod TableMaps
+pub mod TablesAt
 pub mod Evaluations
 pub mod PlainRules
 pub mod Turns

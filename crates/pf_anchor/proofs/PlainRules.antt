@@ -62,9 +62,10 @@ finds f c test p k (x ∷ xs) plain =
 
 pub tells_what_decides : TellsWhatDecides
 tells_what_decides c packet plain =
-    let e = ruled main (rules_at main c) in
-    let opened = unrolled c (matching packet) e in
-    elim (finds (evaluation c (matching packet)) c (matching packet main) main 0 (rules_at main c) plain) [
+    let rules = rules_at main c.rulesets in
+    let tests = matching c.tables packet in
+    let opened = unrolled c.rulesets tests (ruled main rules) in
+    elim (finds (evaluation c.rulesets tests) c.rulesets (tests main) main 0 rules plain) [
       | inl none ↦ inl (none.0, ap (λ x. verdict_by (last_of x)) (opened ∙ none.1))
       | inr is ↦ inr (is.0, (is.1.0, (is.1.1.0, (is.1.1.1.0, is.1.1.1.1, ap (λ x. verdict_by (last_of x)) opened ∙ ap verdict_by is.1.1.1.2 ∙ ap (λ (n : ℕ). verdict_by (Some (found main n is.1.1.0))) (let at : 0 + is.0 ≡ is.0 = omega arith in at)))))
     ]

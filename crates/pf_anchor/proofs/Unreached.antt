@@ -13,7 +13,7 @@ use Rattle.pf_rule.specs.declared.rule.Effect.{Effect}
 use Rattle.pf_rule.specs.declared.rule.Effect.TheVariants.{Decide, Evaluate}
 use Rattle.pf_anchor.specs.declared.evaluated.Evaluated.{Evaluated}
 use Rattle.pf_anchor.specs.declared.evaluated.Evaluated.TheVariants.{Open}
-use Rattle.pf_anchor.specs.Maps.{without}
+use Rattle.pf_map.specs.Maps.{without}
 use Rattle.pf_anchor.specs.Matches.{PlainMatch}
 use Rattle.pf_anchor.specs.Rulesets.{Ruled, ruled, rules_in, rules_at, with_rules, leads_to, targets}
 use Rattle.pf_anchor.specs.Evaluation.{Tests, in_turn, effected, evaluate_with, levels, evaluation, matching, verdict_by, last_of, rules_at_path}
@@ -101,6 +101,8 @@ main_avoids c q none = by (find path_order main c) refl where
 
 pub unreached_is_nothing : UnreachedIsNothing
 unreached_is_nothing c new packet is none other =
-    let same : rules_at main (with_rules c new) ≡ rules_at main c = replaced_in_turn (new ∷ []) c main ∙ ap (λ (b : Bool). cond b new.1 (rules_at main c)) other in
-    ap (λ (rs : List PlainRule). verdict_by (last_of (evaluation (with_rules c new) (matching packet) (ruled main rs)))) same
-    ∙ ap (λ (x : Evaluated PlainMatch). verdict_by (last_of x)) (evaluations_agree c new (matching packet) (ruled main (rules_at main c)) none (main_avoids c new.0 none))
+    let rulesets = c.rulesets in
+    let tests = matching c.tables packet in
+    let same : rules_at main (with_rules rulesets new) ≡ rules_at main rulesets = replaced_in_turn (new ∷ []) rulesets main ∙ ap (λ (b : Bool). cond b new.1 (rules_at main rulesets)) other in
+    ap (λ (rs : List PlainRule). verdict_by (last_of (evaluation (with_rules rulesets new) tests (ruled main rs)))) same
+    ∙ ap (λ (x : Evaluated PlainMatch). verdict_by (last_of x)) (evaluations_agree rulesets new tests (ruled main (rules_at main rulesets)) none (main_avoids rulesets new.0 none))

@@ -13,6 +13,8 @@ use Rattle.pf_anchor.specs.declared.verdict.RuleVerdict.{RuleVerdict}
 use Rattle.pf_anchor.specs.declared.verdict.RuleVerdict.TheVariants as by
 use Rattle.pf_anchor.specs.Matches.{PlainMatch, found}
 use Rattle.pf_anchor.specs.Rulesets.{Ruled, ruled, rules_at, targets}
+use Rattle.pf_anchor.specs.Tables.{Tabled, tables_say}
+use Rattle.pf_anchor.specs.Configurations.{Configuration}
 
 -- ---- one after the other
 
@@ -77,8 +79,9 @@ evaluation c tests e = levels (DEPTH_LIMIT - depth e.0) c tests e
 
 -- ---- verdicts
 
-abbrev pub matching : PlainPacket → Tests
-matching packet p r = matches r packet
+-- a rule matches a packet by its tests, with the tables as they are named at its ruleset's path
+abbrev pub matching : List Tabled → PlainPacket → Tests
+matching tables packet p r = matches (tables_say tables p) r packet
 
 -- the rule that decides, or the default pass
 abbrev pub verdict_by : Option PlainMatch → RuleVerdict
@@ -86,5 +89,5 @@ verdict_by None = by.Default
 verdict_by (Some m) = by.Rule m.path m.number m.action
 
 -- a packet is judged by the main ruleset, and where its anchor rules match by what they lead to
-abbrev pub judged : List Ruled → PlainPacket → RuleVerdict
-judged c packet = verdict_by (last_of (evaluation c (matching packet) (ruled main (rules_at main c))))
+abbrev pub judged : Configuration → PlainPacket → RuleVerdict
+judged c packet = verdict_by (last_of (evaluation c.rulesets (matching c.tables packet) (ruled main (rules_at main c.rulesets))))

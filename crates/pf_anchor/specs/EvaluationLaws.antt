@@ -13,7 +13,8 @@ use Rattle.pf_anchor.specs.declared.evaluated.Evaluated.{Evaluated}
 use Rattle.pf_anchor.specs.declared.evaluated.Evaluated.TheVariants.{Open, Ended}
 use Rattle.pf_anchor.specs.declared.verdict.RuleVerdict.TheVariants as by
 use Rattle.pf_anchor.specs.Matches.{PlainMatch, found}
-use Rattle.pf_anchor.specs.Rulesets.{Ruled, ruled, IsMap, rules_at, with_rules, children, leads_to, targets}
+use Rattle.pf_anchor.specs.Rulesets.{Ruled, ruled, IsMap, rules_at, children, leads_to, targets}
+use Rattle.pf_anchor.specs.Configurations.{Configuration, with_rulesets}
 use Rattle.pf_anchor.specs.Evaluation.{Tests, and_then, in_turn, rules_at_path, evaluate_with, levels, evaluation, matching, judged}
 
 -- ---- one solution
@@ -48,9 +49,9 @@ pub record IsDeciding (test : PlainRule → Bool) (rules : List PlainRule) (numb
 
 -- where the main ruleset has no anchor rule: none of its rules matches, and the default is told; or one decides, and its number is told with what it does
 abbrev pub TellsWhatDecides : Type 0
-TellsWhatDecides = (c : List Ruled) (packet : PlainPacket) → list_all decides (rules_at main c) ≡ true →
-    ((list_any (matching packet main) (rules_at main c) ≡ false) × (judged c packet ≡ by.Default))
-    ⊎ ((n : ℕ) × ((r : PlainRule) × ((a : Action) × (IsDeciding (matching packet main) (rules_at main c) n r × (r.effect ≡ Decide a) × (judged c packet ≡ by.Rule main n a)))))
+TellsWhatDecides = (c : Configuration) (packet : PlainPacket) → list_all decides (rules_at main c.rulesets) ≡ true →
+    ((list_any (matching c.tables packet main) (rules_at main c.rulesets) ≡ false) × (judged c packet ≡ by.Default))
+    ⊎ ((n : ℕ) × ((r : PlainRule) × ((a : Action) × (IsDeciding (matching c.tables packet main) (rules_at main c.rulesets) n r × (r.effect ≡ Decide a) × (judged c packet ≡ by.Rule main n a)))))
 
 -- ---- a rule that matches, before other rules; f is what each ruleset gives
 
@@ -110,9 +111,9 @@ QuickEnds = (c : List Ruled) (tests : Tests) (p : List ℕ) (front back : List P
 
 -- what ends within an anchor rule of the main ruleset is told, whatever stands behind that rule
 abbrev pub EndsTheVerdict : Type 0
-EndsTheVerdict = (c : List Ruled) (packet : PlainPacket) (front back : List PlainRule) (r : PlainRule) (s : PlainReference) (last : Option PlainMatch) (m : PlainMatch) →
-    rules_at main c ≡ front ++ r ∷ back → rules_at_path (evaluation c (matching packet)) c (matching packet) main 0 front ≡ Open last → IsAnchor (matching packet) main r s →
-    in_turn (evaluation c (matching packet)) (targets c main s) ≡ Ended m → judged c packet ≡ by.Rule m.path m.number m.action
+EndsTheVerdict = (c : Configuration) (packet : PlainPacket) (front back : List PlainRule) (r : PlainRule) (s : PlainReference) (last : Option PlainMatch) (m : PlainMatch) →
+    rules_at main c.rulesets ≡ front ++ r ∷ back → rules_at_path (evaluation c.rulesets (matching c.tables packet)) c.rulesets (matching c.tables packet) main 0 front ≡ Open last →
+    IsAnchor (matching c.tables packet) main r s → in_turn (evaluation c.rulesets (matching c.tables packet)) (targets c.rulesets main s) ≡ Ended m → judged c packet ≡ by.Rule m.path m.number m.action
 
 -- ---- what decides
 
@@ -140,8 +141,8 @@ AnchorsNeverDecide = (c : List Ruled) (tests : Tests) (e : Ruled) → IsIn e c �
 
 -- the rule that a verdict tells stands at that path under that number, matches the packet, and does what is told
 abbrev pub ToldRuleDecides : Type 0
-ToldRuleDecides = (c : List Ruled) (packet : PlainPacket) (p : List ℕ) (n : ℕ) (a : Action) →
-    IsMap c → judged c packet ≡ by.Rule p n a → (r : PlainRule) × ((rule_numbered (rules_at p c) n ≡ Some r) × (matching packet p r ≡ true) × (r.effect ≡ Decide a))
+ToldRuleDecides = (c : Configuration) (packet : PlainPacket) (p : List ℕ) (n : ℕ) (a : Action) →
+    IsMap c.rulesets → judged c packet ≡ by.Rule p n a → (r : PlainRule) × ((rule_numbered (rules_at p c.rulesets) n ≡ Some r) × (matching c.tables packet p r ≡ true) × (r.effect ≡ Decide a))
 
 -- ---- a ruleset that no rule leads to
 
@@ -150,7 +151,7 @@ NoneLeadsTo q c = (e : Ruled) (n : ℕ) (r : PlainRule) (s : PlainReference) →
 
 -- it may be replaced by any other and no verdict changes, where it isn't the main ruleset; rulesets that lead only to one another are taken out one by one, the outermost first
 abbrev pub UnreachedIsNothing : Type 0
-UnreachedIsNothing = (c : List Ruled) (new : Ruled) (packet : PlainPacket) → IsMap c → NoneLeadsTo new.0 c → same_path new.0 main ≡ false → judged (with_rules c new) packet ≡ judged c packet
+UnreachedIsNothing = (c : Configuration) (new : Ruled) (packet : PlainPacket) → IsMap c.rulesets → NoneLeadsTo new.0 c.rulesets → same_path new.0 main ≡ false → judged (with_rulesets c (new ∷ [])) packet ≡ judged c packet
 
 -- ---- parts
 

@@ -1,35 +1,18 @@
 -- What follows from the definitions of maps, as law functions promise it.
-use Rattle.std.specs.Prelude.{◌≡◌, ℕ, ◌==◌, ◌&&◌, T, Bool, not, cond, List, [], ◌∷◌, length, Option, fold, map}
+use Rattle.std.specs.Prelude.{◌≡◌, ℕ, ◌==◌, ◌&&◌, T, Bool, not, List, [], length, fold, map}
 use Rattle.std.specs.List.{list_any}
-use Rattle.std.specs.declared.cmp.Ordering.{Ordering}
-use Rattle.std.specs.FinMap.{IsAntisymmetric, find, is_sorted}
-use Rattle.std.specs.Ordering.{eq_by_cmp}
+use Rattle.std.specs.FinMap.{is_sorted}
 use Rattle.pf_rule.specs.Rules.{PlainRule}
-use Rattle.pf_anchor.specs.Maps.{with_value}
+use Rattle.pf_map.specs.ListMaps.{list_by}
 use Rattle.pf_path.specs.Paths.{path_order, same_path}
 use Rattle.pf_anchor.specs.Rulesets.{Ruled, ruled, rules_at, with_rules, children, IsMap}
 use Rattle.pf_path.specs.Nested.{is_child}
-
--- ---- any map, under keys in a total order
-
--- a key that was replaced has the new value, or none, and all else stays
-abbrev pub ReplacesTheKey : {K : Type 0} → (X : Type 0) → (K → K → Ordering) → Type 0
-ReplacesTheKey {K} X R = (es : List (K × X)) (k : K) (v : Option X) (q : K) → find R q (with_value R es k v) ≡ cond (eq_by_cmp R q k) v (find R q es)
-
--- what is left has its keys in order
-abbrev pub StaysSorted : {K : Type 0} → (X : Type 0) → (K → K → Ordering) → Type 0
-StaysSorted {K} X R = (es : List (K × X)) (k : K) (v : Option X) → T (is_sorted R es) → T (is_sorted R (with_value R es k v))
-
--- two lists in order of which the same is read at each key are one, where only equal keys tie
-abbrev pub OneList : {K : Type 0} → (X : Type 0) → (K → K → Ordering) → Type 0
-OneList {K} X R = IsAntisymmetric R → (a b : List (K × X)) → T (is_sorted R a) → T (is_sorted R b) → ((q : K) → find R q a ≡ find R q b) → a ≡ b
 
 -- ---- the map of rulesets
 
 -- the rules at a path once these were replaced in turn: those of the last one that has this path, else the old ones
 abbrev pub rules_by : List Ruled → List ℕ → List PlainRule → List PlainRule
-rules_by [] q old = old
-rules_by (e ∷ es) q old = rules_by es q (cond (same_path e.0 q) e.1 old)
+rules_by items q old = list_by path_order items q old
 
 -- a commit gives each path its rules
 abbrev pub ReplacesInTurn : Type 0

@@ -1,7 +1,9 @@
-pub mod Maps
 pub mod Rulesets
-pub mod Pages
+pub mod Tables
+pub mod Configurations
+pub mod Limits
 pub mod Laws
+pub mod TableLaws
 pub mod Matches
 pub mod Evaluation
 pub mod EvaluationLaws

@@ -1,184 +1,74 @@
-//! The active rulesets.
-ghost use Rattle.std.specs.Prelude.{◌≡◌, ◌≤◌, ◌<◌, Err, [], ◌++◌, length, IfOk, OnOk, fold, nat_lt};
-ghost use Rattle.std.specs.Option.{MatchOption};
-ghost use Rattle.pf_path.specs.Paths.{path_order};
-ghost use Rattle.pf_anchor.specs.Rulesets.{Ruled, ruled, rules_at, with_rules, children, IsMap};
-ghost use Rattle.pf_anchor.specs.declared.fault.ConfigFault.TheVariants.{TooManyRulesets};
+//! What is active: rulesets and tables.
+ghost use Rattle.std.specs.Prelude.{◌≡◌, [], ◌∷◌, length, IfOk, nat_lt};
+ghost use Rattle.std.specs.Option.{MatchOption, option_map};
+ghost use Rattle.pf_anchor.specs.Tables.{tabled, table_found, tables_at, named_table, IsTableMap};
+ghost use Rattle.pf_map.specs.Pages.{joined};
+ghost use Rattle.pf_anchor.specs.Rulesets.{ruled, rules_at, children, IsMap};
+ghost use Rattle.pf_anchor.specs.Configurations.{nothing, with_rulesets, with_tables};
+ghost use Rattle.pf_anchor.specs.Limits.{ruleset_refusal, table_refusal, Refuses};
 ghost use Rattle.pf_anchor.specs.Evaluation.{judged};
-ghost use Rattle.pf_anchor.specs.Pages.{joined, starts_behind, page_before, IsPlace};
 
 use crate::evaluate::evaluate;
 use crate::fault::ConfigFault;
-use crate::limits::RULESET_LIMIT;
-use crate::page::{PAGE_LIMIT, Page, push_page, replaced};
-use crate::placed::Placed;
+use crate::limits::{RULESET_LIMIT, TABLE_COUNT_LIMIT};
 use crate::rule_list::RuleList;
+use crate::rulesets::{Placed, PlacedPage, Rulesets, push_children};
+use crate::tables::{Place, PlacedTable, Tables, push_tables_at};
 use crate::verdict::RuleVerdict;
-use pf_path::Path;
+use pf_map::PagedMap;
+use pf_path::{Path, TableName};
 use pf_rule::Packet;
+use pf_table::Table;
 use std::alloc::{AllocError, Global};
 use std::marker::Model;
 
-/// The active rulesets: those that have rules, in the order of their paths. Contracts see it as the list.
-///
-/// They stand in pages, so that a commit shares all pages but those in which it replaces a ruleset.
+/// What is active: the rulesets and the tables, each at its path. Contracts see it as a `Configuration`.
 #[derive(Drop)]
 pub struct Config {
-    pages: Vec<Page>,
+    rulesets: Rulesets,
+    tables: Tables,
 }
 
 impl Model for Config {
-    ghost use Rattle.std.specs.Prelude.{List};
-    ghost use Rattle.pf_anchor.specs.Pages.{joined};
-    ghost use Rattle.pf_anchor.specs.Rulesets.{Ruled, IsMap};
+    ghost use Rattle.pf_anchor.specs.Configurations.{Configuration};
 
-    ghost Value = { List Ruled };
+    ghost Value = { Configuration };
 
-    ghost view = { λ c. joined c.pages.items };
-
-    ghost invariant = { λ c. IsMap (joined c.pages.items) };
-}
-
-// Whether a page's rulesets come behind a path: whether its first one does.
-fn starts_behind(page: &Page, path: &Path) -> bool
-    ensures value { result ≡ starts_behind path_order path.now page.now }
-    ensures some { 0 < length page.now }
-{
-    let first = page.as_slice().first();
-    first.is_some_and(|first| first.is_behind(path))
-}
-
-// How many pages there are up to the one where a path's ruleset is, or would be: the last that doesn't start behind the path,
-// or else the first.
-fn place_in(pages: &[Page], path: &Path) -> usize
-    ensures { IsPlace path_order path.now pages.now result }
-{
-    for index in 1..pages.len() {
-        if starts_behind(&pages[index], path) {
-            return index;
-        }
-    }
-    pages.len()
-}
-
-// The rulesets of the page just before a place.
-fn page_before(pages: &[Page], place: usize) -> &[Placed]
-    requires { place ≤ length pages.now }
-    ensures { result.now ≡ page_before place pages.now }
-{
-    match place.checked_sub(1) {
-        Some(index) => pages[index].as_slice(),
-        None => &[],
-    }
-}
-
-// Adds rulesets behind those that are there, in one page or two.
-fn push_entries(
-    alloc: Global,
-    pages: &mut Vec<Page>,
-    mut entries: Vec<Placed>,
-) -> Result<(), AllocError>
-    ensures { OnOk result (joined pages.new.items ≡ joined pages.old.items ++ entries.items) }
-{
-    if entries.len() > PAGE_LIMIT {
-        let back = entries.split_off(PAGE_LIMIT / 2)?;
-        push_page(alloc, pages, entries)?;
-        push_page(alloc, pages, back)
-    } else {
-        push_page(alloc, pages, entries)
-    }
-}
-
-// One ruleset replaced: one page is made anew, and those behind it are moved.
-fn replace(alloc: Global, pages: &mut Vec<Page>, new: &Placed) -> Result<(), AllocError>
-    requires { IsMap (joined pages.old.items) }
-    ensures { OnOk result (joined pages.new.items ≡ with_rules (joined pages.old.items) new.now) }
-{
-    let place = place_in(pages, new.path());
-    let entries = replaced(alloc, page_before(pages, place), new)?;
-    let mut behind = pages.split_off(place)?;
-    pages.truncate(place.saturating_sub(1));
-    push_entries(alloc, pages, entries)?;
-    pages.append(&mut behind)?;
-    Ok(())
-}
-
-// The first ruleset at a path.
-fn find<'a>(entries: &'a [Placed], path: &Path) -> Option<&'a Placed>
-    ensures { MatchOption result (rules_at path.now entries.now ≡ []) (λ p. p.now ≡ ruled path.now (rules_at path.now entries.now)) }
-{
-    for placed in entries {
-        if path.same(placed.path()) {
-            return Some(placed);
-        }
-    }
-    None
-}
-
-// Whether there are more rulesets than a limit.
-fn are_more_than(pages: &[Page], limit: usize) -> bool
-    ensures { result ≡ nat_lt limit (length (joined pages.now)) }
-{
-    let mut left = limit;
-    for page in pages {
-        let count = page.as_slice().len();
-        if count > left {
-            return true;
-        }
-        left -= count;
-    }
-    false
-}
-
-// Adds the paths of those rulesets that are children of a path.
-fn push_children(found: &mut Vec<Path>, entries: &[Placed], path: &Path) -> Result<(), AllocError>
-    ensures { OnOk result (found.new.items ≡ found.old.items ++ children entries.now path.now) }
-{
-    for placed in entries {
-        if placed.path().is_child_of(path) {
-            found.push(placed.path().copied())?;
-        }
-    }
-    Ok(())
+    ghost view = { λ c. record { rulesets = c.rulesets; tables = c.tables } };
 }
 
 impl Config {
-    /// No rulesets. It takes no memory.
+    /// No rulesets and no tables. It takes no memory.
     pub fn empty(alloc: Global) -> Config
-        ensures { result ≡ [] }
+        ensures { result ≡ nothing }
     {
         Config {
-            pages: Vec::new(alloc),
+            rulesets: PagedMap::empty(alloc),
+            tables: PagedMap::empty(alloc),
         }
     }
 
-    /// The rulesets after a commit of these, in order. All others are shared, and no rule and no path is copied.
-    /// `AllocError`: nothing is made.
+    /// After a commit of these rulesets, in order. All else is shared, and no rule and no path is copied. `AllocError`: nothing is
+    /// made.
     pub fn with_rulesets(&self, alloc: Global, items: &[Placed]) -> Result<Config, AllocError>
-        ensures { IfOk result (λ c. c ≡ fold with_rules self.now items.now) }
+        ensures { IfOk result (λ c. c ≡ with_rulesets self.now items.now) }
     {
-        let mut pages = self.pages.clone()?;
-        for item in items {
-            replace(alloc, &mut pages, item)?;
-        }
-        Ok(Config { pages })
+        Ok(Config {
+            rulesets: self.rulesets.with(alloc, items)?,
+            tables: self.tables.shared()?,
+        })
     }
 
     /// Whether a commit of these would leave more rulesets than there may be. Only near the limit they are made, to be
     /// counted; else it takes no memory. `AllocError`: nothing is made.
     pub fn would_be_too_many(&self, alloc: Global, items: &[Placed]) -> Result<bool, AllocError>
-        ensures { IfOk result (λ b. b ≡ nat_lt RULESET_LIMIT (length (fold with_rules self.now items.now))) }
+        ensures { IfOk result (λ b. b ≡ nat_lt RULESET_LIMIT (length (with_rulesets self.now items.now).rulesets)) }
     {
-        if let Some(room) = RULESET_LIMIT.checked_sub(items.len()) {
-            if !are_more_than(&self.pages, room) {
-                return Ok(false);
-            }
-        }
-        let after = self.with_rulesets(alloc, items)?;
-        Ok(are_more_than(&after.pages, RULESET_LIMIT))
+        self.rulesets
+            .would_be_more_than(alloc, items, RULESET_LIMIT)
     }
 
-    /// The rulesets with the rules at one path replaced, or taken out where there are none. All others are shared.
+    /// With the rules at one path replaced, or taken out where there are none. All else is shared.
     /// `TooManyRulesets`: there would be more than 1,024 after it, which is counted once the old rules are out. On an error
     /// nothing is made.
     pub fn with_ruleset(
@@ -187,57 +77,135 @@ impl Config {
         path: &Path,
         rules: &RuleList,
     ) -> Result<Config, ConfigFault>
-        ensures whole { IfOk result (λ c. c ≡ with_rules self.now (ruled path.now rules.now)) }
-        ensures few { IfOk result (λ c. length c ≤ RULESET_LIMIT) }
-        ensures many { result ≡ Err TooManyRulesets → RULESET_LIMIT < length (with_rules self.now (ruled path.now rules.now)) }
+        ensures whole { IfOk result (λ c. c ≡ with_rulesets self.now (ruled path.now rules.now ∷ [])) }
+        ensures refused { Refuses result (ruleset_refusal (with_rulesets self.now (ruled path.now rules.now ∷ []))) }
     {
         let items = [Placed::new(alloc, path.copied(), rules.shared()?)?];
         let after = self.with_rulesets(alloc, &items)?;
-        if are_more_than(&after.pages, RULESET_LIMIT) {
+        if after.rulesets.is_more_than(RULESET_LIMIT) {
             return Err(ConfigFault::TooManyRulesets);
         }
         Ok(after)
     }
 
+    /// After a commit of these tables, in order: one without entries is taken out. All else is shared, and no entry is copied.
+    /// `AllocError`: nothing is made.
+    pub fn with_tables(&self, alloc: Global, items: &[PlacedTable]) -> Result<Config, AllocError>
+        ensures { IfOk result (λ c. c ≡ with_tables self.now items.now) }
+    {
+        Ok(Config {
+            rulesets: self.rulesets.shared()?,
+            tables: self.tables.with(alloc, items)?,
+        })
+    }
+
+    /// Whether a commit of these would leave more tables than there may be. Only near the limit they are made, to be counted;
+    /// else it takes no memory. `AllocError`: nothing is made.
+    pub fn would_be_too_many_tables(
+        &self,
+        alloc: Global,
+        items: &[PlacedTable],
+    ) -> Result<bool, AllocError>
+        ensures { IfOk result (λ b. b ≡ nat_lt TABLE_COUNT_LIMIT (length (with_tables self.now items.now).tables)) }
+    {
+        self.tables
+            .would_be_more_than(alloc, items, TABLE_COUNT_LIMIT)
+    }
+
+    /// With the table at one path and name replaced, or taken out where the new one has no entries. All else is shared.
+    /// `TooManyTables`: there would be more than 1,024 after it, which is counted once the old one is out. On an error nothing
+    /// is made.
+    pub fn with_table(
+        &self,
+        alloc: Global,
+        path: &Path,
+        name: &TableName,
+        table: &Table,
+    ) -> Result<Config, ConfigFault>
+        ensures whole { IfOk result (λ c. c ≡ with_tables self.now (tabled path.now name.now table.now ∷ [])) }
+        ensures refused { Refuses result (table_refusal (with_tables self.now (tabled path.now name.now table.now ∷ []))) }
+    {
+        let items = [PlacedTable::new(alloc, (path.copied(), *name), table.shared()?)?];
+        let after = self.with_tables(alloc, &items)?;
+        if after.tables.is_more_than(TABLE_COUNT_LIMIT) {
+            return Err(ConfigFault::TooManyTables);
+        }
+        Ok(after)
+    }
+
+    /// The table at this path and name, where there is one. It takes no memory.
+    pub fn table_at(&self, path: &Path, name: &TableName) -> Option<&Table>
+        ensures found { option_map (λ t. t.now) result ≡ table_found path.now name.now self.now.tables }
+        // what each map keeps
+        ensures map { IsTableMap self.now.tables }
+    {
+        match self.tables.get(&Place { path, name }) {
+            Some(placed) => Some(placed.value()),
+            None => None,
+        }
+    }
+
+    /// The tables at a path, in the order of their names. No entry is copied. `AllocError`: nothing is made.
+    pub fn tables_at(&self, alloc: Global, path: &Path) -> Result<Vec<PlacedTable>, AllocError>
+        ensures { IfOk result (λ v. v.items ≡ tables_at path.now self.now.tables) }
+    {
+        let mut found = Vec::new(alloc);
+        let pages = self.tables.pages();
+        for page in pages {
+            push_tables_at(&mut found, page.as_slice(), path)?;
+        }
+        Ok(found)
+    }
+
+    /// The table of this name, as the rules of the ruleset at a path name it: the one at this path, else the main ruleset's
+    /// (pf.conf(5), Anchors). It takes no memory.
+    pub(crate) fn named_table(&self, path: &Path, name: &TableName) -> Option<&Table>
+        ensures { option_map (λ t. t.now) result ≡ named_table self.now.tables path.now name.now }
+    {
+        match self.table_at(path, name) {
+            Some(own) => Some(own),
+            None => self.table_at(&Path::main(), name),
+        }
+    }
+
     /// The children of a path: the paths of one component more that have rules, in the order of their bytes (pf.conf(5),
     /// Anchors). `AllocError`: nothing is made.
     pub fn children(&self, alloc: Global, path: &Path) -> Result<Vec<Path>, AllocError>
-        ensures { IfOk result (λ v. v.items ≡ children self.now path.now) }
+        ensures { IfOk result (λ v. v.items ≡ children self.now.rulesets path.now) }
     {
         let mut found = Vec::new(alloc);
-        let pages = self.pages();
+        let pages = self.ruleset_pages();
         for page in pages {
             push_children(&mut found, page.as_slice(), path)?;
         }
         Ok(found)
     }
 
-    /// The ruleset at a path.
-    pub(crate) fn placed_at(&self, path: &Path) -> Option<&Placed>
-        ensures rules { MatchOption result (rules_at path.now self.now ≡ []) (λ p. p.now ≡ ruled path.now (rules_at path.now self.now)) }
-        ensures map { IsMap self.now }
-    {
-        let pages = self.pages.as_slice();
-        find(page_before(pages, place_in(pages, path)), path)
-    }
-
     /// The rules at a path: none where it has no ruleset. No rule is copied. `AllocError`: nothing is made.
     pub fn rules_at(&self, path: &Path) -> Result<RuleList, AllocError>
-        ensures value { IfOk result (λ l. l ≡ rules_at path.now self.now) }
+        ensures value { IfOk result (λ l. l ≡ rules_at path.now self.now.rulesets) }
         // what each map keeps
-        ensures map { IsMap self.now }
+        ensures map { IsMap self.now.rulesets }
     {
         match self.placed_at(path) {
-            Some(placed) => placed.rules().shared(),
+            Some(placed) => placed.value().shared(),
             None => Ok(RuleList::none()),
         }
     }
 
-    /// Its pages, in order.
-    pub(crate) fn pages(&self) -> &[Page]
-        ensures { joined result.now ≡ self.now }
+    /// The ruleset at a path.
+    pub(crate) fn placed_at(&self, path: &Path) -> Option<&Placed>
+        ensures rules { MatchOption result (rules_at path.now self.now.rulesets ≡ []) (λ p. p.now ≡ ruled path.now (rules_at path.now self.now.rulesets)) }
+        ensures map { IsMap self.now.rulesets }
     {
-        self.pages.as_slice()
+        self.rulesets.get(path)
+    }
+
+    /// The pages of rulesets, in order.
+    pub(crate) fn ruleset_pages(&self) -> &[PlacedPage]
+        ensures { joined result.now ≡ self.now.rulesets }
+    {
+        self.rulesets.pages()
     }
 
     /// What the rules say of a packet: the rule that decides by the main ruleset's evaluation (pf.conf(5), Packet Filtering
@@ -251,7 +219,7 @@ impl Config {
         };
         match evaluate(self, main, packet).last() {
             Some(found) => RuleVerdict::Rule {
-                path: found.placed.path().copied(),
+                path: found.placed.key().copied(),
                 number: found.number,
                 action: found.action,
             },

@@ -1,4 +1,4 @@
-//! Evaluation of rulesets that lead to one another.
+//! Evaluation of rulesets that lead to one another, with tables as their rules name them.
 ghost use Rattle.std.specs.Prelude.{◌≡◌, filter};
 ghost use Rattle.pf_path.specs.Nested.{is_child};
 ghost use Rattle.pf_anchor.specs.Rulesets.{targets};
@@ -6,7 +6,8 @@ ghost use Rattle.pf_anchor.specs.Evaluation.{evaluation, effected, in_turn, matc
 
 use crate::config::Config;
 use crate::evaluated::{Evaluated, Match};
-use crate::placed::Placed;
+use crate::named_tables::NamedTables;
+use crate::rulesets::Placed;
 use pf_path::{Path, Reference};
 use pf_rule::{Effect, Packet, Rule};
 
@@ -19,11 +20,15 @@ pub(crate) fn evaluate<'a>(
     placed: &'a Placed,
     packet: &Packet,
 ) -> Evaluated<Match<'a>>
-    ensures { result ≡ evaluation config.now (matching packet.now) placed.now }
+    ensures { result ≡ evaluation config.now.rulesets (matching config.now.tables packet.now) placed.now }
 {
+    let tables = NamedTables {
+        config,
+        path: placed.key(),
+    };
     let mut last = None;
-    for (number, rule) in placed.rules().as_slice().iter().enumerate() {
-        if rule.matches(packet) {
+    for (number, rule) in placed.value().as_slice().iter().enumerate() {
+        if rule.matches(&tables, packet) {
             let effected = effected(config, placed, number as u32, rule, packet);
             match effected.settled(rule.is_quick()) {
                 Evaluated::Open(latest) => last = latest.or(last),
@@ -43,7 +48,7 @@ fn effected<'a>(
     rule: &Rule,
     packet: &Packet,
 ) -> Evaluated<Match<'a>>
-    ensures { result ≡ effected (evaluation config.now (matching packet.now)) config.now placed.now.0 number rule.now.effect }
+    ensures { result ≡ effected (evaluation config.now.rulesets (matching config.now.tables packet.now)) config.now.rulesets placed.now.0 number rule.now.effect }
 {
     match rule.effect() {
         Effect::Decide(action) => Evaluated::Open(Some(Match {
@@ -52,7 +57,7 @@ fn effected<'a>(
             action,
         })),
         Effect::Evaluate(reference) => {
-            evaluate_targets(config, placed.path(), &reference, packet)
+            evaluate_targets(config, placed.key(), &reference, packet)
         }
     }
 }
@@ -65,7 +70,7 @@ fn evaluate_targets<'a>(
     reference: &Reference,
     packet: &Packet,
 ) -> Evaluated<Match<'a>>
-    ensures { result ≡ in_turn (evaluation config.now (matching packet.now)) (targets config.now path.now reference.now) }
+    ensures { result ≡ in_turn (evaluation config.now.rulesets (matching config.now.tables packet.now)) (targets config.now.rulesets path.now reference.now) }
 {
     // looked at where it is, since a path is long to move
     let reached = path.joined(reference.names());
@@ -84,10 +89,10 @@ fn evaluate_targets<'a>(
 // The children of a path, in turn.
 #[cycle(evaluate)]
 fn evaluate_children<'a>(config: &'a Config, path: &Path, packet: &Packet) -> Evaluated<Match<'a>>
-    ensures { result ≡ in_turn (evaluation config.now (matching packet.now)) (filter (λ e. is_child path.now e.0) config.now) }
+    ensures { result ≡ in_turn (evaluation config.now.rulesets (matching config.now.tables packet.now)) (filter (λ e. is_child path.now e.0) config.now.rulesets) }
 {
     let mut last = None;
-    let pages = config.pages();
+    let pages = config.ruleset_pages();
     for page in pages {
         match evaluate_among(config, page.as_slice(), path, packet) {
             Evaluated::Open(later) => last = later.or(last),
@@ -106,11 +111,11 @@ fn evaluate_among<'a>(
     path: &Path,
     packet: &Packet,
 ) -> Evaluated<Match<'a>>
-    ensures { result ≡ in_turn (evaluation config.now (matching packet.now)) (filter (λ e. is_child path.now e.0) entries.now) }
+    ensures { result ≡ in_turn (evaluation config.now.rulesets (matching config.now.tables packet.now)) (filter (λ e. is_child path.now e.0) entries.now) }
 {
     let mut last = None;
     for placed in entries {
-        if placed.path().is_child_of(path) {
+        if placed.key().is_child_of(path) {
             match evaluate(config, placed, packet) {
                 Evaluated::Open(found) => last = found.or(last),
                 Evaluated::Ended(end) => return Evaluated::Ended(end),

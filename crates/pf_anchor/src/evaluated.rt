@@ -2,7 +2,7 @@
 ghost use Rattle.std.specs.Prelude.{◌≡◌};
 ghost use Rattle.pf_anchor.specs.Evaluation.{settled, last_of};
 
-use crate::placed::Placed;
+use crate::rulesets::Placed;
 use pf_rule::Action;
 use std::marker::Model;
 

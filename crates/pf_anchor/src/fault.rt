@@ -1,13 +1,15 @@
-//! Why rules aren't put at a path.
+//! Why rules or a table aren't put at a path.
 ghost use Rattle.std.specs.Prelude.{◌≡◌};
 
 use std::alloc::AllocError;
 
-/// Why rules aren't put at a path.
+/// Why rules or a table aren't put at a path.
 #[derive(Clone, Copy, Debug, PartialEq, Eq)]
 pub enum ConfigFault {
     /// There would be more than 1,024 rulesets.
     TooManyRulesets,
+    /// There would be more than 1,024 tables.
+    TooManyTables,
     /// Memory was refused.
     Memory,
 }

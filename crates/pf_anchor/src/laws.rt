@@ -1,14 +1,7 @@
 //! What follows from the definitions that contracts cite: functions that do nothing, whose contracts are the laws.
-ghost use Rattle.pf_anchor.specs.Laws.{ReplacesTheKey, StaysSorted, OneList, ReplacesInTurn, StaysMap, OneMap, ChildrenHaveRules};
+ghost use Rattle.pf_anchor.specs.Laws.{ReplacesInTurn, StaysMap, OneMap, ChildrenHaveRules};
+ghost use Rattle.pf_anchor.specs.TableLaws.{ReplacesTables, HasItsEntries, OtherNamesStay, OtherPathsStay, StaysTableMap, EmptyIsAbsent, OneTableMap, LeavesTheOther, TablesAtPath, OwnAnswers, OwnHidesMain, MainAnswersElse, NoneElse, OthersAnswerNothing};
 ghost use Rattle.pf_anchor.specs.EvaluationLaws.{TellsWhatDecides, Unrolls, IsTheOnly, DepthIsEnough, OwnMatch, EndsOutside, NothingWithin, MatchWithin, InTurn, LeadsToTheseAlone, QuickEnds, EndsTheVerdict, AnchorsNeverDecide, ToldRuleDecides, UnreachedIsNothing, InTwoParts, PassedOver};
-
-/// In a map under any keys in a total order, a key that was replaced has the new value, or none, all else stays, and the
-/// keys stay in order. A map is what is read of it.
-pub fn maps_are_replaced<K: Ord, V>()
-    ensures key { ReplacesTheKey V K.cmp }
-    ensures sorted { StaysSorted V K.cmp }
-    ensures one { OneList V K.cmp }
-{}
 
 /// After a commit each path has the rules that the commit gives it or else its own, and what has no rules isn't there.
 #[tactic(auto, using(crate::proofs::RulesetMaps::replaced_in_turn))]
@@ -83,4 +76,33 @@ pub fn unreached_rulesets_change_nothing()
 pub fn rules_are_evaluated_in_parts()
     ensures parts { InTwoParts }
     ensures passed { PassedOver }
+{}
+
+/// After a change each named table has the entries that it was given, and all others stay, at that path and at others; what has
+/// no entries isn't there. Two maps of which the same is read everywhere are one. Rulesets and tables don't touch one another.
+pub fn tables_are_replaced_exactly()
+    ensures tables { ReplacesTables }
+    ensures its { HasItsEntries }
+    ensures names { OtherNamesStay }
+    ensures paths { OtherPathsStay }
+    ensures map { StaysTableMap }
+    ensures empty { EmptyIsAbsent }
+    ensures one { OneTableMap }
+    ensures other { LeavesTheOther }
+{}
+
+/// The tables at a path are those that are found there, in the order of their names.
+pub fn tables_at_paths_are_by_name()
+    ensures { TablesAtPath }
+{}
+
+/// A rule's path alone is asked for the table that the rule names, and where it has none the main ruleset's. An own table hides
+/// main's, also where it has no entry for the address; tables of other names and at other paths, parents and children among
+/// them, change nothing. A host that names a table that isn't there takes no address, and its negation every one.
+pub fn own_tables_hide_mains()
+    ensures own { OwnAnswers }
+    ensures hidden { OwnHidesMain }
+    ensures main { MainAnswersElse }
+    ensures none { NoneElse }
+    ensures others { OthersAnswerNothing }
 {}

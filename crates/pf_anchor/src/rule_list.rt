@@ -1,8 +1,10 @@
 //! Rules that are shared.
 ghost use Rattle.std.specs.Prelude.{◌≡◌, ◌<◌, ◌≤◌, [], ◌∷◌, ◌++◌, length, IfOk, OnOk, OnErr};
 ghost use Rattle.std.specs.Arc.{arc_value};
+ghost use Rattle.pf_map.specs.ListMaps.{unless_empty, kept_again};
 
 use crate::limits::RULE_LIMIT;
+use pf_map::Content;
 use pf_rule::Rule;
 use std::alloc::{AllocError, Global};
 use std::marker::Model;
@@ -88,4 +90,14 @@ impl RuleList {
         self.rules = Some(Arc::new(alloc, own)?);
         Ok(())
     }
+}
+
+impl Content for RuleList {
+    ghost kept = { unless_empty };
+
+    fn is_none(&self) -> bool {
+        self.as_slice().is_empty()
+    }
+
+    ghost keeps = { kept_again };
 }

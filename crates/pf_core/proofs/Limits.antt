@@ -1,49 +1,62 @@
 -- In each opening that a world comes to each ticket was given once, all limits hold, and all is shown.
-use Rattle.std.proofs.Common.{◌≡◌, ℕ, ◌+◌, ◌≤◌, Bool, true, false, cond, List, [], ◌∷◌, length, refl, sym, ap, ◌∙◌, subst, inl, inr, Result, Ok, Err, arith, zero, suc, ◌++◌}
+use Rattle.std.proofs.Common.{◌≡◌, ℕ, ◌+◌, ◌≤◌, ◌==◌, ◌&&◌, not, Bool, true, false, cond, List, [], ◌∷◌, length, refl, sym, ap, ◌∙◌, subst, inl, inr, Result, Ok, Err, arith, zero, suc, ◌++◌}
 use Rattle.std.specs.Prelude.{nat_lt, fold}
+use Rattle.std.specs.List.{AllByRecursion}
+use Rattle.std.specs.Ordering.{eq_by_cmp}
+use Rattle.pf_map.specs.ListMaps.{list_by}
+use Rattle.pf_table.specs.declared.limits.TheConstants.{TABLE_LIMIT}
+use Rattle.pf_table.specs.Edits.{added, additions, deleted, deletions, replaced}
+use Rattle.pf_table.specs.EditLaws.{deleted_fewer}
+use Rattle.pf_table.specs.Entries.{Row}
 use Rattle.std.proofs.lemmas.Bool.Decides.{nat_tests}
 use Rattle.pf_ticket.specs.declared.name.RulesetName.{RulesetName}
 use Rattle.pf_ticket.specs.declared.refusal.TicketRefusal.{TicketRefusal}
 use Rattle.pf_ticket.specs.declared.ticket.Ticket.{Ticket}
 use Rattle.pf_ticket.specs.Laws.{AreGiven, IsWithin as AreTicketsWithin, AreOnce}
-use Rattle.pf_ticket.specs.Mentions.{gives, after as moved_by}
-use Rattle.pf_ticket.specs.Names.{filter_at, names_of, tickets_from, ticket}
-use Rattle.pf_ticket.specs.Replies.{begin_reply, add_reply, list_check}
-use Rattle.pf_ticket.specs.Tickets.{Open, rules_in, content}
+use Rattle.pf_ticket.specs.Mentions.{Mention, gives, switches, after as moved_by}
+use Rattle.pf_ticket.specs.Names.{filter_at, table_ruleset_at, same_name, names_of, tickets_from, ticket}
+use Rattle.pf_ticket.specs.NameLaws.{name_is}
+use Rattle.pf_ticket.specs.NamedTables.{Named}
+use Rattle.pf_ticket.specs.Replies.{begin_reply, add_reply, define_reply, list_check, commit_check}
+use Rattle.pf_ticket.specs.Tickets.{Open, loaded, content}
 use Rattle.pf_ticket.proofs.Keeping.{begins_give, keeps_the_limits as tickets_keep}
 use Rattle.pf_core.specs.declared.command.Command.{Command}
-use Rattle.pf_core.specs.declared.command.Command.TheVariants.{Transact, Ask}
+use Rattle.pf_core.specs.declared.command.Command.TheVariants.{Transact, Edit as Change, Ask}
+use Rattle.pf_core.specs.declared.command.TableEdit.{TableEdit}
+use Rattle.pf_core.specs.declared.command.TableEdit.TheVariants.{Add as AddTo, Delete, Set, Kill}
 use Rattle.pf_core.specs.declared.command.Question.{Question}
-use Rattle.pf_core.specs.declared.command.Transaction.TheVariants.{Begin, Add, Commit, Rollback}
+use Rattle.pf_core.specs.declared.command.Transaction.TheVariants.{Begin, Add, Define, Commit, Rollback}
 use Rattle.pf_core.specs.declared.reply.Answer.{Answer}
 use Rattle.pf_core.specs.declared.reply.Answer.TheVariants as answer
 use Rattle.pf_core.specs.declared.reply.Outcome.{Outcome}
+use Rattle.pf_core.specs.declared.reply.Outcome.TheVariants as outcome
 use Rattle.pf_core.specs.declared.reply.Refusal.{Refusal}
-use Rattle.pf_core.specs.declared.reply.Refusal.TheVariants.{HistoryFull}
+use Rattle.pf_core.specs.declared.reply.Refusal.TheVariants.{HistoryFull, TableFull, TooManyRulesets, TooManyTables}
 use Rattle.pf_core.specs.declared.reply.Reply.{Reply}
 use Rattle.pf_core.specs.declared.reply.Reply.TheVariants.{Answer as Answered, Applied, Refused}
 use Rattle.pf_core.specs.declared.step.Step.{Step}
 use Rattle.pf_core.specs.declared.step.Step.TheVariants.{Done, Wants}
 use Rattle.pf_core.specs.Calls.{call, mentions_of, Call}
-use Rattle.pf_core.specs.Commands.{unless_refused, commit_change, wanting, answer_of, step_by, mentioned, items}
-use Rattle.pf_core.specs.Edits.{Kept, Edit, rulesets_in, applied, after}
+use Rattle.pf_core.specs.Commands.{unless_refused, items, wanting, added_of, deleted_of, there, edit_step, answer_of, step_by, mentioned}
+use Rattle.pf_core.specs.Edits.{Kept, Edit, commits, adds, deletes, sets, rulesets_in, placed, tables_in, entries_at, with_entries, applied, voided_by, after, and_then, unless, no_conflict, holdable, is_one_more, room_for_table, replaceable, fits}
 use Rattle.pf_core.specs.WorldFacts.{tickets_in, given_by, tickets_given, GivesEachOnce, IsWithin, KeepsTheLimits, ShowsAll}
-use Rattle.pf_core.specs.WorldLaws.{unit_is, IsPassed, passed, IsCommitted, wants_commit}
+use Rattle.pf_core.specs.WorldLaws.{unit_is, IsPassed, passed, none-wanted, AreBothPassed, both_passed, not_refused, IsThis, wants_commit, edit_of, wants_edit, IsWanted, wants}
 use Rattle.pf_core.specs.Worlds.{Held, log_of, durable_of, step_in, room_for, if_ok, or_refused, due_at, grouped, group_at, LegalReply, State, up, down, Upshot, Event, called, opened, flat, group_in, acked_by, shown_by, heard, next, LegalCall, IsLegal, state_after, IsLegalFrom, IsWorld}
 use Rattle.std.proofs.lemmas.Bool.{cond_both}
 use Rattle.std.proofs.lemmas.List.{append-nil, length-append}
 use Rattle.std.proofs.lemmas.List.Sums.{fold_push}
 use Rattle.pf_rule.specs.Rules.{PlainRule}
-use Rattle.pf_anchor.specs.declared.limits.TheConstants.{RULE_LIMIT}
-use Rattle.pf_anchor.specs.Laws.{rules_by}
-use Rattle.pf_path.specs.Paths.{same_path}
-use Rattle.pf_anchor.specs.Rulesets.{Ruled, rules_at}
+use Rattle.pf_anchor.specs.declared.limits.TheConstants.{RULE_LIMIT, RULESET_LIMIT, TABLE_COUNT_LIMIT}
+use Rattle.pf_anchor.specs.Configurations.{Configuration}
+use Rattle.pf_anchor.specs.Tables.{TableKey, tabled, table_order}
+use Rattle.pf_anchor.proofs.TableMaps.{tables_replaced}
+use Rattle.pf_anchor.specs.Rulesets.{rules_at}
 use Rattle.pf_anchor.proofs.RulesetMaps.{replaced_in_turn}
 use Rattle.pf_ticket.specs.declared.entry.Entry.{Entry}
-use Rattle.pf_ticket.specs.declared.offered.Offered.{Offered}
 use Rattle.pf_ticket.proofs.Twice.{gives_each_once as once_given}
 use Rattle.pf_core.proofs.LongerWorlds.{flat-push}
-use Rattle.pf_core.proofs.Switching.{taken, taken-is}
+use Rattle.pf_core.proofs.Switching.{switched_in, rules_of, rules-switched, entries_of, tables-switched}
+use Rattle.pf_core.proofs.TableCounts.{deleted-none, no-table-more}
 
 -- ---- by the step that was answered
 
@@ -79,9 +92,23 @@ done-told (Err e) a h = absurd (cc (h))
 question-told : (d : Kept) (q : Question) → tickets_in (Answered (answer_of d q)) ≡ []
 question-told d q = grind arith
 
-never-done : (r : Result Edit Refusal) (a : Answer) → wanting r ≡ Ok (Done a) → ⊥
-never-done (Ok e) a h = cc (h)
-never-done (Err e) a h = cc (h)
+-- what wants a change isn't only answered
+never-done : (fit : Result (Unit {0}) Refusal) (e : Edit) (o : Outcome) (a : Answer) → and_then fit (Ok (Wants e o)) ≡ Ok (Done a) → ⊥
+never-done (Ok u) e o a h = cc (h)
+never-done (Err x) e o a h = cc (h)
+
+never-committed : (r : Result (Unit {0}) TicketRefusal) (d : Kept) (e : Edit) (o : Outcome) (a : Answer) → unless_refused r (λ _. wanting d e o) ≡ Ok (Done a) → ⊥
+never-committed (Ok u) d e o a h = never-done (fits d e) e o a h
+never-committed (Err x) d e o a h = cc (h)
+
+never-edited : (d : Kept) (edit : TableEdit) (a : Answer) → edit_step d edit ≡ Ok (Done a) → ⊥
+never-edited d (AddTo p name xs) a h = never-done (fits d (adds p name xs)) (adds p name xs) (added_of (additions (entries_at d p name) xs)) a h
+never-edited d (Delete p name xs) a h =
+    let e : Edit = deletes p name xs in
+    let o : Outcome = deleted_of (deletions (entries_at d p name) xs) in
+    never-done (there (entries_at d p name)) e o a (both_passed (no_conflict xs) (and_then (there (entries_at d p name)) (Ok (Wants e o))) (Done a) h).second
+never-edited d (Set p name xs) a h = never-done (fits d (sets p name xs)) (sets p name xs) outcome.Set a h
+never-edited d (Kill p name) a h = never-done (there (entries_at d p name)) (sets p name []) outcome.Killed a h
 
 answered-told : (t : Open) (d : Kept) (c : Command) (a : Answer) → step_by t d c ≡ Ok (Done a) → AreTold t (moved_by t (mentioned c)) (tickets_in (Answered a))
 answered-told t d (Transact (Begin names)) a h = begin-told t names a (passed (begin_reply t names) (λ range. Ok (Done (answer.Given range))) (Done a) h)
@@ -89,17 +116,23 @@ answered-told t d (Transact (Add p u r)) a h =
     let s : IsPassed (add_reply t (filter_at p) u) (λ _. Ok (Done answer.Done)) (Done a) = passed (add_reply t (filter_at p) u) (λ _. Ok (Done answer.Done)) (Done a) h in
     let new : Open = moved_by t (mentioned (Transact (Add p u r))) in
     subst (AreTold t new) (sym (done-told (add_reply t (filter_at p) u) a h)) (none-told t new (tickets_keep.add t p u r (unit_is (add_reply t (filter_at p) u) s.value s.passed)) (begins_give.add t (filter_at p) u r))
-answered-told t d (Transact (Commit entries)) a h = absurd (never-done (commit_change t d entries) a h)
+answered-told t d (Transact (Define p u name xs)) a h =
+    let reply : Result (Unit {0}) TicketRefusal = define_reply t (table_ruleset_at p) u name xs in
+    let s : IsPassed reply (λ _. Ok (Done answer.Done)) (Done a) = passed reply (λ _. Ok (Done answer.Done)) (Done a) h in
+    let new : Open = moved_by t (mentioned (Transact (Define p u name xs))) in
+    subst (AreTold t new) (sym (done-told reply a h)) (none-told t new (tickets_keep.define t p u name xs (unit_is reply s.value s.passed)) (begins_give.define t (table_ruleset_at p) u name xs))
+answered-told t d (Transact (Commit entries)) a h = absurd (never-committed (commit_check t entries) d (commits (items (content t) entries)) outcome.Committed a h)
 answered-told t d (Transact (Rollback entries)) a h =
     let new : Open = moved_by t (mentioned (Transact (Rollback entries))) in
     subst (AreTold t new) (sym (done-told (list_check entries) a h)) (none-told t new (tickets_keep.rollback t entries) (begins_give.rollback t entries))
+answered-told t d (Change edit) a h = absurd (never-edited d edit a h)
 answered-told t d (Ask q) a h =
     let is : answer_of d q ≡ a = cc (h) in
     subst (AreTold t t) (sym (question-told d q) ∙ ap (λ (x : Answer). tickets_in (Answered x)) is) (none-told t t (λ w. w) (record { epoch = refl; next = omega arith }))
 
-applied-told : (t : Open) (d : Kept) (c : Command) (e : Edit) → IsCommitted t d c e → AreTold t (moved_by t (mentioned c)) []
+applied-told : (t : Open) (d : Kept) (c : Command) (e : Edit) → IsWanted d c e → AreTold t (moved_by t (mentioned c)) []
 applied-told t d c e is =
-    subst (λ (x : Command). AreTold t (moved_by t (mentioned x)) []) (sym is.command) (none-told t (moved_by t (mentioned (Transact (Commit is.entries)))) (tickets_keep.commit t (names_of is.entries)) (begins_give.commit t (names_of is.entries)))
+    subst (λ (ms : List Mention). AreTold t (moved_by t ms) []) (sym is.mentions) (none-told t (moved_by t (switches (voided_by e))) (tickets_keep.commit t (voided_by e)) (begins_give.commit t (voided_by e)))
 
 -- ---- by the reply
 
@@ -142,26 +175,106 @@ legal-told h c (Answered a) failed (inl is) = answered-told h.tickets (durable_o
 legal-told h c (Answered a) failed (inr none) = absurd none
 legal-told h c (Applied n o) failed (inl is) =
     let was : IsApplied h (step_in h c) n o = applied-step h (step_in h c) n o is in
-    applied-told h.tickets (durable_of h) c was.change (wants_commit h.tickets (durable_of h) c was.change o was.wanted)
+    applied-told h.tickets (durable_of h) c was.change (wants h.tickets (durable_of h) c was.change o was.wanted)
 legal-told h c (Applied n o) failed (inr none) = absurd none
 legal-told h c (Refused e) failed legal = none-told h.tickets h.tickets (λ w. w) (record { epoch = refl; next = omega arith })
 
 -- ---- a change keeps what is kept within the limits
 
-rules-within : (content : RulesetName → Offered) (es : List Entry) (p : List ℕ) (old : List PlainRule) → ((name : RulesetName) → length (rules_in (content name)) ≤ RULE_LIMIT) → length old ≤ RULE_LIMIT → length (rules_by (taken content es) p old) ≤ RULE_LIMIT
-rules-within content [] p old all h = h
-rules-within content (e ∷ es) p old all h = rules-within content es p (cond (same_path e.name.path p) (rules_in (content e.name)) old) all (cond_both (same_path e.name.path p) (rules_in (content e.name)) old (λ (rs : List PlainRule). length rs ≤ RULE_LIMIT) (λ b. all e.name) (λ b. h))
+-- of a value that is switched, whatever switching makes of it
+switched-within : {A : Type 0} (P : A → Type 0) (f : RulesetName → A → A) (ns : List RulesetName) (name : RulesetName) (old : A) → ((x : A) → P x → P (f name x)) → P old → P (switched_in f ns name old)
+switched-within P f [] name old keeps h = h
+switched-within P f (n ∷ ns) name old keeps h =
+    switched-within P f ns name (cond (same_name n name) (f n old) old) keeps (by (same_name n name) refl) where
+      by : (b : Bool) → same_name n name ≡ b → P (cond b (f n old) old)
+      by true is = subst (λ x. P (f x old)) (sym (name_is n name is)) (keeps old h)
+      by false is = h
 
-change-within : (t : Open) (d : Kept) (c : Command) (e : Edit) → IsCommitted t d c e → AreTicketsWithin t → IsWithin d → IsWithin (applied d e)
-change-within t d c e is all w =
-    let new : List Ruled = rulesets_in (items (content t) is.entries) in
-    let few = is.few in
-    subst (λ (x : Edit). IsWithin (applied d x)) is.change (record {
-      rulesets = grind (arith, nat_tests, few);
+abbrev AreFewEntries : List Row → Type 0
+AreFewEntries es = length es ≤ TABLE_LIMIT
+
+placed-within : (p : List ℕ) (named : List Named) (k : TableKey) (old : List Row) → AllByRecursion (λ (n : Named). AreFewEntries n.1) named → AreFewEntries old → AreFewEntries (list_by table_order (placed p named) k old)
+placed-within p [] k old each few = few
+placed-within p (t ∷ ts) k old each few = placed-within p ts k (cond (eq_by_cmp table_order (p, t.0) k) t.1 old) each.1 (cond_both (eq_by_cmp table_order (p, t.0) k) t.1 old AreFewEntries (λ _. each.0) (λ _. few))
+
+commit-within : (t : Open) (d : Kept) (entries : List Entry) → fits d (commits (items (content t) entries)) ≡ Ok tt → AreTicketsWithin t → IsWithin d → IsWithin (applied d (commits (items (content t) entries)))
+commit-within t d entries h all w =
+    let new : Configuration = (applied d (commits (items (content t) entries))).config in
+    let both : AreBothPassed (unless (nat_lt RULESET_LIMIT (length new.rulesets)) TooManyRulesets) (unless (nat_lt TABLE_COUNT_LIMIT (length new.tables)) TooManyTables) tt =
+    both_passed (unless (nat_lt RULESET_LIMIT (length new.rulesets)) TooManyRulesets) (unless (nat_lt TABLE_COUNT_LIMIT (length new.tables)) TooManyTables) tt h in
+    let rulesets : nat_lt RULESET_LIMIT (length new.rulesets) ≡ false = not_refused (nat_lt RULESET_LIMIT (length new.rulesets)) TooManyRulesets both.first in
+    let tables : nat_lt TABLE_COUNT_LIMIT (length new.tables) ≡ false = not_refused (nat_lt TABLE_COUNT_LIMIT (length new.tables)) TooManyTables both.second in
+    record {
+      rulesets = grind (arith, nat_tests, rulesets);
       rules = λ p. subst (λ (rs : List PlainRule). length rs ≤ RULE_LIMIT)
-          (sym (replaced_in_turn new d.rulesets p ∙ ap (λ (rs : List Ruled). rules_by rs p (rules_at p d.rulesets)) (taken-is (content t) is.entries)))
-          (rules-within (content t) is.entries p (rules_at p d.rulesets) all.offered (w.rules p));
-    })
+          (sym (replaced_in_turn (rulesets_in (items (content t) entries)) d.config.rulesets p ∙ rules-switched t entries p (rules_at p d.config.rulesets)))
+          (switched-within (λ (rs : List PlainRule). length rs ≤ RULE_LIMIT) (rules_of t) (names_of entries) (filter_at p) (rules_at p d.config.rulesets) (λ x old. (all.offered (filter_at p)).rules) (w.rules p));
+      tables = grind (arith, nat_tests, tables);
+      entries = λ p name. subst AreFewEntries
+          (sym (tables_replaced (tables_in (items (content t) entries)) d.config.tables p name ∙ tables-switched t entries p name (entries_at d p name)))
+          (switched-within AreFewEntries (entries_of t p name) (names_of entries) (table_ruleset_at p) (entries_at d p name) (λ x old. placed-within p (loaded t (table_ruleset_at p)).tables (p, name) x (all.offered (table_ruleset_at p)).entries old) (w.entries p name));
+    }
+
+table-within : (d : Kept) (p name : List ℕ) (es : List Row) → AreFewEntries es → length (with_entries d p name es).config.tables ≤ TABLE_COUNT_LIMIT → IsWithin d → IsWithin (with_entries d p name es)
+table-within d p name es few count w = record {
+  rulesets = w.rulesets;
+  rules = w.rules;
+  tables = count;
+  entries = λ q other. subst AreFewEntries (sym (tables_replaced (tabled p name es ∷ []) d.config.tables q other))
+      (cond_both (eq_by_cmp table_order (p, name) (q, other)) es (entries_at d q other) AreFewEntries (λ _. few) (λ _. w.entries q other));
+}
+
+room-within : (d : Kept) (p name : List ℕ) (es : List Row) → room_for_table d p name es ≡ Ok tt → IsWithin d → length (with_entries d p name es).config.tables ≤ TABLE_COUNT_LIMIT
+room-within d p name es h w = by (is_one_more (entries_at d p name) es) refl (not_refused (is_one_more (entries_at d p name) es && nat_lt TABLE_COUNT_LIMIT (length (with_entries d p name es).config.tables)) TooManyTables h) where
+  by : (b : Bool) → is_one_more (entries_at d p name) es ≡ b → (b && nat_lt TABLE_COUNT_LIMIT (length (with_entries d p name es).config.tables)) ≡ false → length (with_entries d p name es).config.tables ≤ TABLE_COUNT_LIMIT
+  by true is room = grind (arith, nat_tests, room)
+  by false is room =
+      let less : length (with_entries d p name es).config.tables ≤ length d.config.tables = no-table-more d.config.tables p name es is in
+      let before : length d.config.tables ≤ TABLE_COUNT_LIMIT = w.tables in
+      omega (arith, less, before)
+
+replaceable-within : (d : Kept) (p name : List ℕ) (es : List Row) → replaceable d p name es ≡ Ok tt → IsWithin d → IsWithin (with_entries d p name es)
+replaceable-within d p name es h w =
+    let both : AreBothPassed (holdable es) (room_for_table d p name es) tt = both_passed (holdable es) (room_for_table d p name es) tt h in
+    let few : nat_lt TABLE_LIMIT (length es) ≡ false = not_refused (nat_lt TABLE_LIMIT (length es)) TableFull both.first in
+    table-within d p name es (grind (arith, nat_tests, few)) (room-within d p name es both.second w) w
+
+-- what is left of a table that isn't there isn't one more
+still-there : (old xs : List Row) → is_one_more old (deleted old xs) ≡ false
+still-there [] xs = ap (λ (es : List Row). is_one_more [] es) (deleted-none xs)
+still-there (e ∷ es) xs =
+    let some : (length (e ∷ es) == 0) ≡ false = grind (arith, nat_tests) in
+    ap (λ (b : Bool). b && not (length (deleted (e ∷ es) xs) == 0)) some
+
+delete-within : (d : Kept) (p name : List ℕ) (xs : List Row) → IsWithin d → IsWithin (applied d (deletes p name xs))
+delete-within d p name xs w =
+    let old : List Row = entries_at d p name in
+    let fewer : length (deleted old xs) ≤ length old = deleted_fewer old xs in
+    let before : length old ≤ TABLE_LIMIT = w.entries p name in
+    let less : length (with_entries d p name (deleted old xs)).config.tables ≤ length d.config.tables = no-table-more d.config.tables p name (deleted old xs) (still-there old xs) in
+    let tables : length d.config.tables ≤ TABLE_COUNT_LIMIT = w.tables in
+    table-within d p name (deleted old xs) (omega (arith, fewer, before)) (omega (arith, less, tables)) w
+
+edit-within : (d : Kept) (edit : TableEdit) → fits d (edit_of edit) ≡ Ok tt → IsWithin d → IsWithin (applied d (edit_of edit))
+edit-within d (AddTo p name xs) h w =
+    let new : List Row = added (entries_at d p name) xs in
+    replaceable-within d p name new (both_passed (no_conflict xs) (replaceable d p name new) tt h).second w
+edit-within d (Delete p name xs) h w = delete-within d p name xs w
+edit-within d (Set p name xs) h w = replaceable-within d p name (replaced xs) (both_passed (no_conflict xs) (replaceable d p name (replaced xs)) tt h).second w
+edit-within d (Kill p name) h w = replaceable-within d p name (replaced []) (both_passed (no_conflict []) (replaceable d p name (replaced [])) tt h).second w
+
+change-within : (t : Open) (d : Kept) (c : Command) (e : Edit) (o : Outcome) → step_by t d c ≡ Ok (Wants e o) → AreTicketsWithin t → IsWithin d → IsWithin (applied d e)
+change-within t d (Transact (Begin names)) e o h all w = absurd (none-wanted (begin_reply t names) (λ range. answer.Given range) e o h)
+change-within t d (Transact (Add p u r)) e o h all w = absurd (none-wanted (add_reply t (filter_at p) u) (λ _. answer.Done) e o h)
+change-within t d (Transact (Define p u name xs)) e o h all w = absurd (none-wanted (define_reply t (table_ruleset_at p) u name xs) (λ _. answer.Done) e o h)
+change-within t d (Transact (Commit entries)) e o h all w =
+    let this : IsThis d (commits (items (content t) entries)) e = (wants_commit t d entries e o h).this in
+    subst (λ (x : Edit). IsWithin (applied d x)) this.is (commit-within t d entries this.fits all w)
+change-within t d (Transact (Rollback entries)) e o h all w = absurd (none-wanted (list_check entries) (λ _. answer.Done) e o h)
+change-within t d (Change edit) e o h all w =
+    let this : IsThis d (edit_of edit) e = wants_edit d edit e o h in
+    subst (λ (x : Edit). IsWithin (applied d x)) this.is (edit-within d edit this.fits w)
+change-within t d (Ask q) e o h all w = absurd (cc (h))
 
 -- ---- one event more
 
@@ -202,13 +315,12 @@ applied-logged first h ts c n o was all =
     let log : length (log_of h) ≡ length (flat h.acked) = ap length (log-is h all.none) in
     let flat_is : flat (h.acked ++ (e ∷ []) ∷ []) ≡ flat h.acked ++ e ∷ [] = flat-push h.acked e in
     let more : length (flat (h.acked ++ (e ∷ []) ∷ [])) ≡ length (flat h.acked) + 1 = ap length flat_is ∙ length-append (flat h.acked) (e ∷ []) in
-    let by : IsCommitted h.tickets (durable_of h) c e = wants_commit h.tickets (durable_of h) c e o was.wanted in
     let number : n ≡ length (log_of h) + 1 = was.number in
     let room : length (log_of h) + 1 ≤ h.setting.limit = was.room in
     subst (λ (gs : List (List Edit)). IsLogged first h.base h.setting.limit (h.acked ++ gs) n) (sym was.group) (record {
       room = omega (arith, log, more, room);
       shown = omega (arith, log, more, number);
-      kept = λ within. subst (λ (d : Kept). IsWithin d) (sym (ap (after h.base) flat_is ∙ fold_push applied h.base (flat h.acked) e)) (change-within h.tickets (durable_of h) c e by all.tickets (all.logged.kept within));
+      kept = λ within. subst (λ (d : Kept). IsWithin d) (sym (ap (after h.base) flat_is ∙ fold_push applied h.base (flat h.acked) e)) (change-within h.tickets (durable_of h) c e o was.wanted all.tickets (all.logged.kept within));
     })
 
 logged-on : (first : Kept) (h : Held) (ts : List Ticket) (c : Command) (r : Reply) (failed : Bool) → LegalReply h c r failed → Holds first h ts → IsLogged first h.base h.setting.limit (h.acked ++ acked_by r (group_in h c)) (shown_by r h.shown)
@@ -248,7 +360,7 @@ holds-next first (down d) ts (opened setting) legal all = record {
   next = omega arith;
   numbered = refl;
   none = refl;
-  logged = record { room = omega arith; shown = refl; kept = λ within. record { rulesets = (all within).rulesets; rules = (all within).rules } };
+  logged = record { room = omega arith; shown = refl; kept = λ within. record { rulesets = (all within).rulesets; rules = (all within).rules; tables = (all within).tables; entries = (all within).entries } };
 }
 
 holds-from : (first : Kept) (st : State) (ts : List Ticket) (world : List Event) → IsLegalFrom st world → HoldsOf first st ts → HoldsOf first (state_after st world) (fold given_by ts world)

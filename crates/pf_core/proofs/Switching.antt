@@ -1,82 +1,193 @@
 -- What a commit leaves of each ruleset, and any call of those that it doesn't name.
-use Rattle.std.proofs.Common.{◌≡◌, ℕ, Bool, true, false, cond, ◌&&◌, ◌||◌, List, [], ◌∷◌, length, refl, sym, ap, ◌∙◌, Option, Some, None, Result, Ok, Err, subst}
-use Rattle.std.proofs.lemmas.Bool.{or_parts, cond_both}
+use Rattle.std.proofs.Common.{◌≡◌, ◌≢◌, ◌⊎◌, inl, inr, ℕ, T, Bool, true, false, cond, ◌&&◌, ◌||◌, List, [], ◌∷◌, ◌++◌, length, refl, sym, ap, ◌∙◌, Option, Some, None, Result, Ok, Err, subst}
+use Rattle.std.specs.Prelude.{fold, unwrap_or}
+use Rattle.std.specs.declared.cmp.Ordering.{Ordering}
+use Rattle.std.specs.declared.cmp.Ordering.TheVariants.{Less, Equal, Greater}
+use Rattle.std.specs.FinMap.{find, is_sorted, slice_cmp-IsAntisymmetric, nat_cmp-IsAntisymmetric}
+use Rattle.std.specs.FinMap.Entries.{below_all}
+use Rattle.std.specs.List.{list_all}
+use Rattle.std.specs.Ordering.{is_eq, is_lt, eq_by_cmp, ordering_then}
+use Rattle.std.proofs.lemmas.Bool.{or_parts, and_parts, cond_both}
+use Rattle.std.proofs.lemmas.Cmp.{eq_by_cmp_equiv, nat_list_cmp_total}
 use Rattle.std.proofs.lemmas.List.{map-id}
 use Rattle.std.proofs.lemmas.Simd.{map-map}
 use Rattle.pf_rule.specs.Rules.{PlainRule}
+use Rattle.pf_path.proofs.PathsRead.{same_path_is}
+use Rattle.pf_path.specs.Names.{name_order}
+use Rattle.pf_path.specs.Paths.{path_order, same_path}
+use Rattle.pf_table.specs.Edits.{added, deleted, replaced}
+use Rattle.pf_table.specs.Entries.{Row}
 use Rattle.pf_anchor.specs.Laws.{rules_by}
-use Rattle.pf_path.specs.Paths.{same_path}
-use Rattle.pf_anchor.specs.Rulesets.{Ruled, ruled, rules_at}
+use Rattle.pf_map.specs.ListMaps.{list_by}
+use Rattle.pf_anchor.specs.Rulesets.{Ruled, rules_at, with_rules}
+use Rattle.pf_anchor.specs.Tables.{TableKey, Tabled, tabled, table_order, with_table}
 use Rattle.pf_anchor.proofs.RulesetMaps.{map_all, replaced_in_turn}
+use Rattle.pf_anchor.proofs.TableMaps.{table_order_total, tables_replaced, table_maps_stay}
 use Rattle.pf_ticket.specs.declared.entry.Entry.{Entry}
 use Rattle.pf_ticket.specs.declared.name.RulesetKind.{RulesetKind}
-use Rattle.pf_ticket.specs.declared.name.RulesetKind.TheVariants.{Filter}
+use Rattle.pf_ticket.specs.declared.name.RulesetKind.TheVariants.{Filter, Table}
 use Rattle.pf_ticket.specs.declared.name.RulesetName.{RulesetName}
-use Rattle.pf_ticket.specs.declared.offered.Offered.{Offered}
-use Rattle.pf_ticket.specs.declared.offered.Offered.TheVariants.{Rules}
 use Rattle.pf_ticket.specs.declared.refusal.TicketRefusal.{TicketRefusal}
 use Rattle.pf_ticket.specs.declared.refusal.TicketRefusal.TheVariants.{BadCount, Twice, Busy}
-use Rattle.pf_ticket.specs.NameLaws.{paths_alike, name_is, filter_is}
-use Rattle.pf_ticket.specs.Names.{same_kind, same_name, is_named, names_of, filter_at, IsDistinct}
+use Rattle.pf_ticket.specs.NameLaws.{paths_alike, name_is}
+use Rattle.pf_ticket.specs.Names.{same_kind, same_name, is_named, names_of, filter_at, table_ruleset_at, IsDistinct}
 use Rattle.pf_ticket.specs.Replies.{bad_count, twice_in, busy_in, refused_at, and_then, list_check, commit_check}
 use Rattle.pf_ticket.specs.Mentions.{Mention, switched, dropped, named_in, after}
-use Rattle.pf_ticket.specs.Tickets.{rules_in, offer_at, ticket_in, content}
+use Rattle.pf_ticket.specs.NamedTables.{Named}
+use Rattle.pf_ticket.specs.Tickets.{Loaded, Open, offered_as, loaded, offer_at, ticket_in, content}
 use Rattle.pf_ticket.proofs.Moves.{leaves_the_others as mentions_leave, commit_takes_out, gives-named}
 use Rattle.pf_ticket.proofs.Twice.{otherwise_once}
 use Rattle.pf_core.specs.declared.change.Item.{Item}
-use Rattle.pf_core.specs.declared.command.Command.TheVariants.{Transact, Ask}
-use Rattle.pf_core.specs.declared.command.Transaction.TheVariants.{Begin, Add, Commit, Rollback}
+use Rattle.pf_core.specs.declared.command.Command.TheVariants.{Transact, Edit as Change, Ask}
+use Rattle.pf_core.specs.declared.command.Transaction.TheVariants.{Begin, Add, Define, Commit, Rollback}
 use Rattle.pf_core.specs.Commands.{item_of, items, mentioned, is_accepted}
-use Rattle.pf_core.specs.Edits.{Edit, commits, rulesets_in, applied}
-use Rattle.pf_core.specs.Laws.{ReplacesExactly, AreSwitched, SwitchesAll, KeepsNoneValid, MentionsTheNamed, LeavesTheOthers, RefusedMentionNothing}
+use Rattle.pf_core.specs.Edits.{Kept, Edit, commits, rulesets_in, placed, tables_in, entries_at, with_entries, applied}
+use Rattle.pf_core.specs.Laws.{ReplacesExactly, tables_offered, AreTablesSwitched, AreSwitched, SwitchesAll, LeaveTheOtherKind, IsEdited, EditsExactly, DeletesNothing, KeepsNoneValid, MentionsTheNamed, LeavesTheOthers, RefusedMentionNothing}
 use Rattle.pf_core.specs.WorldLaws.{IsCommitted, wants_commit}
+use Rattle.pf_core.proofs.TableCounts.{deleted-none}
+
+first_holds : (a b : Bool) → T (a && b) → T a
+first_holds true b h = tt
+first_holds false b h = h
+
+second_holds : (a b : Bool) → T (a && b) → T b
+second_holds true b h = h
+second_holds false b h = absurd h
 
 pub replaces_exactly : ReplacesExactly
-replaces_exactly d items is = record { epoch = refl; map = map_all (rulesets_in items) d.rulesets is; rules = replaced_in_turn (rulesets_in items) d.rulesets }
-
--- the rulesets that a commit replaces
-abbrev pub taken : (RulesetName → Offered) → List Entry → List Ruled
-taken f [] = []
-taken f (e ∷ es) = ruled e.name.path (rules_in (f e.name)) ∷ taken f es
-
-first-taken : (name : RulesetName) (o : Offered) (rest : List Item) → rulesets_in (item_of name o ∷ rest) ≡ ruled name.path (rules_in o) ∷ rulesets_in rest
-first-taken name (Rules rs) rest = refl
-
-pub taken-is : (f : RulesetName → Offered) (es : List Entry) → rulesets_in (items f es) ≡ taken f es
-taken-is f [] = refl
-taken-is f (e ∷ es) = first-taken e.name (f e.name) (items f es) ∙ ap (λ (rs : List Ruled). ruled e.name.path (rules_in (f e.name)) ∷ rs) (taken-is f es)
+replaces_exactly d items is = record {
+  epoch = refl;
+  maps = record { rulesets = map_all (rulesets_in items) d.config.rulesets is.rulesets; tables = table_maps_stay (tables_in items) d.config.tables is.tables };
+  rules = replaced_in_turn (rulesets_in items) d.config.rulesets;
+  tables = tables_replaced (tables_in items) d.config.tables;
+}
 
 -- ---- each ruleset by itself
 
-kinds-one : (a b : RulesetKind) → same_kind a b ≡ true
-kinds-one Filter Filter = refl
+abbrev named_as : RulesetKind → List ℕ → RulesetName
+named_as k p = record { kind = k; path = p }
 
-other-path : (a b : RulesetName) → same_name a b ≡ false → same_path a.path b.path ≡ false
-other-path a b h = ap (λ (k : Bool). k && same_path a.path b.path) (sym (kinds-one a.kind b.kind)) ∙ h
+-- what a value becomes where some rulesets are switched in turn, by what switching one makes of it
+abbrev pub switched_in : {A : Type 0} → (RulesetName → A → A) → List RulesetName → RulesetName → A → A
+switched_in f [] name old = old
+switched_in f (n ∷ ns) name old = switched_in f ns name (cond (same_name n name) (f n old) old)
 
--- a ruleset that isn't named keeps its rules
-unnamed : (f : RulesetName → Offered) (p : List ℕ) (es : List Entry) (old : List PlainRule) → is_named (names_of es) (filter_at p) ≡ false → rules_by (taken f es) p old ≡ old
-unnamed f p [] old h = refl
-unnamed f p (x ∷ es) old h =
-    let both : (same_name x.name (filter_at p) ≡ false) × (is_named (names_of es) (filter_at p) ≡ false) = or_parts (same_name x.name (filter_at p)) (is_named (names_of es) (filter_at p)) h in
-    ap (λ (b : Bool). rules_by (taken f es) p (cond b (rules_in (f x.name)) old)) (other-path x.name (filter_at p) both.0) ∙ unnamed f p es old both.1
+-- where it isn't named it stays
+unnamed : {A : Type 0} (f : RulesetName → A → A) (ns : List RulesetName) (name : RulesetName) (old : A) → is_named ns name ≡ false → switched_in f ns name old ≡ old
+unnamed f [] name old h = refl
+unnamed f (n ∷ ns) name old h =
+    let both : (same_name n name ≡ false) × (is_named ns name ≡ false) = or_parts (same_name n name) (is_named ns name) h in
+    ap (λ b. switched_in f ns name (cond b (f n old) old)) both.0 ∙ unnamed f ns name old both.1
 
--- and one that is named has what was offered for it
-abbrev Has : (RulesetName → Offered) → List Ruled → RulesetName → List PlainRule → Type 0
-Has f rs name old = rules_by rs name.path old ≡ rules_in (f name)
+named-step : {A : Type 0} (f : RulesetName → A → A) (n : RulesetName) (ns : List RulesetName) (name : RulesetName) (old : A) (b : Bool) → same_name n name ≡ b → is_named ns n ≡ false → (b || is_named ns name) ≡ true
+    → (is_named ns name ≡ true → switched_in f ns name old ≡ f name old) → switched_in f ns name (cond b (f n old) old) ≡ f name old
+named-step f n ns name old true same once h later =
+    unnamed f ns name (f n old) (ap (λ x. is_named ns x) (sym (name_is n name same)) ∙ once) ∙ ap (λ x. f x old) (name_is n name same)
+named-step f n ns name old false same once h later = later h
 
-named-step : (f : RulesetName → Offered) (e : Entry) (es : List Entry) (name : RulesetName) (old : List PlainRule) (b : Bool) → same_name e.name name ≡ b → is_named (names_of es) e.name ≡ false → (b || is_named (names_of es) name) ≡ true
-    → ((v : List PlainRule) → is_named (names_of es) name ≡ true → Has f (taken f es) name v) → Has f (taken f (e ∷ es)) name old
-named-step f e es name old true same once h later =
-    subst (λ (n : RulesetName). Has f (taken f (e ∷ es)) n old) (name_is e.name name same) (
-    ap (λ (b : Bool). rules_by (taken f es) e.name.path (cond b (rules_in (f e.name)) old)) (paths_alike.refl e.name.path)
-    ∙ unnamed f e.name.path es (rules_in (f e.name)) (ap (λ (n : RulesetName). is_named (names_of es) n) (filter_is e.name) ∙ once)
-    )
-named-step f e es name old false same once h later = later (cond (same_path e.name.path name.path) (rules_in (f e.name)) old) h
-
-named : (f : RulesetName → Offered) (es : List Entry) (name : RulesetName) (old : List PlainRule) → IsDistinct (names_of es) → is_named (names_of es) name ≡ true → Has f (taken f es) name old
+-- and where it is named, once, it is switched
+named : {A : Type 0} (f : RulesetName → A → A) (ns : List RulesetName) (name : RulesetName) (old : A) → IsDistinct ns → is_named ns name ≡ true → switched_in f ns name old ≡ f name old
 named f [] name old d h = absurd (cc (h))
-named f (e ∷ es) name old d h = named-step f e es name old (same_name e.name name) refl d.0 h (λ v k. named f es name v d.1 k)
+named f (n ∷ ns) name old d h = named-step f n ns name old (same_name n name) refl d.0 h (λ k. named f ns name old d.1 k)
+
+-- ---- rules
+
+abbrev pub rules_of : Open → RulesetName → List PlainRule → List PlainRule
+rules_of t name old = (loaded t name).rules
+
+rules-step : (k : RulesetKind) (q : List ℕ) (l : Loaded) (rest : List Item) (p : List ℕ) (old : List PlainRule) →
+    rules_by (rulesets_in (item_of (named_as k q) (offered_as k l) ∷ rest)) p old ≡ rules_by (rulesets_in rest) p (cond (same_name (named_as k q) (filter_at p)) l.rules old)
+rules-step Filter q l rest p old = refl
+rules-step Table q l rest p old = refl
+
+pub rules-switched : (t : Open) (es : List Entry) (p : List ℕ) (old : List PlainRule) → rules_by (rulesets_in (items (content t) es)) p old ≡ switched_in (rules_of t) (names_of es) (filter_at p) old
+rules-switched t [] p old = refl
+rules-switched t (e ∷ es) p old =
+    rules-step e.name.kind e.name.path (loaded t e.name) (items (content t) es) p old
+    ∙ rules-switched t es p (cond (same_name e.name (filter_at p)) (loaded t e.name).rules old)
+
+-- ---- tables
+
+then-equal : (r s : Ordering) → is_eq (ordering_then r s) ≡ (is_eq r && is_eq s)
+then-equal Less s = refl
+then-equal Equal s = refl
+then-equal Greater s = refl
+
+-- the keys of two tables are one where their paths and names are
+same-keys : (p q name other : List ℕ) → eq_by_cmp table_order (p, name) (q, other) ≡ (same_path p q && eq_by_cmp name_order name other)
+same-keys p q name other = then-equal (path_order p q) (name_order name other)
+
+-- tables at another path change nothing here
+elsewhere : (q : List ℕ) (tables : List Named) (p name : List ℕ) (old : List Row) → same_path q p ≡ false → list_by table_order (placed q tables) (p, name) old ≡ old
+elsewhere q [] p name old h = refl
+elsewhere q (t ∷ ts) p name old h =
+    let other : eq_by_cmp table_order (q, t.0) (p, name) ≡ false = same-keys q p t.0 name ∙ ap (λ (b : Bool). b && eq_by_cmp name_order t.0 name) h in
+    ap (λ (b : Bool). list_by table_order (placed q ts) (p, name) (cond b t.1 old)) other ∙ elsewhere q ts p name old h
+
+-- at the same path it is the names that tell
+same-names : (p a b : List ℕ) → eq_by_cmp table_order (p, a) (p, b) ≡ eq_by_cmp name_order b a
+same-names p a b = same-keys p p a b ∙ ap (λ (x : Bool). x && eq_by_cmp name_order a b) (paths_alike.refl p) ∙ (eq_by_cmp_equiv nat_list_cmp_total).symm a b
+
+-- where none has the name, nothing is changed
+none-of-name : (p : List ℕ) (tables : List Named) (name : List ℕ) (old : List Row) → find name_order name tables ≡ None → list_by table_order (placed p tables) (p, name) old ≡ old
+none-of-name p [] name old h = refl
+none-of-name p (t ∷ ts) name old h = by (eq_by_cmp name_order name t.0) refl h (λ none. none-of-name p ts name old none) where
+  by : (b : Bool) → eq_by_cmp name_order name t.0 ≡ b → cond b (Some t.1) (find name_order name ts) ≡ None → (find name_order name ts ≡ None → list_by table_order (placed p ts) (p, name) old ≡ old) → list_by table_order (placed p (t ∷ ts)) (p, name) old ≡ old
+  by true is none rest = absurd (cc (none))
+  by false is none rest = ap (λ (b : Bool). list_by table_order (placed p ts) (p, name) (cond b t.1 old)) (same-names p t.0 name ∙ is) ∙ rest none
+
+not-equal : (r : Ordering) → T (is_lt r) → is_eq r ≡ false
+not-equal Less h = refl
+not-equal Equal h = absurd h
+not-equal Greater h = refl
+
+below-none : (name : List ℕ) (tables : List Named) → T (below_all name_order name tables) → find name_order name tables ≡ None
+below-none name [] h = refl
+below-none name (t ∷ ts) h =
+    ap (λ (b : Bool). cond b (Some t.1) (find name_order name ts)) (not-equal (name_order name t.0) (first_holds (is_lt (name_order name t.0)) (below_all name_order name ts) h))
+    ∙ below-none name ts (second_holds (is_lt (name_order name t.0)) (below_all name_order name ts) h)
+
+equal-is : (r : Ordering) → is_eq r ≡ true → r ≡ Equal
+equal-is Less h = absurd (cc (h))
+equal-is Equal h = refl
+equal-is Greater h = absurd (cc (h))
+
+-- of tables in the order of their names the one of a name is read
+read-of-name : (p : List ℕ) (tables : List Named) (name : List ℕ) (old : List Row) → T (is_sorted name_order tables) → list_by table_order (placed p tables) (p, name) old ≡ unwrap_or (find name_order name tables) old
+read-of-name p [] name old sorted = refl
+read-of-name p (t ∷ ts) name old sorted = by (eq_by_cmp name_order name t.0) refl (read-of-name p ts name old (second_holds (below_all name_order t.0 ts) (is_sorted name_order ts) sorted)) where
+  by : (b : Bool) → eq_by_cmp name_order name t.0 ≡ b → list_by table_order (placed p ts) (p, name) old ≡ unwrap_or (find name_order name ts) old → list_by table_order (placed p (t ∷ ts)) (p, name) old ≡ unwrap_or (cond b (Some t.1) (find name_order name ts)) old
+  by true is rest =
+      let one : name ≡ t.0 = (slice_cmp-IsAntisymmetric nat_cmp-IsAntisymmetric) name t.0 (equal-is (name_order name t.0) is) in
+      let none : find name_order name ts ≡ None = ap (λ (n : List ℕ). find name_order n ts) one ∙ below-none t.0 ts (first_holds (below_all name_order t.0 ts) (is_sorted name_order ts) sorted) in
+      ap (λ (b : Bool). list_by table_order (placed p ts) (p, name) (cond b t.1 old)) (same-names p t.0 name ∙ is) ∙ none-of-name p ts name t.1 none
+  by false is rest = ap (λ (b : Bool). list_by table_order (placed p ts) (p, name) (cond b t.1 old)) (same-names p t.0 name ∙ is) ∙ rest
+
+in-two-parts : (front back : List Tabled) (k : TableKey) (old : List Row) → list_by table_order (front ++ back) k old ≡ list_by table_order back k (list_by table_order front k old)
+in-two-parts [] back k old = refl
+in-two-parts (t ∷ ts) back k old = in-two-parts ts back k (cond (eq_by_cmp table_order t.0 k) t.1 old)
+
+-- what switching a table ruleset makes of the table at p under a name
+abbrev pub entries_of : Open → List ℕ → List ℕ → RulesetName → List Row → List Row
+entries_of t p name n old = list_by table_order (placed n.path (loaded t n).tables) (p, name) old
+
+here-or-elsewhere : (q : List ℕ) (tables : List Named) (p name : List ℕ) (old : List Row) (b : Bool) → same_path q p ≡ b → list_by table_order (placed q tables) (p, name) old ≡ cond b (list_by table_order (placed q tables) (p, name) old) old
+here-or-elsewhere q tables p name old true is = refl
+here-or-elsewhere q tables p name old false is = elsewhere q tables p name old is
+
+tables-step : (k : RulesetKind) (q : List ℕ) (l : Loaded) (rest : List Item) (p name : List ℕ) (old : List Row) →
+    list_by table_order (tables_in (item_of (named_as k q) (offered_as k l) ∷ rest)) (p, name) old
+    ≡ list_by table_order (tables_in rest) (p, name) (cond (same_name (named_as k q) (table_ruleset_at p)) (list_by table_order (placed q l.tables) (p, name) old) old)
+tables-step Filter q l rest p name old = refl
+tables-step Table q l rest p name old =
+    in-two-parts (placed q l.tables) (tables_in rest) (p, name) old
+    ∙ ap (λ (x : List Row). list_by table_order (tables_in rest) (p, name) x) (here-or-elsewhere q l.tables p name old (same_path q p) refl)
+
+pub tables-switched : (t : Open) (es : List Entry) (p name : List ℕ) (old : List Row) → list_by table_order (tables_in (items (content t) es)) (p, name) old ≡ switched_in (entries_of t p name) (names_of es) (table_ruleset_at p) old
+tables-switched t [] p name old = refl
+tables-switched t (e ∷ es) p name old =
+    tables-step e.name.kind e.name.path (loaded t e.name) (items (content t) es) p name old
+    ∙ tables-switched t es p name (cond (same_name e.name (table_ruleset_at p)) (entries_of t p name e.name old) old)
 
 -- ---- out of the step
 
@@ -89,29 +200,108 @@ not-twice true place h = absurd (cc (h))
 not-twice false None h = refl
 not-twice false (Some i) h = absurd (cc (h))
 
+named-once : (t : Open) (entries : List Entry) → commit_check t entries ≡ Ok tt → IsDistinct (names_of entries)
+named-once t entries good = otherwise_once entries (not-twice (bad_count (length entries)) (twice_in entries) (first-good (list_check entries) (refused_at (λ i. Busy i) (busy_in t entries)) good))
+
+tables-committed : (t : Open) (d new : Kept) (entries : List Entry) → IsDistinct (names_of entries) → ((p name : List ℕ) → entries_at new p name ≡ switched_in (entries_of t p name) (names_of entries) (table_ruleset_at p) (entries_at d p name)) → AreTablesSwitched t entries d new
+tables-committed t d new entries once read = record {
+  defined = λ p name k sorted.
+      read p name ∙ named (entries_of t p name) (names_of entries) (table_ruleset_at p) (entries_at d p name) once k ∙ read-of-name p (loaded t (table_ruleset_at p)).tables name (entries_at d p name) sorted;
+  undefined = λ p name none. read p name ∙ by p name none (is_named (names_of entries) (table_ruleset_at p)) refl;
+  others = λ p name no. read p name ∙ unnamed (entries_of t p name) (names_of entries) (table_ruleset_at p) (entries_at d p name) no;
+} where
+  by : (p name : List ℕ) → find name_order name (tables_offered t p) ≡ None → (b : Bool) → is_named (names_of entries) (table_ruleset_at p) ≡ b → switched_in (entries_of t p name) (names_of entries) (table_ruleset_at p) (entries_at d p name) ≡ entries_at d p name
+  by p name none true k = named (entries_of t p name) (names_of entries) (table_ruleset_at p) (entries_at d p name) once k ∙ none-of-name p (loaded t (table_ruleset_at p)).tables name (entries_at d p name) none
+  by p name none false other = unnamed (entries_of t p name) (names_of entries) (table_ruleset_at p) (entries_at d p name) other
+
 pub switches_all : SwitchesAll
 switches_all t d entries e o h =
-    let is : IsCommitted t d (Transact (Commit entries)) e = wants_commit t d (Transact (Commit entries)) e o h in
-    let command : Transact (Commit entries) ≡ Transact (Commit is.entries) = is.command in
-    let same : entries ≡ is.entries = cc (command) in
-    let f : RulesetName → Offered = content t in
-    let good : commit_check t entries ≡ Ok tt = ap (commit_check t) same ∙ is.good in
-    let change : commits (items f entries) ≡ e = ap (λ (es : List Entry). commits (items f es)) same ∙ is.change in
-    let once : IsDistinct (names_of entries) = otherwise_once entries (not-twice (bad_count (length entries)) (twice_in entries) (first-good (list_check entries) (refused_at (λ i. Busy i) (busy_in t entries)) good)) in
-    let read : (q : List ℕ) → rules_at q (applied d (commits (items f entries))).rulesets ≡ rules_by (taken f entries) q (rules_at q d.rulesets) =
-    λ q. replaced_in_turn (rulesets_in (items f entries)) d.rulesets q ∙ ap (λ (rs : List Ruled). rules_by rs q (rules_at q d.rulesets)) (taken-is f entries) in
-    subst (λ (x : Edit). AreSwitched t entries d (applied d x)) change (record {
-      named = λ name k. read name.path ∙ named f entries name (rules_at name.path d.rulesets) once k;
-      others = λ q no. read q ∙ unnamed f q entries (rules_at q d.rulesets) no;
+    let is : IsCommitted t d entries e = wants_commit t d entries e o h in
+    let change : Edit = commits (items (content t) entries) in
+    let once : IsDistinct (names_of entries) = named-once t entries is.good in
+    let read : (q : List ℕ) → rules_at q (applied d change).config.rulesets ≡ switched_in (rules_of t) (names_of entries) (filter_at q) (rules_at q d.config.rulesets) =
+    λ q. replaced_in_turn (rulesets_in (items (content t) entries)) d.config.rulesets q ∙ rules-switched t entries q (rules_at q d.config.rulesets) in
+    let found : (p name : List ℕ) → entries_at (applied d change) p name ≡ switched_in (entries_of t p name) (names_of entries) (table_ruleset_at p) (entries_at d p name) =
+    λ p name. tables_replaced (tables_in (items (content t) entries)) d.config.tables p name ∙ tables-switched t entries p name (entries_at d p name) in
+    subst (λ (x : Edit). AreSwitched t entries d (applied d x)) is.this.is (record {
+      named = λ p k. read p ∙ named (rules_of t) (names_of entries) (filter_at p) (rules_at p d.config.rulesets) once k;
+      others = λ q no. read q ∙ unnamed (rules_of t) (names_of entries) (filter_at q) (rules_at q d.config.rulesets) no;
+      tables = tables-committed t d (applied d change) entries once found;
     })
+
+-- ---- by kinds
+
+no-table : (k : RulesetKind) (q : List ℕ) (l : Loaded) (rest : List Item) → same_kind k Filter ≡ true → tables_in (item_of (named_as k q) (offered_as k l) ∷ rest) ≡ tables_in rest
+no-table Filter q l rest h = refl
+no-table Table q l rest h = absurd (cc (h))
+
+no-tables : (t : Open) (es : List Entry) → list_all (λ (e : Entry). same_kind e.name.kind Filter) es ≡ true → tables_in (items (content t) es) ≡ []
+no-tables t [] h = refl
+no-tables t (e ∷ es) h =
+    let both : (same_kind e.name.kind Filter ≡ true) × (list_all (λ (x : Entry). same_kind x.name.kind Filter) es ≡ true) = and_parts (same_kind e.name.kind Filter) (list_all (λ (x : Entry). same_kind x.name.kind Filter) es) h in
+    no-table e.name.kind e.name.path (loaded t e.name) (items (content t) es) both.0 ∙ no-tables t es both.1
+
+no-ruleset : (k : RulesetKind) (q : List ℕ) (l : Loaded) (rest : List Item) → same_kind k Table ≡ true → rulesets_in (item_of (named_as k q) (offered_as k l) ∷ rest) ≡ rulesets_in rest
+no-ruleset Filter q l rest h = absurd (cc (h))
+no-ruleset Table q l rest h = refl
+
+no-rulesets : (t : Open) (es : List Entry) → list_all (λ (e : Entry). same_kind e.name.kind Table) es ≡ true → rulesets_in (items (content t) es) ≡ []
+no-rulesets t [] h = refl
+no-rulesets t (e ∷ es) h =
+    let both : (same_kind e.name.kind Table ≡ true) × (list_all (λ (x : Entry). same_kind x.name.kind Table) es ≡ true) = and_parts (same_kind e.name.kind Table) (list_all (λ (x : Entry). same_kind x.name.kind Table) es) h in
+    no-ruleset e.name.kind e.name.path (loaded t e.name) (items (content t) es) both.0 ∙ no-rulesets t es both.1
+
+pub leave_the_other_kind : LeaveTheOtherKind
+leave_the_other_kind = record {
+  tables = λ t d es h. ap (λ (ts : List Tabled). fold with_table d.config.tables ts) (no-tables t es h);
+  rulesets = λ t d es h. ap (λ (rs : List Ruled). fold with_rules d.config.rulesets rs) (no-rulesets t es h);
+}
+
+-- ---- edits of tables
+
+-- keys that aren't one don't tie
+keys-differ : (p q name other : List ℕ) → (p ≢ q) ⊎ (name ≢ other) → eq_by_cmp table_order (p, name) (q, other) ≡ false
+keys-differ p q name other differ = same-keys p q name other ∙ by (same_path p q) (eq_by_cmp name_order name other) refl refl differ where
+  by : (a b : Bool) → same_path p q ≡ a → eq_by_cmp name_order name other ≡ b → (p ≢ q) ⊎ (name ≢ other) → (a && b) ≡ false
+  by true true paths names (inl apart) = absurd (apart (same_path_is p q paths))
+  by true true paths names (inr apart) = absurd (apart ((slice_cmp-IsAntisymmetric nat_cmp-IsAntisymmetric) name other (equal-is (name_order name other) names)))
+  by true false paths names h = refl
+  by false b paths names h = refl
+
+edited : (d : Kept) (p name : List ℕ) (es : List Row) → IsEdited d p name es (with_entries d p name es)
+edited d p name es = record {
+  epoch = refl;
+  rulesets = refl;
+  here = tables_replaced (tabled p name es ∷ []) d.config.tables p name ∙ ap (λ (b : Bool). cond b es (entries_at d p name)) ((eq_by_cmp_equiv table_order_total).refl (p, name));
+  others = λ q other differ.
+      tables_replaced (tabled p name es ∷ []) d.config.tables q other ∙ ap (λ (b : Bool). cond b es (entries_at d q other)) (keys-differ p q name other differ);
+  map = λ is. table_maps_stay (tabled p name es ∷ []) d.config.tables is;
+}
+
+set-to-none : replaced [] ≡ []
+unfolding added
+set-to-none = refl
+
+pub edits_exactly : EditsExactly
+edits_exactly = record {
+  by_add = λ d p name xs. edited d p name (added (entries_at d p name) xs);
+  by_delete = λ d p name xs. edited d p name (deleted (entries_at d p name) xs);
+  by_set = λ d p name xs. edited d p name (replaced xs);
+  by_kill = λ d p name. subst (λ (es : List Row). IsEdited d p name es (with_entries d p name (replaced []))) set-to-none (edited d p name (replaced []));
+}
+
+pub deletes_nothing : DeletesNothing
+deletes_nothing d p name xs none = (edited d p name (deleted (entries_at d p name) xs)).here ∙ ap (λ (es : List Row). deleted es xs) none ∙ deleted-none xs
 
 -- ---- what any call leaves
 
 pub mentions_the_named : MentionsTheNamed
 mentions_the_named (Transact (Begin names)) = gives-named names
 mentions_the_named (Transact (Add p u r)) = refl
+mentions_the_named (Transact (Define p u name xs)) = refl
 mentions_the_named (Transact (Commit entries)) = map-map named_in (λ (n : RulesetName). switched n) (names_of entries) ∙ map-id (names_of entries)
 mentions_the_named (Transact (Rollback entries)) = map-map named_in (λ (e : Entry). dropped e.name e.ticket) entries
+mentions_the_named (Change edit) = refl
 mentions_the_named (Ask q) = refl
 
 pub leaves_the_others : LeavesTheOthers

@@ -1,7 +1,10 @@
 -- The values of the types that hold memory.
 use Rattle.pf_core.specs.declared.change.Kind.{Kind}
-use Rattle.pf_core.specs.declared.change.Kind.TheVariants.{Commit}
-use Rattle.pf_core.specs.Edits.{Edit, commits}
+use Rattle.pf_core.specs.declared.change.Kind.TheVariants.{Commit, Add, Delete, Set}
+use Rattle.pf_core.specs.Edits.{Edit, commits, adds, deletes, sets}
 
 abbrev pub edit_of : Kind → Edit
 edit_of (Commit items) = commits items.items
+edit_of (Add p name xs) = adds p name xs
+edit_of (Delete p name xs) = deletes p name xs
+edit_of (Set p name xs) = sets p name xs

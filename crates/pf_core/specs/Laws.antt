@@ -1,12 +1,22 @@
 -- What follows from the definitions, as law functions promise it.
-use Rattle.std.specs.Prelude.{◌≡◌, ℕ, true, false, List, [], map, None, Ok}
+use Rattle.std.specs.Prelude.{◌≡◌, ◌≢◌, ◌⊎◌, ℕ, T, true, false, List, [], map, unwrap_or, None, Ok}
+use Rattle.std.specs.FinMap.{find, is_sorted}
+use Rattle.std.specs.List.{list_all}
+use Rattle.pf_path.specs.Names.{name_order}
+use Rattle.pf_table.specs.Edits.{added, deleted, replaced}
+use Rattle.pf_table.specs.Entries.{Row}
+use Rattle.pf_anchor.specs.Configurations.{IsConfiguration}
 use Rattle.pf_anchor.specs.Laws.{rules_by}
-use Rattle.pf_anchor.specs.Rulesets.{rules_at, IsMap}
+use Rattle.pf_map.specs.ListMaps.{list_by}
+use Rattle.pf_anchor.specs.Rulesets.{rules_at}
+use Rattle.pf_anchor.specs.Tables.{table_order, IsTableMap}
 use Rattle.pf_ticket.specs.declared.entry.Entry.{Entry}
+use Rattle.pf_ticket.specs.declared.name.RulesetKind.TheVariants.{Filter, Table}
 use Rattle.pf_ticket.specs.declared.name.RulesetName.{RulesetName}
-use Rattle.pf_ticket.specs.Tickets.{rules_in, offer_at, Open, valid_ticket, content}
+use Rattle.pf_ticket.specs.NamedTables.{Named}
+use Rattle.pf_ticket.specs.Tickets.{rules_in as offered_rules, tables_in as offered_tables, offer_at, Open, valid_ticket, content}
 use Rattle.pf_ticket.specs.Mentions.{named_in, after, switches}
-use Rattle.pf_ticket.specs.Names.{is_named, names_of, filter_at}
+use Rattle.pf_ticket.specs.Names.{same_kind, is_named, names_of, filter_at, table_ruleset_at}
 use Rattle.pf_core.specs.declared.change.Item.{Item}
 use Rattle.pf_core.specs.declared.command.Command.{Command}
 use Rattle.pf_core.specs.declared.command.Command.TheVariants.{Transact}
@@ -16,26 +26,69 @@ use Rattle.pf_core.specs.declared.reply.Refusal.{Refusal}
 use Rattle.pf_core.specs.declared.reply.Reply.TheVariants.{Applied, Refused}
 use Rattle.pf_core.specs.declared.step.Step.TheVariants.{Wants}
 use Rattle.pf_core.specs.Calls.{Call, call, mentions_of}
-use Rattle.pf_core.specs.Commands.{step_by, mentioned, named_by}
-use Rattle.pf_core.specs.Edits.{Kept, Edit, commits, rulesets_in, applied, voided_by}
+use Rattle.pf_core.specs.Commands.{items, step_by, mentioned, named_by}
+use Rattle.pf_core.specs.Edits.{Kept, Edit, commits, adds, deletes, sets, rulesets_in, tables_in, entries_at, applied, voided_by, fits}
 
 -- what is kept after a commit, whole
 pub record IsReplaced (d : Kept) (items : List Item) (new : Kept) : Type 0 where
   pub epoch : new.epoch ≡ d.epoch
-  pub map : IsMap new.rulesets
-  pub rules : (q : List ℕ) → rules_at q new.rulesets ≡ rules_by (rulesets_in items) q (rules_at q d.rulesets)
+  pub maps : IsConfiguration new.config
+  pub rules : (q : List ℕ) → rules_at q new.config.rulesets ≡ rules_by (rulesets_in items) q (rules_at q d.config.rulesets)
+  pub tables : (p name : List ℕ) → entries_at new p name ≡ list_by table_order (tables_in items) (p, name) (entries_at d p name)
 
 abbrev pub ReplacesExactly : Type 0
-ReplacesExactly = (d : Kept) (items : List Item) → IsMap d.rulesets → IsReplaced d items (applied d (commits items))
+ReplacesExactly = (d : Kept) (items : List Item) → IsConfiguration d.config → IsReplaced d items (applied d (commits items))
+
+-- the tables that are offered for the table ruleset at a path
+abbrev pub tables_offered : Open → List ℕ → List Named
+tables_offered t p = offered_tables (content t (table_ruleset_at p))
+
+-- each table ruleset that is named has of each table what was offered for it, and the others that it had
+pub record AreTablesSwitched (t : Open) (entries : List Entry) (old new : Kept) : Type 0 where
+  pub defined : (p name : List ℕ) → is_named (names_of entries) (table_ruleset_at p) ≡ true → T (is_sorted name_order (tables_offered t p)) → entries_at new p name ≡ unwrap_or (find name_order name (tables_offered t p)) (entries_at old p name)
+  pub undefined : (p name : List ℕ) → find name_order name (tables_offered t p) ≡ None → entries_at new p name ≡ entries_at old p name
+  pub others : (p name : List ℕ) → is_named (names_of entries) (table_ruleset_at p) ≡ false → entries_at new p name ≡ entries_at old p name
 
 -- each ruleset that is named has what was offered for it, and all others have what they had
 pub record AreSwitched (t : Open) (entries : List Entry) (old new : Kept) : Type 0 where
-  pub named : (name : RulesetName) → is_named (names_of entries) name ≡ true → rules_at name.path new.rulesets ≡ rules_in (content t name)
-  pub others : (q : List ℕ) → is_named (names_of entries) (filter_at q) ≡ false → rules_at q new.rulesets ≡ rules_at q old.rulesets
+  pub named : (p : List ℕ) → is_named (names_of entries) (filter_at p) ≡ true → rules_at p new.config.rulesets ≡ offered_rules (content t (filter_at p))
+  pub others : (q : List ℕ) → is_named (names_of entries) (filter_at q) ≡ false → rules_at q new.config.rulesets ≡ rules_at q old.config.rulesets
+  pub tables : AreTablesSwitched t entries old new
 
 -- a commit that isn't refused switches all rulesets that it names, and no other
 abbrev pub SwitchesAll : Type 0
 SwitchesAll = (t : Open) (d : Kept) (entries : List Entry) (e : Edit) (o : Outcome) → step_by t d (Transact (Commit entries)) ≡ Ok (Wants e o) → AreSwitched t entries d (applied d e)
+
+-- a commit of filter rulesets alone leaves all tables, and one of table rulesets alone all rulesets
+pub record LeaveTheOtherKind : Type 0 where
+  pub tables : (t : Open) (d : Kept) (entries : List Entry) → list_all (λ e. same_kind e.name.kind Filter) entries ≡ true → (applied d (commits (items (content t) entries))).config.tables ≡ d.config.tables
+  pub rulesets : (t : Open) (d : Kept) (entries : List Entry) → list_all (λ e. same_kind e.name.kind Table) entries ≡ true → (applied d (commits (items (content t) entries))).config.rulesets ≡ d.config.rulesets
+
+-- ---- edits of tables
+
+-- the table at this path under this name has these entries, and all else is as before
+pub record IsEdited (d : Kept) (p name : List ℕ) (es : List Row) (new : Kept) : Type 0 where
+  pub epoch : new.epoch ≡ d.epoch
+  pub rulesets : new.config.rulesets ≡ d.config.rulesets
+  pub here : entries_at new p name ≡ es
+  pub others : (q other : List ℕ) → (p ≢ q) ⊎ (name ≢ other) → entries_at new q other ≡ entries_at d q other
+  pub map : IsTableMap d.config.tables → IsTableMap new.config.tables
+
+-- an edit changes exactly the table at its path under its name
+pub record EditsExactly : Type 0 where
+  pub by_add : (d : Kept) (p name : List ℕ) (xs : List Row) → IsEdited d p name (added (entries_at d p name) xs) (applied d (adds p name xs))
+  pub by_delete : (d : Kept) (p name : List ℕ) (xs : List Row) → IsEdited d p name (deleted (entries_at d p name) xs) (applied d (deletes p name xs))
+  pub by_set : (d : Kept) (p name : List ℕ) (xs : List Row) → IsEdited d p name (replaced xs) (applied d (sets p name xs))
+  -- so a table that is killed is there no more
+  pub by_kill : (d : Kept) (p name : List ℕ) → IsEdited d p name [] (applied d (sets p name []))
+
+-- to delete entries from a table that isn't there makes none
+abbrev pub DeletesNothing : Type 0
+DeletesNothing = (d : Kept) (p name : List ℕ) (xs : List Row) → entries_at d p name ≡ [] → entries_at (applied d (deletes p name xs)) p name ≡ []
+
+-- what is wanted fits, and so it can be prepared
+abbrev pub WantsWhatFits : Type 0
+WantsWhatFits = (t : Open) (d : Kept) (c : Command) (e : Edit) (o : Outcome) → step_by t d c ≡ Ok (Wants e o) → fits d e ≡ Ok tt
 
 -- a command that wants a change mentions, once it is applied, exactly what the change voids
 abbrev pub VoidsTheNamed : Type 0

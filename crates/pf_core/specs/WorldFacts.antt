@@ -1,6 +1,7 @@
 -- What holds after every world.
 use Rattle.std.specs.Prelude.{◌≡◌, ℕ, ◌≤◌, List, [], ◌++◌, length, fold}
-use Rattle.pf_anchor.specs.declared.limits.TheConstants.{RULE_LIMIT, RULESET_LIMIT}
+use Rattle.pf_anchor.specs.declared.limits.TheConstants.{RULE_LIMIT, RULESET_LIMIT, TABLE_COUNT_LIMIT}
+use Rattle.pf_table.specs.declared.limits.TheConstants.{TABLE_LIMIT}
 use Rattle.pf_anchor.specs.Rulesets.{rules_at}
 use Rattle.pf_ticket.specs.declared.ticket.Ticket.{Ticket}
 use Rattle.pf_ticket.specs.Laws.{AreOnce}
@@ -11,7 +12,7 @@ use Rattle.pf_core.specs.declared.reply.Answer.TheVariants as answer
 use Rattle.pf_core.specs.declared.reply.Reply.{Reply}
 use Rattle.pf_core.specs.declared.reply.Reply.TheVariants.{Answer as Answered}
 use Rattle.pf_core.specs.Calls.{mentions_of}
-use Rattle.pf_core.specs.Edits.{Kept}
+use Rattle.pf_core.specs.Edits.{Kept, entries_at}
 use Rattle.pf_core.specs.Worlds.{Held, up, down, Event, called, opened, flat, log_of, durable_of, state_after, IsWorld}
 
 -- ---- tickets
@@ -53,8 +54,10 @@ GivesEachOnce = (first : Kept) (world : List Event) (h : Held) → IsWorld first
 
 -- what is kept is within the limits
 pub record IsWithin (d : Kept) : Type 0 where
-  pub rulesets : length d.rulesets ≤ RULESET_LIMIT
-  pub rules : (p : List ℕ) → length (rules_at p d.rulesets) ≤ RULE_LIMIT
+  pub rulesets : length d.config.rulesets ≤ RULESET_LIMIT
+  pub rules : (p : List ℕ) → length (rules_at p d.config.rulesets) ≤ RULE_LIMIT
+  pub tables : length d.config.tables ≤ TABLE_COUNT_LIMIT
+  pub entries : (p name : List ℕ) → length (entries_at d p name) ≤ TABLE_LIMIT
 
 -- an opening's transactions are within the limits, and so is what it kept
 pub record AreWithin (h : Held) : Type 0 where

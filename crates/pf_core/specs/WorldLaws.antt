@@ -1,28 +1,34 @@
 -- What is wanted, and what it mentions: lemmas, for the crates above too.
-use Rattle.std.specs.Prelude.{◌≡◌, Bool, true, false, cond, List, [], ◌∷◌, map, nat_lt, Result, Ok, Err}
-use Rattle.std.proofs.Common.{refl, sym, ap, ◌∙◌}
-use Rattle.pf_anchor.specs.declared.limits.TheConstants.{RULESET_LIMIT}
+use Rattle.std.specs.Prelude.{◌≡◌, ℕ, ◌==◌, ◌&&◌, Bool, true, false, List, [], ◌∷◌, length, map, nat_lt, Result, Ok, Err}
+use Rattle.std.proofs.Common.{refl, sym, ap, subst, ◌∙◌}
+use Rattle.pf_table.specs.Edits.{added, additions, deletions, conflict_behind}
+use Rattle.pf_anchor.specs.declared.limits.TheConstants.{TABLE_COUNT_LIMIT}
 use Rattle.pf_ticket.specs.declared.entry.Entry.{Entry}
+use Rattle.pf_ticket.specs.declared.name.RulesetKind.{RulesetKind}
+use Rattle.pf_ticket.specs.declared.name.RulesetKind.TheVariants.{Filter, Table}
 use Rattle.pf_ticket.specs.declared.name.RulesetName.{RulesetName}
-use Rattle.pf_ticket.specs.declared.offered.Offered.{Offered}
-use Rattle.pf_ticket.specs.declared.offered.Offered.TheVariants.{Rules}
 use Rattle.pf_ticket.specs.declared.refusal.TicketRefusal.{TicketRefusal}
-use Rattle.pf_ticket.specs.Names.{filter_at, names_of}
-use Rattle.pf_ticket.specs.NameLaws.{filter_is}
+use Rattle.pf_ticket.specs.Names.{filter_at, table_ruleset_at, names_of}
+use Rattle.pf_ticket.specs.NameLaws.{filter_is, table_is}
 use Rattle.pf_ticket.specs.Mentions.{switches}
-use Rattle.pf_ticket.specs.Replies.{begin_reply, add_reply, list_check, commit_check}
-use Rattle.pf_ticket.specs.Tickets.{Open, content}
+use Rattle.pf_ticket.specs.Replies.{begin_reply, add_reply, define_reply, list_check, commit_check}
+use Rattle.pf_ticket.specs.Tickets.{Open, Loaded, offered_as, loaded, content}
 use Rattle.pf_core.specs.declared.command.Command.{Command}
-use Rattle.pf_core.specs.declared.command.Command.TheVariants.{Transact, Ask}
-use Rattle.pf_core.specs.declared.command.Transaction.TheVariants.{Begin, Add, Commit, Rollback}
+use Rattle.pf_core.specs.declared.command.Command.TheVariants.{Transact, Edit as Change, Ask}
+use Rattle.pf_core.specs.declared.command.TableEdit.{TableEdit}
+use Rattle.pf_core.specs.declared.command.TableEdit.TheVariants.{Add as AddTo, Delete, Set, Kill}
+use Rattle.pf_core.specs.declared.command.Transaction.TheVariants.{Begin, Add, Define, Commit, Rollback}
 use Rattle.pf_core.specs.declared.reply.Answer.{Answer}
 use Rattle.pf_core.specs.declared.reply.Answer.TheVariants as answer
 use Rattle.pf_core.specs.declared.reply.Outcome.{Outcome}
+use Rattle.pf_core.specs.declared.reply.Outcome.TheVariants as outcome
+use Rattle.pf_core.specs.declared.reply.Outcome.TheVariants.{Committed}
 use Rattle.pf_core.specs.declared.reply.Refusal.{Refusal}
-use Rattle.pf_core.specs.declared.reply.Refusal.TheVariants.{TooManyRulesets}
+use Rattle.pf_core.specs.declared.reply.Refusal.TheVariants.{TooManyTables}
+use Rattle.pf_core.specs.declared.step.Step.{Step}
 use Rattle.pf_core.specs.declared.step.Step.TheVariants.{Done, Wants}
-use Rattle.pf_core.specs.Commands.{unless_refused, item_of, items, rulesets_after, commit_change, wanting, step_by, mentioned, takes_memory}
-use Rattle.pf_core.specs.Edits.{Kept, Edit, commits, name_of, voided_by}
+use Rattle.pf_core.specs.Commands.{unless_refused, item_of, items, wanting, commit_step, added_of, deleted_of, there, edit_step, step_by, mentioned, takes_memory}
+use Rattle.pf_core.specs.Edits.{Kept, Edit, commits, adds, deletes, sets, entries_at, with_entries, name_of, voided_by, and_then, unless, no_conflict, fits}
 
 -- what the tickets didn't refuse
 pub record IsPassed {A B : Type 0} (r : Result A TicketRefusal) (f : A → Result B Refusal) (x : B) : Type 0 where
@@ -35,57 +41,126 @@ passed (Ok a) f x h = record { value = a; passed = refl; step = h }
 passed (Err e) f x h = absurd (cc (h))
 
 -- what is only answered wants no change
-none-wanted : {A : Type 0} (r : Result A TicketRefusal) (told : A → Answer) (e : Edit) (o : Outcome) → unless_refused r (λ x. Ok (Done (told x))) ≡ Ok (Wants e o) → ⊥
+pub none-wanted : {A : Type 0} (r : Result A TicketRefusal) (told : A → Answer) (e : Edit) (o : Outcome) → unless_refused r (λ x. Ok (Done (told x))) ≡ Ok (Wants e o) → ⊥
 none-wanted (Ok x) told e o h = cc (h)
 none-wanted (Err x) told e o h = cc (h)
 
-wants-this : (r : Result Edit Refusal) (e : Edit) (o : Outcome) → wanting r ≡ Ok (Wants e o) → r ≡ Ok e
-wants-this (Ok x) e o h = cc (h)
-wants-this (Err x) e o h = absurd (cc (h))
+-- what two checks in turn didn't refuse
+pub record AreBothPassed {A : Type 0} (r : Result (Unit {0}) Refusal) (next : Result A Refusal) (x : A) : Type 0 where
+  pub first : r ≡ Ok tt
+  pub second : next ≡ Ok x
+
+pub both_passed : {A : Type 0} (r : Result (Unit {0}) Refusal) (next : Result A Refusal) (x : A) → and_then r next ≡ Ok x → AreBothPassed r next x
+both_passed (Ok tt) next x h = record { first = refl; second = h }
+both_passed (Err e) next x h = absurd (cc (h))
+
+-- what wasn't refused doesn't hold
+pub not_refused : (b : Bool) (why : Refusal) → unless b why ≡ Ok tt → b ≡ false
+not_refused true why h = absurd (cc (h))
+not_refused false why h = refl
+
+-- the change that is wanted is this one, and it fits
+pub record IsThis (d : Kept) (this e : Edit) : Type 0 where
+  pub fits : fits d this ≡ Ok tt
+  pub is : this ≡ e
+
+wanted : (d : Kept) (this e : Edit) (x o : Outcome) → wanting d this x ≡ Ok (Wants e o) → IsThis d this e
+wanted d this e x o h =
+    let both : AreBothPassed (fits d this) (Ok (Wants this x)) (Wants e o) = both_passed (fits d this) (Ok (Wants this x)) (Wants e o) h in
+    let same : Ok (Wants this x) ≡ Ok (Wants e o) = both.second in
+    record { fits = both.first; is = cc (same) }
+
+-- ---- commits
 
 -- the change is a commit's, of these entries
-pub record IsCommitted (t : Open) (d : Kept) (c : Command) (e : Edit) : Type 0 where
-  pub entries : List Entry
-  pub command : c ≡ Transact (Commit entries)
+pub record IsCommitted (t : Open) (d : Kept) (entries : List Entry) (e : Edit) : Type 0 where
   pub good : commit_check t entries ≡ Ok tt
-  pub few : nat_lt RULESET_LIMIT (rulesets_after d (items (content t) entries)) ≡ false
-  pub change : commits (items (content t) entries) ≡ e
+  pub this : IsThis d (commits (items (content t) entries)) e
 
 pub unit_is : (r : Result (Unit {0}) TicketRefusal) (u : Unit {0}) → r ≡ Ok u → r ≡ Ok tt
 unit_is r tt h = h
 
-few_by : (b : Bool) (w e : Edit) → cond b (Err TooManyRulesets) (Ok w) ≡ Ok e → (b ≡ false) × (w ≡ e)
-few_by true w e h = absurd (cc (h))
-few_by false w e h = (refl, cc (h))
-
-committed : (t : Open) (d : Kept) (entries : List Entry) (e : Edit) → commit_change t d entries ≡ Ok e → IsCommitted t d (Transact (Commit entries)) e
-committed t d entries e h =
-    let many : Bool = nat_lt RULESET_LIMIT (rulesets_after d (items (content t) entries)) in
-    let good : IsPassed (commit_check t entries) (λ _. cond many (Err TooManyRulesets) (Ok (commits (items (content t) entries)))) e = passed (commit_check t entries) (λ _. cond many (Err TooManyRulesets) (Ok (commits (items (content t) entries)))) e h in
-    let few : (many ≡ false) × (commits (items (content t) entries) ≡ e) = few_by many (commits (items (content t) entries)) e good.step in
-    record { entries = entries; command = refl; good = unit_is (commit_check t entries) good.value good.passed; few = few.0; change = few.1 }
-
-pub wants_commit : (t : Open) (d : Kept) (c : Command) (e : Edit) (o : Outcome) → step_by t d c ≡ Ok (Wants e o) → IsCommitted t d c e
-wants_commit t d (Transact (Begin names)) e o h = absurd (none-wanted (begin_reply t names) (λ range. answer.Given range) e o h)
-wants_commit t d (Transact (Add p u r)) e o h = absurd (none-wanted (add_reply t (filter_at p) u) (λ _. answer.Done) e o h)
-wants_commit t d (Transact (Commit entries)) e o h = committed t d entries e (wants-this (commit_change t d entries) e o h)
-wants_commit t d (Transact (Rollback entries)) e o h = absurd (none-wanted (list_check entries) (λ _. answer.Done) e o h)
-wants_commit t d (Ask q) e o h = absurd (cc (h))
+pub wants_commit : (t : Open) (d : Kept) (entries : List Entry) (e : Edit) (o : Outcome) → commit_step t d entries ≡ Ok (Wants e o) → IsCommitted t d entries e
+wants_commit t d entries e o h =
+    let change : Edit = commits (items (content t) entries) in
+    let good : IsPassed (commit_check t entries) (λ _. wanting d change Committed) (Wants e o) = passed (commit_check t entries) (λ _. wanting d change Committed) (Wants e o) h in
+    record { good = unit_is (commit_check t entries) good.value good.passed; this = wanted d change e Committed o good.step }
 
 -- a commit replaces the rulesets that it names
-named-item : (name : RulesetName) (o : Offered) → name_of (item_of name o) ≡ name
-named-item name (Rules rs) = filter_is name
+named-item : (k : RulesetKind) (name : RulesetName) (l : Loaded) → k ≡ name.kind → name_of (item_of name (offered_as k l)) ≡ name
+named-item Filter name l is = filter_is name is
+named-item Table name l is = table_is name is
 
-names-items : (offered : RulesetName → Offered) (entries : List Entry) → map name_of (items offered entries) ≡ names_of entries
-names-items offered [] = refl
-names-items offered (e ∷ es) = ap (λ (n : RulesetName). n ∷ map name_of (items offered es)) (named-item e.name (offered e.name)) ∙ ap (λ (ns : List RulesetName). e.name ∷ ns) (names-items offered es)
+names-items : (t : Open) (entries : List Entry) → map name_of (items (content t) entries) ≡ names_of entries
+names-items t [] = refl
+names-items t (e ∷ es) = ap (λ (n : RulesetName). n ∷ map name_of (items (content t) es)) (named-item e.name.kind e.name (loaded t e.name) refl) ∙ ap (λ (ns : List RulesetName). e.name ∷ ns) (names-items t es)
+
+-- ---- edits of tables
+
+-- the change that an edit wants
+abbrev pub edit_of : TableEdit → Edit
+edit_of (AddTo p name xs) = adds p name xs
+edit_of (Delete p name xs) = deletes p name xs
+edit_of (Set p name xs) = sets p name xs
+edit_of (Kill p name) = sets p name []
+
+false-then : (b c : Bool) → ((b && false) && c) ≡ false
+false-then true c = refl
+false-then false c = refl
+
+-- to kill a table fits
+kill-fits : (d : Kept) (p name : List ℕ) → fits d (sets p name []) ≡ Ok tt
+unfolding conflict_behind added
+kill-fits d p name = ap (λ (b : Bool). unless b TooManyTables) (false-then (length (entries_at d p name) == 0) (nat_lt TABLE_COUNT_LIMIT (length (with_entries d p name []).config.tables)))
+
+pub wants_edit : (d : Kept) (edit : TableEdit) (e : Edit) (o : Outcome) → edit_step d edit ≡ Ok (Wants e o) → IsThis d (edit_of edit) e
+wants_edit d (AddTo p name xs) e o h = wanted d (adds p name xs) e (added_of (additions (entries_at d p name) xs)) o h
+wants_edit d (Delete p name xs) e o h =
+    let told : Result Step Refusal = Ok (Wants (deletes p name xs) (deleted_of (deletions (entries_at d p name) xs))) in
+    let both : AreBothPassed (no_conflict xs) (and_then (there (entries_at d p name)) told) (Wants e o) = both_passed (no_conflict xs) (and_then (there (entries_at d p name)) told) (Wants e o) h in
+    let same : told ≡ Ok (Wants e o) = (both_passed (there (entries_at d p name)) told (Wants e o) both.second).second in
+    record { fits = both.first; is = cc (same) }
+wants_edit d (Set p name xs) e o h = wanted d (sets p name xs) e outcome.Set o h
+wants_edit d (Kill p name) e o h =
+    let told : Result Step Refusal = Ok (Wants (sets p name []) outcome.Killed) in
+    let same : told ≡ Ok (Wants e o) = (both_passed (there (entries_at d p name)) told (Wants e o) h).second in
+    record { fits = kill-fits d p name; is = cc (same) }
+
+voids-none : (edit : TableEdit) → [] ≡ switches (voided_by (edit_of edit))
+voids-none (AddTo p name xs) = refl
+voids-none (Delete p name xs) = refl
+voids-none (Set p name xs) = refl
+voids-none (Kill p name) = refl
+
+-- ---- any command
+
+-- a change that is wanted fits, the command takes memory, and it mentions exactly what the change voids
+pub record IsWanted (d : Kept) (c : Command) (e : Edit) : Type 0 where
+  pub fits : fits d e ≡ Ok tt
+  pub memory : takes_memory c ≡ true
+  pub mentions : mentioned c ≡ switches (voided_by e)
+
+this-wanted : (d : Kept) (c : Command) (this e : Edit) → IsThis d this e → takes_memory c ≡ true → mentioned c ≡ switches (voided_by this) → IsWanted d c e
+this-wanted d c this e by memory mentions = subst (λ (x : Edit). IsWanted d c x) by.is (record { fits = by.fits; memory = memory; mentions = mentions })
+
+pub wants : (t : Open) (d : Kept) (c : Command) (e : Edit) (o : Outcome) → step_by t d c ≡ Ok (Wants e o) → IsWanted d c e
+wants t d (Transact (Begin names)) e o h = absurd (none-wanted (begin_reply t names) (λ range. answer.Given range) e o h)
+wants t d (Transact (Add p u r)) e o h = absurd (none-wanted (add_reply t (filter_at p) u) (λ _. answer.Done) e o h)
+wants t d (Transact (Define p u name xs)) e o h = absurd (none-wanted (define_reply t (table_ruleset_at p) u name xs) (λ _. answer.Done) e o h)
+wants t d (Transact (Commit entries)) e o h =
+    this-wanted d (Transact (Commit entries)) (commits (items (content t) entries)) e (wants_commit t d entries e o h).this refl (ap switches (sym (names-items t entries)))
+wants t d (Transact (Rollback entries)) e o h = absurd (none-wanted (list_check entries) (λ _. answer.Done) e o h)
+wants t d (Change edit) e o h = this-wanted d (Change edit) (edit_of edit) e (wants_edit d edit e o h) refl (voids-none edit)
+wants t d (Ask q) e o h = absurd (cc (h))
+
+-- a change that is wanted fits
+pub wants_what_fits : (t : Open) (d : Kept) (c : Command) (e : Edit) (o : Outcome) → step_by t d c ≡ Ok (Wants e o) → fits d e ≡ Ok tt
+wants_what_fits t d c e o h = (wants t d c e o h).fits
 
 -- a command that wants a change takes memory
 pub wants_memory : (t : Open) (d : Kept) (c : Command) (e : Edit) (o : Outcome) → step_by t d c ≡ Ok (Wants e o) → takes_memory c ≡ true
-wants_memory t d c e o h = ap takes_memory (wants_commit t d c e o h).command
+wants_memory t d c e o h = (wants t d c e o h).memory
 
 -- and mentions exactly what the change voids
 pub wants_mentions : (t : Open) (d : Kept) (c : Command) (e : Edit) (o : Outcome) → step_by t d c ≡ Ok (Wants e o) → mentioned c ≡ switches (voided_by e)
-wants_mentions t d c e o h =
-    let is : IsCommitted t d c e = wants_commit t d c e o h in
-    ap mentioned is.command ∙ ap switches (sym (names-items (content t) is.entries)) ∙ ap (λ (x : Edit). switches (voided_by x)) is.change
+wants_mentions t d c e o h = (wants t d c e o h).mentions

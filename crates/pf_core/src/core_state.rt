@@ -1,7 +1,6 @@
 //! One command after the other.
-ghost use Rattle.std.specs.Prelude.{◌≡◌, List, IfOk, OnErr, map, nat_lt, true};
+ghost use Rattle.std.specs.Prelude.{◌≡◌, List, IfOk, OnErr, map, true};
 ghost use Rattle.std.specs.Arc.{arc_value};
-ghost use Rattle.pf_anchor.specs.declared.limits.TheConstants.{RULESET_LIMIT};
 ghost use Rattle.pf_rule.specs.Packets.{PlainPacket};
 ghost use Rattle.pf_ticket.specs.declared.entry.Entry.{Entry};
 ghost use Rattle.pf_ticket.specs.Mentions.{after, switches};
@@ -10,16 +9,17 @@ ghost use Rattle.pf_core.specs.declared.command.Command.{Command};
 ghost use Rattle.pf_core.specs.declared.command.Question.{Question};
 ghost use Rattle.pf_core.specs.declared.command.Transaction.{Transaction};
 ghost use Rattle.pf_core.specs.declared.reply.Answer.TheVariants as answer;
-ghost use Rattle.pf_core.specs.Commands.{item_of, items, rulesets_after, commit_change, rollback_step, transact_step, answer_of, step_by, transacts_in_memory, asks_for_memory, takes_memory};
-ghost use Rattle.pf_core.specs.Edits.{applied, voided_by, name_of, verdict};
+ghost use Rattle.pf_core.specs.Commands.{item_of, items, commit_step, rollback_step, transact_step, answer_of, step_by, transacts_in_memory, asks_for_memory, takes_memory};
+ghost use Rattle.pf_core.specs.Edits.{voided_by, name_of, verdict};
 ghost use Rattle.pf_core.specs.Refusals.{OrMemory};
-ghost use Rattle.pf_core.specs.Wholes.{whole, ready, answered, stepped};
+ghost use Rattle.pf_core.specs.Wholes.{whole, prepared, answered, stepped};
 
 use crate::change::{Change, Item, Kind};
 use crate::command::{Command, Question, Transaction};
-use crate::durable::{Durable, rulesets_in};
-use crate::reply::{Answer, Outcome, Refusal};
+use crate::durable::Durable;
+use crate::reply::{Answer, NamedTables, Outcome, Refusal};
 use crate::step::Step;
+use crate::table_edit::edit;
 use pf_anchor::Placed;
 use pf_ticket::{Entry, Offered, RulesetName, Tickets};
 use std::alloc::{AllocError, Global};
@@ -64,12 +64,13 @@ fn name_of(item: &Item) -> RulesetName
     ensures { result ≡ name_of item.now }
 {
     match item {
-        Item::Rules(placed) => RulesetName::filter(placed.path()),
+        Item::Rules(placed) => RulesetName::filter(placed.key()),
+        Item::Tables { path, .. } => RulesetName::table(path),
     }
 }
 
-// The rulesets whose tickets a commit voids.
-fn voided(alloc: Global, items: &[Item]) -> Result<Vec<RulesetName>, AllocError>
+// The rulesets that a commit replaces.
+fn names_of(alloc: Global, items: &[Item]) -> Result<Vec<RulesetName>, AllocError>
     ensures { IfOk result (λ v. v.items ≡ map name_of items.now) }
 {
     let mut names = Vec::with_capacity(alloc, items.len())?;
@@ -79,12 +80,24 @@ fn voided(alloc: Global, items: &[Item]) -> Result<Vec<RulesetName>, AllocError>
     Ok(names)
 }
 
-// What replaces a ruleset: what is offered for it. No rule is copied.
+// The rulesets whose tickets a change voids.
+fn voided_by(alloc: Global, change: &Change) -> Result<Vec<RulesetName>, AllocError>
+    ensures { IfOk result (λ v. v.items ≡ voided_by change.now) }
+{
+    match &change.kind {
+        Kind::Commit(items) => names_of(alloc, items.as_slice()),
+        Kind::Add { .. } | Kind::Delete { .. } | Kind::Set { .. } => Ok(Vec::new(alloc)),
+    }
+}
+
+// What replaces a ruleset: what is offered for it. No rule and no table is copied.
 fn item_of(alloc: Global, name: &RulesetName, offered: Offered) -> Result<Item, AllocError>
     ensures { IfOk result (λ i. i ≡ item_of name.now offered) }
 {
+    let path = name.path.copied();
     match offered {
-        Offered::Rules(rules) => Ok(Item::Rules(Placed::new(alloc, name.path.copied(), rules)?)),
+        Offered::Rules(rules) => Ok(Item::Rules(Placed::new(alloc, path, rules)?)),
+        Offered::Tables(tables) => Ok(Item::Tables { path, tables }),
     }
 }
 
@@ -100,31 +113,19 @@ fn take_items(alloc: Global, tickets: &Tickets, entries: &[Entry]) -> Result<Vec
     Ok(taken)
 }
 
-// Whether there would be more rulesets than there may be.
-fn are_too_many(alloc: Global, durable: &Durable, items: &[Item]) -> Result<bool, AllocError>
-    ensures { IfOk result (λ b. b ≡ nat_lt RULESET_LIMIT (rulesets_after durable.now items.now)) }
-{
-    let rulesets = rulesets_in(alloc, items)?;
-    durable
-        .rulesets()
-        .would_be_too_many(alloc, rulesets.as_slice())
-}
-
 // The change that a commit wants, or why it is refused.
 fn commit(
     alloc: Global,
     durable: &Durable,
     tickets: &Tickets,
     entries: &[Entry],
-) -> Result<Change, Refusal>
-    ensures { OrMemory true result (commit_change tickets.now durable.now entries.now) }
+) -> Result<Step, Refusal>
+    ensures { OrMemory true result (commit_step tickets.now durable.now entries.now) }
 {
     tickets.check_all(entries)?;
     let items = take_items(alloc, tickets, entries)?;
-    if are_too_many(alloc, durable, items.as_slice())? {
-        return Err(Refusal::TooManyRulesets);
-    }
-    Ok(Change::commit(items))
+    durable.check_commit(alloc, items.as_slice())?;
+    Ok(Step::Wants(Change::commit(items), Outcome::Committed))
 }
 
 // A step of a transaction. Where it wants a change, or is refused, the tickets are as before.
@@ -147,10 +148,16 @@ fn transact(
             tickets.add_rule(path, *ticket, *rule)?;
             Ok(Step::Done(Answer::Done))
         }
-        Transaction::Commit(entries) => {
-            let change = commit(alloc, durable, tickets, entries.as_slice())?;
-            Ok(Step::Wants(change, Outcome::Committed))
+        Transaction::Define {
+            path,
+            ticket,
+            name,
+            entries,
+        } => {
+            tickets.define_table(path, *ticket, name, entries.as_slice())?;
+            Ok(Step::Done(Answer::Done))
         }
+        Transaction::Commit(entries) => commit(alloc, durable, tickets, entries.as_slice()),
         Transaction::Rollback(entries) => {
             tickets.rollback(entries.as_slice())?;
             Ok(Step::Done(Answer::Done))
@@ -158,15 +165,23 @@ fn transact(
     }
 }
 
-// What a question is answered. A judge takes no memory.
-fn answer(durable: &Durable, question: &Question) -> Result<Answer, AllocError>
+// What a question is answered. A judge and a test take no memory.
+fn answer(alloc: Global, durable: &Durable, question: &Question) -> Result<Answer, AllocError>
     ensures value { IfOk result (λ a. a ≡ answer_of durable.now question.now) }
     ensures memory { OnErr result (asks_for_memory question.now ≡ true) }
     ensures judged { (packet : PlainPacket) → question.now ≡ Question.Judge packet → result ≡ Ok (answer.Judged (verdict durable.now packet)) }
 {
     match question {
         Question::Judge(packet) => Ok(Answer::Judged(durable.verdict(packet))),
-        Question::ShowRules(path) => Ok(Answer::Rules(durable.rulesets().rules_at(path)?)),
+        Question::Test {
+            path,
+            name,
+            address,
+        } => Ok(Answer::Tested(durable.lookup(path, name, *address))),
+        Question::ShowRules(path) => Ok(Answer::Rules(durable.config().rules_at(path)?)),
+        Question::ShowTables(path) => Ok(Answer::Tables(NamedTables::new(
+            durable.config().tables_at(alloc, path)?,
+        ))),
     }
 }
 
@@ -199,11 +214,14 @@ impl Core {
         &self.durable
     }
 
-    /// One command. Where it wants a change, or is refused, the core is as before. A judge and a rollback take no memory.
+    /// One command. Where it wants a change, or is refused, the core is as before. A judge, a test and a rollback take no memory.
     ///
     /// It is refused for the first of these that holds. A begin: `BadCount`, `TooManyRulesets`, `TicketsExhausted`. An
-    /// add: `Busy`, `RulesetFull`. A commit: `BadCount`, `Twice`, `Busy`, `TooManyRulesets`. A rollback: `BadCount`,
-    /// `Twice`. A judge and shown rules: none. Where a growth of memory is refused, `Memory` may come before any of them.
+    /// add of a rule: `Busy`, `RulesetFull`. A define: `Conflict`, `Busy`, `TableFull`, `TooManyTables`. A commit: `BadCount`,
+    /// `Twice`, `Busy`, `TooManyRulesets`, `TooManyTables`. A rollback: `BadCount`, `Twice`. Entries that are added to a table or
+    /// take the place of its own: `Conflict`, `TableFull`, `TooManyTables`. Entries that are deleted: `Conflict`, `Absent`. A
+    /// table that is killed: `Absent`. A question: none. Where a growth of memory is refused, `Memory` may come before any of
+    /// them.
     /// The history's limit isn't the core's: whoever keeps the history answers `HistoryFull` to a change that is wanted,
     /// and doesn't accept it.
     pub fn step(&mut self, command: &Command) -> Result<Step, Refusal>
@@ -219,17 +237,22 @@ impl Core {
                 &mut self.tickets,
                 transaction,
             ),
-            Command::Ask(question) => { Ok(Step::Done(answer(&self.durable, question)?)) }
+            Command::Edit(table_edit) => edit(self.alloc, &self.durable, table_edit),
+            Command::Ask(question) => {
+                Ok(Step::Done(answer(self.alloc, &self.durable, question)?))
+            }
         }
     }
 
-    /// Makes what a change leaves. Where memory is refused nothing is made.
-    pub fn prepare(&self, change: &Change) -> Result<Next, AllocError>
-        ensures { IfOk result (λ n. n ≡ ready (applied self.now.durable change.now) (voided_by change.now)) }
+    /// Makes what a change leaves. It is refused as `Durable::apply` says, and never so for a change that a step of this core
+    /// wants; where memory is refused nothing is made.
+    pub fn prepare(&self, change: &Change) -> Result<Next, Refusal>
+        ensures { OrMemory true result (prepared self.now.durable change.now) }
     {
-        let durable = Arc::new(self.alloc, self.durable.apply(self.alloc, change)?)?;
-        let voided = match &change.kind {
-            Kind::Commit(items) => voided(self.alloc, items.as_slice())?,
+        let applied = self.durable.apply(self.alloc, change)?;
+        let voided = voided_by(self.alloc, change)?;
+        let Ok(durable) = Arc::new(self.alloc, applied) else {
+            return Err(Refusal::Memory);
         };
         Ok(Next { durable, voided })
     }

@@ -8,10 +8,11 @@ mod durable;
 pub mod laws;
 mod reply;
 mod step;
+mod table_edit;
 
 pub use change::{Change, Item};
-pub use command::{Command, Question, Transaction};
+pub use command::{Command, EntryList, Question, TableEdit, Transaction};
 pub use core_state::{Core, Next};
 pub use durable::Durable;
-pub use reply::{Answer, Outcome, Refusal, Reply, Verdict};
+pub use reply::{Answer, NamedTables, Outcome, Refusal, Reply, Verdict};
 pub use step::Step;

@@ -1,17 +1,50 @@
 //! What a client is told.
 ghost use Rattle.std.specs.Prelude.{◌≡◌};
 ghost use Rattle.pf_core.specs.declared.reply.Refusal.TheVariants.{Memory};
-ghost use Rattle.pf_core.specs.Refusals.{refusal_of};
+ghost use Rattle.pf_core.specs.Refusals.{refusal_of, table_refusal_of};
 
-use pf_anchor::{RuleList, RuleVerdict};
+use pf_anchor::{PlacedTable, RuleList, RuleVerdict};
+use pf_table::{Entry, TableRefusal};
 use pf_ticket::{TicketRange, TicketRefusal};
 use std::alloc::AllocError;
+use std::marker::Model;
 
 /// What happens to a packet.
 #[derive(Drop)]
 pub enum Verdict {
     /// The rules say so.
     Rules(RuleVerdict),
+}
+
+/// Tables at their paths under their names. Contracts see the list.
+#[derive(Drop)]
+pub struct NamedTables {
+    tables: Vec<PlacedTable>,
+}
+
+impl Model for NamedTables {
+    ghost use Rattle.std.specs.Prelude.{List};
+    ghost use Rattle.pf_anchor.specs.Tables.{Tabled};
+
+    ghost Value = { List Tabled };
+
+    ghost view = { λ n. n.tables.items };
+}
+
+impl NamedTables {
+    /// The list of these. It takes no memory.
+    pub fn new(tables: Vec<PlacedTable>) -> NamedTables
+        ensures { result ≡ tables.items }
+    {
+        NamedTables { tables }
+    }
+
+    /// The tables in order.
+    pub fn as_slice(&self) -> &[PlacedTable]
+        ensures { result.now ≡ self.now }
+    {
+        self.tables.as_slice()
+    }
 }
 
 /// What is told where nothing is to be kept.
@@ -23,8 +56,12 @@ pub enum Answer {
     Done,
     /// What happens to a packet.
     Judged(Verdict),
+    /// The entry of a table that decides on an address, where one contains it.
+    Tested(Option<Entry>),
     /// The rules of a ruleset, in order.
     Rules(RuleList),
+    /// The tables at a path, in the order of their names.
+    Tables(NamedTables),
 }
 
 /// What is told, beside its number, of a change that was kept.
@@ -32,6 +69,22 @@ pub enum Answer {
 pub enum Outcome {
     /// The rulesets of a commit are active, each with what was offered for it, and none of its tickets is valid now.
     Committed,
+    /// How many of the entries handed in are new in the table, how many it had already, and how many it has with the other
+    /// sign, which stays.
+    Added {
+        added: usize,
+        same: usize,
+        conflict: usize,
+    },
+    /// How many of the entries handed in were taken out of the table, and how many it didn't have.
+    Deleted {
+        deleted: usize,
+        absent: usize,
+    },
+    /// The table has the entries handed in and no others.
+    Set,
+    /// The table is gone.
+    Killed,
 }
 
 /// Why nothing was done. After each of these all is as before: what is kept, the valid tickets, what is offered with
@@ -43,8 +96,8 @@ pub enum Refusal {
     /// The first word at which the text can't go on, from 0; the number of words where one is missing. No command was
     /// read: all is as before.
     BadWord { at: usize },
-    /// The same, for a name past its limit: 15 bytes for an interface, 63 for a path's component, 255 for a path, and 16
-    /// components in a path. No command was read: all is as before.
+    /// The same, for a name past its limit: 15 bytes for an interface, 31 for a table, 63 for a path's component and for a
+    /// reference, 255 for a path, and 16 components in a path. No command was read: all is as before.
     NameTooLong { at: usize },
     /// The same, for a word that is no protocol. No command was read: all is as before.
     BadProto { at: usize },
@@ -53,18 +106,26 @@ pub enum Refusal {
     MixedFamily,
     /// A rule tests a port, and its protocol isn't TCP or UDP. No command was read: all is as before.
     PortNeedsProto,
-    /// A list without entries, or with more than 64. All is as before.
+    /// The list of a begin, a commit or a rollback without entries, or with more than 64. All is as before.
     BadCount,
     /// The first entry of a commit or a rollback, from 0, that names a ruleset named before it. All is as before, for the
     /// other entries too.
     Twice { at: usize },
-    /// The first entry of a commit, from 0, whose ticket isn't valid; 0 for an add. All is as before, and the tickets of
+    /// The first entry of a commit, from 0, whose ticket isn't valid; 0 for an add or a define. All is as before, and the tickets of
     /// the other entries that were valid are so still.
     Busy { at: usize },
+    /// The first entry of a list, from 0, whose network stands before it with the other sign. All is as before.
+    Conflict { at: usize },
+    /// Entries are to be deleted from a table, or it is to be killed, and there is no such table. All is as before.
+    Absent,
     /// The inactive ruleset has 1,024 rules, and no ruleset may have more. All is as before, and its ticket is valid.
     RulesetFull,
     /// A commit would leave more than 1,024 rulesets, or a begin more than 1,024 with a valid ticket. All is as before.
     TooManyRulesets,
+    /// A table would have more than 65,536 entries. All is as before.
+    TableFull,
+    /// There would be more than 1,024 tables, or more than 1,024 offered under one ticket. All is as before.
+    TooManyTables,
     /// A begin needs more counts than are left up to 4,294,967,295, the last of an opening. All is as before: none of them
     /// is given.
     TicketsExhausted,
@@ -90,10 +151,25 @@ impl From<TicketRefusal> for Refusal {
             TicketRefusal::BadCount => Refusal::BadCount,
             TicketRefusal::Twice { at } => Refusal::Twice { at },
             TicketRefusal::Busy { at } => Refusal::Busy { at },
+            TicketRefusal::Conflict { at } => Refusal::Conflict { at },
             TicketRefusal::RulesetFull => Refusal::RulesetFull,
             TicketRefusal::TooManyRulesets => Refusal::TooManyRulesets,
+            TicketRefusal::TableFull => Refusal::TableFull,
+            TicketRefusal::TooManyTables => Refusal::TooManyTables,
             TicketRefusal::TicketsExhausted => Refusal::TicketsExhausted,
             TicketRefusal::Memory => Refusal::Memory,
+        }
+    }
+}
+
+impl From<TableRefusal> for Refusal {
+    ghost from_gives = { λ r e. e ≡ table_refusal_of r };
+
+    fn from(refusal: TableRefusal) -> Refusal {
+        match refusal {
+            TableRefusal::Conflict { at } => Refusal::Conflict { at },
+            TableRefusal::TableFull => Refusal::TableFull,
+            TableRefusal::Memory => Refusal::Memory,
         }
     }
 }

@@ -1,4 +1,3 @@
-pub mod Writers
 pub mod Lines
 pub mod SpelledTickets
-pub mod Newlines
+pub mod SpelledEntries

@@ -21,11 +21,11 @@ use Rattle.pf_line.specs.Lines.{is_bad_line, is_comment, no_command, is_silent, 
 -- ---- words that spell a line are no comment
 
 no_hash : (bs : List ℕ) → begins grammar.line (35 ∷ bs) ≡ false
-unfolding grammar.question
+unfolding grammar.question grammar.edit_or_question
 no_hash bs = refl
 
 some_words : empties grammar.line ≡ false
-unfolding grammar.question
+unfolding grammar.question grammar.edit_or_question
 some_words = refl
 
 not_both : (t : Bool) → t ≡ false → t ≡ true → ⊥

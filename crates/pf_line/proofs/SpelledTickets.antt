@@ -1,6 +1,5 @@
 -- A word is read as a ticket exactly where it spells it, and so what a ticket is written as is read again.
-use Rattle.std.proofs.Common.{◌≡◌, ℕ, suc, ◌+◌, ◌^◌, ◌<◌, ◌==◌, true, false, List, [], ◌∷◌, ◌++◌, length, take, drop, get_or, decimal, Some, None, Option, refl, sym, ap, ◌∙◌, arith, append_assoc, add-one}
-use Rattle.std.specs.Prelude.{if◌then◌else◌, nat_lt}
+use Rattle.std.proofs.Common.{◌≡◌, ℕ, ◌+◌, ◌^◌, ◌<◌, List, [], ◌∷◌, ◌++◌, length, take, drop, decimal, Some, None, Option, refl, sym, ap, ◌∙◌, arith, append_assoc}
 use Rattle.std.specs.List.{position}
 use Rattle.std.proofs.lemmas.Bool.{lt-ltb}
 use Rattle.std.proofs.lemmas.Bool.Decides.{nat_tests}
@@ -11,7 +10,8 @@ use Rattle.pf_form.specs.Words.{Word}
 use Rattle.pf_form.specs.Numbers.{number_of}
 use Rattle.pf_form.specs.NumberLaws.{number_found, number_only}
 use Rattle.pf_ticket.specs.declared.ticket.Ticket.{Ticket}
-use Rattle.pf_line.specs.Tickets.{is_dot, of_32_bits, part_of, ticket_with, cut_at, ticket_of, ticket_text, IsPart, SpellsTicket}
+use Rattle.pf_reply.specs.Texts.{ticket_text}
+use Rattle.pf_line.specs.Tickets.{is_dot, of_32_bits, part_of, ticket_with, cut_at, ticket_of, IsPart, SpellsTicket}
 
 -- ---- an epoch or a count
 

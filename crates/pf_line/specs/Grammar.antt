@@ -1,33 +1,39 @@
 -- The grammar of lines. Own, with pf(4)'s names of what a client may ask.
-use Rattle.std.specs.Prelude.{◌≡◌, ℕ, true, List, codes, Option, Some, None, Result, Ok, Err}
+use Rattle.std.specs.Prelude.{◌≡◌, ℕ, true, false, List, codes, Option, Some, None, Result, Ok, Err}
 use Rattle.std.proofs.Common.{refl}
 use Rattle.pf_form.specs.declared.fault.Kind.{Kind}
 use Rattle.pf_form.specs.declared.fault.Kind.TheVariants.{BadWord}
 use Rattle.pf_form.specs.Words.{Word}
-use Rattle.pf_form.specs.Forms.{Form, nothing, word, key, or, pair, making, one_or_more, is_decided, Spells}
+use Rattle.pf_form.specs.Forms.{Form, nothing, word, key, or, pair, making, any_number, one_or_more, is_decided, Spells}
+use Rattle.pf_addr.specs.declared.addr.Addr.{Addr}
+use Rattle.pf_addr.specs.declared.addr.Addr.TheVariants as addr
+use Rattle.pf_addr.specs.Address.{network_of}
 use Rattle.pf_rule.specs.declared.fault.Mistake.{Mistake}
 use Rattle.pf_rule.specs.Rules.{PlainRule}
 use Rattle.pf_rule.specs.RuleGrammar.{rule, rule_decided}
 use Rattle.pf_rule.specs.PacketGrammar.{packet, packet_decided}
+use Rattle.pf_table.specs.Entries.{Row}
 use Rattle.pf_core.specs.declared.command.Command.{Command}
-use Rattle.pf_core.specs.declared.command.Command.TheVariants.{Transact, Ask}
-use Rattle.pf_core.specs.declared.command.Transaction.TheVariants.{Begin, Add, Commit, Rollback}
-use Rattle.pf_core.specs.declared.command.Question.TheVariants.{Judge, ShowRules}
+use Rattle.pf_core.specs.declared.command.Command.TheVariants.{Transact, Edit, Ask}
+use Rattle.pf_core.specs.declared.command.Transaction.TheVariants.{Begin, Add, Define, Commit, Rollback}
+use Rattle.pf_core.specs.declared.command.TableEdit.TheVariants as edits
+use Rattle.pf_core.specs.declared.command.Question.TheVariants.{Judge, Test, ShowRules, ShowTables}
 use Rattle.pf_ticket.specs.declared.entry.Entry.{Entry}
 use Rattle.pf_ticket.specs.declared.name.RulesetKind.{RulesetKind}
-use Rattle.pf_ticket.specs.declared.name.RulesetKind.TheVariants.{Filter}
+use Rattle.pf_ticket.specs.declared.name.RulesetKind.TheVariants.{Filter, Table}
 use Rattle.pf_ticket.specs.declared.name.RulesetName.{RulesetName}
 use Rattle.pf_ticket.specs.declared.ticket.Ticket.{Ticket}
 use Rattle.pf_ticket.specs.Names.{ticket}
-use Rattle.pf_path.specs.Paths.{path_of}
-use Rattle.pf_path.specs.Paths.{main}
+use Rattle.pf_path.specs.Names.{table_name_of}
+use Rattle.pf_path.specs.Paths.{path_of, main}
 use Rattle.pf_line.specs.Tickets.{ticket_of}
+use Rattle.pf_line.specs.Entries.{entry_of, entry_taken, address_of, address_taken}
 
 -- ---- words that stand for values
 
--- KIND, "filter" alone so far
+-- KIND, "filter" | "table"
 abbrev pub kind : Form RulesetKind
-kind = key (codes "filter") (nothing Filter)
+kind = or (codes "filter") (nothing Filter) (key (codes "table") (nothing Table))
 
 -- PATH
 abbrev pub path : Form (List ℕ)
@@ -48,6 +54,18 @@ a_ticket = refl
 abbrev pub ticket_text : Form Ticket
 ticket_text = word (record { of = ticket_word; sample = codes "1.1"; value = ticket 1 1; takes = a_ticket })
 
+-- NAME, of a table
+abbrev pub table_name : Form (List ℕ)
+table_name = word (record { of = table_name_of; sample = codes "a"; value = codes "a"; takes = refl })
+
+-- ENTRY, of a table
+abbrev pub row : Form Row
+row = word (record { of = entry_of; sample = codes "0.0.0.0"; value = (network_of (addr.V4 0), false); takes = entry_taken })
+
+-- ADDRESS
+abbrev pub address : Form Addr
+address = word (record { of = address_of; sample = codes "0.0.0.0"; value = addr.V4 0; takes = address_taken })
+
 -- ---- what is named
 
 -- KIND PATH
@@ -57,6 +75,14 @@ name = making (λ x. record { kind = x.0; path = x.1 }) (pair kind path)
 -- KIND PATH T
 abbrev pub entry : Form Entry
 entry = making (λ x. record { name = x.0; ticket = x.1 }) (pair name ticket_text)
+
+-- PATH NAME
+abbrev pub table : Form (List ℕ × List ℕ)
+table = pair path table_name
+
+-- PATH T NAME
+abbrev pub offered_table : Form (List ℕ × Ticket × List ℕ)
+offered_table = making (λ x. (x.0, x.1.0, x.1.1)) (pair path (pair ticket_text table_name))
 
 -- ---- what follows each command's word: a command, or the mistake that its rule or its packet makes
 
@@ -76,6 +102,13 @@ add_of x = as_command (λ r. Transact (Add x.0 x.1.0 r)) x.1.1
 unfoldable pub added : Form (Result Command Mistake)
 added = making add_of (pair path (pair ticket_text rule))
 
+abbrev pub define_of : (List ℕ × Ticket × List ℕ) × List Row → Result Command Mistake
+define_of x = Ok (Transact (Define x.0.0 x.0.1 x.0.2 x.1))
+
+-- PATH T NAME ENTRY .., or without an entry
+unfoldable pub defined : Form (Result Command Mistake)
+defined = making define_of (pair offered_table (any_number row))
+
 abbrev pub commit_of : List Entry → Result Command Mistake
 commit_of entries = Ok (Transact (Commit entries))
 
@@ -88,23 +121,63 @@ rollback_of entries = Ok (Transact (Rollback entries))
 unfoldable pub rolled_back : Form (Result Command Mistake)
 rolled_back = making rollback_of (one_or_more entry)
 
+-- ---- changes of one table
+
+abbrev pub add_entries_of : (List ℕ × List ℕ) × List Row → Result Command Mistake
+add_entries_of x = Ok (Edit (edits.Add x.0.0 x.0.1 x.1))
+
+-- PATH NAME ENTRY ..
+unfoldable pub entries_added : Form (Result Command Mistake)
+entries_added = making add_entries_of (pair table (one_or_more row))
+
+abbrev pub delete_entries_of : (List ℕ × List ℕ) × List Row → Result Command Mistake
+delete_entries_of x = Ok (Edit (edits.Delete x.0.0 x.0.1 x.1))
+
+-- PATH NAME ENTRY ..
+unfoldable pub entries_deleted : Form (Result Command Mistake)
+entries_deleted = making delete_entries_of (pair table (one_or_more row))
+
+abbrev pub set_entries_of : (List ℕ × List ℕ) × List Row → Result Command Mistake
+set_entries_of x = Ok (Edit (edits.Set x.0.0 x.0.1 x.1))
+
+-- PATH NAME ENTRY .., or without an entry
+unfoldable pub entries_set : Form (Result Command Mistake)
+entries_set = making set_entries_of (pair table (any_number row))
+
+-- PATH NAME
+unfoldable pub killed : Form (Result Command Mistake)
+killed = making (λ x. Ok (Edit (edits.Kill x.0 x.1))) table
+
+-- ---- questions
+
 unfoldable pub judged : Form (Result Command Mistake)
 judged = making (as_command (λ p. Ask (Judge p))) packet
 
+-- PATH NAME ADDRESS
+unfoldable pub tested : Form (Result Command Mistake)
+tested = making (λ x. Ok (Ask (Test x.0.0 x.0.1 x.1))) (pair table address)
+
+-- "rules" PATH | "tables" PATH
 unfoldable pub shown : Form (Result Command Mistake)
-shown = key (codes "rules") (making (λ p. Ok (Ask (ShowRules p))) path)
+shown = or (codes "rules") (making (λ p. Ok (Ask (ShowRules p))) path) (key (codes "tables") (making (λ p. Ok (Ask (ShowTables p))) path))
 
--- "judge" PACKET | "show" "rules" PATH
+-- ---- lines
+
+-- "judge" PACKET | "test" PATH NAME ADDRESS | "show" ("rules" | "tables") PATH
 unfoldable pub question : Form (Result Command Mistake)
-question = or (codes "judge") judged (key (codes "show") shown)
+question = or (codes "judge") judged (or (codes "test") tested (key (codes "show") shown))
 
--- "begin" KIND PATH .. | "add" PATH T RULE | "commit" KIND PATH T .. | "rollback" KIND PATH T .. | a question
+-- "tadd" PATH NAME ENTRY .. | "tdel" PATH NAME ENTRY .. | "tset" PATH NAME [ENTRY ..] | "tkill" PATH NAME | a question
+unfoldable pub edit_or_question : Form (Result Command Mistake)
+edit_or_question = or (codes "tadd") entries_added (or (codes "tdel") entries_deleted (or (codes "tset") entries_set (or (codes "tkill") killed question)))
+
+-- "begin" KIND PATH .. | "add" PATH T RULE | "define" PATH T NAME [ENTRY ..] | "commit" KIND PATH T .. | "rollback" KIND PATH T .. | an edit | a question
 abbrev pub line : Form (Result Command Mistake)
-line = or (codes "begin") begun (or (codes "add") added (or (codes "commit") committed (or (codes "rollback") rolled_back question)))
+line = or (codes "begin") begun (or (codes "add") added (or (codes "define") defined (or (codes "commit") committed (or (codes "rollback") rolled_back edit_or_question))))
 
 -- One word of look-ahead decides it.
 pub decided : is_decided line ≡ true
-unfolding begun added committed rolled_back judged shown question
+unfolding begun added defined committed rolled_back entries_added entries_deleted entries_set killed judged tested shown question edit_or_question
 decided = rw (rule_decided, packet_decided) refl
 
 -- The words of a line spell the command.

@@ -1,4 +1,4 @@
 pub mod Tickets
+pub mod Entries
 pub mod Grammar
 pub mod Lines
-pub mod Replies

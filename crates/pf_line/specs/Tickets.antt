@@ -1,5 +1,5 @@
 -- The text of a ticket: its epoch and its count in decimal digits, with a dot between them.
-use Rattle.std.specs.Prelude.{◌≡◌, ℕ, ◌+◌, ◌<◌, ◌^◌, ◌==◌, nat_lt, Bool, List, ◌∷◌, ◌++◌, take, drop, Option, Some, None, if◌then◌else◌, decimal}
+use Rattle.std.specs.Prelude.{◌≡◌, ℕ, ◌+◌, ◌<◌, ◌^◌, ◌==◌, nat_lt, Bool, List, ◌∷◌, ◌++◌, take, drop, Option, Some, None, if◌then◌else◌}
 use Rattle.std.specs.List.{position}
 use Rattle.pf_form.specs.Words.{Word}
 use Rattle.pf_form.specs.Numbers.{IsNumber, number_of}
@@ -31,10 +31,6 @@ cut_at w (Some i) = ticket_with (part_of (take i w)) (part_of (drop (i + 1) w))
 -- the ticket that a word spells
 unfoldable pub ticket_of : Word → Option Ticket
 ticket_of w = cut_at w (position is_dot w)
-
--- A ticket is written without leading zeros.
-abbrev pub ticket_text : Ticket → List ℕ
-ticket_text t = decimal t.epoch ++ 46 ∷ decimal t.count
 
 -- ---- which words spell a ticket, by cases
 

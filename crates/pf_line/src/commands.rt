@@ -1,69 +1,16 @@
 //! Reading the words of a line.
-//!
-//! Each function takes the words that it reads from the front of those that are left.
-ghost use Rattle.pf_form.specs.Readers.{Moves, ReadsWhole, ReadsAll};
-ghost use Rattle.pf_line.specs.Grammar.{kind, path, ticket_text, name, entry, begun, added, committed, rolled_back, judged, shown, question, line};
+ghost use Rattle.pf_form.specs.Readers.{ReadsWhole, ReadsAll};
+ghost use Rattle.pf_line.specs.Grammar.{begun, added, defined, committed, rolled_back, entries_added, entries_deleted, entries_set, killed, judged, tested, shown, question, edit_or_question, line};
 
-use crate::ticket::read_ticket;
-use pf_anchor::Path;
-use pf_core::{Command, Question, Transaction};
-use pf_form::{Stop, Unread, Words, bad_word, each, end, expect, stop, takes};
+use crate::lists::{read_rows, read_some_rows};
+use crate::words::{
+    address_word, path_word, read_entry, read_name, read_offered, read_table, ticket_word,
+};
+use pf_core::{Command, Question, TableEdit, Transaction};
+use pf_form::{Stop, Unread, Words, each, end, expect, takes};
 use pf_rule::{Mistake, Packet, Rule};
-use pf_ticket::{Entries, Entry, RulesetKind, RulesetName, RulesetNames, Ticket};
+use pf_ticket::{Entries, RulesetNames};
 use std::alloc::Global;
-
-fn read_kind<'a>(words: &mut Words<'a>) -> Result<RulesetKind, Stop>
-    ensures { Moves kind result words.old.now words.new.now }
-{
-    expect(words, b"filter")?;
-    Ok(RulesetKind::Filter)
-}
-
-fn path_word<'a>(words: &mut Words<'a>) -> Result<Path, Stop>
-    ensures { Moves path result words.old.now words.new.now }
-{
-    match *words {
-        [word, rest @ ..] => match Path::from_ascii(word) {
-            Ok(path) => {
-                *words = rest;
-                Ok(path)
-            }
-            Err(kind) => Err(stop(kind, words)),
-        },
-        [] => Err(bad_word(words)),
-    }
-}
-
-fn ticket_word<'a>(words: &mut Words<'a>) -> Result<Ticket, Stop>
-    ensures { Moves ticket_text result words.old.now words.new.now }
-{
-    match *words {
-        [word, rest @ ..] => match read_ticket(word) {
-            Ok(ticket) => {
-                *words = rest;
-                Ok(ticket)
-            }
-            Err(kind) => Err(stop(kind, words)),
-        },
-        [] => Err(bad_word(words)),
-    }
-}
-
-fn read_name<'a>(words: &mut Words<'a>) -> Result<RulesetName, Stop>
-    ensures { Moves name result words.old.now words.new.now }
-{
-    let kind = read_kind(words)?;
-    let path = path_word(words)?;
-    Ok(RulesetName { kind, path })
-}
-
-fn read_entry<'a>(words: &mut Words<'a>) -> Result<Entry, Stop>
-    ensures { Moves entry result words.old.now words.new.now }
-{
-    let name = read_name(words)?;
-    let ticket = ticket_word(words)?;
-    Ok(Entry { name, ticket })
-}
 
 #[tactic(auto, unfolding(crate::specs::Grammar::begun))]
 fn begin(alloc: Global, words: &[&[u8]]) -> Result<Result<Command, Mistake>, Unread>
@@ -92,6 +39,22 @@ fn add<'a>(words: Words<'a>) -> Result<Result<Command, Mistake>, Stop>
     }
 }
 
+#[tactic(auto, unfolding(crate::specs::Grammar::defined))]
+fn define<'a>(alloc: Global, words: Words<'a>) -> Result<Result<Command, Mistake>, Unread>
+    ensures { ReadsAll (λ x. x) defined result words.now }
+{
+    let mut rest = words;
+    let (path, ticket, name) = read_offered(&mut rest)?;
+    let entries = read_rows(alloc, rest)?;
+    let step = Transaction::Define {
+        path,
+        ticket,
+        name,
+        entries,
+    };
+    Ok(Ok(Command::Transact(step)))
+}
+
 #[tactic(auto, unfolding(crate::specs::Grammar::committed))]
 fn commit(alloc: Global, words: &[&[u8]]) -> Result<Result<Command, Mistake>, Unread>
     ensures { ReadsAll (λ x. x) committed result words.now }
@@ -110,6 +73,61 @@ fn rollback(alloc: Global, words: &[&[u8]]) -> Result<Result<Command, Mistake>, 
     Ok(Ok(Command::Transact(step)))
 }
 
+#[tactic(auto, unfolding(crate::specs::Grammar::entries_added))]
+fn add_entries<'a>(alloc: Global, words: Words<'a>) -> Result<Result<Command, Mistake>, Unread>
+    ensures { ReadsAll (λ x. x) entries_added result words.now }
+{
+    let mut rest = words;
+    let (path, name) = read_table(&mut rest)?;
+    let entries = read_some_rows(alloc, rest)?;
+    let edit = TableEdit::Add {
+        path,
+        name,
+        entries,
+    };
+    Ok(Ok(Command::Edit(edit)))
+}
+
+#[tactic(auto, unfolding(crate::specs::Grammar::entries_deleted))]
+fn delete_entries<'a>(alloc: Global, words: Words<'a>) -> Result<Result<Command, Mistake>, Unread>
+    ensures { ReadsAll (λ x. x) entries_deleted result words.now }
+{
+    let mut rest = words;
+    let (path, name) = read_table(&mut rest)?;
+    let entries = read_some_rows(alloc, rest)?;
+    let edit = TableEdit::Delete {
+        path,
+        name,
+        entries,
+    };
+    Ok(Ok(Command::Edit(edit)))
+}
+
+#[tactic(auto, unfolding(crate::specs::Grammar::entries_set))]
+fn set_entries<'a>(alloc: Global, words: Words<'a>) -> Result<Result<Command, Mistake>, Unread>
+    ensures { ReadsAll (λ x. x) entries_set result words.now }
+{
+    let mut rest = words;
+    let (path, name) = read_table(&mut rest)?;
+    let entries = read_rows(alloc, rest)?;
+    let edit = TableEdit::Set {
+        path,
+        name,
+        entries,
+    };
+    Ok(Ok(Command::Edit(edit)))
+}
+
+#[tactic(auto, unfolding(crate::specs::Grammar::killed))]
+fn kill<'a>(words: Words<'a>) -> Result<Result<Command, Mistake>, Stop>
+    ensures { ReadsWhole (λ x. x) killed result words.now }
+{
+    let mut rest = words;
+    let (path, name) = read_table(&mut rest)?;
+    end(rest)?;
+    Ok(Ok(Command::Edit(TableEdit::Kill { path, name })))
+}
+
 #[tactic(auto, unfolding(crate::specs::Grammar::judged))]
 fn judge<'a>(words: Words<'a>) -> Result<Result<Command, Mistake>, Stop>
     ensures { ReadsWhole (λ x. x) judged result words.now }
@@ -123,15 +141,36 @@ fn judge<'a>(words: Words<'a>) -> Result<Result<Command, Mistake>, Stop>
     }
 }
 
+#[tactic(auto, unfolding(crate::specs::Grammar::tested))]
+fn test<'a>(words: Words<'a>) -> Result<Result<Command, Mistake>, Stop>
+    ensures { ReadsWhole (λ x. x) tested result words.now }
+{
+    let mut rest = words;
+    let (path, name) = read_table(&mut rest)?;
+    let address = address_word(&mut rest)?;
+    end(rest)?;
+    let question = Question::Test {
+        path,
+        name,
+        address,
+    };
+    Ok(Ok(Command::Ask(question)))
+}
+
 #[tactic(auto, unfolding(crate::specs::Grammar::shown))]
 fn show<'a>(words: Words<'a>) -> Result<Result<Command, Mistake>, Stop>
     ensures { ReadsWhole (λ x. x) shown result words.now }
 {
     let mut rest = words;
-    expect(&mut rest, b"rules")?;
+    if takes(&mut rest, b"rules") {
+        let path = path_word(&mut rest)?;
+        end(rest)?;
+        return Ok(Ok(Command::Ask(Question::ShowRules(path))));
+    }
+    expect(&mut rest, b"tables")?;
     let path = path_word(&mut rest)?;
     end(rest)?;
-    Ok(Ok(Command::Ask(Question::ShowRules(path))))
+    Ok(Ok(Command::Ask(Question::ShowTables(path))))
 }
 
 /// A question.
@@ -143,8 +182,32 @@ fn ask<'a>(words: Words<'a>) -> Result<Result<Command, Mistake>, Stop>
     if takes(&mut rest, b"judge") {
         return judge(rest);
     }
+    if takes(&mut rest, b"test") {
+        return test(rest);
+    }
     expect(&mut rest, b"show")?;
     show(rest)
+}
+
+/// A change of one table, or a question.
+#[tactic(auto, unfolding(crate::specs::Grammar::edit_or_question))]
+fn edit_or_ask<'a>(alloc: Global, words: Words<'a>) -> Result<Result<Command, Mistake>, Unread>
+    ensures { ReadsAll (λ x. x) edit_or_question result words.now }
+{
+    let mut rest = words;
+    if takes(&mut rest, b"tadd") {
+        return add_entries(alloc, rest);
+    }
+    if takes(&mut rest, b"tdel") {
+        return delete_entries(alloc, rest);
+    }
+    if takes(&mut rest, b"tset") {
+        return set_entries(alloc, rest);
+    }
+    if takes(&mut rest, b"tkill") {
+        return Ok(kill(rest)?);
+    }
+    Ok(ask(rest)?)
 }
 
 /// The command that the words of a line say, or the mistake that its rule or its packet makes.
@@ -161,11 +224,14 @@ pub(crate) fn command<'a>(
     if takes(&mut rest, b"add") {
         return Ok(add(rest)?);
     }
+    if takes(&mut rest, b"define") {
+        return define(alloc, rest);
+    }
     if takes(&mut rest, b"commit") {
         return commit(alloc, rest);
     }
     if takes(&mut rest, b"rollback") {
         return rollback(alloc, rest);
     }
-    Ok(ask(rest)?)
+    edit_or_ask(alloc, rest)
 }

@@ -1,12 +1,14 @@
-//! Lines and replies: what a client's line asks, and how it is answered.
+//! Lines: what a client's line asks. How it is answered is `pf_reply`'s.
 #![tactic(auto)]
 
 mod commands;
+mod entries;
 pub mod laws;
 mod line;
-mod reply;
+mod lists;
 mod ticket;
+mod words;
 
 pub use line::{LINE_LIMIT, parse_line};
-pub use reply::write_reply;
+pub use pf_reply::write_reply;
 pub use ticket::DIGIT_LIMIT;

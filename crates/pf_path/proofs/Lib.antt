@@ -1,4 +1,5 @@
 mod PathTexts
+pub mod NamesRead
 pub mod PathsRead
 pub mod ReferencesRead
 pub mod Nesting

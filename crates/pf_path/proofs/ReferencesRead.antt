@@ -27,7 +27,7 @@ use Rattle.pf_path.proofs.PathsRead.{names_only, names_found}
 same_bytes : (a b : Word) → bytes_eq a b ≡ true → a ≡ b
 same_bytes a b = (bytes_eq-Decides a b).0
 
-behind_is : (front text rest : Word) → behind front text ≡ Some rest → text ≡ front ++ rest
+pub behind_is : (front text rest : Word) → behind front text ≡ Some rest → text ≡ front ++ rest
 behind_is front text rest e = by (bytes_eq (take (length front) text) front) refl e where
   by : (b : Bool) → bytes_eq (take (length front) text) front ≡ b → (if b then Some (drop (length front) text) else None) ≡ Some rest → text ≡ front ++ rest
   by true same e =
@@ -35,7 +35,7 @@ behind_is front text rest e = by (bytes_eq (take (length front) text) front) ref
       sym (take-append-drop (length front) text) ∙ ap (λ (t : Word). t ++ drop (length front) text) (same_bytes (take (length front) text) front same) ∙ ap (λ (t : Word). front ++ t) is
   by false same e = absurd (cc)
 
-before_is : (end text front : Word) → before end text ≡ Some front → text ≡ front ++ end
+pub before_is : (end text front : Word) → before end text ≡ Some front → text ≡ front ++ end
 before_is end text front e = by (bytes_eq (drop (length text - length end) text) end) refl e where
   by : (b : Bool) → bytes_eq (drop (length text - length end) text) end ≡ b → (if b then Some (take (length text - length end) text) else None) ≡ Some front → text ≡ front ++ end
   by true same e =
@@ -43,7 +43,7 @@ before_is end text front e = by (bytes_eq (drop (length text - length end) text)
       sym (take-append-drop (length text - length end) text) ∙ ap (λ (t : Word). take (length text - length end) text ++ t) (same_bytes (drop (length text - length end) text) end same) ∙ ap (λ (t : Word). t ++ end) is
   by false same e = absurd (cc)
 
-before_end : (front end : Word) → before end (front ++ end) ≡ Some front
+pub before_end : (front end : Word) → before end (front ++ end) ≡ Some front
 before_end front end =
     let size : length (front ++ end) - length end ≡ length front = omega (arith, length-append front end) in
     rw (size, drop-append_seam front end, (bytes_eq-Decides end end).1 refl, take_at front end (length front) refl) refl

@@ -1,4 +1,6 @@
 pub mod Names
+pub mod NameLaws
+pub mod KeptNames
 pub mod Paths
 pub mod PathGrammar
 pub mod PathLaws

@@ -1,7 +1,15 @@
 //! What follows from the definitions that contracts cite: functions that do nothing, whose contracts are the laws.
+ghost use Rattle.pf_path.specs.NameLaws.{ReadsANameAlone, ReadsEachName};
 ghost use Rattle.pf_path.specs.PathLaws.{ReadsWhatIsSpelled, ReadsAllThatIsSpelled, WritesWhatWasRead, ReadsWhatIsWritten, SamePathIsEqual};
 ghost use Rattle.pf_path.specs.ReferenceLaws.{ReferenceIsSpelled, SpelledReferenceIsRead};
 ghost use Rattle.pf_path.specs.NestedLaws.{NoDeeper, LeadsDeeper, ChildHasOneMore, EachIsAChild};
+
+/// A word is read as a name exactly where it is one.
+#[tactic(auto, using(crate::proofs::NamesRead::name_found, crate::proofs::NamesRead::name_only))]
+pub fn names_are_read_as_spelled()
+    ensures read { ReadsANameAlone }
+    ensures spelled { ReadsEachName }
+{}
 
 /// A path is read from a word exactly where the word spells it.
 #[tactic(auto, using(crate::proofs::PathsRead::read_is_spelled, crate::proofs::PathsRead::spelled_is_read))]

@@ -4,12 +4,12 @@ use Rattle.std.proofs.Common.{refl}
 use Rattle.pf_form.specs.Forms.{Form, nothing, key, or, pair, pair_by, making, is_decided}
 use Rattle.pf_addr.specs.declared.addr.Addr.{Addr}
 use Rattle.pf_addr.specs.Address.{family_of, same_family}
-use Rattle.pf_rule.specs.declared.rule.Direction.{Direction}
-use Rattle.pf_rule.specs.declared.rule.Direction.TheVariants.{In, Out}
+use Rattle.pf_value.specs.declared.direction.Direction.{Direction}
+use Rattle.pf_value.specs.declared.direction.Direction.TheVariants.{In, Out}
 use Rattle.pf_rule.specs.declared.fault.Mistake.{Mistake}
 use Rattle.pf_rule.specs.declared.fault.Mistake.TheVariants.{MixedFamily}
-use Rattle.pf_rule.specs.Values.{an_interface, a_protocol, an_address, a_port}
-use Rattle.pf_rule.specs.Packets.{PlainPacket, has_ports}
+use Rattle.pf_value.specs.Values.{has_ports, an_interface, a_protocol, an_address, a_port}
+use Rattle.pf_rule.specs.Packets.{PlainPacket}
 
 -- "in" | "out"
 unfoldable pub way : Form Direction

@@ -1,22 +1,17 @@
 -- What the filter sees of a packet. Own: a packet here is a value, and carries no flags.
-use Rattle.std.specs.Prelude.{◌≡◌, ℕ, ◌<◌, ◌==◌, ◌||◌, Bool, false}
+use Rattle.std.specs.Prelude.{◌≡◌, ◌<◌, false}
 use Rattle.pf_addr.specs.Address.{family_of, IsAddr}
-use Rattle.pf_rule.specs.declared.protocol.TheConstants.Protocol as protocols
 use Rattle.pf_rule.specs.declared.packet.PacketParts.{PacketParts}
-use Rattle.pf_rule.specs.Names.{IsInterfaceName}
+use Rattle.pf_value.specs.Values.{IsInterfaceName, IsProtocol, has_ports}
 
 -- a packet as contracts see it: its fields
 abbrev pub PlainPacket : Type 0
 PlainPacket = PacketParts
 
--- TCP and UDP have ports
-abbrev pub has_ports : ℕ → Bool
-has_ports protocol = (protocol == protocols.TCP) || (protocol == protocols.UDP)
-
 -- what a packet keeps: addresses of one family, and no ports but for a protocol that has them
 pub record IsPacket (p : PlainPacket) : Type 0 where
   pub interface : IsInterfaceName p.interface
-  pub protocol : (0 < p.protocol) × (p.protocol < 256)
+  pub protocol : IsProtocol p.protocol
   pub addresses : IsAddr p.source × IsAddr p.destination
   pub families : family_of p.source ≡ family_of p.destination
   pub ports : (p.source_port < 65536) × (p.destination_port < 65536)

@@ -3,9 +3,9 @@ use Rattle.std.specs.Prelude.{◌≡◌, ℕ, Bool, true, false, List, codes, Op
 use Rattle.std.specs.Option.{option_and_then}
 use Rattle.std.proofs.Common.{refl}
 use Rattle.pf_form.specs.Readers.{if_there}
-use Rattle.pf_form.specs.Forms.{Form, nothing, key, or, pair, pair_by, making, is_decided}
+use Rattle.pf_path.specs.References.{PlainReference, refers, reference_of}
+use Rattle.pf_form.specs.Forms.{Form, word, nothing, key, or, pair, pair_by, making, is_decided}
 use Rattle.pf_addr.specs.declared.addr.Family.{Family}
-use Rattle.pf_addr.specs.declared.addr.Family.TheVariants.{V4, V6}
 use Rattle.pf_addr.specs.Address.{same_family}
 use Rattle.pf_addr.specs.Reading.{part_at, pieces_at, v4_at, address_at}
 use Rattle.pf_rule.specs.declared.rule.Action.TheVariants.{Pass, Block}
@@ -13,15 +13,19 @@ use Rattle.pf_rule.specs.declared.rule.Effect.{Effect}
 use Rattle.pf_rule.specs.declared.rule.Effect.TheVariants.{Decide, Evaluate}
 use Rattle.pf_rule.specs.declared.rule.Opening.{Opening}
 use Rattle.pf_rule.specs.declared.rule.Opening.TheVariants as openings
-use Rattle.pf_rule.specs.declared.rule.Direction.{Direction}
-use Rattle.pf_rule.specs.declared.rule.Direction.TheVariants.{In, Out}
-use Rattle.pf_rule.specs.declared.rule.Host.{Host}
-use Rattle.pf_rule.specs.declared.rule.Host.TheVariants.{Any, Net}
+use Rattle.pf_value.specs.declared.direction.Direction.{Direction}
+use Rattle.pf_host.specs.declared.host.Host.{Host}
 use Rattle.pf_rule.specs.declared.fault.Mistake.{Mistake}
 use Rattle.pf_rule.specs.declared.fault.Mistake.TheVariants.{MixedFamily, PortNeedsProto}
-use Rattle.pf_rule.specs.Values.{a_reference, an_interface, a_protocol, a_negated_network, a_host}
-use Rattle.pf_rule.specs.Ports.{port, port_test, ordered, compared, ranged, range_end, ports_fit}
-use Rattle.pf_rule.specs.Rules.{PlainRule, End}
+use Rattle.pf_value.specs.Tests.{direction, interface, family, protocol}
+use Rattle.pf_value.specs.Ports.{port, port_test, order_or_range, compared, ranged, range_end, ports_fit}
+use Rattle.pf_host.specs.Hosts.{a_negated_host, a_host, host, host_family}
+use Rattle.pf_host.specs.Ends.{End, end, destination, ends}
+use Rattle.pf_rule.specs.Rules.{PlainRule}
+
+-- what an anchor rule names
+abbrev pub a_reference : Form PlainReference
+a_reference = word (record { of = reference_of; sample = codes "a"; value = refers (codes "a") false; takes = refl })
 
 -- "pass" | "block" ["drop"] | "anchor" reference
 unfoldable pub opening : Form Opening
@@ -31,44 +35,6 @@ abbrev pub passes : Opening → Bool
 passes openings.Pass = true
 passes openings.Block = false
 passes (openings.Anchor r) = false
-
--- ["in" | "out"]
-unfoldable pub direction : Form (Option Direction)
-direction = or (codes "in") (nothing (Some In)) (or (codes "out") (nothing (Some Out)) (nothing None))
-
--- ["on" interface]
-unfoldable pub interface : Form (Option (List ℕ))
-interface = or (codes "on") (making (λ n. Some n) an_interface) (nothing None)
-
--- ["inet" | "inet6"]
-unfoldable pub family : Form (Option Family)
-family = or (codes "inet") (nothing (Some V4)) (or (codes "inet6") (nothing (Some V6)) (nothing None))
-
--- ["proto" protocol]
-unfoldable pub protocol : Form (Option ℕ)
-protocol = or (codes "proto") (making (λ n. Some n) a_protocol) (nothing None)
-
--- "any" | ["!"] network, where the `!` may also be joined to the network
-unfoldable pub host : Form Host
-host = or (codes "any") (nothing Any) (or (codes "!") a_negated_network a_host)
-
-abbrev pub anywhere : End
-anywhere = (Any, None)
-
--- host ["port" test]
-unfoldable pub end : Form End
-end = pair host port
-
--- ["to" end]
-unfoldable pub destination : Form End
-destination = or (codes "to") end (nothing anywhere)
-
-abbrev pub to_alone : End → End × End
-to_alone e = (anywhere, e)
-
--- ["all" | "from" end ["to" end] | "to" end], a source and a destination
-unfoldable pub hosts : Form (End × End)
-hosts = or (codes "all") (nothing (anywhere, anywhere)) (or (codes "from") (pair end destination) (or (codes "to") (making to_alone end) (nothing (anywhere, anywhere))))
 
 -- ["keep" "state" | "no" "state"], where the rule passes; it keeps state where nothing is said
 unfoldable pub state : Bool → Form Bool
@@ -85,13 +51,9 @@ abbrev pub rule_with : Opening × (Option Direction × (Bool × (Option (List �
 rule_with (o, (d, (q, (i, (f, (p, (h, keeps))))))) = record { effect = effect_of o keeps; direction = d; quick = q; interface = i; family = f; protocol = p; source = h.0.0; source_port = h.0.1; destination = h.1.0; destination_port = h.1.1 }
 
 abbrev pub rule_words : Form PlainRule
-rule_words = making rule_with (pair_by opening passes (λ passes. pair direction (pair (if_there (codes "quick")) (pair interface (pair family (pair protocol (pair hosts (state passes))))))))
+rule_words = making rule_with (pair_by opening passes (λ passes. pair direction (pair (if_there (codes "quick")) (pair interface (pair family (pair protocol (pair ends (state passes))))))))
 
 -- ---- after the last word: the families that are written agree, and ports are tested of a protocol that has them
-
-abbrev pub host_family : Host → Option Family
-host_family Any = None
-host_family (Net n negated) = Some n.family
 
 -- The one family of two, either of which may be absent; none where they differ.
 abbrev pub agreed : Option Family → Option Family → Option (Option Family)
@@ -118,5 +80,5 @@ rule = making agreeing rule_words
 
 -- One word of look-ahead decides it.
 pub rule_decided : is_decided rule ≡ true
-unfolding rule opening direction interface family protocol a_negated_network a_host host port port_test ordered compared ranged range_end end destination hosts state part_at pieces_at v4_at address_at
+unfolding rule opening direction interface family protocol a_negated_host a_host host port port_test order_or_range compared ranged range_end end destination ends state part_at pieces_at v4_at address_at
 rule_decided = refl

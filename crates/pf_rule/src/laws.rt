@@ -1,15 +1,12 @@
-//! Laws of texts. Each function does nothing; its clauses are what is proved.
+//! Laws of texts and of matches. Each function does nothing; its clauses are what is proved.
 ghost use Rattle.std.specs.Prelude.{◌≡◌, ◌↔◌, ℕ, List, Result, Ok};
 ghost use Rattle.pf_form.specs.declared.fault.Kind.{Kind};
 ghost use Rattle.pf_form.specs.Forms.{Spells, RefusedAt, read_all};
 ghost use Rattle.pf_form.specs.Words.{Word, words_of};
 ghost use Rattle.pf_rule.specs.declared.fault.Mistake.{Mistake};
-ghost use Rattle.pf_rule.specs.declared.ports.PortStart.{PortStart};
-ghost use Rattle.pf_rule.specs.declared.rule.Host.{Host};
 ghost use Rattle.pf_rule.specs.Rules.{PlainRule, IsRule};
 ghost use Rattle.pf_rule.specs.Packets.{PlainPacket, IsPacket};
-ghost use Rattle.pf_rule.specs.Values.{SpellsProtocol, SpellsHost, protocol_of, host_of};
-ghost use Rattle.pf_rule.specs.Ports.{SpellsStart, start_of};
+ghost use Rattle.pf_rule.specs.MatchingLaws.{HostAsksNoTable, RuleAsksNoTable};
 ghost use Rattle.pf_rule.specs.RuleGrammar.{rule};
 ghost use Rattle.pf_rule.specs.PacketGrammar.{packet};
 ghost use Rattle.pf_rule.specs.RuleText.{canonical, rule_text};
@@ -46,23 +43,9 @@ pub fn rules_and_packets_are_read_as_spelled()
     ensures packets { (ws : List Word) (p : Result PlainPacket Mistake) → (read_all packet ws ≡ Ok p) ↔ Spells packet p ws }
 {}
 
-/// A word is read as a protocol exactly where it spells its name or its number.
-pub fn protocol_words_are_read_as_spelled()
-    ensures read { (w : Word) (n : ℕ) → protocol_of w ≡ Ok n → SpellsProtocol w n }
-    ensures spelled { (w : Word) (n : ℕ) → SpellsProtocol w n → protocol_of w ≡ Ok n }
-{}
-
-/// A word is read as a host exactly where it spells a network, or a network with a `!` joined to it.
-#[tactic(auto, using(crate::specs::ReadingLaws::host_found, crate::specs::ReadingLaws::host_only))]
-pub fn host_words_are_read_as_spelled()
-    ensures read { (w : Word) (h : Host) → host_of w ≡ Ok h → SpellsHost w h }
-    ensures spelled { (w : Word) (h : Host) → SpellsHost w h → host_of w ≡ Ok h }
-{}
-
-/// The first word of a port test is read exactly where it spells a number, a unary operator joined to one, or a range with its
-/// boundaries.
-#[tactic(auto, using(crate::specs::ReadingLaws::start_found, crate::specs::ReadingLaws::start_only))]
-pub fn port_words_are_read_as_spelled()
-    ensures read { (w : Word) (s : PortStart) → start_of w ≡ Ok s → SpellsStart w s }
-    ensures spelled { (w : Word) (s : PortStart) → SpellsStart w s → start_of w ≡ Ok s }
+/// What tables say makes no difference to a host that is no table, nor to a rule whose hosts are none.
+#[tactic(auto, using(crate::proofs::Untabled::host_asks_none, crate::proofs::Untabled::rule_asks_none))]
+pub fn hosts_without_tables_ask_none()
+    ensures hosts { HostAsksNoTable }
+    ensures rules { RuleAsksNoTable }
 {}

@@ -2,24 +2,21 @@
 #![tactic(auto)]
 
 mod fault;
-mod interface;
 mod laws;
 mod packet;
-mod ports;
-mod protocol;
 mod rule;
 mod rule_text;
 mod rule_words;
-mod value_words;
-mod values;
 
 pub use fault::{Mistake, TextFault};
-pub use interface::{INTERFACE_LIMIT, Interface};
 pub use laws::{
-    a_refusal_is_one, different_rules_have_different_texts, what_is_spelled_is_kept,
-    what_is_written_is_read_again,
+    a_refusal_is_one, different_rules_have_different_texts, hosts_without_tables_ask_none,
+    what_is_spelled_is_kept, what_is_written_is_read_again,
 };
 pub use packet::Packet;
-pub use ports::{Comparison, PortRange, PortTest};
-pub use protocol::Protocol;
-pub use rule::{Action, Direction, Effect, Host, Rule};
+pub use pf_host::{Host, TableAnswers};
+pub use pf_path::{Reference, TableName};
+pub use pf_value::{
+    Comparison, Direction, INTERFACE_LIMIT, Interface, PortRange, PortTest, Protocol,
+};
+pub use rule::{Action, Effect, Rule};

@@ -7,12 +7,11 @@ ghost use Rattle.pf_rule.specs.Refusals.{IsAnswer, reading};
 ghost use Rattle.pf_rule.specs.Packets.{PlainPacket, IsPacket};
 
 use crate::fault::{Mistake, TextFault, tell};
-use crate::interface::Interface;
-use crate::protocol::Protocol;
-use crate::rule::Direction;
-use crate::value_words::{address_word, interface_word, port_word, protocol_word};
 use pf_addr::Addr;
 use pf_form::{Stop, Words, expect, takes, words};
+use pf_value::{
+    Direction, Interface, Protocol, address_word, interface_word, port_word, protocol_word,
+};
 use std::alloc::Global;
 use std::marker::Model;
 

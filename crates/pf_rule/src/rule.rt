@@ -2,31 +2,24 @@
 ghost use Rattle.std.specs.Prelude.{◌≡◌};
 ghost use Rattle.pf_form.specs.Readers.{Moves};
 ghost use Rattle.pf_form.specs.Words.{words_of, texts};
-ghost use Rattle.pf_rule.specs.RuleGrammar.{rule, host_family, agreed, one_family, agreeing, passes, effect_of};
+ghost use Rattle.pf_rule.specs.RuleGrammar.{rule, agreed, one_family, agreeing, passes, effect_of};
 ghost use Rattle.pf_rule.specs.Refusals.{IsAnswer, reading};
-ghost use Rattle.pf_rule.specs.Rules.{PlainRule, IsRule, holds, host_holds, ends_hold, matches};
+ghost use Rattle.pf_rule.specs.Rules.{PlainRule, IsRule, ends_hold, matches};
+ghost use Rattle.pf_rule.specs.Matching.{ports_hold, networks_hold, tables_hold};
 
 use crate::fault::{Mistake, TextFault, tell};
-use crate::interface::Interface;
 use crate::packet::Packet;
-use crate::ports::{PortTest, ports_fit, takes_port};
-use crate::protocol::Protocol;
-use crate::rule_words::{
-    read_direction, read_family, read_hosts, read_interface, read_opening, read_protocol,
-    read_state,
-};
-use pf_addr::{Addr, Family, Net};
+use crate::rule_words::{read_opening, read_state};
+use pf_addr::Family;
 use pf_form::{Stop, Words, takes, words};
+use pf_host::{Host, TableAnswers, read_ends};
 use pf_path::Reference;
+use pf_value::{
+    Direction, Interface, PortTest, Protocol, is_wanted, ports_fit, read_direction, read_family,
+    read_interface, read_protocol, takes_port,
+};
 use std::alloc::Global;
 use std::marker::Model;
-
-/// Which way a packet goes through an interface.
-#[derive(Clone, Copy, Debug, PartialEq, Eq)]
-pub enum Direction {
-    In,
-    Out,
-}
 
 /// What a rule that decides does with a packet.
 #[derive(Clone, Copy, Debug, PartialEq, Eq)]
@@ -55,15 +48,6 @@ pub(crate) enum Opening {
     Block,
     /// `anchor`, and what it names.
     Anchor(Reference),
-}
-
-/// Which addresses a rule's source or destination takes.
-#[derive(Clone, Copy)]
-pub enum Host {
-    /// Every address.
-    Any,
-    /// The addresses of a network, or where it is negated (`!`) all others.
-    Net { net: Net, is_negated: bool },
 }
 
 /// What a rule says (pf.conf(5), Packet Filtering and its Parameters). Contracts see a [`Rule`] as these fields (`PlainRule`), each
@@ -129,28 +113,6 @@ impl Opening {
     }
 }
 
-impl Host {
-    /// Whether the address is among those that the host takes.
-    pub fn holds(self, address: Addr) -> bool
-        ensures { result ≡ host_holds self address }
-    {
-        match self {
-            Host::Any => true,
-            Host::Net { net, is_negated } => net.contains(address) != is_negated,
-        }
-    }
-
-    /// The family of the host's network, negated or not.
-    pub fn family(self) -> Option<Family>
-        ensures { result ≡ host_family self }
-    {
-        match self {
-            Host::Any => None,
-            Host::Net { net, .. } => Some(net.family()),
-        }
-    }
-}
-
 impl Rule {
     /// Reads a rule from the front of the words that are left. It takes no memory.
     ///
@@ -167,7 +129,7 @@ impl Rule {
         let interface = read_interface(words)?;
         let family = read_family(words);
         let protocol = read_protocol(words)?;
-        let ends = read_hosts(words)?;
+        let ends = read_ends(words)?;
         let keeps_state = read_state(opening.passes(), words)?;
         let parts = agreeing(RuleParts {
             effect: opening.effect(keeps_state),
@@ -190,7 +152,7 @@ impl Rule {
     /// Reads the text of a rule: its words between blanks.
     ///
     /// `at` is the number of the first word at which no rule's text can go on, from 0, or the number of words where one is missing.
-    /// [`TextFault::NameTooLong`] is for an interface of more than 15 bytes and a reference past its limits,
+    /// [`TextFault::NameTooLong`] is for an interface of more than 15 bytes, a table of more than 31 and a reference past its limits,
     /// [`TextFault::BadProto`] for a word that has to be a protocol, [`TextFault::BadWord`] for any other.
     /// [`TextFault::MixedFamily`] and then [`TextFault::PortNeedsProto`] come after the last word, and [`TextFault::Memory`] where
     /// memory for the list of words is refused.
@@ -211,16 +173,17 @@ impl Rule {
         tell(read, rest, words.len())
     }
 
-    /// Whether all of the rule's tests hold for the packet. It takes no memory.
-    pub fn matches(&self, packet: &Packet) -> bool
-        ensures { result ≡ matches self.now packet.now }
+    /// Whether all of the rule's tests hold for the packet, by what these tables say. It takes no memory, unless an answer of the
+    /// tables does. A table is asked only where all that is no table holds.
+    pub fn matches<T: TableAnswers>(&self, tables: &T, packet: &Packet) -> bool
+        ensures { result ≡ matches (T.says tables.now) self.now packet.now }
     {
         let rule = &self.0;
         is_wanted(&rule.direction, &packet.direction())
             && is_wanted(&rule.interface, packet.interface())
             && is_wanted(&rule.family, &packet.source().family())
             && is_wanted(&rule.protocol, &packet.protocol())
-            && ends_hold(rule, packet)
+            && ends_hold(rule, tables, packet)
     }
 
     /// What a match with the rule gives.
@@ -331,23 +294,31 @@ fn agreeing(parts: RuleParts) -> Result<RuleParts, Mistake>
     Ok(parts)
 }
 
-/// Whether a packet's addresses and ports are among those of the rule's two ends.
-#[tactic(auto, unfolding(crate::specs::Rules::ends_hold))]
-fn ends_hold(rule: &RuleParts, packet: &Packet) -> bool
-    ensures { result ≡ ends_hold rule.now packet.now }
+/// Whether a packet's addresses and ports are among those of the rule's two ends. Ports come first and tables last, which cost most.
+#[tactic(auto, using(crate::specs::Matching::ends_in_turn))]
+fn ends_hold<T: TableAnswers>(rule: &RuleParts, tables: &T, packet: &Packet) -> bool
+    ensures { result ≡ ends_hold (T.says tables.now) rule.now packet.now }
 {
-    rule.source.holds(packet.source())
-        && takes_port(rule.source_port, packet.source_port())
-        && rule.destination.holds(packet.destination())
+    ports_hold(rule, packet) && networks_hold(rule, packet) && tables_hold(rule, tables, packet)
+}
+
+fn ports_hold(rule: &RuleParts, packet: &Packet) -> bool
+    ensures { result ≡ ports_hold rule.now packet.now }
+{
+    takes_port(rule.source_port, packet.source_port())
         && takes_port(rule.destination_port, packet.destination_port())
 }
 
-/// Whether a value is the one that a test wants. A test that is absent holds.
-fn is_wanted<T: PartialEq>(wanted: &Option<T>, value: &T) -> bool
-    ensures { result ≡ holds wanted.now (λ x. T.eq x value.now) }
+fn networks_hold(rule: &RuleParts, packet: &Packet) -> bool
+    ensures { result ≡ networks_hold rule.now packet.now }
 {
-    match wanted {
-        Some(wanted) => *wanted == *value,
-        None => true,
-    }
+    rule.source.network_holds(packet.source())
+        && rule.destination.network_holds(packet.destination())
+}
+
+fn tables_hold<T: TableAnswers>(rule: &RuleParts, tables: &T, packet: &Packet) -> bool
+    ensures { result ≡ tables_hold (T.says tables.now) rule.now packet.now }
+{
+    rule.source.table_holds(tables, packet.source())
+        && rule.destination.table_holds(tables, packet.destination())
 }

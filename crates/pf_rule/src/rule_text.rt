@@ -1,17 +1,14 @@
 //! The canonical text of a rule.
-ghost use Rattle.std.specs.Prelude.{◌≡◌, ◌≢◌, ◌++◌, codes, decimal, IfErr};
+ghost use Rattle.std.specs.Prelude.{◌≡◌, ◌≢◌, IfErr};
 ghost use Rattle.std.specs.IoError.{error_kind};
 ghost use Rattle.pf_addr.specs.Writing.{Writes, Continues};
-ghost use Rattle.pf_rule.specs.RuleText.{effect_word, reference_words, direction_words, quick_words, interface_words, family_words, protocol_words, host_words, from_to_words, ends_words, state_words, spaced, rule_text};
-ghost use Rattle.pf_rule.specs.Spacing.{end_text};
-ghost use Rattle.pf_rule.specs.Ports.{operator_word, port_words};
+ghost use Rattle.pf_value.specs.Spacing.{spaced};
+ghost use Rattle.pf_rule.specs.RuleText.{effect_word, reference_words, quick_words, state_words, rule_text};
 
-use crate::interface::Interface;
-use crate::ports::{Comparison, PortRange, PortTest};
-use crate::protocol::Protocol;
-use crate::rule::{Action, Direction, Effect, Host, Rule};
-use crate::rule_words::End;
-use pf_addr::{Family, write_more, write_more_net, write_more_number, write_text};
+use crate::rule::{Action, Effect, Rule};
+use pf_addr::{write_more, write_text};
+use pf_host::write_ends;
+use pf_value::{direction_text, family_text, write_interface, write_protocol};
 use std::io::{self, ErrorKind, Write};
 
 impl Rule {
@@ -50,30 +47,10 @@ fn effect_text(effect: Effect) -> &'static [u8]
 
 // The texts of the parts behind the first word, with a space before each word.
 
-fn direction_text(direction: Option<Direction>) -> &'static [u8]
-    ensures { result.now ≡ spaced (direction_words direction) }
-{
-    match direction {
-        Some(Direction::In) => b" in",
-        Some(Direction::Out) => b" out",
-        None => b"",
-    }
-}
-
 fn quick_text(quick: bool) -> &'static [u8]
     ensures { result.now ≡ spaced (quick_words quick) }
 {
     if quick { b" quick" } else { b"" }
-}
-
-fn family_text(family: Option<Family>) -> &'static [u8]
-    ensures { result.now ≡ spaced (family_words family) }
-{
-    match family {
-        Some(Family::V4) => b" inet",
-        Some(Family::V6) => b" inet6",
-        None => b"",
-    }
 }
 
 fn state_text(effect: Effect) -> &'static [u8]
@@ -87,7 +64,7 @@ fn state_text(effect: Effect) -> &'static [u8]
 }
 
 /// Writes what an anchor rule names, in quotes.
-#[tactic(auto, using(crate::specs::Spacing::continuing))]
+#[tactic(auto, using(pf_value::specs::Spacing::continuing))]
 fn write_reference<W: Write>(out: &mut W, so_far: io::Result<()>, effect: Effect) -> io::Result<()>
     ensures { Continues so_far (W.contents out.old) result (W.contents out.new) (spaced (reference_words effect)) }
 {
@@ -102,150 +79,4 @@ fn write_reference<W: Write>(out: &mut W, so_far: io::Result<()>, effect: Effect
         b"\""
     };
     write_more(out, so_far, end)
-}
-
-#[tactic(auto, using(crate::specs::Spacing::continuing))]
-fn write_interface<W: Write>(
-    out: &mut W,
-    so_far: io::Result<()>,
-    interface: Option<Interface>,
-) -> io::Result<()>
-    ensures { Continues so_far (W.contents out.old) result (W.contents out.new) (spaced (interface_words interface)) }
-{
-    match interface {
-        Some(interface) => {
-            let so_far = write_more(out, so_far, b" on ");
-            write_more(out, so_far, interface.as_bytes())
-        }
-        None => write_more(out, so_far, b""),
-    }
-}
-
-/// Writes a protocol's name, where it has one, or its number.
-#[tactic(auto, using(crate::specs::Spacing::continuing))]
-fn write_protocol<W: Write>(
-    out: &mut W,
-    so_far: io::Result<()>,
-    protocol: Option<Protocol>,
-) -> io::Result<()>
-    ensures { Continues so_far (W.contents out.old) result (W.contents out.new) (spaced (protocol_words protocol)) }
-{
-    let Some(protocol) = protocol else {
-        return write_more(out, so_far, b"");
-    };
-    let so_far = write_more(out, so_far, b" proto ");
-    match protocol.number() {
-        Protocol::ICMP => write_more(out, so_far, b"icmp"),
-        Protocol::TCP => write_more(out, so_far, b"tcp"),
-        Protocol::UDP => write_more(out, so_far, b"udp"),
-        Protocol::ICMP6 => write_more(out, so_far, b"icmp6"),
-        number => write_more_number(out, so_far, u64::from(number)),
-    }
-}
-
-fn write_ends<W: Write>(
-    out: &mut W,
-    so_far: io::Result<()>,
-    source: End,
-    destination: End,
-) -> io::Result<()>
-    ensures { Continues so_far (W.contents out.old) result (W.contents out.new) (spaced (ends_words source destination)) }
-{
-    match (source, destination) {
-        ((Host::Any, None), (Host::Any, None)) => write_more(out, so_far, b" all"),
-        _ => write_from_to(out, so_far, source, destination),
-    }
-}
-
-fn write_from_to<W: Write>(
-    out: &mut W,
-    so_far: io::Result<()>,
-    source: End,
-    destination: End,
-) -> io::Result<()>
-    ensures { Continues so_far (W.contents out.old) result (W.contents out.new) (spaced (from_to_words source destination)) }
-{
-    let so_far = write_more(out, so_far, b" from");
-    let so_far = write_end(out, so_far, source);
-    let so_far = write_more(out, so_far, b" to");
-    write_end(out, so_far, destination)
-}
-
-#[tactic(auto, using(crate::specs::Spacing::continuing))]
-fn write_end<W: Write>(out: &mut W, so_far: io::Result<()>, end: End) -> io::Result<()>
-    ensures { Continues so_far (W.contents out.old) result (W.contents out.new) (end_text end) }
-{
-    let so_far = write_host(out, so_far, end.0);
-    write_port(out, so_far, end.1)
-}
-
-#[tactic(auto, using(crate::specs::Spacing::continuing))]
-fn write_host<W: Write>(out: &mut W, so_far: io::Result<()>, host: Host) -> io::Result<()>
-    ensures { Continues so_far (W.contents out.old) result (W.contents out.new) (spaced (host_words host)) }
-{
-    match host {
-        Host::Any => write_more(out, so_far, b" any"),
-        Host::Net { net, is_negated } => {
-            if is_negated {
-                let so_far = write_more(out, so_far, b" ! ");
-                return write_more_net(out, so_far, net);
-            }
-            let so_far = write_more(out, so_far, b" ");
-            write_more_net(out, so_far, net)
-        }
-    }
-}
-
-fn operator_text(operator: Comparison) -> &'static [u8]
-    ensures { result.now ≡ operator_word operator }
-{
-    match operator {
-        Comparison::Equal => b"=",
-        Comparison::NotEqual => b"!=",
-        Comparison::Less => b"<",
-        Comparison::AtMost => b"<=",
-        Comparison::Greater => b">",
-        Comparison::AtLeast => b">=",
-    }
-}
-
-/// Writes a port test, each word with a space before it.
-#[tactic(auto, using(crate::specs::Spacing::continuing))]
-fn write_port<W: Write>(
-    out: &mut W,
-    so_far: io::Result<()>,
-    test: Option<PortTest>,
-) -> io::Result<()>
-    ensures { Continues so_far (W.contents out.old) result (W.contents out.new) (spaced (port_words test)) }
-{
-    match test {
-        None => write_more(out, so_far, b""),
-        Some(PortTest::Compared { operator, port }) => {
-            let so_far = write_more(out, so_far, b" port ");
-            let so_far = write_more(out, so_far, operator_text(operator));
-            let so_far = write_more(out, so_far, b" ");
-            write_more_number(out, so_far, u64::from(port))
-        }
-        Some(PortTest::Ranged { range, first, last }) => match range {
-            PortRange::Including => write_range(out, so_far, first, b":", last),
-            PortRange::Excluding => write_range(out, so_far, first, b" >< ", last),
-            PortRange::Except => write_range(out, so_far, first, b" <> ", last),
-        },
-    }
-}
-
-#[tactic(auto, using(crate::specs::Spacing::continuing))]
-fn write_range<W: Write>(
-    out: &mut W,
-    so_far: io::Result<()>,
-    first: u16,
-    between: &[u8],
-    last: u16,
-) -> io::Result<()>
-    ensures { Continues so_far (W.contents out.old) result (W.contents out.new) (codes " port " ++ (decimal first ++ (between.now ++ decimal last))) }
-{
-    let so_far = write_more(out, so_far, b" port ");
-    let so_far = write_more_number(out, so_far, u64::from(first));
-    let so_far = write_more(out, so_far, between);
-    write_more_number(out, so_far, u64::from(last))
 }

@@ -1,17 +1,17 @@
 //! Reading the parts of a rule, each from the front of the words that are left.
-ghost use Rattle.std.specs.Prelude.{◌≡◌, Ok};
-ghost use Rattle.pf_form.specs.Forms.{reads};
 ghost use Rattle.pf_form.specs.Readers.{Moves};
-ghost use Rattle.pf_form.specs.Words.{texts};
-ghost use Rattle.pf_rule.specs.RuleGrammar.{opening, direction, interface, family, protocol, host, end, destination, hosts, state};
+ghost use Rattle.pf_rule.specs.RuleGrammar.{a_reference, opening, state};
 
-use crate::interface::Interface;
-use crate::ports::{PortTest, read_port};
-use crate::protocol::Protocol;
-use crate::rule::{Direction, Host, Opening};
-use crate::value_words::{host_word, interface_word, negated_word, protocol_word, reference_word};
-use pf_addr::Family;
+use crate::rule::Opening;
 use pf_form::{Stop, Words, expect, takes};
+use pf_path::Reference;
+use pf_value::take_word;
+
+fn reference_word<'a>(words: &mut Words<'a>) -> Result<Reference, Stop>
+    ensures { Moves a_reference result words.old.now words.new.now }
+{
+    take_word!(words, word => Reference::from_ascii(word))
+}
 
 /// How a rule begins.
 #[tactic(auto, unfolding(crate::specs::RuleGrammar::opening))]
@@ -27,104 +27,6 @@ pub(crate) fn read_opening<'a>(words: &mut Words<'a>) -> Result<Opening, Stop>
     }
     expect(words, b"anchor")?;
     Ok(Opening::Anchor(reference_word(words)?))
-}
-
-#[tactic(auto, unfolding(crate::specs::RuleGrammar::direction))]
-pub(crate) fn read_direction<'a>(words: &mut Words<'a>) -> Option<Direction>
-    ensures { reads direction (texts words.old.now) ≡ Ok (result, texts words.new.now) }
-{
-    if takes(words, b"in") {
-        Some(Direction::In)
-    } else if takes(words, b"out") {
-        Some(Direction::Out)
-    } else {
-        None
-    }
-}
-
-#[tactic(auto, unfolding(crate::specs::RuleGrammar::interface))]
-pub(crate) fn read_interface<'a>(words: &mut Words<'a>) -> Result<Option<Interface>, Stop>
-    ensures { Moves interface result words.old.now words.new.now }
-{
-    if !takes(words, b"on") {
-        return Ok(None);
-    }
-    Ok(Some(interface_word(words)?))
-}
-
-#[tactic(auto, unfolding(crate::specs::RuleGrammar::family))]
-pub(crate) fn read_family<'a>(words: &mut Words<'a>) -> Option<Family>
-    ensures { reads family (texts words.old.now) ≡ Ok (result, texts words.new.now) }
-{
-    if takes(words, b"inet") {
-        Some(Family::V4)
-    } else if takes(words, b"inet6") {
-        Some(Family::V6)
-    } else {
-        None
-    }
-}
-
-#[tactic(auto, unfolding(crate::specs::RuleGrammar::protocol))]
-pub(crate) fn read_protocol<'a>(words: &mut Words<'a>) -> Result<Option<Protocol>, Stop>
-    ensures { Moves protocol result words.old.now words.new.now }
-{
-    if !takes(words, b"proto") {
-        return Ok(None);
-    }
-    Ok(Some(protocol_word(words)?))
-}
-
-/// One end of a packet's way: its host, and a test of its port.
-pub(crate) type End = (Host, Option<PortTest>);
-
-#[tactic(auto, unfolding(crate::specs::RuleGrammar::host))]
-fn read_host<'a>(words: &mut Words<'a>) -> Result<Host, Stop>
-    ensures { Moves host result words.old.now words.new.now }
-{
-    if takes(words, b"any") {
-        return Ok(Host::Any);
-    }
-    if takes(words, b"!") {
-        return negated_word(words);
-    }
-    host_word(words)
-}
-
-#[tactic(auto, unfolding(crate::specs::RuleGrammar::end))]
-fn read_end<'a>(words: &mut Words<'a>) -> Result<End, Stop>
-    ensures { Moves end result words.old.now words.new.now }
-{
-    Ok((read_host(words)?, read_port(words)?))
-}
-
-#[tactic(auto, unfolding(crate::specs::RuleGrammar::destination))]
-fn read_destination<'a>(words: &mut Words<'a>) -> Result<End, Stop>
-    ensures { Moves destination result words.old.now words.new.now }
-{
-    if takes(words, b"to") {
-        read_end(words)
-    } else {
-        Ok((Host::Any, None))
-    }
-}
-
-/// A source and a destination.
-#[tactic(auto, unfolding(crate::specs::RuleGrammar::hosts))]
-pub(crate) fn read_hosts<'a>(words: &mut Words<'a>) -> Result<(End, End), Stop>
-    ensures { Moves hosts result words.old.now words.new.now }
-{
-    let anywhere = (Host::Any, None);
-    if takes(words, b"all") {
-        return Ok((anywhere, anywhere));
-    }
-    if takes(words, b"from") {
-        return Ok((read_end(words)?, read_destination(words)?));
-    }
-    if takes(words, b"to") {
-        return Ok((anywhere, read_end(words)?));
-    }
-    Ok((anywhere, anywhere))
 }
 
 /// Whether a rule keeps state. Only a rule that passes has the option, and it keeps state where nothing is said.

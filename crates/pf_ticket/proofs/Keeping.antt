@@ -1,29 +1,35 @@
 -- How many tickets a step gives, and that the limits hold after each step that isn't refused.
-use Rattle.std.proofs.Common.{◌≡◌, ◌+◌, ◌-◌, ◌<◌, ◌≤◌, Bool, true, false, not, cond, List, [], ◌∷◌, ◌++◌, length, refl, sym, ap, ◌∙◌, subst, Option, Some, None, is_some, Result, Ok, Err, arith, length-append}
+use Rattle.std.proofs.Common.{◌≡◌, ℕ, ◌+◌, ◌-◌, ◌<◌, ◌≤◌, Bool, true, false, not, cond, List, [], ◌∷◌, ◌++◌, length, refl, sym, ap, ◌∙◌, subst, Option, Some, None, is_some, Result, Ok, Err, arith, length-append}
 use Rattle.std.specs.Prelude.{nat_lt, nat_le}
-use Rattle.std.specs.List.{slice_get}
+use Rattle.std.specs.declared.cmp.Ordering.TheVariants.{Less, Equal, Greater}
+use Rattle.std.specs.List.{AllByRecursion, slice_get}
+use Rattle.std.specs.FinMap.{put as put_entry}
+use Rattle.std.specs.FinMap.Entries.{by_order}
+use Rattle.pf_path.specs.Names.{name_order}
+use Rattle.pf_table.specs.declared.limits.TheConstants.{TABLE_LIMIT}
+use Rattle.pf_table.specs.Edits.{conflict_in, replaced}
+use Rattle.pf_table.specs.Entries.{Row}
 use Rattle.std.proofs.lemmas.Bool.{cond_both}
 use Rattle.std.proofs.lemmas.Bool.Decides.{nat_tests}
 use Rattle.pf_rule.specs.Rules.{PlainRule}
 use Rattle.pf_anchor.specs.declared.limits.TheConstants.{RULE_LIMIT, RULESET_LIMIT}
 use Rattle.pf_ticket.specs.declared.entry.Entry.{Entry}
-use Rattle.pf_ticket.specs.declared.limits.TheConstants.{LAST_COUNT}
+use Rattle.pf_ticket.specs.declared.limits.TheConstants.{LAST_COUNT, OFFERED_TABLE_LIMIT}
 use Rattle.pf_ticket.specs.declared.name.RulesetKind.{RulesetKind}
-use Rattle.pf_ticket.specs.declared.name.RulesetKind.TheVariants.{Filter}
+use Rattle.pf_ticket.specs.declared.name.RulesetKind.TheVariants.{Filter, Table}
 use Rattle.pf_ticket.specs.declared.name.RulesetName.{RulesetName}
-use Rattle.pf_ticket.specs.declared.offered.Offered.{Offered}
-use Rattle.pf_ticket.specs.declared.offered.Offered.TheVariants.{Rules}
 use Rattle.pf_ticket.specs.declared.refusal.TicketRefusal.{TicketRefusal}
-use Rattle.pf_ticket.specs.declared.refusal.TicketRefusal.TheVariants.{BadCount, Busy, RulesetFull, TooManyRulesets, TicketsExhausted}
+use Rattle.pf_ticket.specs.declared.refusal.TicketRefusal.TheVariants.{BadCount, Conflict, Busy, RulesetFull, TableFull, TooManyRulesets, TooManyTables, TicketsExhausted}
 use Rattle.pf_ticket.specs.declared.ticket.Ticket.{Ticket}
 use Rattle.pf_ticket.specs.declared.ticket.TicketRange.{TicketRange}
-use Rattle.pf_ticket.specs.Laws.{AreGiven, BeginsGive, TellsWhatIsGiven, IsWithin, KeepsTheLimits}
-use Rattle.pf_ticket.specs.Mentions.{gave, added, dropped, with_offers, take_out, moved, after, gives, switches, drops}
-use Rattle.pf_ticket.specs.Names.{filter_at, same_name, is_named, is_ticket, tickets_from, tickets_of}
-use Rattle.pf_ticket.specs.NameLaws.{names_alike}
-use Rattle.pf_ticket.specs.Replies.{bad_count, range, begin_reply}
-use Rattle.pf_ticket.specs.Tickets.{nothing_for, rules_in, with_rule, Offer, offer, offer_at, put, Open, next_ticket, ticket_in, offered_in, valid_ticket, content, is_valid}
-use Rattle.pf_ticket.proofs.Moves.{made_by, reads, leaves_the_others, gives-named}
+use Rattle.pf_ticket.specs.Laws.{AreGiven, BeginsGive, TellsWhatIsGiven, IsFew, IsWithin, KeepsTheLimits}
+use Rattle.pf_ticket.specs.Mentions.{gave, dropped, load, with_offers, take_out, moved, after, gives, switches, drops}
+use Rattle.pf_ticket.specs.Names.{filter_at, table_ruleset_at, same_name, is_named, is_ticket, tickets_from, tickets_of}
+use Rattle.pf_ticket.specs.NameLaws.{names_alike, name_is}
+use Rattle.pf_ticket.specs.Replies.{bad_count, refused_at, and_then, range, begin_reply}
+use Rattle.pf_ticket.specs.NamedTables.{Named}
+use Rattle.pf_ticket.specs.Tickets.{Loaded, nothing, with_rule, with_table, offered_as, Offer, offer, offer_at, put, Open, next_ticket, ticket_in, loaded_in, valid_ticket, loaded, is_valid}
+use Rattle.pf_ticket.proofs.Moves.{load-keeps, made_by, reads, leaves_the_others, gives-named}
 use Rattle.pf_ticket.proofs.Offers.{read-put, read-without, length-put, length-without}
 
 -- ---- what is kept where offers are taken out
@@ -67,7 +73,8 @@ pub begins_give : BeginsGive
 begins_give = record {
   told = λ t names given h. ap (λ (g : TicketRange). tickets_of g) (sym (begun t names given h).range);
   begin = begin-gives;
-  add = λ t n u r. (let os : List Offer = put (offer n u (with_rule (content t n) r)) t.offers in cond_both (is_valid t n u) (with_offers t os) t (AreGiven 0 t) (λ b. none-given t os) (λ b. none-given t t.offers));
+  add = λ t n u r. load-keeps t n u (with_rule (loaded t n) r) (AreGiven 0 t) (λ new. none-given t (put new t.offers)) (none-given t t.offers);
+  define = λ t n u name xs. load-keeps t n u (with_table (loaded t n) name (replaced xs)) (AreGiven 0 t) (λ new. none-given t (put new t.offers)) (none-given t t.offers);
   commit = λ t names. switches-keep (AreGiven 0 t) (λ s n g. record { epoch = g.epoch; next = g.next }) t names (none-given t t.offers);
   rollback = λ t entries. drops-keep (AreGiven 0 t) (λ s n g. record { epoch = g.epoch; next = g.next }) t entries (none-given t t.offers);
 }
@@ -84,24 +91,48 @@ tells_what_is_given t range before name behind h last =
 
 -- ---- how much is offered
 
-kind-short : (k : RulesetKind) → length (rules_in (nothing_for k)) ≤ RULE_LIMIT
-kind-short Filter = omega arith
+abbrev Short : RulesetKind → Loaded → Type 0
+Short k l = IsFew (offered_as k l)
 
-one-more : (o : Offered) (r : PlainRule) → length (rules_in o) < RULE_LIMIT → length (rules_in (with_rule o r)) ≤ RULE_LIMIT
-one-more (Rules rs) r room = let k = length-append rs (r ∷ []) in omega (arith, k, room)
+short-nothing : (k : RulesetKind) → Short k nothing
+short-nothing Filter = record { rules = omega arith; tables = omega arith; entries = tt }
+short-nothing Table = record { rules = omega arith; tables = omega arith; entries = tt }
+
+one-more : (l : Loaded) (r : PlainRule) → length l.rules < RULE_LIMIT → Short Filter (with_rule l r)
+one-more l r room = record { rules = (let k = length-append l.rules (r ∷ []) in omega (arith, k, room)); tables = omega arith; entries = tt }
+
+abbrev AreShortRows : List Named → Type 0
+AreShortRows ts = AllByRecursion (λ n. length n.1 ≤ TABLE_LIMIT) ts
+
+rows-put : (name : List ℕ) (new : List Row) (ts : List Named) → length new ≤ TABLE_LIMIT → AreShortRows ts → AreShortRows (put_entry name_order name new ts)
+rows-put name new [] short all = (short, tt)
+rows-put name new (t ∷ ts) short all =
+    elim (name_order name t.0) as (λ o. AreShortRows (by_order o ((name, new) ∷ t ∷ ts) ((t.0, new) ∷ ts) (t ∷ put_entry name_order name new ts))) [
+      | Less ↦ (short, all)
+      | Equal ↦ (short, all.1)
+      | Greater ↦ (all.0, rows-put name new ts short all.1)
+    ]
+
+one-table : (l : Loaded) (name : List ℕ) (new : List Row) → length new ≤ TABLE_LIMIT → length (with_table l name new).tables ≤ OFFERED_TABLE_LIMIT → Short Table l → Short Table (with_table l name new)
+one-table l name new short few old = record {
+  rules = omega arith;
+  tables = few;
+  entries = rows-put name new l.tables short old.entries;
+}
 
 abbrev IsShort : RulesetKind → Option Offer → Type 0
-IsShort k v = length (rules_in (offered_in k v)) ≤ RULE_LIMIT
+IsShort k v = Short k (loaded_in v)
 
 abbrev AreShort : List Offer → Type 0
 AreShort os = (name : RulesetName) → IsShort name.kind (offer_at os name)
 
-short-put : (new : Offer) (os : List Offer) → length (rules_in new.offered) ≤ RULE_LIMIT → AreShort os → AreShort (put new os)
-short-put new os short all q = subst (IsShort q.kind) (sym (read-put new os q)) (cond_both (same_name new.name q) (Some new) (offer_at os q) (IsShort q.kind) (λ b. short) (λ b. all q))
+short-put : (new : Offer) (os : List Offer) → Short new.name.kind new.loaded → AreShort os → AreShort (put new os)
+short-put new os short all q =
+    subst (IsShort q.kind) (sym (read-put new os q)) (cond_both (same_name new.name q) (Some new) (offer_at os q) (IsShort q.kind) (λ b. subst (λ (n : RulesetName). Short n.kind new.loaded) (name_is new.name q b) short) (λ b. all q))
 
 short-begun : (t : Open) (names : List RulesetName) → AreShort t.offers → AreShort (after t (gives names)).offers
 short-begun t [] all = all
-short-begun t (n ∷ ns) all = short-begun (moved t (gave n)) ns (short-put (offer n (next_ticket t) (nothing_for n.kind)) t.offers (kind-short n.kind) all)
+short-begun t (n ∷ ns) all = short-begun (moved t (gave n)) ns (short-put (offer n (next_ticket t) nothing) t.offers (short-nothing n.kind) all)
 
 -- ---- the limits
 
@@ -109,30 +140,34 @@ within-out : (t : Open) (n : RulesetName) → IsWithin t → IsWithin (take_out 
 within-out t n w = record {
   given = w.given;
   opened = let most = w.opened in omega (arith, length-without n t.offers, most);
-  offered = λ q. subst (IsShort q.kind) (sym (read-without n t.offers q)) (cond_both (same_name n q) None (offer_at t.offers q) (IsShort q.kind) (λ b. kind-short q.kind) (λ b. w.offered q));
+  offered = λ q. subst (IsShort q.kind) (sym (read-without n t.offers q)) (cond_both (same_name n q) None (offer_at t.offers q) (IsShort q.kind) (λ b. short-nothing q.kind) (λ b. w.offered q));
 }
 
 has-offer : (v : Option Offer) (u : Ticket) → is_ticket (ticket_in v) u ≡ true → is_some v ≡ true
 has-offer None u h = absurd (cc (h))
 has-offer (Some o) u h = refl
 
-within-added : (t : Open) (n : RulesetName) (u : Ticket) (r : PlainRule) → length (rules_in (content t n)) < RULE_LIMIT → IsWithin t → IsWithin (moved t (added n u r))
-within-added t n u r room w =
-    let new : Offer = offer n u (with_rule (content t n) r) in
+within-loaded : (t : Open) (n : RulesetName) (u : Ticket) (l : Loaded) → Short n.kind l → IsWithin t → IsWithin (load t n u l)
+within-loaded t n u l short w =
+    let new : Offer = offer n u l in
     cond_both (is_valid t n u) (with_offers t (put new t.offers)) t IsWithin
     (λ valid.
     let as-many : length (put new t.offers) ≡ length t.offers + 0 = length-put new t.offers ∙ ap (λ (b : Bool). length t.offers + cond b 0 1) (has-offer (offer_at t.offers n) u valid) in
     let most = w.opened in
-    record { given = w.given; opened = omega (arith, as-many, most); offered = short-put new t.offers (one-more (content t n) r room) w.offered })
+    record { given = w.given; opened = omega (arith, as-many, most); offered = short-put new t.offers short w.offered })
     (λ b. w)
 
 not-refused : {A : Type 0} (b : Bool) (x : TicketRefusal) (r : Result A TicketRefusal) (a : A) → cond b (Err x) r ≡ Ok a → (b ≡ false) × (r ≡ Ok a)
 not-refused true x r a h = absurd (cc (h))
 not-refused false x r a h = (refl, h)
 
+passed : (check next : Result (Unit {0}) TicketRefusal) → and_then check next ≡ Ok tt → next ≡ Ok tt
+passed (Ok u) next h = h
+passed (Err e) next h = absurd (cc (h))
+
 pub keeps_the_limits : KeepsTheLimits
 keeps_the_limits = record {
-  first = λ epoch. record { given = omega arith; opened = omega arith; offered = λ q. kind-short q.kind };
+  first = λ epoch. record { given = omega arith; opened = omega arith; offered = λ q. short-nothing q.kind };
   begin = λ t names given h w.
       let is : IsBegun t names given = begun t names given h in
       let next = (begin-gives t names).next in
@@ -141,10 +176,24 @@ keeps_the_limits = record {
       record { given = grind (arith, nat_tests, next, left); opened = grind (arith, nat_tests, few); offered = short-begun t names w.offered };
   add = λ t p u r h w.
       let n : RulesetName = filter_at p in
-      let full : Bool = nat_le RULE_LIMIT (length (rules_in (content t n))) in
+      let l : Loaded = loaded t n in
+      let full : Bool = nat_le RULE_LIMIT (length l.rules) in
       let done : Result (Unit {0}) TicketRefusal = Ok tt in
       let low : full ≡ false = (not-refused full RulesetFull done tt (not-refused (not (is_valid t n u)) (Busy 0) (cond full (Err RulesetFull) done) tt h).1).0 in
-      within-added t n u r (grind (arith, nat_tests, low)) w;
+      within-loaded t n u (with_rule l r) (one-more l r (grind (arith, nat_tests, low))) w;
+  define = λ t p u name xs h w.
+      let n : RulesetName = table_ruleset_at p in
+      let rows : List Row = replaced xs in
+      let new : Loaded = with_table (loaded t n) name rows in
+      let long : Bool = nat_lt TABLE_LIMIT (length rows) in
+      let many : Bool = nat_lt OFFERED_TABLE_LIMIT (length new.tables) in
+      let done : Result (Unit {0}) TicketRefusal = Ok tt in
+      let limits : Result (Unit {0}) TicketRefusal = cond long (Err TableFull) (cond many (Err TooManyTables) done) in
+      let fits : (long ≡ false) × (cond many (Err TooManyTables) done ≡ done) =
+      not-refused long TableFull (cond many (Err TooManyTables) done) tt (not-refused (not (is_valid t n u)) (Busy 0) limits tt (passed (refused_at (λ i. Conflict i) (conflict_in xs)) (cond (not (is_valid t n u)) (Err (Busy 0)) limits) h)).1 in
+      let short = fits.0 in
+      let few = (not-refused many TooManyTables done tt fits.1).0 in
+      within-loaded t n u new (one-table (loaded t n) name rows (grind (arith, nat_tests, short)) (grind (arith, nat_tests, few)) (w.offered n)) w;
   commit = switches-keep IsWithin within-out;
   rollback = drops-keep IsWithin within-out;
 }

@@ -1,21 +1,25 @@
--- The valid ticket of a ruleset is the one that the latest mention that touched it gave, and the rules added since are offered with it.
-use Rattle.std.proofs.Common.{◌≡◌, ℕ, Bool, true, false, cond, ◌&&◌, ◌==◌, List, [], ◌∷◌, ◌++◌, refl, sym, ap, ◌∙◌, subst, Option, Some, None, ◌⊎◌, inl, inr, append_assoc}
-use Rattle.std.specs.Prelude.{flat_map}
-use Rattle.std.proofs.lemmas.Bool.{eqb-true, and_parts}
+-- The valid ticket of a ruleset is the one that the latest mention that touched it gave, and what was added and defined since is offered with it.
+use Rattle.std.proofs.Common.{◌≡◌, ℕ, Bool, true, false, cond, ◌&&◌, ◌==◌, List, [], ◌∷◌, ◌++◌, refl, sym, ap, ◌∙◌, subst, Option, Some, None, ◌⊎◌, inl, inr, append_assoc, fold}
+use Rattle.std.specs.Prelude.{flat_map, T}
+use Rattle.std.specs.FinMap.{find, is_sorted}
+use Rattle.std.specs.FinMap.Entries.{find-put, is_sorted-put}
+use Rattle.std.specs.Cmp.Lexicographic.{nat_list_cmp_total}
+use Rattle.std.specs.List.{last_or}
+use Rattle.std.proofs.lemmas.Bool.{eqb-true, and_parts, cond_both}
 use Rattle.std.proofs.lemmas.List.{append-nil}
 use Rattle.std.proofs.lemmas.List.Sums.{fold-append}
+use Rattle.pf_path.specs.Names.{name_order, same_name as same_table}
 use Rattle.pf_rule.specs.Rules.{PlainRule}
-use Rattle.pf_ticket.specs.declared.name.RulesetKind.{RulesetKind}
-use Rattle.pf_ticket.specs.declared.name.RulesetKind.TheVariants.{Filter}
+use Rattle.pf_table.specs.Edits.{replaced}
+use Rattle.pf_table.specs.Entries.{Row}
 use Rattle.pf_ticket.specs.declared.name.RulesetName.{RulesetName}
-use Rattle.pf_ticket.specs.declared.offered.Offered.{Offered}
-use Rattle.pf_ticket.specs.declared.offered.Offered.TheVariants.{Rules}
 use Rattle.pf_ticket.specs.declared.ticket.Ticket.{Ticket}
-use Rattle.pf_ticket.specs.Laws.{touches, AreQuiet, IsGivenLast, ValidIsGivenLast, GivenLastIsValid, rules_added, OffersTheAdded}
-use Rattle.pf_ticket.specs.Mentions.{Mention, gave, added, switched, dropped, named_in, moved, after}
-use Rattle.pf_ticket.specs.Names.{same_name, ticket, same_ticket, is_ticket}
+use Rattle.pf_ticket.specs.Laws.{touches, AreQuiet, IsGivenLast, ValidIsGivenLast, GivenLastIsValid, rules_added, OffersTheAdded, tables_defined, OffersTheDefined}
+use Rattle.pf_ticket.specs.Mentions.{Mention, gave, added, defined, switched, dropped, named_in, moved, after}
+use Rattle.pf_ticket.specs.Names.{filter_at, table_ruleset_at, same_name, ticket, same_ticket, is_ticket}
 use Rattle.pf_ticket.specs.NameLaws.{names_alike, name_is}
-use Rattle.pf_ticket.specs.Tickets.{nothing_for, rules_in, with_rule, Offer, offer, offer_at, Open, fresh, next_ticket, ticket_in, offered_in, valid_ticket, content, is_valid}
+use Rattle.pf_ticket.specs.NamedTables.{Named}
+use Rattle.pf_ticket.specs.Tickets.{Loaded, nothing, with_rule, with_table, Offer, offer, offer_at, Open, fresh, next_ticket, ticket_in, loaded_in, valid_ticket, loaded, is_valid}
 use Rattle.pf_ticket.proofs.Moves.{made_by, reads}
 
 -- two tickets that are the same are one
@@ -40,9 +44,9 @@ StoodOrGiven t ms name u = ((valid_ticket t name ≡ Some u) × AreQuiet name u 
 later : (t : Open) (m : Mention) (ms : List Mention) (name : RulesetName) (u : Ticket) → IsGivenLast (moved t m) ms name u → IsGivenLast t (m ∷ ms) name u
 later t m ms name u g = record { before = m ∷ g.before; given = g.given; behind = g.behind; all = ap (λ (xs : List Mention). m ∷ xs) g.all; same = g.same; ticket = g.ticket; quiet = g.quiet }
 
-added-stood : (t : Open) (n : RulesetName) (w u : Ticket) (o : Offered) (b : Bool) → is_valid t n w ≡ b → ticket_in (cond b (Some (offer n w o)) (offer_at t.offers n)) ≡ Some u → valid_ticket t n ≡ Some u
-added-stood t n w u o true e h = valid-is (valid_ticket t n) w e ∙ h
-added-stood t n w u o false e h = h
+loaded-stood : (t : Open) (n : RulesetName) (w u : Ticket) (l : Loaded) (b : Bool) → is_valid t n w ≡ b → ticket_in (cond b (Some (offer n w l)) (offer_at t.offers n)) ≡ Some u → valid_ticket t n ≡ Some u
+loaded-stood t n w u l true e h = valid-is (valid_ticket t n) w e ∙ h
+loaded-stood t n w u l false e h = h
 
 dropped-stood : (t : Open) (n : RulesetName) (w u : Ticket) (b : Bool) → is_valid t n w ≡ b → ticket_in (cond b None (offer_at t.offers n)) ≡ Some u → (valid_ticket t n ≡ Some u) × (same_ticket u w ≡ false)
 dropped-stood t n w u true e h = absurd (cc (h))
@@ -51,7 +55,8 @@ dropped-stood t n w u false e h = (h, ap (λ (v : Option Ticket). is_ticket v w)
 -- by the mention's own ruleset
 own-stood : (t : Open) (m : Mention) (ms : List Mention) (u : Ticket) → ticket_in (made_by t m) ≡ Some u → AreQuiet (named_in m) u ms → StoodOrGiven t (m ∷ ms) (named_in m) u
 own-stood t (gave n) ms u h quiet = inr (record { before = []; given = n; behind = ms; all = refl; same = names_alike.refl n; ticket = (let is : Some (next_ticket t) ≡ Some u = h in cc (is)); quiet = quiet })
-own-stood t (added n w r) ms u h quiet = inl (added-stood t n w u (with_rule (content t n) r) (is_valid t n w) refl h, (refl, quiet))
+own-stood t (added n w r) ms u h quiet = inl (loaded-stood t n w u (with_rule (loaded t n) r) (is_valid t n w) refl h, (refl, quiet))
+own-stood t (defined n w name xs) ms u h quiet = inl (loaded-stood t n w u (with_table (loaded t n) name (replaced xs)) (is_valid t n w) refl h, (refl, quiet))
 own-stood t (switched n) ms u h quiet = absurd (cc (h))
 own-stood t (dropped n w) ms u h quiet =
     let both : (valid_ticket t n ≡ Some u) × (same_ticket u w ≡ false) = dropped-stood t n w u (is_valid t n w) refl h in
@@ -60,6 +65,7 @@ own-stood t (dropped n w) ms u h quiet =
 untouched : (m : Mention) (q : RulesetName) (u : Ticket) → same_name (named_in m) q ≡ false → touches q u m ≡ false
 untouched (gave n) q u e = e
 untouched (added n w r) q u e = refl
+untouched (defined n w name xs) q u e = refl
 untouched (switched n) q u e = e
 untouched (dropped n w) q u e = ap (λ (b : Bool). b && same_ticket u w) e
 
@@ -82,72 +88,144 @@ valid_is_given_last epoch ms name u is = elim (stood-or-given (fresh epoch) ms n
   | inr given ↦ given
 ]
 
--- ---- what doesn't touch a ruleset leaves its ticket, and adds what it adds with it
+-- ---- what doesn't touch a ruleset leaves its ticket, and loads what it loads with it
 
--- a ruleset's offer still has this ticket, and what the mention adds besides what was offered
-abbrev Stays : Open → Mention → RulesetName → Ticket → Option Offer → Type 0
-Stays t m q u v = (ticket_in v ≡ Some u) × (rules_in (offered_in q.kind v) ≡ rules_in (content t q) ++ rules_added q u m)
+abbrev loads : RulesetName → Ticket → Loaded → Mention → Loaded
+loads q u l (gave n) = l
+loads q u l (added n w r) = cond (same_name n q && same_ticket u w) (with_rule l r) l
+loads q u l (defined n w name xs) = cond (same_name n q && same_ticket u w) (with_table l name (replaced xs)) l
+loads q u l (switched n) = l
+loads q u l (dropped n w) = l
+
+-- a ruleset's offer still has this ticket, and this was loaded with it
+abbrev Has : Ticket → Loaded → Option Offer → Type 0
+Has u l v = (ticket_in v ≡ Some u) × (loaded_in v ≡ l)
 
 -- by the mention's own ruleset
-one-rule : (n : RulesetName) (o : Offered) (r : PlainRule) (same : Bool) → same ≡ true → rules_in (with_rule o r) ≡ rules_in o ++ cond (same_name n n && same) (r ∷ []) []
-one-rule n (Rules rs) r same h = ap (λ (b : Bool). rs ++ cond b (r ∷ []) []) (sym (ap (λ (b : Bool). b && same) (names_alike.refl n) ∙ h))
-
-no-rule : (n : RulesetName) (rs : List PlainRule) (r : PlainRule) (same : Bool) → same ≡ false → rs ≡ rs ++ cond (same_name n n && same) (r ∷ []) []
-no-rule n rs r same h = sym (append-nil rs) ∙ ap (λ (b : Bool). rs ++ cond b (r ∷ []) []) (sym (ap (λ (b : Bool). b && same) (names_alike.refl n) ∙ h))
-
-added-stays : (t : Open) (n : RulesetName) (w u : Ticket) (r : PlainRule) (b : Bool) → is_valid t n w ≡ b → valid_ticket t n ≡ Some u → Stays t (added n w r) n u (cond b (Some (offer n w (with_rule (content t n) r))) (offer_at t.offers n))
-added-stays t n w u r true e h =
+own-load : (t : Open) (n : RulesetName) (w u : Ticket) (l : Loaded) (b : Bool) → is_valid t n w ≡ b → valid_ticket t n ≡ Some u → Has u (cond (same_name n n && same_ticket u w) l (loaded t n)) (cond b (Some (offer n w l)) (offer_at t.offers n))
+own-load t n w u l true e h =
     let same : same_ticket u w ≡ true = ap (λ (v : Option Ticket). is_ticket v w) (sym h) ∙ e in
-    (ap Some (sym (ticket_is u w same)), one-rule n (content t n) r (same_ticket u w) same)
-added-stays t n w u r false e h = (h, no-rule n (rules_in (content t n)) r (same_ticket u w) (ap (λ (v : Option Ticket). is_ticket v w) (sym h) ∙ e))
+    (ap Some (sym (ticket_is u w same)), sym (ap (λ (b : Bool). cond (b && same_ticket u w) l (loaded t n)) (names_alike.refl n) ∙ ap (λ (b : Bool). cond b l (loaded t n)) same))
+own-load t n w u l false e h =
+    let same : same_ticket u w ≡ false = ap (λ (v : Option Ticket). is_ticket v w) (sym h) ∙ e in
+    (h, sym (ap (λ (b : Bool). cond (b && same_ticket u w) l (loaded t n)) (names_alike.refl n) ∙ ap (λ (b : Bool). cond b l (loaded t n)) same))
 
-own-stays : (t : Open) (m : Mention) (u : Ticket) → valid_ticket t (named_in m) ≡ Some u → touches (named_in m) u m ≡ false → Stays t m (named_in m) u (made_by t m)
+own-stays : (t : Open) (m : Mention) (u : Ticket) → valid_ticket t (named_in m) ≡ Some u → touches (named_in m) u m ≡ false → Has u (loads (named_in m) u (loaded t (named_in m)) m) (made_by t m)
 own-stays t (gave n) u h quiet = never n quiet
-own-stays t (added n w r) u h quiet = added-stays t n w u r (is_valid t n w) refl h
+own-stays t (added n w r) u h quiet = own-load t n w u (with_rule (loaded t n) r) (is_valid t n w) refl h
+own-stays t (defined n w name xs) u h quiet = own-load t n w u (with_table (loaded t n) name (replaced xs)) (is_valid t n w) refl h
 own-stays t (switched n) u h quiet = never n quiet
 own-stays t (dropped n w) u h quiet =
     let other : same_ticket u w ≡ false = ap (λ (b : Bool). b && same_ticket u w) (sym (names_alike.refl n)) ∙ quiet in
     let kept : is_valid t n w ≡ false = ap (λ (v : Option Ticket). is_ticket v w) h ∙ other in
-    subst (λ (b : Bool). Stays t (dropped n w) n u (cond b None (offer_at t.offers n))) (sym kept) (h, sym (append-nil (rules_in (content t n))))
+    subst (λ (b : Bool). Has u (loaded t n) (cond b None (offer_at t.offers n))) (sym kept) (h, refl)
 
-none-added : (m : Mention) (q : RulesetName) (u : Ticket) → same_name (named_in m) q ≡ false → rules_added q u m ≡ []
-none-added (gave n) q u e = refl
-none-added (added n w r) q u e = ap (λ (b : Bool). cond (b && same_ticket u w) (r ∷ []) []) e
-none-added (switched n) q u e = refl
-none-added (dropped n w) q u e = refl
+none-loaded : (m : Mention) (q : RulesetName) (u : Ticket) (l : Loaded) → same_name (named_in m) q ≡ false → loads q u l m ≡ l
+none-loaded (gave n) q u l e = refl
+none-loaded (added n w r) q u l e = ap (λ (b : Bool). cond (b && same_ticket u w) (with_rule l r) l) e
+none-loaded (defined n w name xs) q u l e = ap (λ (b : Bool). cond (b && same_ticket u w) (with_table l name (replaced xs)) l) e
+none-loaded (switched n) q u l e = refl
+none-loaded (dropped n w) q u l e = refl
 
-stays-by : (t : Open) (m : Mention) (q : RulesetName) (u : Ticket) (b : Bool) → same_name (named_in m) q ≡ b → valid_ticket t q ≡ Some u → touches q u m ≡ false → Stays t m q u (cond b (made_by t m) (offer_at t.offers q))
+stays-by : (t : Open) (m : Mention) (q : RulesetName) (u : Ticket) (b : Bool) → same_name (named_in m) q ≡ b → valid_ticket t q ≡ Some u → touches q u m ≡ false → Has u (loads q u (loaded t q) m) (cond b (made_by t m) (offer_at t.offers q))
 stays-by t m q u true e h quiet =
     let is : named_in m ≡ q = name_is (named_in m) q e in
-    subst (λ (p : RulesetName). Stays t m p u (made_by t m)) is (own-stays t m u (ap (λ (p : RulesetName). valid_ticket t p) is ∙ h) (ap (λ (p : RulesetName). touches p u m) is ∙ quiet))
-stays-by t m q u false e h quiet = (h, sym (append-nil (rules_in (content t q))) ∙ ap (λ (rs : List PlainRule). rules_in (content t q) ++ rs) (sym (none-added m q u e)))
+    subst (λ (p : RulesetName). Has u (loads p u (loaded t p) m) (made_by t m)) is (own-stays t m u (ap (λ (p : RulesetName). valid_ticket t p) is ∙ h) (ap (λ (p : RulesetName). touches p u m) is ∙ quiet))
+stays-by t m q u false e h quiet = (h, sym (none-loaded m q u (loaded t q) e))
 
-quiet-on : (t : Open) (ms : List Mention) (q : RulesetName) (u : Ticket) → valid_ticket t q ≡ Some u → AreQuiet q u ms → (valid_ticket (after t ms) q ≡ Some u) × (rules_in (content (after t ms) q) ≡ rules_in (content t q) ++ flat_map (rules_added q u) ms)
-quiet-on t [] q u h quiet = (h, sym (append-nil (rules_in (content t q))))
+quiet-on : (t : Open) (ms : List Mention) (q : RulesetName) (u : Ticket) → valid_ticket t q ≡ Some u → AreQuiet q u ms → Has u (fold (loads q u) (loaded t q) ms) (offer_at (after t ms).offers q)
+quiet-on t [] q u h quiet = (h, refl)
 quiet-on t (m ∷ ms) q u h quiet =
-    let one : Stays t m q u (offer_at (moved t m).offers q) = subst (λ (v : Option Offer). Stays t m q u v) (sym (reads t m q)) (stays-by t m q u (same_name (named_in m) q) refl h quiet.0) in
-    let rest : (valid_ticket (after (moved t m) ms) q ≡ Some u) × (rules_in (content (after (moved t m) ms) q) ≡ rules_in (content (moved t m) q) ++ flat_map (rules_added q u) ms) = quiet-on (moved t m) ms q u one.0 quiet.1 in
-    (rest.0, rest.1 ∙ ap (λ (rs : List PlainRule). rs ++ flat_map (rules_added q u) ms) one.1 ∙ append_assoc (rules_in (content t q)) (rules_added q u m) (flat_map (rules_added q u) ms))
-
-nothing-in : (k : RulesetKind) → rules_in (nothing_for k) ≡ []
-nothing-in Filter = refl
+    let one : Has u (loads q u (loaded t q) m) (offer_at (moved t m).offers q) = subst (λ (v : Option Offer). Has u (loads q u (loaded t q) m) v) (sym (reads t m q)) (stays-by t m q u (same_name (named_in m) q) refl h quiet.0) in
+    let rest : Has u (fold (loads q u) (loaded (moved t m) q) ms) (offer_at (after (moved t m) ms).offers q) = quiet-on (moved t m) ms q u one.0 quiet.1 in
+    (rest.0, rest.1 ∙ ap (λ (l : Loaded). fold (loads q u) l ms) one.1)
 
 -- since it was given
-given-since : (t : Open) (ms : List Mention) (q : RulesetName) (u : Ticket) → (g : IsGivenLast t ms q u) → (valid_ticket (after t ms) q ≡ Some u) × (rules_in (content (after t ms) q) ≡ flat_map (rules_added q u) g.behind)
+given-since : (t : Open) (ms : List Mention) (q : RulesetName) (u : Ticket) → (g : IsGivenLast t ms q u) → Has u (fold (loads q u) nothing g.behind) (offer_at (after t ms).offers q)
 given-since t ms q u g =
     let s : Open = after t g.before in
     let now : offer_at (moved s (gave g.given)).offers q ≡ made_by s (gave g.given) =
     reads s (gave g.given) q ∙ ap (λ (b : Bool). cond b (made_by s (gave g.given)) (offer_at s.offers q)) g.same in
     let all : after (moved s (gave g.given)) g.behind ≡ after t ms = sym (ap (after t) g.all ∙ fold-append moved t g.before (gave g.given ∷ g.behind)) in
-    let since : (valid_ticket (after (moved s (gave g.given)) g.behind) q ≡ Some u) × (rules_in (content (after (moved s (gave g.given)) g.behind) q) ≡ rules_in (content (moved s (gave g.given)) q) ++ flat_map (rules_added q u) g.behind) =
-    quiet-on (moved s (gave g.given)) g.behind q u (ap ticket_in now ∙ ap Some (sym g.ticket)) g.quiet in (
-      ap (λ (o : Open). valid_ticket o q) (sym all) ∙ since.0,
-      ap (λ (o : Open). rules_in (content o q)) (sym all) ∙ since.1
-          ∙ ap (λ (rs : List PlainRule). rs ++ flat_map (rules_added q u) g.behind) (ap (λ (v : Option Offer). rules_in (offered_in q.kind v)) now ∙ nothing-in g.given.kind),
-    )
+    let since : Has u (fold (loads q u) (loaded (moved s (gave g.given)) q) g.behind) (offer_at (after (moved s (gave g.given)) g.behind).offers q) =
+    quiet-on (moved s (gave g.given)) g.behind q u (ap ticket_in now ∙ ap Some (sym g.ticket)) g.quiet in
+    subst (λ (o : Open). Has u (fold (loads q u) nothing g.behind) (offer_at o.offers q)) all (since.0, since.1 ∙ ap (λ (v : Option Offer). fold (loads q u) (loaded_in v) g.behind) now)
 
 pub given_last_is_valid : GivenLastIsValid
 given_last_is_valid epoch ms name u g = (given-since (fresh epoch) ms name u g).0
 
+-- ---- the rules that are loaded
+
+one-rule : (l : Loaded) (r : PlainRule) (b : Bool) → (cond b (with_rule l r) l).rules ≡ l.rules ++ cond b (r ∷ []) []
+one-rule l r true = refl
+one-rule l r false = sym (append-nil l.rules)
+
+no-rule : (l : Loaded) (name : List ℕ) (rows : List Row) (b : Bool) → (cond b (with_table l name rows) l).rules ≡ l.rules ++ []
+no-rule l name rows true = sym (append-nil l.rules)
+no-rule l name rows false = sym (append-nil l.rules)
+
+loads-rules : (q : RulesetName) (u : Ticket) (l : Loaded) (m : Mention) → (loads q u l m).rules ≡ l.rules ++ rules_added q u m
+loads-rules q u l (gave n) = sym (append-nil l.rules)
+loads-rules q u l (added n w r) = one-rule l r (same_name n q && same_ticket u w)
+loads-rules q u l (defined n w name xs) = no-rule l name (replaced xs) (same_name n q && same_ticket u w)
+loads-rules q u l (switched n) = sym (append-nil l.rules)
+loads-rules q u l (dropped n w) = sym (append-nil l.rules)
+
+rules-loaded : (q : RulesetName) (u : Ticket) (l : Loaded) (ms : List Mention) → (fold (loads q u) l ms).rules ≡ l.rules ++ flat_map (rules_added q u) ms
+rules-loaded q u l [] = sym (append-nil l.rules)
+rules-loaded q u l (m ∷ ms) =
+    rules-loaded q u (loads q u l m) ms ∙ ap (λ (rs : List PlainRule). rs ++ flat_map (rules_added q u) ms) (loads-rules q u l m) ∙ append_assoc l.rules (rules_added q u m) (flat_map (rules_added q u) ms)
+
 pub offers_the_added : OffersTheAdded
-offers_the_added epoch ms name u g = (given-since (fresh epoch) ms name u g).1
+offers_the_added epoch ms path u g =
+    let q : RulesetName = filter_at path in
+    ap (λ (l : Loaded). l.rules) (given-since (fresh epoch) ms q u g).1 ∙ rules-loaded q u nothing g.behind
+
+-- ---- the tables that are loaded
+
+chosen : (b : Bool) (o : Option (List Row)) (rows : List Row) → cond b (Some rows) o ≡ last_or o (cond b (rows ∷ []) [])
+chosen true o rows = refl
+chosen false o rows = refl
+
+one-table : (l : Loaded) (k name : List ℕ) (rows : List Row) (b same : Bool) → same_table k name ≡ same → find name_order k (cond b (with_table l name rows) l).tables ≡ last_or (find name_order k l.tables) (cond (b && same) (rows ∷ []) [])
+one-table l k name rows true same h = find-put name_order nat_list_cmp_total k name rows l.tables ∙ ap (λ (c : Bool). cond c (Some rows) (find name_order k l.tables)) h ∙ chosen same (find name_order k l.tables) rows
+one-table l k name rows false same h = refl
+
+loads-table : (q : RulesetName) (u : Ticket) (l : Loaded) (k : List ℕ) (m : Mention) → find name_order k (loads q u l m).tables ≡ last_or (find name_order k l.tables) (tables_defined q u k m)
+loads-table q u l k (gave n) = refl
+loads-table q u l k (added n w r) = cond_both (same_name n q && same_ticket u w) (with_rule l r) l (λ (new : Loaded). find name_order k new.tables ≡ find name_order k l.tables) (λ e. refl) (λ e. refl)
+loads-table q u l k (defined n w name xs) =
+    one-table l k name (replaced xs) (same_name n q && same_ticket u w) (same_table k name) refl
+loads-table q u l k (switched n) = refl
+loads-table q u l k (dropped n w) = refl
+
+last-append : (o : Option (List Row)) (xs ys : List (List Row)) → last_or o (xs ++ ys) ≡ last_or (last_or o xs) ys
+last-append o [] ys = refl
+last-append o (x ∷ xs) ys = last-append (Some x) xs ys
+
+table-loaded : (q : RulesetName) (u : Ticket) (l : Loaded) (k : List ℕ) (ms : List Mention) → find name_order k (fold (loads q u) l ms).tables ≡ last_or (find name_order k l.tables) (flat_map (tables_defined q u k) ms)
+table-loaded q u l k [] = refl
+table-loaded q u l k (m ∷ ms) =
+    table-loaded q u (loads q u l m) k ms ∙ ap (λ (o : Option (List Row)). last_or o (flat_map (tables_defined q u k) ms)) (loads-table q u l k m)
+    ∙ sym (last-append (find name_order k l.tables) (tables_defined q u k m) (flat_map (tables_defined q u k) ms))
+
+sorted-on : (q : RulesetName) (u : Ticket) (l : Loaded) (m : Mention) → T (is_sorted name_order l.tables) → T (is_sorted name_order (loads q u l m).tables)
+sorted-on q u l (gave n) s = s
+sorted-on q u l (added n w r) s = cond_both (same_name n q && same_ticket u w) (with_rule l r) l (λ (new : Loaded). T (is_sorted name_order new.tables)) (λ e. s) (λ e. s)
+sorted-on q u l (defined n w name xs) s =
+    cond_both (same_name n q && same_ticket u w) (with_table l name (replaced xs)) l (λ (new : Loaded). T (is_sorted name_order new.tables)) (λ e. is_sorted-put name_order nat_list_cmp_total name (replaced xs) l.tables s) (λ e. s)
+sorted-on q u l (switched n) s = s
+sorted-on q u l (dropped n w) s = s
+
+tables-sorted : (q : RulesetName) (u : Ticket) (l : Loaded) (ms : List Mention) → T (is_sorted name_order l.tables) → T (is_sorted name_order (fold (loads q u) l ms).tables)
+tables-sorted q u l [] s = s
+tables-sorted q u l (m ∷ ms) s = tables-sorted q u (loads q u l m) ms (sorted-on q u l m s)
+
+pub offers_the_defined : OffersTheDefined
+offers_the_defined epoch ms path u g =
+    let q : RulesetName = table_ruleset_at path in
+    let is : (loaded (after (fresh epoch) ms) q).tables ≡ (fold (loads q u) nothing g.behind).tables = ap (λ (l : Loaded). l.tables) (given-since (fresh epoch) ms q u g).1 in
+    record {
+      last = λ k. ap (find name_order k) is ∙ table-loaded q u nothing k g.behind;
+      order = subst (λ (ts : List Named). T (is_sorted name_order ts)) (sym is) (tables-sorted q u nothing g.behind tt);
+    }

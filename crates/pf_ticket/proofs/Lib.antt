@@ -1,4 +1,5 @@
 pub mod Offers
+pub mod NamedTables
 pub mod Moves
 pub mod Latest
 pub mod Keeping

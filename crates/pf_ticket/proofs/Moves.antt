@@ -10,17 +10,22 @@ use Rattle.pf_ticket.specs.declared.entry.Entry.{Entry}
 use Rattle.pf_ticket.specs.declared.name.RulesetName.{RulesetName}
 use Rattle.pf_ticket.specs.declared.ticket.Ticket.{Ticket}
 use Rattle.pf_ticket.specs.Laws.{StartsWithNothing, LeavesTheOthers, CommitTakesOut, RollbackDropsExactly, GoesOnAgreeing, CountsTheOpen}
-use Rattle.pf_ticket.specs.Mentions.{Mention, gave, added, switched, dropped, named_in, with_offers, take_out, moved, after, opened, gives}
+use Rattle.pf_ticket.specs.Mentions.{Mention, gave, added, defined, switched, dropped, named_in, load, with_offers, take_out, moved, after, opened, gives}
 use Rattle.pf_ticket.specs.Names.{same_name, is_named, is_ticket, IsDistinct}
 use Rattle.pf_ticket.specs.NameLaws.{name_is}
-use Rattle.pf_ticket.specs.Tickets.{nothing_for, with_rule, Offer, offer, offer_at, put, without, Open, fresh, next_ticket, open_rulesets, ticket_in, offered_in, content, is_valid}
+use Rattle.pf_ticket.specs.Tickets.{Loaded, nothing, with_rule, with_table, offered_as, Offer, offer, offer_at, put, without, Open, fresh, next_ticket, open_rulesets, ticket_in, loaded_in, loaded, is_valid}
+use Rattle.pf_table.specs.Edits.{replaced}
 use Rattle.pf_ticket.proofs.Offers.{or-false, any-of, read-put, read-without, named-under, length-put, distinct-put, distinct-without}
 
 -- ---- one law for all mentions
 
+abbrev pub loaded_by : Open → RulesetName → Ticket → Loaded → Option Offer
+loaded_by t n u l = cond (is_valid t n u) (Some (offer n u l)) (offer_at t.offers n)
+
 abbrev pub made_by : Open → Mention → Option Offer
-made_by t (gave n) = Some (offer n (next_ticket t) (nothing_for n.kind))
-made_by t (added n u r) = cond (is_valid t n u) (Some (offer n u (with_rule (content t n) r))) (offer_at t.offers n)
+made_by t (gave n) = Some (offer n (next_ticket t) nothing)
+made_by t (added n u r) = loaded_by t n u (with_rule (loaded t n) r)
+made_by t (defined n u name xs) = loaded_by t n u (with_table (loaded t n) name (replaced xs))
 made_by t (switched n) = None
 made_by t (dropped n u) = cond (is_valid t n u) None (offer_at t.offers n)
 
@@ -29,9 +34,13 @@ where-valid : (t : Open) (n q : RulesetName) (b : Bool) (os : List Offer) (v : O
 where-valid t n q true os v h = h
 where-valid t n q false os v h = cond_both (same_name n q) (offer_at t.offers n) (offer_at t.offers q) (λ (w : Option Offer). offer_at t.offers q ≡ w) (λ e. ap (offer_at t.offers) (sym (name_is n q e))) (λ e. refl)
 
+reads-load : (t : Open) (n : RulesetName) (u : Ticket) (l : Loaded) (q : RulesetName) → offer_at (load t n u l).offers q ≡ cond (same_name n q) (loaded_by t n u l) (offer_at t.offers q)
+reads-load t n u l q = let new : Offer = offer n u l in where-valid t n q (is_valid t n u) (put new t.offers) (Some new) (read-put new t.offers q)
+
 pub reads : (t : Open) (m : Mention) (q : RulesetName) → offer_at (moved t m).offers q ≡ cond (same_name (named_in m) q) (made_by t m) (offer_at t.offers q)
-reads t (gave n) q = read-put (offer n (next_ticket t) (nothing_for n.kind)) t.offers q
-reads t (added n u r) q = let new : Offer = offer n u (with_rule (content t n) r) in where-valid t n q (is_valid t n u) (put new t.offers) (Some new) (read-put new t.offers q)
+reads t (gave n) q = read-put (offer n (next_ticket t) nothing) t.offers q
+reads t (added n u r) q = reads-load t n u (with_rule (loaded t n) r) q
+reads t (defined n u name xs) q = reads-load t n u (with_table (loaded t n) name (replaced xs)) q
 reads t (switched n) q = read-without n t.offers q
 reads t (dropped n u) q = where-valid t n q (is_valid t n u) (without n t.offers) None (read-without n t.offers q)
 
@@ -76,9 +85,14 @@ rollback_drops_exactly t (e ∷ es) name =
 
 -- ---- what the mentions since an opening leave
 
+-- what a load keeps
+pub load-keeps : (t : Open) (n : RulesetName) (u : Ticket) (l : Loaded) (P : Open → Type 0) → ((new : Offer) → P (with_offers t (put new t.offers))) → P t → P (load t n u l)
+load-keeps t n u l P put_in out = cond_both (is_valid t n u) (with_offers t (put (offer n u l) t.offers)) t P (λ e. put_in (offer n u l)) (λ e. out)
+
 epoch-on : (t : Open) (m : Mention) → (moved t m).epoch ≡ t.epoch
 epoch-on t (gave n) = refl
-epoch-on t (added n u r) = let os : List Offer = put (offer n u (with_rule (content t n) r)) t.offers in cond_both (is_valid t n u) (with_offers t os) t (λ (s : Open). s.epoch ≡ t.epoch) (λ e. refl) (λ e. refl)
+epoch-on t (added n u r) = load-keeps t n u (with_rule (loaded t n) r) (λ (s : Open). s.epoch ≡ t.epoch) (λ os. refl) refl
+epoch-on t (defined n u name xs) = load-keeps t n u (with_table (loaded t n) name (replaced xs)) (λ (s : Open). s.epoch ≡ t.epoch) (λ os. refl) refl
 epoch-on t (switched n) = refl
 epoch-on t (dropped n u) = cond_both (is_valid t n u) (take_out t n) t (λ (s : Open). s.epoch ≡ t.epoch) (λ e. refl) (λ e. refl)
 
@@ -95,10 +109,9 @@ goes_on_agreeing = record {
 -- ---- how many rulesets are open
 
 distinct-on : (t : Open) (m : Mention) → IsDistinct (open_rulesets t) → IsDistinct (open_rulesets (moved t m))
-distinct-on t (gave n) d = distinct-put (offer n (next_ticket t) (nothing_for n.kind)) t.offers d
-distinct-on t (added n u r) d =
-    let new : Offer = offer n u (with_rule (content t n) r) in
-    cond_both (is_valid t n u) (with_offers t (put new t.offers)) t (λ (s : Open). IsDistinct (open_rulesets s)) (λ e. distinct-put new t.offers d) (λ e. d)
+distinct-on t (gave n) d = distinct-put (offer n (next_ticket t) nothing) t.offers d
+distinct-on t (added n u r) d = load-keeps t n u (with_rule (loaded t n) r) (λ (s : Open). IsDistinct (open_rulesets s)) (λ new. distinct-put new t.offers d) d
+distinct-on t (defined n u name xs) d = load-keeps t n u (with_table (loaded t n) name (replaced xs)) (λ (s : Open). IsDistinct (open_rulesets s)) (λ new. distinct-put new t.offers d) d
 distinct-on t (switched n) d = distinct-without n t.offers d
 distinct-on t (dropped n u) d = cond_both (is_valid t n u) (take_out t n) t (λ (s : Open). IsDistinct (open_rulesets s)) (λ e. distinct-without n t.offers d) (λ e. d)
 
@@ -121,15 +134,15 @@ counts_the_open epoch ms =
 pub gives-named : (names : List RulesetName) → map named_in (gives names) ≡ names
 gives-named names = map-map named_in (λ (n : RulesetName). gave n) names ∙ map-id names
 
-starts-from : (t : Open) (names : List RulesetName) (q : RulesetName) → (is_named names q ≡ false → content t q ≡ nothing_for q.kind) → content (after t (gives names)) q ≡ nothing_for q.kind
+starts-from : (t : Open) (names : List RulesetName) (q : RulesetName) → (is_named names q ≡ false → loaded t q ≡ nothing) → loaded (after t (gives names)) q ≡ nothing
 starts-from t [] q h = h refl
 starts-from t (n ∷ ns) q h =
-    starts-from (moved t (gave n)) ns q (λ none. ap (offered_in q.kind) (reads t (gave n) q) ∙
-    cond_both (same_name n q) (made_by t (gave n)) (offer_at t.offers q) (λ (v : Option Offer). offered_in q.kind v ≡ nothing_for q.kind)
-    (λ e. ap (λ (m : RulesetName). nothing_for m.kind) (name_is n q e)) (λ e. h (ap (λ (b : Bool). b || is_named ns q) e ∙ none)))
+    starts-from (moved t (gave n)) ns q (λ none. ap loaded_in (reads t (gave n) q) ∙
+    cond_both (same_name n q) (made_by t (gave n)) (offer_at t.offers q) (λ (v : Option Offer). loaded_in v ≡ nothing)
+    (λ e. refl) (λ e. h (ap (λ (b : Bool). b || is_named ns q) e ∙ none)))
 
 pub starts_with_nothing : StartsWithNothing
-starts_with_nothing t names name named = starts-from t names name (λ none. let k : true ≡ false = sym named ∙ none in absurd (cc (k)))
+starts_with_nothing t names name named = ap (offered_as name.kind) (starts-from t names name (λ none. let k : true ≡ false = sym named ∙ none in absurd (cc (k))))
 
 -- ---- what the code counts
 
@@ -141,7 +154,7 @@ all-given : (t : Open) (names : List RulesetName) (q : RulesetName) → is_some 
 all-given t [] q = sym (or-false (is_some (offer_at t.offers q)))
 all-given t (n ∷ ns) q =
     all-given (moved t (gave n)) ns q ∙ ap (λ (v : Option Offer). is_some v || is_named ns q) (reads t (gave n) q)
-    ∙ one-more (same_name n q) (is_named ns q) (offer n (next_ticket t) (nothing_for n.kind)) (offer_at t.offers q)
+    ∙ one-more (same_name n q) (is_named ns q) (offer n (next_ticket t) nothing) (offer_at t.offers q)
 
 count-new : (k : ℕ) (b new : Bool) → new ≡ not b → k + cond b 0 1 ≡ k + cond new 1 0
 count-new k true new h = ap (λ (c : Bool). k + cond c 1 0) (sym h)
@@ -157,5 +170,5 @@ opened_more t names i name new l e is =
     all-given t (take i names) name ∙ ap (λ (b : Bool). b || is_named (take i names) name) (sym (named-under t.offers name) ∙ any-of (λ (o : Offer). o.name) t.offers name) in
     ap (λ (s : Open). length s.offers) (fold-map moved give t (take (i + 1) names) ∙ fold_more (λ (s : Open) (n : RulesetName). moved s (gave n)) t names i name l ∙ ap (λ (s : Open). moved s (gave (get_or names i name))) (sym (fold-map moved give t (take i names))))
     ∙ ap (λ (n : RulesetName). length (moved before (gave n)).offers) (sym e)
-    ∙ length-put (offer name (next_ticket before) (nothing_for name.kind)) before.offers
+    ∙ length-put (offer name (next_ticket before) nothing) before.offers
     ∙ count-new (length before.offers) (is_some (offer_at before.offers name)) new (is ∙ ap not (sym had))

@@ -1,17 +1,24 @@
 -- What follows from the definitions, as law functions promise it.
-use Rattle.std.specs.Prelude.{◌≡◌, ℕ, ◌+◌, ◌≤◌, ◌&&◌, Bool, true, false, cond, List, [], ◌∷◌, ◌++◌, length, map, flat_map, is_some, Some, None, Ok}
-use Rattle.std.specs.List.{list_any, slice_get}
+use Rattle.std.specs.Prelude.{◌≡◌, T, ℕ, ◌+◌, ◌≤◌, ◌&&◌, Bool, true, false, cond, List, [], ◌∷◌, ◌++◌, length, map, flat_map, is_some, Some, None, Ok}
+use Rattle.std.specs.FinMap.{find, is_sorted}
+use Rattle.std.specs.List.{AllByRecursion, list_any, slice_get, last_or}
+use Rattle.pf_path.specs.Names.{name_order, same_name as same_table}
+use Rattle.pf_table.specs.declared.limits.TheConstants.{TABLE_LIMIT}
+use Rattle.pf_table.specs.Edits.{replaced}
+use Rattle.pf_table.specs.Entries.{Row}
 use Rattle.pf_rule.specs.Rules.{PlainRule}
 use Rattle.pf_anchor.specs.declared.limits.TheConstants.{RULE_LIMIT, RULESET_LIMIT}
 use Rattle.pf_ticket.specs.declared.entry.Entry.{Entry}
-use Rattle.pf_ticket.specs.declared.limits.TheConstants.{LAST_COUNT}
+use Rattle.pf_ticket.specs.declared.limits.TheConstants.{LAST_COUNT, OFFERED_TABLE_LIMIT}
+use Rattle.pf_ticket.specs.declared.offered.Offered.{Offered}
 use Rattle.pf_ticket.specs.declared.name.RulesetName.{RulesetName}
 use Rattle.pf_ticket.specs.declared.ticket.Ticket.{Ticket}
 use Rattle.pf_ticket.specs.declared.ticket.TicketRange.{TicketRange}
-use Rattle.pf_ticket.specs.Names.{filter_at, same_name, same_ticket, is_named, names_of, tickets_from, tickets_of, IsDistinct}
-use Rattle.pf_ticket.specs.Tickets.{nothing_for, rules_in, offer_at, Open, fresh, next_ticket, open_rulesets, valid_ticket, content, is_valid}
-use Rattle.pf_ticket.specs.Mentions.{Mention, gave, added, switched, dropped, named_in, moved, after, opened, gives, switches, drops}
-use Rattle.pf_ticket.specs.Replies.{twice_in, begin_reply, add_reply}
+use Rattle.pf_ticket.specs.Names.{filter_at, table_ruleset_at, same_name, same_ticket, is_named, names_of, tickets_from, tickets_of, IsDistinct}
+use Rattle.pf_ticket.specs.NamedTables.{Named}
+use Rattle.pf_ticket.specs.Tickets.{nothing_for, rules_in, tables_in, offer_at, Open, fresh, next_ticket, open_rulesets, valid_ticket, content, is_valid}
+use Rattle.pf_ticket.specs.Mentions.{Mention, gave, added, defined, switched, dropped, named_in, moved, after, opened, gives, switches, drops}
+use Rattle.pf_ticket.specs.Replies.{twice_in, begin_reply, add_reply, define_reply}
 
 -- ---- which ticket is valid, and what is offered with it
 
@@ -19,6 +26,7 @@ use Rattle.pf_ticket.specs.Replies.{twice_in, begin_reply, add_reply}
 abbrev pub touches : RulesetName → Ticket → Mention → Bool
 touches name t (gave n) = same_name n name
 touches name t (added n u r) = false
+touches name t (defined n u table xs) = false
 touches name t (switched n) = same_name n name
 touches name t (dropped n u) = same_name n name && same_ticket t u
 
@@ -54,7 +62,22 @@ rules_added name t m = []
 
 -- the rules of the accepted adds with the valid ticket are offered, in order
 abbrev pub OffersTheAdded : Type 0
-OffersTheAdded = (epoch : ℕ) (ms : List Mention) (name : RulesetName) (t : Ticket) → (given : IsGivenLast (fresh epoch) ms name t) → rules_in (content (opened epoch ms) name) ≡ flat_map (rules_added name t) given.behind
+OffersTheAdded = (epoch : ℕ) (ms : List Mention) (path : List ℕ) (t : Ticket) → (given : IsGivenLast (fresh epoch) ms (filter_at path) t) → rules_in (content (opened epoch ms) (filter_at path)) ≡ flat_map (rules_added (filter_at path) t) given.behind
+
+-- the table that a mention defines under a name, for a ruleset with a ticket
+abbrev pub tables_defined : RulesetName → Ticket → List ℕ → Mention → List (List Row)
+tables_defined name t table (defined n u other xs) = cond (same_name n name && same_ticket t u && same_table table other) (replaced xs ∷ []) []
+tables_defined name t table m = []
+
+-- under each name there is the table of the last of these mentions that defines one, and none where none does; and the tables stand
+-- in the order of their names, each name once
+pub record AreDefined (name : RulesetName) (t : Ticket) (ms : List Mention) (tables : List Named) : Type 0 where
+  pub last : (table : List ℕ) → find name_order table tables ≡ last_or None (flat_map (tables_defined name t table) ms)
+  pub order : T (is_sorted name_order tables)
+
+-- under each name what the last accepted define with the valid ticket handed in is offered, and no other table is
+abbrev pub OffersTheDefined : Type 0
+OffersTheDefined = (epoch : ℕ) (ms : List Mention) (path : List ℕ) (t : Ticket) → (given : IsGivenLast (fresh epoch) ms (table_ruleset_at path) t) → AreDefined (table_ruleset_at path) t given.behind (tables_in (content (opened epoch ms) (table_ruleset_at path)))
 
 -- a mention leaves the offers of the rulesets that it doesn't name
 abbrev pub LeavesTheOthers : Type 0
@@ -117,25 +140,38 @@ pub record BeginsGive : Type 0 where
   pub told : (t : Open) (names : List RulesetName) (range : TicketRange) → begin_reply t names ≡ Ok range → tickets_of range ≡ tickets_from t.epoch t.next (length names)
   pub begin : (t : Open) (names : List RulesetName) → AreGiven (length names) t (after t (gives names))
   pub add : (t : Open) (n : RulesetName) (u : Ticket) (r : PlainRule) → AreGiven 0 t (moved t (added n u r))
+  pub define : (t : Open) (n : RulesetName) (u : Ticket) (name : List ℕ) (xs : List Row) → AreGiven 0 t (moved t (defined n u name xs))
   pub commit : (t : Open) (names : List RulesetName) → AreGiven 0 t (after t (switches names))
   pub rollback : (t : Open) (entries : List Entry) → AreGiven 0 t (after t (drops entries))
 
 -- ---- the limits
 
+-- so many rules, tables, and entries of each table at most
+pub record IsFew (o : Offered) : Type 0 where
+  pub rules : length (rules_in o) ≤ RULE_LIMIT
+  pub tables : length (tables_in o) ≤ OFFERED_TABLE_LIMIT
+  pub entries : AllByRecursion (λ n. length n.1 ≤ TABLE_LIMIT) (tables_in o)
+
+-- as many rulesets of both kinds at most as there may be, and as much offered for each
 pub record IsWithin (t : Open) : Type 0 where
   pub given : t.next ≤ LAST_COUNT + 1
   pub opened : length t.offers ≤ RULESET_LIMIT
-  pub offered : (name : RulesetName) → length (rules_in (content t name)) ≤ RULE_LIMIT
+  pub offered : (name : RulesetName) → IsFew (content t name)
 
 -- they hold at first, and after each step that isn't refused
 pub record KeepsTheLimits : Type 0 where
   pub first : (epoch : ℕ) → IsWithin (fresh epoch)
   pub begin : (t : Open) (names : List RulesetName) (range : TicketRange) → begin_reply t names ≡ Ok range → IsWithin t → IsWithin (after t (gives names))
   pub add : (t : Open) (p : List ℕ) (u : Ticket) (r : PlainRule) → add_reply t (filter_at p) u ≡ Ok tt → IsWithin t → IsWithin (moved t (added (filter_at p) u r))
+  pub define : (t : Open) (p : List ℕ) (u : Ticket) (name : List ℕ) (xs : List Row) → define_reply t (table_ruleset_at p) u name xs ≡ Ok tt → IsWithin t → IsWithin (moved t (defined (table_ruleset_at p) u name xs))
   pub commit : (t : Open) (names : List RulesetName) → IsWithin t → IsWithin (after t (switches names))
   pub rollback : (t : Open) (entries : List Entry) → IsWithin t → IsWithin (after t (drops entries))
 
--- ---- entries
+-- ---- names
+
+-- the rules and the tables at one path are two rulesets
+abbrev pub AreApart : Type 0
+AreApart = (p q : List ℕ) → same_name (filter_at p) (table_ruleset_at q) ≡ false
 
 -- the ruleset at this place is named before it, and those before it are named once each
 pub record IsFirstAgain (names : List RulesetName) (place : ℕ) : Type 0 where

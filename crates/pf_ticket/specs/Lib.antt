@@ -1,5 +1,6 @@
 pub mod Names
 pub mod NameLaws
+pub mod NamedTables
 pub mod Tickets
 pub mod Mentions
 pub mod Replies

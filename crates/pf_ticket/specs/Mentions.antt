@@ -1,20 +1,26 @@
--- What the steps of transactions that were accepted do to the rulesets that they name (pf(4), DIOCXBEGIN to DIOCXROLLBACK).
+-- What the steps of transactions that were accepted do to the rulesets that they name (pf(4), DIOCXBEGIN to DIOCXROLLBACK, and
+-- DIOCRINADEFINE; that a later define of a table takes the place of the earlier is own).
 use Rattle.std.specs.Prelude.{ℕ, ◌+◌, cond, List, map, fold}
 use Rattle.pf_rule.specs.Rules.{PlainRule}
+use Rattle.pf_table.specs.Entries.{Row}
+use Rattle.pf_table.specs.Edits.{replaced}
 use Rattle.pf_ticket.specs.declared.entry.Entry.{Entry}
 use Rattle.pf_ticket.specs.declared.name.RulesetName.{RulesetName}
 use Rattle.pf_ticket.specs.declared.ticket.Ticket.{Ticket}
-use Rattle.pf_ticket.specs.Tickets.{nothing_for, with_rule, Offer, offer, put, without, Open, open_with, fresh, next_ticket, content, is_valid}
+use Rattle.pf_ticket.specs.Tickets.{Loaded, nothing, with_rule, with_table, Offer, offer, put, without, Open, open_with, fresh, next_ticket, loaded, is_valid}
 
 pub data Mention : Type 0 where
   gave : RulesetName → Mention
   added : RulesetName → Ticket → PlainRule → Mention
+  -- a ruleset, its ticket, a table's name, and the entries as they were handed in
+  defined : RulesetName → Ticket → List ℕ → List Row → Mention
   switched : RulesetName → Mention
   dropped : RulesetName → Ticket → Mention
 
 abbrev pub named_in : Mention → RulesetName
 named_in (gave n) = n
 named_in (added n u r) = n
+named_in (defined n u name xs) = n
 named_in (switched n) = n
 named_in (dropped n u) = n
 
@@ -25,11 +31,16 @@ with_offers t os = open_with t.epoch t.next os
 abbrev pub take_out : Open → RulesetName → Open
 take_out t n = with_offers t (without n t.offers)
 
--- A begin gives the next ticket, with nothing offered yet. An add offers one rule more with the valid ticket. A commit takes
--- what is offered out, and a rollback where it names the valid ticket.
+-- with this loaded for a ruleset, where the ticket is its valid one
+abbrev pub load : Open → RulesetName → Ticket → Loaded → Open
+load t n u l = cond (is_valid t n u) (with_offers t (put (offer n u l) t.offers)) t
+
+-- A begin gives the next ticket, with nothing loaded yet. With the valid ticket an add loads one rule more, and a define sets one
+-- table. A commit takes what is offered out, and a rollback where it names the valid ticket.
 abbrev pub moved : Open → Mention → Open
-moved t (gave n) = open_with t.epoch (t.next + 1) (put (offer n (next_ticket t) (nothing_for n.kind)) t.offers)
-moved t (added n u r) = cond (is_valid t n u) (with_offers t (put (offer n u (with_rule (content t n) r)) t.offers)) t
+moved t (gave n) = open_with t.epoch (t.next + 1) (put (offer n (next_ticket t) nothing) t.offers)
+moved t (added n u r) = load t n u (with_rule (loaded t n) r)
+moved t (defined n u name xs) = load t n u (with_table (loaded t n) name (replaced xs))
 moved t (switched n) = take_out t n
 moved t (dropped n u) = cond (is_valid t n u) (take_out t n) t
 

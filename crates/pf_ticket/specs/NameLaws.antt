@@ -1,13 +1,13 @@
 -- Two names of one ruleset are alike, and one.
-use Rattle.std.specs.Prelude.{◌≡◌, ℕ, ◌&&◌, Bool, true, List}
+use Rattle.std.specs.Prelude.{◌≡◌, ℕ, true, List}
 use Rattle.std.proofs.Common.{refl, ap, ◌∙◌}
 use Rattle.std.proofs.lemmas.Cmp.{eq_by_cmp_equiv, nat_list_cmp_total, and_equiv, on_equiv}
 use Rattle.std.proofs.lemmas.Bool.{and_parts}
 use Rattle.std.specs.Cmp.{IsEquivalence}
 use Rattle.pf_ticket.specs.declared.name.RulesetKind.{RulesetKind}
-use Rattle.pf_ticket.specs.declared.name.RulesetKind.TheVariants.{Filter}
+use Rattle.pf_ticket.specs.declared.name.RulesetKind.TheVariants.{Filter, Table}
 use Rattle.pf_ticket.specs.declared.name.RulesetName.{RulesetName}
-use Rattle.pf_ticket.specs.Names.{filter_at, same_kind, same_name}
+use Rattle.pf_ticket.specs.Names.{filter_at, table_ruleset_at, same_kind, same_name}
 use Rattle.pf_path.specs.Paths.{same_path}
 use Rattle.pf_path.proofs.PathsRead.{same_path_is}
 
@@ -16,12 +16,19 @@ paths_alike = eq_by_cmp_equiv nat_list_cmp_total
 
 kind-refl : (a : RulesetKind) → same_kind a a ≡ true
 kind-refl Filter = refl
+kind-refl Table = refl
 
 kind-symm : (a b : RulesetKind) → same_kind a b ≡ same_kind b a
 kind-symm Filter Filter = refl
+kind-symm Filter Table = refl
+kind-symm Table Filter = refl
+kind-symm Table Table = refl
 
 kind-congr : (a b c : RulesetKind) → same_kind a b ≡ true → same_kind a c ≡ same_kind b c
 kind-congr Filter Filter c h = refl
+kind-congr Filter Table c h = absurd (cc (h))
+kind-congr Table Filter c h = absurd (cc (h))
+kind-congr Table Table c h = refl
 
 pub kinds_alike : IsEquivalence same_kind
 kinds_alike = record { refl = kind-refl; symm = kind-symm; congr = kind-congr }
@@ -32,6 +39,9 @@ names_alike = and_equiv (on_equiv (λ (n : RulesetName). n.kind) kinds_alike) (o
 -- and one
 kind_is : (a b : RulesetKind) → same_kind a b ≡ true → a ≡ b
 kind_is Filter Filter h = refl
+kind_is Filter Table h = absurd (cc (h))
+kind_is Table Filter h = absurd (cc (h))
+kind_is Table Table h = refl
 
 pub name_is : (a b : RulesetName) → same_name a b ≡ true → a ≡ b
 name_is a b h =
@@ -39,9 +49,12 @@ name_is a b h =
     let each : (same_kind a.kind b.kind ≡ true) × (same_path a.path b.path ≡ true) = and_parts (same_kind a.kind b.kind) (same_path a.path b.path) h in
     ap (λ (k : RulesetKind). named k a.path) (kind_is a.kind b.kind each.0) ∙ ap (λ (p : List ℕ). named b.kind p) (same_path_is a.path b.path each.1)
 
-of_filter : (k : RulesetKind) (b : Bool) → b ≡ true → (same_kind Filter k && b) ≡ true
-of_filter Filter b h = h
-
 -- a name is its kind's at its path
-pub filter_is : (n : RulesetName) → filter_at n.path ≡ n
-filter_is n = name_is (filter_at n.path) n (of_filter n.kind (same_path n.path n.path) (paths_alike.refl n.path))
+abbrev named_as : RulesetKind → List ℕ → RulesetName
+named_as k p = record { kind = k; path = p }
+
+pub filter_is : (n : RulesetName) → Filter ≡ n.kind → filter_at n.path ≡ n
+filter_is n h = ap (λ (k : RulesetKind). named_as k n.path) h
+
+pub table_is : (n : RulesetName) → Table ≡ n.kind → table_ruleset_at n.path ≡ n
+table_is n h = ap (λ (k : RulesetKind). named_as k n.path) h

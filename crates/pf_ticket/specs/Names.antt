@@ -4,7 +4,7 @@ use Rattle.std.specs.List.{list_any}
 use Rattle.pf_path.specs.Paths.{same_path}
 use Rattle.pf_ticket.specs.declared.entry.Entry.{Entry}
 use Rattle.pf_ticket.specs.declared.name.RulesetKind.{RulesetKind}
-use Rattle.pf_ticket.specs.declared.name.RulesetKind.TheVariants.{Filter}
+use Rattle.pf_ticket.specs.declared.name.RulesetKind.TheVariants.{Filter, Table}
 use Rattle.pf_ticket.specs.declared.name.RulesetName.{RulesetName}
 use Rattle.pf_ticket.specs.declared.ticket.Ticket.{Ticket}
 use Rattle.pf_ticket.specs.declared.ticket.TicketRange.{TicketRange}
@@ -12,8 +12,15 @@ use Rattle.pf_ticket.specs.declared.ticket.TicketRange.{TicketRange}
 abbrev pub filter_at : List ℕ → RulesetName
 filter_at p = record { kind = Filter; path = p }
 
+-- the tables at a path, as a transaction names them
+abbrev pub table_ruleset_at : List ℕ → RulesetName
+table_ruleset_at p = record { kind = Table; path = p }
+
 abbrev pub same_kind : RulesetKind → RulesetKind → Bool
 same_kind Filter Filter = true
+same_kind Filter Table = false
+same_kind Table Filter = false
+same_kind Table Table = true
 
 -- a ruleset is a kind and a path
 abbrev pub same_name : RulesetName → RulesetName → Bool

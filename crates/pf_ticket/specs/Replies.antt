@@ -2,15 +2,18 @@
 use Rattle.std.specs.Prelude.{◌≡◌, ℕ, ◌+◌, ◌-◌, ◌==◌, Bool, not, cond, if◌then◌else◌, ◌||◌, List, [], ◌∷◌, ◌++◌, length, Option, Some, None, Result, Ok, Err, nat_lt, nat_le}
 use Rattle.std.specs.List.{position}
 use Rattle.pf_anchor.specs.declared.limits.TheConstants.{RULE_LIMIT, RULESET_LIMIT}
+use Rattle.pf_table.specs.declared.limits.TheConstants.{TABLE_LIMIT}
+use Rattle.pf_table.specs.Edits.{conflict_in, replaced}
+use Rattle.pf_table.specs.Entries.{Row}
 use Rattle.pf_ticket.specs.declared.entry.Entry.{Entry}
-use Rattle.pf_ticket.specs.declared.limits.TheConstants.{ENTRY_LIMIT, LAST_COUNT}
+use Rattle.pf_ticket.specs.declared.limits.TheConstants.{ENTRY_LIMIT, LAST_COUNT, OFFERED_TABLE_LIMIT}
 use Rattle.pf_ticket.specs.declared.name.RulesetName.{RulesetName}
 use Rattle.pf_ticket.specs.declared.refusal.TicketRefusal.{TicketRefusal}
-use Rattle.pf_ticket.specs.declared.refusal.TicketRefusal.TheVariants.{BadCount, Twice, Busy, RulesetFull, TooManyRulesets, TicketsExhausted, Memory}
+use Rattle.pf_ticket.specs.declared.refusal.TicketRefusal.TheVariants.{BadCount, Twice, Conflict, Busy, RulesetFull, TableFull, TooManyRulesets, TooManyTables, TicketsExhausted, Memory}
 use Rattle.pf_ticket.specs.declared.ticket.Ticket.{Ticket}
 use Rattle.pf_ticket.specs.declared.ticket.TicketRange.{TicketRange}
 use Rattle.pf_ticket.specs.Names.{is_named, names_of}
-use Rattle.pf_ticket.specs.Tickets.{rules_in, Open, next_ticket, content, is_valid}
+use Rattle.pf_ticket.specs.Tickets.{rules_in, with_table, Open, next_ticket, loaded, content, is_valid}
 use Rattle.pf_ticket.specs.Mentions.{gives, after}
 
 -- ---- conditions
@@ -60,6 +63,19 @@ add_reply t name u =
     if not (is_valid t name u) then Err (Busy 0) else
     (if nat_le RULE_LIMIT (length (rules_in (content t name))) then Err RulesetFull else
     Ok tt)
+
+-- the table that a define's entries make, none where it has more than there may be, by the place of a conflict among them
+abbrev pub table_reply : Option ℕ → List Row → Result (Option (List Row)) TicketRefusal
+table_reply (Some i) rows = Err (Conflict i)
+table_reply None rows = Ok (if nat_lt TABLE_LIMIT (length rows) then None else Some rows)
+
+abbrev pub define_reply : Open → RulesetName → Ticket → List ℕ → List Row → Result (Unit {0}) TicketRefusal
+define_reply t n u name xs =
+    and_then (refused_at (λ i. Conflict i) (conflict_in xs))
+    (if not (is_valid t n u) then Err (Busy 0) else
+    (if nat_lt TABLE_LIMIT (length (replaced xs)) then Err TableFull else
+    (if nat_lt OFFERED_TABLE_LIMIT (length (with_table (loaded t n) name (replaced xs)).tables) then Err TooManyTables else
+    Ok tt)))
 
 -- the entries of a commit or a rollback by themselves, which is all that a rollback is refused for
 abbrev pub list_check : List Entry → Result (Unit {0}) TicketRefusal

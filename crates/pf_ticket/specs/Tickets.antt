@@ -1,34 +1,65 @@
--- The open transactions: for each inactive ruleset its valid ticket, and what is offered with it (pf(4), DIOCXBEGIN, DIOCADDRULE).
+-- The open transactions: for each inactive ruleset its valid ticket, and what is offered with it (pf(4), DIOCXBEGIN, DIOCADDRULE,
+-- DIOCRINADEFINE).
 use Rattle.std.specs.Prelude.{◌≡◌, ℕ, Bool, not, cond, List, [], ◌∷◌, ◌++◌, map, set, filter, Option, Some, None}
+use Rattle.std.specs.FinMap.{put as put_entry}
 use Rattle.std.specs.List.{find}
+use Rattle.pf_path.specs.Names.{name_order}
 use Rattle.pf_rule.specs.Rules.{PlainRule}
+use Rattle.pf_table.specs.Entries.{Row}
 use Rattle.pf_ticket.specs.declared.name.RulesetKind.{RulesetKind}
-use Rattle.pf_ticket.specs.declared.name.RulesetKind.TheVariants.{Filter}
+use Rattle.pf_ticket.specs.declared.name.RulesetKind.TheVariants.{Filter, Table}
 use Rattle.pf_ticket.specs.declared.name.RulesetName.{RulesetName}
 use Rattle.pf_ticket.specs.declared.offered.Offered.{Offered}
-use Rattle.pf_ticket.specs.declared.offered.Offered.TheVariants.{Rules}
+use Rattle.pf_ticket.specs.declared.offered.Offered.TheVariants.{Rules, Tables}
 use Rattle.pf_ticket.specs.declared.ticket.Ticket.{Ticket}
+use Rattle.pf_ticket.specs.NamedTables.{Named}
 use Rattle.pf_ticket.specs.Names.{same_name, ticket, is_ticket}
 
 -- ---- what is offered
 
+-- what was loaded into an inactive ruleset: rules in the order of their adds, and tables in the order of their names. What is
+-- offered of it are the rules of a filter ruleset, and the tables of a table ruleset
+pub record Loaded : Type 0 where
+  pub rules : List PlainRule
+  pub tables : List Named
+
+abbrev pub loaded_with : List PlainRule → List Named → Loaded
+loaded_with rs ts = record { rules = rs; tables = ts }
+
+abbrev pub nothing : Loaded
+nothing = loaded_with [] []
+
+-- with a rule behind the others
+abbrev pub with_rule : Loaded → PlainRule → Loaded
+with_rule l r = loaded_with (l.rules ++ r ∷ []) l.tables
+
+-- with these entries as the table of that name, whatever was the table before
+abbrev pub with_table : Loaded → List ℕ → List Row → Loaded
+with_table l name rows = loaded_with l.rules (put_entry name_order name rows l.tables)
+
+abbrev pub offered_as : RulesetKind → Loaded → Offered
+offered_as Filter l = Rules l.rules
+offered_as Table l = Tables l.tables
+
 abbrev pub nothing_for : RulesetKind → Offered
-nothing_for Filter = Rules []
+nothing_for kind = offered_as kind nothing
 
 abbrev pub rules_in : Offered → List PlainRule
 rules_in (Rules rs) = rs
+rules_in (Tables ts) = []
 
-abbrev pub with_rule : Offered → PlainRule → Offered
-with_rule (Rules rs) r = Rules (rs ++ r ∷ [])
+abbrev pub tables_in : Offered → List Named
+tables_in (Rules rs) = []
+tables_in (Tables ts) = ts
 
--- an inactive ruleset, its valid ticket, and what is offered with it
+-- an inactive ruleset, its valid ticket, and what was loaded with it
 pub record Offer : Type 0 where
   pub name : RulesetName
   pub ticket : Ticket
-  pub offered : Offered
+  pub loaded : Loaded
 
-abbrev pub offer : RulesetName → Ticket → Offered → Offer
-offer name t o = record { name = name; ticket = t; offered = o }
+abbrev pub offer : RulesetName → Ticket → Loaded → Offer
+offer name t l = record { name = name; ticket = t; loaded = l }
 
 abbrev pub offer_at : List Offer → RulesetName → Option Offer
 offer_at os name = find (λ o. same_name o.name name) os
@@ -78,16 +109,19 @@ abbrev pub ticket_in : Option Offer → Option Ticket
 ticket_in None = None
 ticket_in (Some o) = Some o.ticket
 
-abbrev pub offered_in : RulesetKind → Option Offer → Offered
-offered_in kind None = nothing_for kind
-offered_in kind (Some o) = o.offered
+abbrev pub loaded_in : Option Offer → Loaded
+loaded_in None = nothing
+loaded_in (Some o) = o.loaded
 
 -- the valid ticket of a ruleset, and what is offered with it
 abbrev pub valid_ticket : Open → RulesetName → Option Ticket
 valid_ticket t name = ticket_in (offer_at t.offers name)
 
+abbrev pub loaded : Open → RulesetName → Loaded
+loaded t name = loaded_in (offer_at t.offers name)
+
 abbrev pub content : Open → RulesetName → Offered
-content t name = offered_in name.kind (offer_at t.offers name)
+content t name = offered_as name.kind (loaded t name)
 
 abbrev pub is_valid : Open → RulesetName → Ticket → Bool
 is_valid t name u = is_ticket (valid_ticket t name) u

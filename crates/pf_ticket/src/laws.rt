@@ -1,5 +1,5 @@
 //! What follows from the definitions that contracts cite: functions that do nothing, whose contracts are the laws.
-ghost use Rattle.pf_ticket.specs.Laws.{ValidIsGivenLast, GivenLastIsValid, StartsWithNothing, OffersTheAdded, LeavesTheOthers, CommitTakesOut, RollbackDropsExactly, GoesOnAgreeing, CountsTheOpen, BeginsGive, TellsWhatIsGiven, GivesEachOnce, KeepsTheLimits, TwiceIsFirstAgain, OtherwiseOnce};
+ghost use Rattle.pf_ticket.specs.Laws.{ValidIsGivenLast, GivenLastIsValid, StartsWithNothing, OffersTheAdded, OffersTheDefined, LeavesTheOthers, CommitTakesOut, RollbackDropsExactly, GoesOnAgreeing, CountsTheOpen, BeginsGive, TellsWhatIsGiven, GivesEachOnce, KeepsTheLimits, AreApart, TwiceIsFirstAgain, OtherwiseOnce};
 
 /// A ticket is valid for a ruleset exactly where the latest mention that touched the ruleset is a begin's that gave it
 /// this ticket.
@@ -18,6 +18,11 @@ pub fn starts_with_nothing()
 /// The rules of the adds with the valid ticket since it was given are offered, in order.
 pub fn offers_the_added()
     ensures { OffersTheAdded }
+{}
+
+/// Under each name the table of the last define with the valid ticket is offered, and no other table is.
+pub fn offers_the_defined()
+    ensures { OffersTheDefined }
 {}
 
 /// What a step mentions leaves the valid tickets of the rulesets that it doesn't name, and what is offered with them.
@@ -67,6 +72,11 @@ pub fn gives_each_ticket_once()
 #[tactic(auto, using(crate::proofs::Keeping::keeps_the_limits))]
 pub fn keeps_the_limits()
     ensures { KeepsTheLimits }
+{}
+
+/// The rules and the tables at one path are two rulesets.
+pub fn kinds_are_apart()
+    ensures { AreApart }
 {}
 
 /// What a list of entries is refused for as naming a ruleset twice is its first entry of a ruleset named before it.

@@ -1,6 +1,6 @@
 //! Names of rulesets.
 ghost use Rattle.std.specs.Prelude.{◌≡◌};
-ghost use Rattle.pf_ticket.specs.Names.{filter_at, same_kind, same_name};
+ghost use Rattle.pf_ticket.specs.Names.{filter_at, table_ruleset_at, same_kind, same_name};
 
 use pf_anchor::Path;
 use std::marker::Model;
@@ -10,12 +10,14 @@ use std::marker::Model;
 pub enum RulesetKind {
     /// Filter rules.
     Filter,
+    /// Tables.
+    Table,
 }
 
 /// A ruleset, as a transaction names it (pf(4), DIOCXBEGIN).
 #[derive(Drop)]
 pub struct RulesetName {
-    /// What its rules are for.
+    /// What it has.
     pub kind: RulesetKind,
     /// Where it is; the main ruleset's path has no bytes.
     pub path: Path,
@@ -25,8 +27,9 @@ impl RulesetKind {
     fn is(self, other: RulesetKind) -> bool
         ensures { result ≡ same_kind self other }
     {
-        match (self, other) {
-            (RulesetKind::Filter, RulesetKind::Filter) => true,
+        match self {
+            RulesetKind::Filter => matches!(other, RulesetKind::Filter),
+            RulesetKind::Table => matches!(other, RulesetKind::Table),
         }
     }
 }
@@ -38,6 +41,16 @@ impl RulesetName {
     {
         RulesetName {
             kind: RulesetKind::Filter,
+            path: path.copied(),
+        }
+    }
+
+    /// The tables at a path. It takes no memory.
+    pub fn table(path: &Path) -> RulesetName
+        ensures { result ≡ table_ruleset_at path.now }
+    {
+        RulesetName {
+            kind: RulesetKind::Table,
             path: path.copied(),
         }
     }

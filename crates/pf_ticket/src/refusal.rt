@@ -7,16 +7,22 @@ use std::alloc::AllocError;
 /// Why nothing was done with tickets. After each of these all is as before.
 #[derive(Clone, Copy, Debug, PartialEq, Eq)]
 pub enum TicketRefusal {
-    /// A list without entries, or with more than 64.
+    /// The list of a begin, a commit or a rollback without entries, or with more than 64.
     BadCount,
     /// The first entry of a commit or a rollback, from 0, that names a ruleset named before it.
     Twice { at: usize },
-    /// The first entry of a commit, from 0, whose ticket isn't valid; 0 for an add.
+    /// The first of a table's entries, from 0, whose network stood before it with the other sign.
+    Conflict { at: usize },
+    /// The first entry of a commit, from 0, whose ticket isn't valid; 0 for an add and a define.
     Busy { at: usize },
     /// The inactive ruleset has 1,024 rules, and no ruleset may have more.
     RulesetFull,
+    /// A define names more than 65,536 networks.
+    TableFull,
     /// A begin would leave more than 1,024 rulesets with a valid ticket.
     TooManyRulesets,
+    /// A define would leave more than 1,024 tables offered with its ticket.
+    TooManyTables,
     /// A begin needs more counts than are left up to 4,294,967,295, the last of an opening. None of them is given.
     TicketsExhausted,
     /// A growth of memory was refused.

@@ -1,20 +1,24 @@
 //! The tickets that are valid, and what is offered with them.
-ghost use Rattle.std.specs.Prelude.{◌≡◌, ◌<◌, ◌≤◌, ◌+◌, ◌||◌, not, [], ◌∷◌, IfOk, OnOk, OnErr, IfSome, IfNone, None, length, get_or, vec_len, vec_capacity};
+ghost use Rattle.std.specs.Prelude.{◌≡◌, ◌<◌, ◌≤◌, ◌+◌, ◌||◌, not, [], ◌∷◌, IfOk, OnOk, OnErr, IfSome, IfNone, None, is_some, length, get_or, vec_len, vec_capacity};
 ghost use Rattle.std.specs.List.{list_any};
 ghost use Rattle.pf_anchor.specs.declared.limits.TheConstants.{RULE_LIMIT};
-ghost use Rattle.pf_ticket.specs.Mentions.{added, moved, take_out, after, gives, switches, drops};
-ghost use Rattle.pf_ticket.specs.Names.{filter_at, is_named, same_name, names_of};
-ghost use Rattle.pf_ticket.specs.Replies.{bad_count, twice_in, busy_in, list_check, commit_check, begin_reply, add_reply, IsReply};
-ghost use Rattle.pf_ticket.specs.Tickets.{Offer, offer_at, rules_in, put, without, IsPlace, fresh, open_with, content, is_valid};
+ghost use Rattle.pf_table.specs.Edits.{conflict_in, replaced};
+ghost use Rattle.pf_ticket.specs.Mentions.{added, defined, load, moved, take_out, after, gives, switches, drops};
+ghost use Rattle.pf_ticket.specs.Names.{filter_at, table_ruleset_at, is_named, same_name, names_of};
+ghost use Rattle.pf_ticket.specs.Replies.{bad_count, twice_in, busy_in, list_check, commit_check, begin_reply, add_reply, table_reply, define_reply, IsReply};
+ghost use Rattle.pf_ticket.specs.Tickets.{Offer, offer, offer_at, nothing, loaded, with_rule, with_table, offered_as, put, without, IsPlace, fresh, open_with, content, is_valid};
 
+use crate::defined::Defined;
 use crate::entry::Entry;
 use crate::limits::{ENTRY_LIMIT, LAST_COUNT};
-use crate::name::RulesetName;
+use crate::name::{RulesetKind, RulesetName};
 use crate::offered::Offered;
 use crate::refusal::TicketRefusal;
 use crate::ticket::{Ticket, TicketRange};
-use pf_anchor::{Path, RULE_LIMIT, RULESET_LIMIT};
+use pf_anchor::{Path, RULE_LIMIT, RULESET_LIMIT, RuleList};
+use pf_path::TableName;
 use pf_rule::Rule;
+use pf_table::{Table, TableRefusal};
 use std::alloc::{AllocError, Global};
 use std::marker::Model;
 
@@ -23,15 +27,42 @@ use std::marker::Model;
 struct Slot {
     name: RulesetName,
     ticket: Ticket,
-    offered: Offered,
+    // Only a filter ruleset has some.
+    rules: RuleList,
+    // Only a table ruleset has some.
+    tables: Defined,
 }
 
 impl Model for Slot {
-    ghost use Rattle.pf_ticket.specs.Tickets.{Offer, offer};
+    ghost use Rattle.pf_ticket.specs.Tickets.{Offer, offer, loaded_with};
 
     ghost Value = { Offer };
 
-    ghost view = { λ s. offer s.name s.ticket s.offered };
+    ghost view = { λ s. offer s.name s.ticket (loaded_with s.rules s.tables) };
+}
+
+impl Slot {
+    // A new ticket's, with nothing loaded yet. It takes no memory.
+    fn new(alloc: Global, name: RulesetName, ticket: Ticket) -> Slot
+        ensures { result ≡ offer name ticket nothing }
+    {
+        Slot {
+            name,
+            ticket,
+            rules: RuleList::none(),
+            tables: Defined::none(alloc),
+        }
+    }
+
+    // What is offered, shared.
+    fn offered(&self) -> Result<Offered, AllocError>
+        ensures { IfOk result (λ o. o ≡ offered_as self.now.name.kind self.now.loaded) }
+    {
+        match self.name.kind {
+            RulesetKind::Filter => Ok(Offered::Rules(self.rules.shared()?)),
+            RulesetKind::Table => Ok(Offered::Tables(self.tables.shared()?)),
+        }
+    }
 }
 
 /// The valid tickets of one opening, and the inactive rulesets. Contracts see it as an `Open`.
@@ -128,6 +159,19 @@ fn is_new(slots: &[Slot], before: &[RulesetName], name: &RulesetName) -> bool
     !has_slot(slots, name) && !is_named(before, name)
 }
 
+// The table that entries make, where it has no more than there may be; `Conflict` at the first that contradicts one before it.
+fn table_of(alloc: Global, entries: &[pf_table::Entry]) -> Result<Option<Table>, TicketRefusal>
+    ensures { IsReply result (table_reply (conflict_in entries.now) (replaced entries.now)) }
+{
+    let mut table = Table::empty();
+    match table.replace(alloc, entries) {
+        Ok(()) => Ok(Some(table)),
+        Err(TableRefusal::Conflict { at }) => Err(TicketRefusal::Conflict { at }),
+        Err(TableRefusal::TableFull) => Ok(None),
+        Err(TableRefusal::Memory) => Err(TicketRefusal::Memory),
+    }
+}
+
 // Puts a slot in place of the one that its ruleset had, or else behind the others.
 #[tactic(auto, using(crate::proofs::Offers::put_end))]
 fn put(slots: &mut Vec<Slot>, slot: Slot)
@@ -165,14 +209,26 @@ impl Tickets {
         }
     }
 
+    // The place of a ruleset's slot, where this is the ruleset's valid ticket.
+    fn valid_place(&self, name: &RulesetName, ticket: Ticket) -> Option<usize>
+        ensures within { IfSome result (λ i. i < length self.now.offers) }
+        ensures some { IfSome result (λ i. (o : Offer) → o ≡ get_or self.now.offers i o → IsPlace name.now self.now.offers i o) }
+        ensures ticket { IfSome result (λ i. (o : Offer) → o ≡ get_or self.now.offers i o → o.ticket ≡ ticket) }
+        ensures valid { is_some result ≡ is_valid self.now name.now ticket }
+    {
+        let place = place_of(&self.slots, name)?;
+        if self.slots[place].ticket == ticket {
+            Some(place)
+        } else {
+            None
+        }
+    }
+
     // Whether a ticket is the ruleset's valid one.
     fn is_valid(&self, name: &RulesetName, ticket: Ticket) -> bool
         ensures { result ≡ is_valid self.now name.now ticket }
     {
-        match place_of(&self.slots, name) {
-            Some(place) => self.slots[place].ticket == ticket,
-            None => false,
-        }
+        self.valid_place(name, ticket).is_some()
     }
 
     fn first_busy(&self, entries: &[Entry]) -> Option<usize>
@@ -205,14 +261,33 @@ impl Tickets {
     fn grow(&mut self, name: &RulesetName, place: usize, rule: Rule) -> Result<(), AllocError>
         requires within { place < length self.old.offers }
         requires stands { (o : Offer) → o ≡ get_or self.old.offers place o → IsPlace name.now self.old.offers place o }
-        requires room { length (rules_in (content self.old name.now)) < RULE_LIMIT }
-        ensures ok { OnOk result ((o : Offer) → o ≡ get_or self.old.offers place o → self.new ≡ moved self.old (added name.now o.ticket rule)) }
+        requires room { length (loaded self.old name.now).rules < RULE_LIMIT }
+        ensures ok { OnOk result ((o : Offer) → o ≡ get_or self.old.offers place o → self.new ≡ load self.old name.now o.ticket (with_rule (loaded self.old name.now) rule)) }
         ensures err { OnErr result (self.new ≡ self.old) }
     {
-        self.slots[place].offered.add(self.alloc, rule)
+        self.slots[place].rules.add(self.alloc, rule)
     }
 
-    /// Gives a new ticket for each ruleset in turn, with nothing offered yet. After a refusal all is as before.
+    // Sets a table of the ruleset's offer, which stands at this place.
+    fn set_table(
+        &mut self,
+        name: &RulesetName,
+        place: usize,
+        table_name: &TableName,
+        table: Table,
+    ) -> Result<(), AllocError>
+        requires within { place < length self.old.offers }
+        requires stands { (o : Offer) → o ≡ get_or self.old.offers place o → IsPlace name.now self.old.offers place o }
+        ensures ok { OnOk result ((o : Offer) → o ≡ get_or self.old.offers place o → self.new ≡ load self.old name.now o.ticket (with_table (loaded self.old name.now) table_name.now table)) }
+        ensures err { OnErr result (self.new ≡ self.old) }
+    {
+        self.slots[place].tables.define(table_name, table)
+    }
+
+    /// Gives a new ticket for each ruleset in turn, with nothing offered yet.
+    ///
+    /// The refusal is the first in this order: `BadCount`; `TooManyRulesets`; `TicketsExhausted`. `Memory` may come before any of
+    /// them. After a refusal all is as before.
     pub fn begin(&mut self, names: &[RulesetName]) -> Result<TicketRange, TicketRefusal>
         ensures reply { IsReply result (begin_reply self.old names.now) }
         ensures ok { OnOk result (self.new ≡ after self.old (gives names.now)) }
@@ -234,41 +309,70 @@ impl Tickets {
             count: self.next as u32,
         };
         for name in names {
-            let slot = Slot {
-                name: name.copied(),
-                ticket: Ticket {
-                    epoch: self.epoch,
-                    count: self.next as u32,
-                },
-                offered: Offered::nothing(name.kind),
+            let ticket = Ticket {
+                epoch: self.epoch,
+                count: self.next as u32,
             };
+            let slot = Slot::new(self.alloc, name.copied(), ticket);
             put(&mut self.slots, slot);
             self.next += 1;
         }
         Ok(TicketRange { first, number })
     }
 
-    /// Appends a rule to the filter ruleset that is offered with a valid ticket. After a refusal all is as before.
+    /// Appends a rule to the filter ruleset that is offered with a valid ticket.
+    ///
+    /// The refusal is the first in this order: `Busy` at 0; `RulesetFull`. `Memory` may come before any of them. After a refusal
+    /// all is as before.
     pub fn add_rule(&mut self, path: &Path, ticket: Ticket, rule: Rule) -> Result<(), TicketRefusal>
         ensures reply { IsReply result (add_reply self.old (filter_at path.now) ticket) }
         ensures ok { OnOk result (self.new ≡ moved self.old (added (filter_at path.now) ticket rule)) }
         ensures err { OnErr result (self.new ≡ self.old) }
     {
         let name = RulesetName::filter(path);
-        let Some(place) = place_of(&self.slots, &name) else {
+        let Some(place) = self.valid_place(&name, ticket) else {
             return Err(TicketRefusal::Busy { at: 0 });
         };
-        if self.slots[place].ticket != ticket {
-            return Err(TicketRefusal::Busy { at: 0 });
-        }
-        if self.slots[place].offered.rule_count() >= RULE_LIMIT {
+        if self.slots[place].rules.as_slice().len() >= RULE_LIMIT {
             return Err(TicketRefusal::RulesetFull);
         }
         self.grow(&name, place, rule)?;
         Ok(())
     }
 
-    /// Whether a commit of these entries may go on. It takes no memory.
+    /// Sets the entries of one table that is offered with a valid ticket, in place of what was defined under its name before.
+    /// With no entries a commit takes the table out.
+    ///
+    /// The refusal is the first in this order: `Conflict`; `Busy` at 0; `TableFull`; `TooManyTables`, where the name is new.
+    /// `Memory` may come before any of them. After a refusal all is as before.
+    pub fn define_table(
+        &mut self,
+        path: &Path,
+        ticket: Ticket,
+        name: &TableName,
+        entries: &[pf_table::Entry],
+    ) -> Result<(), TicketRefusal>
+        ensures reply { IsReply result (define_reply self.old (table_ruleset_at path.now) ticket name.now entries.now) }
+        ensures ok { OnOk result (self.new ≡ moved self.old (defined (table_ruleset_at path.now) ticket name.now entries.now)) }
+        ensures err { OnErr result (self.new ≡ self.old) }
+    {
+        let table = table_of(self.alloc, entries)?;
+        let owner = RulesetName::table(path);
+        let Some(place) = self.valid_place(&owner, ticket) else {
+            return Err(TicketRefusal::Busy { at: 0 });
+        };
+        let Some(table) = table else {
+            return Err(TicketRefusal::TableFull);
+        };
+        if self.slots[place].tables.is_full_for(name) {
+            return Err(TicketRefusal::TooManyTables);
+        }
+        self.set_table(&owner, place, name, table)?;
+        Ok(())
+    }
+
+    /// Whether a commit of these entries may go on. The refusal is the first in this order: `BadCount`; `Twice`; `Busy`. It takes no
+    /// memory.
     pub fn check_all(&self, entries: &[Entry]) -> Result<(), TicketRefusal>
         ensures { result ≡ commit_check self.now entries.now }
     {
@@ -279,13 +383,14 @@ impl Tickets {
         }
     }
 
-    /// What is offered for a ruleset with its valid ticket, shared.
+    /// What is offered for a ruleset with its valid ticket, shared: nothing where it has none. `AllocError`: memory was refused, or
+    /// what is offered can't have another owner.
     pub fn contents(&self, name: &RulesetName) -> Result<Offered, AllocError>
         ensures { IfOk result (λ o. o ≡ content self.now name.now) }
     {
         match place_of(&self.slots, name) {
-            Some(place) => self.slots[place].offered.shared(),
-            None => Ok(Offered::nothing(name.kind)),
+            Some(place) => self.slots[place].offered(),
+            None => Ok(Offered::nothing(self.alloc, name.kind)),
         }
     }
 

@@ -1,6 +1,7 @@
 -- One call of a book, from each way out of it.
 use Rattle.std.proofs.Common.{◌≡◌, ℕ, ◌+◌, ◌<◌, ◌≤◌, Bool, true, false, cond, inl, inr, List, [], ◌∷◌, ◌++◌, length, Result, Ok, Err, refl, sym, ap, ◌∙◌, subst, append-nil, arith}
-use Rattle.std.specs.Prelude.{nat_lt}
+use Rattle.std.specs.Prelude.{nat_lt, IfErr}
+use Rattle.std.specs.Result.{IsErrAnd}
 use Rattle.std.proofs.lemmas.Bool.Decides.{nat_tests}
 use Rattle.std.proofs.lemmas.List.{length-append, take_all}
 use Rattle.std.proofs.lemmas.List.Sums.{fold_push}
@@ -16,11 +17,11 @@ use Rattle.pf_ticket.specs.Tickets.{Open}
 use Rattle.pf_ticket.specs.Mentions.{after as moved_by, switches}
 use Rattle.pf_core.specs.Calls.{call}
 use Rattle.pf_core.specs.Commands.{step_by, takes_memory}
-use Rattle.pf_core.specs.Edits.{Kept, Edit, applied, after, voided_by}
+use Rattle.pf_core.specs.Edits.{Kept, Edit, applied, after, voided_by, and_then, fits}
 use Rattle.pf_core.specs.Refusals.{OrMemory}
 use Rattle.pf_core.specs.Pages.{Page, IsFolded, IsAt, Leads}
-use Rattle.pf_core.specs.Wholes.{Whole}
-use Rattle.pf_core.specs.WorldLaws.{wants_memory, wants_mentions}
+use Rattle.pf_core.specs.Wholes.{Whole, Ready, ready, prepared}
+use Rattle.pf_core.specs.WorldLaws.{both_passed, wants_memory, wants_mentions, wants_what_fits}
 use Rattle.pf_core.specs.Worlds.{Held, upshot, flat, log_of, durable_of, step_in, if_ok, or_refused, due_at, grouped, group_at, due, group_in, LegalReply}
 use Rattle.pf_core.proofs.LongerWorlds.{flat-push, refused-leads}
 use Rattle.pfd.specs.Books.{singles, IsMore, IsUnkept}
@@ -109,11 +110,37 @@ pub number-is : (b new : Page) (e : Edit) (n : ℕ) → IsMore b new e n → n �
 number-is b new e n more = more.number ∙ sym (ap (λ (l : List (List Edit)). length (flat l)) more.acked ∙ ap length (flat-push b.acked e) ∙ length-append (flat b.acked) (e ∷ []))
 
 -- or it was not
-pub unkept-leads : (h : Held) (b new : Page) (c : Command) (e : Edit) (o : Outcome) (why : Refusal) → IsFolded b → b.pending ≡ [] → Steps b c (Ok (Wants e o)) → IsUnkept b why → new ≡ b → IsAt h b → Leads h new (call c (Refused why)) (upshot new.shown false)
-unkept-leads h b new c e o HistoryFull folded none steps full same at = refused-leads h b new c HistoryFull (full-is-legal h b c e o at folded none steps full) same at
-unkept-leads h b new c e o Memory folded none steps why same at =
-    refused-leads h b new c Memory (inr (wants_memory h.tickets (durable_of h) c e o (sym (step-is h b c (Ok (Wants e o)) at folded steps (λ m. cc (m)))))) same at
-unkept-leads h b new c e o why folded none steps never same at = absurd never
+pub unkept-leads : (h : Held) (b new : Page) (c : Command) (e : Edit) (o : Outcome) (why : Refusal) → IsFolded b → b.pending ≡ [] → Steps b c (Ok (Wants e o)) → IsUnkept b e why → new ≡ b → IsAt h b → Leads h new (call c (Refused why)) (upshot new.shown false)
+unkept-leads h b new c e o why folded none steps (inl memory) same at =
+    subst (λ (x : Refusal). Leads h new (call c (Refused x)) (upshot new.shown false)) (sym memory)
+    (refused-leads h b new c Memory (inr (wants_memory h.tickets (durable_of h) c e o (sym (step-is h b c (Ok (Wants e o)) at folded steps (λ m. cc (m)))))) same at)
+unkept-leads h b new c e o why folded none steps (inr (inl full)) same at =
+    subst (λ (x : Refusal). Leads h new (call c (Refused x)) (upshot new.shown false)) (sym full.0) (refused-leads h b new c HistoryFull (full-is-legal h b c e o at folded none steps full.1) same at)
+-- what is wanted fits
+unkept-leads h b new c e o why folded none steps (inr (inr unfit)) same at =
+    let fit : fits b.whole.durable e ≡ Ok tt = wants_what_fits b.whole.tickets b.whole.durable c e o (sym (steps.0 (λ m. cc (m)))) in
+    absurd (cc (sym fit ∙ unfit))
+
+-- ---- what is prepared
+
+pub is-ready : (d : Kept) (e : Edit) (n : Ready) → OrMemory true (Ok n) (prepared d e) → n ≡ ready (applied d e) (voided_by e)
+is-ready d e n told =
+    let due : Ok n ≡ prepared d e = told.0 (λ m. cc (m)) in
+    let same : Ok (ready (applied d e) (voided_by e)) ≡ Ok n = (both_passed (fits d e) (Ok (ready (applied d e) (voided_by e))) n (sym due)).second in
+    sym (cc (same))
+
+refused-by : (r : Result (Unit {0}) Refusal) (n : Ready) (why : Refusal) → Err why ≡ and_then r (Ok n) → r ≡ Err why
+refused-by (Ok u) n why h = absurd (cc (h))
+refused-by (Err e) n why h = let same : why ≡ e = cc (h) in ap (λ (x : Refusal). Err x) (sym same)
+
+-- what can't be prepared has no memory, or doesn't fit
+unprepared : (b : Page) (e : Edit) (why : Refusal) → OrMemory true (Err why) (prepared b.whole.durable e) → IsUnkept b e why
+unprepared b e Memory told = inl refl
+unprepared b e why told = inr (inr (refused-by (fits b.whole.durable e) (ready (applied b.whole.durable e) (voided_by e)) why (told.0 (λ m. cc (m)))))
+
+pub not-kept : (b now : Page) (e : Edit) (r : Result ℕ Refusal) (why : Refusal) → b ≡ now → OrMemory true (Err why) (prepared b.whole.durable e) → IsErrAnd r (λ x. x ≡ why) → IfErr r (λ x. IsUnkept now e x × (now ≡ now))
+not-kept b now e (Ok n) why is told h = absurd h
+not-kept b now e (Err x) why is told h = (subst (λ (y : Refusal). IsUnkept now e y) (sym h) (subst (λ (p : Page). IsUnkept p e why) is (unprepared b e why told)), refl)
 
 -- the book is still what its changes leave, and shows them all
 pub folded-more : (b new : Page) (e : Edit) → IsFolded b → new.base ≡ b.base → new.acked ≡ b.acked ++ (e ∷ []) ∷ [] → new.whole.durable ≡ applied b.whole.durable e → new.published ≡ new.whole.durable → new.shown ≡ length (flat new.acked) → IsFolded new

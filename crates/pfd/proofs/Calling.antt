@@ -10,7 +10,7 @@ use Rattle.pf_core.specs.Pages.{Page}
 use Rattle.pf_core.specs.Worlds.{Upshot, called}
 use Rattle.pf_line.specs.Lines.{Parses, line_at, speaks}
 use Rattle.pf_line.specs.Lines.{Refused as IsRefusal}
-use Rattle.pf_line.specs.Replies.{reply_text}
+use Rattle.pf_reply.specs.Replies.{reply_text}
 use Rattle.pfd.specs.Serving.{Says, Continues, Told}
 use Rattle.pfd.specs.ServingLaws.{continues-still}
 

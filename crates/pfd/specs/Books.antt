@@ -1,5 +1,5 @@
 -- What contracts see of a Book's fields, what its replies say by themselves, and what keeping a change leaves. Own.
-use Rattle.std.specs.Prelude.{◌≡◌, ℕ, ◌+◌, ◌<◌, ◌≤◌, List, [], ◌∷◌, ◌++◌, length, map, ⊤, Result, Ok, Err}
+use Rattle.std.specs.Prelude.{◌≡◌, ◌⊎◌, ℕ, ◌+◌, ◌<◌, ◌≤◌, List, [], ◌∷◌, ◌++◌, length, map, ⊤, Result, Ok, Err}
 use Rattle.std.specs.Arc.{arc_value}
 use Rattle.pf_ticket.specs.declared.refusal.TicketRefusal.{TicketRefusal}
 use Rattle.pf_ticket.specs.Mentions.{after, switches}
@@ -13,7 +13,7 @@ use Rattle.pf_core.specs.declared.reply.Refusal.{Refusal}
 use Rattle.pf_core.specs.declared.reply.Refusal.TheVariants.{HistoryFull, Memory}
 use Rattle.pf_core.specs.declared.reply.Reply.{Reply}
 use Rattle.pf_core.specs.declared.reply.Reply.TheVariants.{Answer, Applied, Refused}
-use Rattle.pf_core.specs.Edits.{Kept, Edit, voided_by, verdict}
+use Rattle.pf_core.specs.Edits.{Kept, Edit, voided_by, fits, verdict}
 use Rattle.pf_core.specs.Pages.{Page}
 use Rattle.pf_core.specs.Refusals.{refusal_of}
 use Rattle.pf_core.specs.Worlds.{flat}
@@ -68,8 +68,6 @@ pub record IsMore (old new : Page) (e : Edit) (seq : ℕ) : Type 0 where
   pub pending : new.pending ≡ old.pending
   pub limit : new.limit ≡ old.limit
 
--- why a change is not kept
-abbrev pub IsUnkept : Page → Refusal → Type 0
-IsUnkept b HistoryFull = b.limit ≤ length (flat b.acked)
-IsUnkept b Memory = ⊤
-IsUnkept b e = ⊥
+-- why a change is not kept: memory was refused, the history is full, or it doesn't fit
+abbrev pub IsUnkept : Page → Edit → Refusal → Type 0
+IsUnkept b e why = (why ≡ Memory) ⊎ (((why ≡ HistoryFull) × (b.limit ≤ length (flat b.acked))) ⊎ (fits b.whole.durable e ≡ Err why))

@@ -3,7 +3,7 @@ use Rattle.std.specs.Prelude.{◌≡◌, ℕ, List, [], ◌∷◌, Option, Resul
 use Rattle.std.specs.Io.KnownBytes.{Keeps}
 use Rattle.std.specs.declared.io.ErrorKind.{ErrorKind}
 use Rattle.std.specs.declared.io.ErrorKind.TheVariants.{OutOfMemory}
-use Rattle.pf_core.specs.Edits.{kept}
+use Rattle.pf_core.specs.Edits.{kept_nothing}
 use Rattle.pf_core.specs.Pages.{Page, StandsFor}
 use Rattle.pf_core.specs.Worlds.{setting_with, opened}
 use Rattle.pf_engine.specs.declared.fault.EngineFault.{EngineFault}
@@ -20,7 +20,7 @@ IsRun words = (name : List ℕ) × (words ≡ name ∷ codes "run" ∷ [])
 pub record Ran (result : Result (Unit {0}) EngineFault) (unread unread' held held' : Option (List ℕ)) : Type 0 where
   pub old : Page
   pub new : Page
-  pub fresh : StandsFor (kept 0 []) old (opened (setting_with HISTORY_LIMIT) ∷ [])
+  pub fresh : StandsFor (kept_nothing 0) old (opened (setting_with HISTORY_LIMIT) ∷ [])
   pub limit : old.limit ≡ HISTORY_LIMIT
   pub session : IsSession Serves result unread unread' old new held held'
 

@@ -1,7 +1,7 @@
 //! A core with the history of what it kept.
 ghost use Rattle.std.specs.Prelude.{◌≡◌, ℕ, ◌≤◌, [], ◌∷◌, ◌++◌, List, IfOk, IfErr, take, false};
 ghost use Rattle.pf_core.specs.Calls.{call};
-ghost use Rattle.pf_core.specs.Edits.{Kept, kept, after, verdict};
+ghost use Rattle.pf_core.specs.Edits.{Kept, kept_nothing, after, verdict};
 ghost use Rattle.pf_core.specs.Worlds.{Held, setting_with, upshot, Event, called, opened, flat, LegalReply, shown_by};
 ghost use Rattle.pf_core.specs.Pages.{IsAt, IsFolded, StandsFor, Leads};
 ghost use Rattle.pfd.specs.Books.{IsNumbered, IsJudged, IsRolledBack, StaysIfRefused, IsMore, IsUnkept};
@@ -41,13 +41,13 @@ impl Model for Book {
 }
 
 impl Book {
-    /// No rulesets, in epoch 1, and no history yet: an opening of what never held anything. The history will have at most
+    /// No rulesets and no tables, in epoch 1, and no history yet: an opening of what never held anything. The history will have at most
     /// so many changes; the caller sees to it that these are from 1 to 1,048,576. `Err`: memory was refused, and nothing
     /// is left of what was made.
     pub fn fresh(alloc: Global, history_limit: usize) -> Result<Book, AllocError>
         requires low { 1 ≤ history_limit }
         requires high { history_limit ≤ 1_048_576 }
-        ensures stands { IfOk result (λ b. StandsFor (kept 0 []) b (opened (setting_with history_limit) ∷ [])) }
+        ensures stands { IfOk result (λ b. StandsFor (kept_nothing 0) b (opened (setting_with history_limit) ∷ [])) }
         ensures limit { IfOk result (λ b. b.limit ≡ history_limit) }
     {
         let base = Arc::new(alloc, Durable::empty(alloc, FIRST_EPOCH))?;
@@ -67,7 +67,7 @@ impl Book {
     // Keeps a change of the core's, and shows it. It gives its number.
     fn keep(&mut self, change: Change) -> Result<u64, Refusal>
         ensures ok { IfOk result (λ seq. IsMore self.old self.new change seq) }
-        ensures err { IfErr result (λ e. IsUnkept self.old e × (self.new ≡ self.old)) }
+        ensures err { IfErr result (λ e. IsUnkept self.old change e × (self.new ≡ self.old)) }
     {
         if self.log.len() >= self.limit {
             return Err(Refusal::HistoryFull);
@@ -108,7 +108,7 @@ impl Book {
     /// One call. A change is kept and shown before it is answered, and is answered with its number, from 1.
     ///
     /// The core's refusals come first, then `HistoryFull`, where the history has as many changes as it may have. `Memory`
-    /// may come instead of any reply but that to a judge or a rollback, which take none. After every refusal all is as
+    /// may come instead of any reply but that to a judge, a test or a rollback, which take none. After every refusal all is as
     /// before.
     pub fn run(&mut self, command: Command) -> Reply
         ensures worlds { (first : Kept) (world : List Event) → StandsFor first self.old world → StandsFor first self.new (world ++ called (call command result) (upshot self.new.shown false) ∷ []) }
@@ -123,6 +123,7 @@ impl Book {
         ensures published { self.new.published ≡ after self.new.base (take self.new.shown (flat self.new.acked)) }
     {
         let reply = self.call(&command);
+        // looked at, so that what a Book keeps of its core is known here
         let _ = &self.core;
         reply
     }

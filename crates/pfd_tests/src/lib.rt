@@ -15,6 +15,8 @@ mod starting;
 #[cfg(test)]
 mod streams;
 #[cfg(test)]
+mod tables;
+#[cfg(test)]
 mod tickets;
 #[cfg(test)]
 mod values;

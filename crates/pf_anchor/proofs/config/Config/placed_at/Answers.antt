@@ -1,15 +1,18 @@
-use Rattle.std.proofs.Common.{◌≡◌, List, [], ap, subst}
-use Rattle.std.specs.Option.{MatchOption}
-use Rattle.std.proofs.lemmas.Cmp.{nat_list_cmp_total}
-use Rattle.pf_rule.specs.Rules.{PlainRule}
-use Rattle.pf_anchor.specs.Rulesets.{ruled, rules_in, rules_at}
-use Rattle.pf_anchor.proofs.Pages.{read_there}
+use Rattle.std.proofs.Common.{◌≡◌, subst}
+use Rattle.std.specs.Option.{option_map}
+use Rattle.std.specs.FinMap.{find}
+use Rattle.pf_path.specs.Paths.{path_order}
+use Rattle.pf_map.specs.Maps.{entry_at}
+use Rattle.pf_map.proofs.ListMaps.{list_map_is}
+use Rattle.pf_anchor.specs.Rulesets.{IsMap}
+use Rattle.pf_anchor.specs.Configurations.{Configuration}
+use Rattle.pf_anchor.proofs.RulesetMaps.{ruleset_found}
 use Rattle.pf_anchor.proofs.config.Config.placed_at.Goals as goal
 
--- the rules at the path are those that its page has for it
 pub returns-clause-rules : goal.returns-clause-rules
 returns-clause-rules c =
-    let place = rw c.as_slice-pages.ensures.value at c.place_in.ensures in
-    let there = ap rules_in (read_there nat_list_cmp_total c.args.path.now c.self.inside.pages.items c.place_in.result place c.self.invariant.sorted) in
-    let same : rules_at c.args.path.now c.page_before.result.now ≡ rules_at c.args.path.now c.args.self.now = cc in
-    subst (λ (rs : List PlainRule). MatchOption c.find.result (rs ≡ []) (λ p. p.now ≡ ruled c.args.path.now rs)) same c.find.ensures
+    ruleset_found (λ e. e.now) c.get.result c.args.path.now (find path_order c.args.path.now c.args.self.now.rulesets)
+    (subst (λ (x : Configuration). option_map (λ e. e.now) c.get.result ≡ entry_at path_order c.args.path.now x.rulesets) c.self.view_is c.get.ensures.entry)
+
+pub returns-clause-map : goal.returns-clause-map
+returns-clause-map c = subst (λ (x : Configuration). IsMap x.rulesets) c.self.view_is (list_map_is c.self.inside.rulesets c.get.ensures.map)

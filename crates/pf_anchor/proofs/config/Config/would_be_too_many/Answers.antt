@@ -1,8 +1,11 @@
-use Rattle.std.proofs.Common.{arith}
-use Rattle.std.proofs.lemmas.Grind.{common_steps}
-use Rattle.std.proofs.lemmas.Bool.Decides.{nat_tests}
-use Rattle.pf_anchor.proofs.RulesetMaps.{all_grow}
+use Rattle.std.proofs.Common.{◌≡◌, length, nat_lt, IfOk, subst}
+use Rattle.std.specs.Prelude.{fold}
+use Rattle.pf_anchor.specs.declared.limits.TheConstants.{RULESET_LIMIT}
+use Rattle.pf_anchor.specs.Rulesets.{with_rules}
+use Rattle.pf_anchor.specs.Configurations.{Configuration}
 use Rattle.pf_anchor.proofs.config.Config.would_be_too_many.Goals as goal
 
-pub returns-then-not-are_more_than : goal.returns-then-not-are_more_than
-returns-then-not-are_more_than c = grind (arith, nat_tests, common_steps, all_grow c.args.items.now c.args.self.now)
+pub returns : goal.returns
+returns c =
+    subst (λ (x : Configuration). IfOk c.would_be_more_than.result (λ b. b ≡ nat_lt RULESET_LIMIT (length (fold with_rules x.rulesets c.args.items.now)))) c.self.view_is
+    c.would_be_more_than.ensures

@@ -1,6 +1,6 @@
 use Rattle.std.proofs.Common.{subst, sym}
 use Rattle.pf_addr.specs.Writing.{Writes, Continues-then}
-use Rattle.pf_rule.specs.Spacing.{in_order}
+use Rattle.pf_rule.specs.InOrder.{in_order}
 use Rattle.pf_rule.proofs.rule.Rule.write.Goals as goal
 
 pub returns-clause-text : goal.returns-clause-text

@@ -30,7 +30,7 @@ returns-in-Err-keep-clause-leads c = λ h now.
     let b : Page = page_in c.self.inside in
     let same : with_core b c.step.new.self ≡ b = ap (with_core b) e.left in
     unkept-leads h b c.keep.new.self c.args.command.now c.in-Ok-Wants.change c.in-Ok-Wants.outcome c.in-Err-keep.refusal c.self.invariant refl e.reply
-    (subst (λ (p : Page). IsUnkept p c.in-Err-keep.refusal) same c.in-Err-keep.ensures.err.0) (c.in-Err-keep.ensures.err.1 ∙ same) (subst (IsAt h) (sym c.self.view_is) now)
+    (subst (λ (p : Page). IsUnkept p c.in-Ok-Wants.change c.in-Err-keep.refusal) same c.in-Err-keep.ensures.err.0) (c.in-Err-keep.ensures.err.1 ∙ same) (subst (IsAt h) (sym c.self.view_is) now)
 
 pub returns-in-Err-clause-leads : goal.returns-in-Err-clause-leads
 returns-in-Err-clause-leads c = λ h now.

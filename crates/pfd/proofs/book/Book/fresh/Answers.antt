@@ -1,7 +1,7 @@
 use Rattle.std.proofs.Common.{refl, ap, ◌∙◌, arith, []}
 use Rattle.std.specs.Prelude.{map}
 use Rattle.std.specs.Arc.{arc_value}
-use Rattle.pf_core.specs.Edits.{Kept, kept}
+use Rattle.pf_core.specs.Edits.{Kept, kept_nothing}
 use Rattle.pf_ticket.specs.Tickets.{fresh}
 use Rattle.pf_core.specs.Wholes.{Whole}
 use Rattle.pf_core.specs.Worlds.{setting_with}
@@ -11,7 +11,7 @@ use Rattle.pfd.proofs.book.Book.fresh.Goals as goal
 
 pub returns-clause-stands : goal.returns-clause-stands
 returns-clause-stands c =
-    stands-opened (kept 0 []) _ (setting_with c.args.history_limit) (omega arith)
+    stands-opened (kept_nothing 0) _ (setting_with c.args.history_limit) (omega arith)
     (record {
       base = c.in_ok-base.ensures.ok ∙ c.empty.ensures;
       tickets = ap (λ (w : Whole). w.tickets) c.new-2.ensures ∙ ap (λ (k : Kept). fresh k.epoch) (c.in_ok-durable.ensures ∙ c.in_ok-base.ensures.ok ∙ c.empty.ensures);

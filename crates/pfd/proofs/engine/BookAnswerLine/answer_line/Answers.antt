@@ -1,4 +1,4 @@
-use Rattle.pf_line.specs.Replies.{reply_text}
+use Rattle.pf_reply.specs.Replies.{reply_text}
 use Rattle.std.specs.Prelude.{Some}
 use Rattle.pfd.specs.ServingLaws.{serves-one}
 use Rattle.pfd.proofs.engine.BookAnswerLine.answer_line.Goals as goal

@@ -1,0 +1,57 @@
+-- Tables at paths (pf.conf(5), TABLES and ANCHORS): a finite map, and which table the rules of a ruleset name. That an empty table doesn't exist is own.
+use Rattle.std.specs.Prelude.{ℕ, Bool, false, List, Option, filter}
+use Rattle.std.specs.declared.cmp.Ordering.{Ordering}
+use Rattle.std.specs.FinMap.{find}
+use Rattle.std.specs.Option.{option_map_or, option_or}
+use Rattle.pf_addr.specs.declared.addr.Addr.{Addr}
+use Rattle.pf_map.specs.Pairs.{pair_order}
+use Rattle.pf_map.specs.ListMaps.{list_at, with_list, IsListMap}
+use Rattle.pf_path.specs.Names.{name_order}
+use Rattle.pf_path.specs.Paths.{main, path_order, same_path}
+use Rattle.pf_table.specs.Entries.{Row}
+use Rattle.pf_table.specs.Tables.{table_holds}
+
+-- where a table is: its path and its name
+abbrev pub TableKey : Type 0
+TableKey = List ℕ × List ℕ
+
+-- tables are ordered by their paths, at one path by their names, both by bytes
+abbrev pub table_order : TableKey → TableKey → Ordering
+table_order = pair_order path_order name_order
+
+-- where a table is, and its entries
+abbrev pub Tabled : Type 0
+Tabled = TableKey × List Row
+
+abbrev pub tabled : List ℕ → List ℕ → List Row → Tabled
+tabled p name es = ((p, name), es)
+
+-- tables in the order of their paths and names, none of them twice and none of them empty
+abbrev pub IsTableMap : List Tabled → Type 0
+IsTableMap = IsListMap table_order
+
+-- the map with the table at one path and name replaced, or taken out where the new one is empty
+abbrev pub with_table : List Tabled → Tabled → List Tabled
+with_table = with_list table_order
+
+-- the table at this path and name, where there is one
+abbrev pub table_found : List ℕ → List ℕ → List Tabled → Option (List Row)
+table_found p name ts = find table_order (p, name) ts
+
+-- its entries: none where there is no table
+abbrev pub table_at : List ℕ → List ℕ → List Tabled → List Row
+table_at p name ts = list_at table_order (p, name) ts
+
+-- the tables at this path, in the order of their names
+abbrev pub tables_at : List ℕ → List Tabled → List Tabled
+tables_at p ts = filter (λ t. same_path p t.0.0) ts
+
+-- ---- the table that a rule names
+
+-- the table of a name, as the rules of the ruleset at p name it: the one at p where it exists, else the main ruleset's; no path in between is asked
+abbrev pub named_table : List Tabled → List ℕ → List ℕ → Option (List Row)
+named_table ts p name = option_or (table_found p name ts) (table_found main name ts)
+
+-- what tables say to these rules: whether the table of a name matches an address; none where there is no table
+abbrev pub tables_say : List Tabled → List ℕ → List ℕ → Addr → Bool
+tables_say ts p name a = option_map_or (λ es. table_holds es a) (named_table ts p name) false

@@ -1,0 +1,25 @@
+//! Tables as rules name them.
+ghost use Rattle.pf_anchor.specs.Tables.{tables_say};
+
+use crate::config::Config;
+use pf_addr::Addr;
+use pf_path::{Path, TableName};
+use pf_rule::TableAnswers;
+
+/// The tables as the rules of the ruleset at a path name them.
+#[derive(Clone, Copy)]
+pub(crate) struct NamedTables<'a> {
+    pub config: &'a Config,
+    pub path: &'a Path,
+}
+
+impl<'a> TableAnswers for NamedTables<'a> {
+    ghost says = { λ t. tables_say t.config.now.tables t.path.now };
+
+    fn holds(&self, name: &TableName, address: Addr) -> bool {
+        match self.config.named_table(self.path, name) {
+            Some(table) => table.test(address),
+            None => false,
+        }
+    }
+}

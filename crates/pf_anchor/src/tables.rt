@@ -1,0 +1,50 @@
+//! The active tables.
+ghost use Rattle.std.specs.Prelude.{◌≡◌, ◌++◌, OnOk};
+ghost use Rattle.pf_anchor.specs.Tables.{tables_at};
+
+use pf_map::{Entry, PagedMap, Probe};
+use pf_path::{Path, TableName};
+use pf_table::Table;
+use std::alloc::AllocError;
+use std::cmp::Ordering;
+
+/// A table where it is: its path, its name, and its entries, shared by all that hold it. Contracts see it as a `Tabled`.
+pub type PlacedTable = Entry<(Path, TableName), Table>;
+
+/// The tables that have entries, in the order of their paths, at one path in that of their names. Contracts see it as the list.
+pub(crate) type Tables = PagedMap<(Path, TableName), Table>;
+
+/// Where a table is looked for. A path is long to copy.
+#[derive(Clone, Copy)]
+pub(crate) struct Place<'a> {
+    pub path: &'a Path,
+    pub name: &'a TableName,
+}
+
+impl<'a> Probe<(Path, TableName)> for Place<'a> {
+    ghost key = { λ p. (p.path.now, p.name.now) };
+
+    fn order(&self, other: &(Path, TableName)) -> Ordering {
+        self.path.order(&other.0).then(self.name.order(&other.1))
+    }
+
+    fn same(&self, other: &(Path, TableName)) -> bool {
+        self.path.same(&other.0) && self.name.same(&other.1)
+    }
+}
+
+/// Adds those among some tables that are at a path.
+pub(crate) fn push_tables_at(
+    found: &mut Vec<PlacedTable>,
+    tables: &[PlacedTable],
+    path: &Path,
+) -> Result<(), AllocError>
+    ensures { OnOk result (found.new.items ≡ found.old.items ++ tables_at path.now tables.now) }
+{
+    for placed in tables {
+        if path.same(&placed.key().0) {
+            found.push(placed.shared()?)?;
+        }
+    }
+    Ok(())
+}

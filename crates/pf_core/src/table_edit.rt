@@ -1,0 +1,117 @@
+//! Edits of tables: which change each one wants, and what it is told.
+ghost use Rattle.std.specs.Prelude.{◌≡◌, true, length, filter};
+ghost use Rattle.pf_core.specs.Commands.{same_addition, added_of, same_deletion, deleted_of, edit_step};
+ghost use Rattle.pf_core.specs.Refusals.{OrMemory};
+
+use crate::change::Change;
+use crate::command::{EntryList, TableEdit};
+use crate::durable::Durable;
+use crate::reply::{Outcome, Refusal};
+use crate::step::Step;
+use pf_table::{Addition, Deletion};
+use std::alloc::Global;
+
+fn same_addition(wanted: Addition, answer: Addition) -> bool
+    ensures { result ≡ same_addition wanted answer }
+{
+    match (wanted, answer) {
+        (Addition::Added, Addition::Added) => true,
+        (Addition::Same, Addition::Same) => true,
+        (Addition::Conflict, Addition::Conflict) => true,
+        _ => false,
+    }
+}
+
+fn same_deletion(wanted: Deletion, answer: Deletion) -> bool
+    ensures { result ≡ same_deletion wanted answer }
+{
+    match (wanted, answer) {
+        (Deletion::Deleted, Deletion::Deleted) => true,
+        (Deletion::Absent, Deletion::Absent) => true,
+        _ => false,
+    }
+}
+
+// How many entries had this answer.
+fn count_additions(answers: &[Addition], wanted: Addition) -> usize
+    ensures { result ≡ length (filter (same_addition wanted) answers.now) }
+{
+    answers
+        .iter()
+        .filter(|answer| same_addition(wanted, **answer))
+        .count()
+}
+
+// How many entries had this answer.
+fn count_deletions(answers: &[Deletion], wanted: Deletion) -> usize
+    ensures { result ≡ length (filter (same_deletion wanted) answers.now) }
+{
+    answers
+        .iter()
+        .filter(|answer| same_deletion(wanted, **answer))
+        .count()
+}
+
+fn added_of(answers: &[Addition]) -> Outcome
+    ensures { result ≡ added_of answers.now }
+{
+    Outcome::Added {
+        added: count_additions(answers, Addition::Added),
+        same: count_additions(answers, Addition::Same),
+        conflict: count_additions(answers, Addition::Conflict),
+    }
+}
+
+fn deleted_of(answers: &[Deletion]) -> Outcome
+    ensures { result ≡ deleted_of answers.now }
+{
+    Outcome::Deleted {
+        deleted: count_deletions(answers, Deletion::Deleted),
+        absent: count_deletions(answers, Deletion::Absent),
+    }
+}
+
+// One edit of a table.
+pub(crate) fn edit(alloc: Global, durable: &Durable, edit: &TableEdit) -> Result<Step, Refusal>
+    ensures { OrMemory true result (edit_step durable.now edit.now) }
+{
+    match edit {
+        TableEdit::Add {
+            path,
+            name,
+            entries,
+        } => {
+            let (_, additions) = durable.with_added(alloc, path, name, entries.as_slice())?;
+            let change = Change::add(path.copied(), *name, entries.copied(alloc)?);
+            Ok(Step::Wants(change, added_of(additions.as_slice())))
+        }
+        TableEdit::Delete {
+            path,
+            name,
+            entries,
+        } => {
+            let (_, deletions) = durable.with_deleted(alloc, path, name, entries.as_slice())?;
+            if !durable.has_table(path, name) {
+                return Err(Refusal::Absent);
+            }
+            let change = Change::delete(path.copied(), *name, entries.copied(alloc)?);
+            Ok(Step::Wants(change, deleted_of(deletions.as_slice())))
+        }
+        TableEdit::Set {
+            path,
+            name,
+            entries,
+        } => {
+            durable.with_set(alloc, path, name, entries.as_slice())?;
+            let change = Change::set(path.copied(), *name, entries.copied(alloc)?);
+            Ok(Step::Wants(change, Outcome::Set))
+        }
+        TableEdit::Kill { path, name } => {
+            if !durable.has_table(path, name) {
+                return Err(Refusal::Absent);
+            }
+            let change = Change::set(path.copied(), *name, EntryList::new(Vec::new(alloc)));
+            Ok(Step::Wants(change, Outcome::Killed))
+        }
+    }
+}

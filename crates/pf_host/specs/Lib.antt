@@ -1,0 +1,4 @@
+pub mod Hosts
+pub mod Ends
+pub mod HostLaws
+pub mod EndLaws

@@ -1,0 +1,105 @@
+//! Reading the words that stand for values, each from the front of those that are left.
+ghost use Rattle.pf_form.specs.Readers.{Moves};
+ghost use Rattle.pf_line.specs.Grammar.{kind, path, ticket_text, table_name, row, address, name, entry, table, offered_table};
+
+use crate::entries::{address_of, entry_of};
+use crate::ticket::read_ticket;
+use pf_addr::Addr;
+use pf_anchor::Path;
+use pf_form::{Stop, Words, bad_word, expect, stop, takes};
+use pf_path::TableName;
+use pf_ticket::{Entry, RulesetKind, RulesetName, Ticket};
+
+/// Takes the first word where it reads as a value.
+macro_rules! take_word {
+    ($words:ident, $word:ident => $read:expr) => {
+        match *$words {
+            [$word, rest @ ..] => match $read {
+                Ok(value) => {
+                    *$words = rest;
+                    Ok(value)
+                }
+                Err(kind) => Err(stop(kind, $words)),
+            },
+            [] => Err(bad_word($words)),
+        }
+    };
+}
+
+fn read_kind<'a>(words: &mut Words<'a>) -> Result<RulesetKind, Stop>
+    ensures { Moves kind result words.old.now words.new.now }
+{
+    if takes(words, b"filter") {
+        return Ok(RulesetKind::Filter);
+    }
+    expect(words, b"table")?;
+    Ok(RulesetKind::Table)
+}
+
+pub(crate) fn path_word<'a>(words: &mut Words<'a>) -> Result<Path, Stop>
+    ensures { Moves path result words.old.now words.new.now }
+{
+    take_word!(words, word => Path::from_ascii(word))
+}
+
+pub(crate) fn ticket_word<'a>(words: &mut Words<'a>) -> Result<Ticket, Stop>
+    ensures { Moves ticket_text result words.old.now words.new.now }
+{
+    take_word!(words, word => read_ticket(word))
+}
+
+pub(crate) fn name_word<'a>(words: &mut Words<'a>) -> Result<TableName, Stop>
+    ensures { Moves table_name result words.old.now words.new.now }
+{
+    take_word!(words, word => TableName::from_ascii(word))
+}
+
+/// An entry of a table.
+pub(crate) fn row_word<'a>(words: &mut Words<'a>) -> Result<pf_table::Entry, Stop>
+    ensures { Moves row result words.old.now words.new.now }
+{
+    take_word!(words, word => entry_of(word))
+}
+
+pub(crate) fn address_word<'a>(words: &mut Words<'a>) -> Result<Addr, Stop>
+    ensures { Moves address result words.old.now words.new.now }
+{
+    take_word!(words, word => address_of(word))
+}
+
+/// A ruleset.
+pub(crate) fn read_name<'a>(words: &mut Words<'a>) -> Result<RulesetName, Stop>
+    ensures { Moves name result words.old.now words.new.now }
+{
+    let kind = read_kind(words)?;
+    let path = path_word(words)?;
+    Ok(RulesetName { kind, path })
+}
+
+/// A ruleset with a ticket for it.
+pub(crate) fn read_entry<'a>(words: &mut Words<'a>) -> Result<Entry, Stop>
+    ensures { Moves entry result words.old.now words.new.now }
+{
+    let name = read_name(words)?;
+    let ticket = ticket_word(words)?;
+    Ok(Entry { name, ticket })
+}
+
+/// A table, by its path and its name.
+pub(crate) fn read_table<'a>(words: &mut Words<'a>) -> Result<(Path, TableName), Stop>
+    ensures { Moves table result words.old.now words.new.now }
+{
+    let path = path_word(words)?;
+    let name = name_word(words)?;
+    Ok((path, name))
+}
+
+/// A table that is offered: its path, the ticket, and its name.
+pub(crate) fn read_offered<'a>(words: &mut Words<'a>) -> Result<(Path, Ticket, TableName), Stop>
+    ensures { Moves offered_table result words.old.now words.new.now }
+{
+    let path = path_word(words)?;
+    let ticket = ticket_word(words)?;
+    let name = name_word(words)?;
+    Ok((path, ticket, name))
+}

@@ -1,0 +1,3 @@
+pub mod Maps
+pub mod Pages
+pub mod ListMaps

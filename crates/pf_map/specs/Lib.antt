@@ -1,0 +1,5 @@
+pub mod Maps
+pub mod Pairs
+pub mod Pages
+pub mod Laws
+pub mod ListMaps

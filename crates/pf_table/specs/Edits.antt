@@ -1,0 +1,99 @@
+-- Edits of tables (pfctl(8), -T add, delete, replace). What they answer of each entry, and when they refuse, is own.
+use Rattle.std.specs.Prelude.{◌≡◌, ◌≢◌, ℕ, nat_lt, Bool, true, false, not, ◌&&◌, cond, List, [], ◌∷◌, ◌++◌, length, fold, is_some, option_map, Option, Some, None, Result, Ok, Err}
+use Rattle.std.specs.Bool.{beq}
+use Rattle.std.specs.FinMap.{put}
+use Rattle.std.specs.FinMap.Entries.{where_key}
+use Rattle.std.specs.List.{list_any}
+use Rattle.std.specs.Option.{option_map_or, option_or}
+use Rattle.std.specs.Ordering.{eq_by_cmp}
+use Rattle.pf_table.specs.declared.answer.Addition.{Addition}
+use Rattle.pf_table.specs.declared.answer.Addition.TheVariants.{Added, Same, Conflict}
+use Rattle.pf_table.specs.declared.answer.Deletion.{Deletion}
+use Rattle.pf_table.specs.declared.answer.Deletion.TheVariants.{Deleted, Absent}
+use Rattle.pf_table.specs.declared.refusal.TableRefusal.{TableRefusal}
+use Rattle.pf_table.specs.declared.refusal.TableRefusal.TheVariants as refusal
+use Rattle.pf_table.specs.declared.limits.TheConstants.{TABLE_LIMIT}
+use Rattle.pf_table.specs.Entries.{Row, net_order}
+use Rattle.pf_table.specs.Tables.{sign_of}
+
+-- ---- adding
+
+-- An entry is put in where its network has none; else the table stays.
+abbrev pub with_entry : List Row → Row → List Row
+with_entry es x = cond (is_some (sign_of x.0 es)) es (put net_order x.0 x.1 es)
+
+-- the table after entries were added in turn
+unfoldable pub added : List Row → List Row → List Row
+added es xs = fold with_entry es xs
+
+-- by the sign that the network has in the table, and the sign of the entry that is added
+abbrev pub addition : Option Bool → Bool → Addition
+addition None sign = Added
+addition (Some there) sign = cond (beq sign there) Same Conflict
+
+-- the answer to each entry, by the table after those before it
+unfoldable pub additions : List Row → List Row → List Addition
+additions es [] = []
+additions es (x ∷ xs) = addition (sign_of x.0 es) x.1 ∷ additions (with_entry es x) xs
+
+-- the table that holds these entries alone
+abbrev pub replaced : List Row → List Row
+replaced xs = added [] xs
+
+-- ---- deleting
+
+-- whether a network that is there, if it is, has this sign
+abbrev pub is_sign : Bool → Option Bool → Bool
+is_sign sign there = option_map_or (beq sign) there false
+
+-- whether the entry is there, with its sign
+abbrev pub has_entry : List Row → Row → Bool
+has_entry es x = is_sign x.1 (sign_of x.0 es)
+
+-- An entry that is there with its sign is taken out; else the table stays.
+abbrev pub without_entry : List Row → Row → List Row
+without_entry es x = cond (has_entry es x) (where_key net_order (λ net. not (eq_by_cmp net_order x.0 net)) es) es
+
+-- the table after entries were deleted in turn
+unfoldable pub deleted : List Row → List Row → List Row
+deleted es xs = fold without_entry es xs
+
+abbrev pub deletion : Bool → Deletion
+deletion true = Deleted
+deletion false = Absent
+
+-- the answer to each entry, by the table after those before it
+unfoldable pub deletions : List Row → List Row → List Deletion
+deletions es [] = []
+deletions es (x ∷ xs) = deletion (has_entry es x) ∷ deletions (without_entry es x) xs
+
+-- ---- refusing
+
+-- whether two entries are one network with one sign
+abbrev pub same_entry : Row → Row → Bool
+same_entry x e = eq_by_cmp net_order x.0 e.0 && beq x.1 e.1
+
+-- whether they are one network with both signs
+abbrev pub is_opposite : Row → Row → Bool
+is_opposite x e = same_entry (x.0, not x.1) e
+
+-- behind these entries, the place of the first one whose network stood before it with the other sign
+unfoldable pub conflict_behind : List Row → List Row → Option ℕ
+conflict_behind before [] = None
+conflict_behind before (x ∷ xs) = cond (list_any (is_opposite x) before) (Some (length before)) (conflict_behind (before ++ x ∷ []) xs)
+
+-- in a list, counted from 0
+abbrev pub conflict_in : List Row → Option ℕ
+conflict_in xs = conflict_behind [] xs
+
+abbrev pub conflict_refusal : List Row → Option TableRefusal
+conflict_refusal xs = option_map refusal.Conflict (conflict_in xs)
+
+-- An edit is refused for a conflict in its list, else for a table with too many entries after it.
+abbrev pub edit_refusal : List Row → List Row → Option TableRefusal
+edit_refusal xs after = option_or (conflict_refusal xs) (cond (nat_lt TABLE_LIMIT (length after)) (Some refusal.TableFull) None)
+
+-- An edit is done only where nothing refuses it, and refused only for what does, but that memory may be refused anywhere.
+abbrev pub Refuses : {X : Type 0} → Result X TableRefusal → Option TableRefusal → Type 0
+Refuses (Ok x) due = due ≡ None
+Refuses (Err e) due = e ≢ refusal.Memory → due ≡ Some e

@@ -1,0 +1,47 @@
+-- Networks are in a total order, and no two of them tie.
+use Rattle.std.proofs.Common.{◌≡◌, ℕ, ◌*◌, ◌-◌, ◌/◌, ◌^◌, refl, sym, ap, ◌∙◌, true≢false, arith}
+use Rattle.std.proofs.Math.Nat.{mul-div_cancel}
+use Rattle.std.proofs.lemmas.Nat.{pow_pos}
+use Rattle.std.proofs.lemmas.Cmp.{nat_cmp_total}
+use Rattle.std.specs.Cmp.{IsTotalOrder, on_total, then_total}
+use Rattle.std.specs.FinMap.{IsAntisymmetric, nat_cmp-IsAntisymmetric}
+use Rattle.std.specs.Ordering.{ordering_then, is_eq}
+use Rattle.std.specs.declared.cmp.Ordering.{Ordering}
+use Rattle.std.specs.declared.cmp.Ordering.TheVariants.{Less, Equal, Greater}
+use Rattle.pf_addr.specs.declared.addr.Family.{Family}
+use Rattle.pf_addr.specs.declared.addr.Family.TheVariants.{V4, V6}
+use Rattle.pf_addr.specs.Address.{Network, width}
+use Rattle.pf_table.specs.Entries.{rank, first_number, net_order}
+
+pub net_total : IsTotalOrder net_order
+unfolding net_order
+net_total = then_total (on_total (λ (n : Network). rank n.family) nat_cmp_total) (then_total (on_total first_number nat_cmp_total) (on_total (λ (n : Network). n.len) nat_cmp_total))
+
+first_tied : (a b : Ordering) → ordering_then a b ≡ Equal → a ≡ Equal
+first_tied Less b e = absurd (true≢false (sym (ap is_eq e)))
+first_tied Equal b e = refl
+first_tied Greater b e = absurd (true≢false (sym (ap is_eq e)))
+
+then_tied : (a b : Ordering) → ordering_then a b ≡ Equal → b ≡ Equal
+then_tied Less b e = absurd (true≢false (sym (ap is_eq e)))
+then_tied Equal b e = e
+then_tied Greater b e = absurd (true≢false (sym (ap is_eq e)))
+
+one_family : (f g : Family) → rank f ≡ rank g → f ≡ g
+one_family V4 V4 e = refl
+one_family V4 V6 e = absurd (omega arith)
+one_family V6 V4 e = absurd (omega arith)
+one_family V6 V6 e = refl
+
+one_front : (a b k : ℕ) → a * 2 ^ k ≡ b * 2 ^ k → a ≡ b
+one_front a b k e = sym (mul-div_cancel a (pow_pos k)) ∙ ap (λ (m : ℕ). m / 2 ^ k) e ∙ mul-div_cancel b (pow_pos k)
+
+pub net_same : IsAntisymmetric net_order
+unfolding net_order
+net_same x y e =
+    let family = one_family x.family y.family (nat_cmp-IsAntisymmetric (rank x.family) (rank y.family) (first_tied _ _ e)) in
+    let behind = then_tied _ _ e in
+    let first = nat_cmp-IsAntisymmetric (first_number x) (first_number y) (first_tied _ _ behind) in
+    let len = nat_cmp-IsAntisymmetric x.len y.len (then_tied _ _ behind) in
+    let front = one_front x.front y.front (width y.family - y.len) (ap (λ (k : ℕ). x.front * 2 ^ k) (λ i. width (sym family i) - sym len i) ∙ first) in
+    λ i. record { family = family i; len = len i; front = front i }

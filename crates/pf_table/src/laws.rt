@@ -1,0 +1,55 @@
+//! What follows from the definitions that contracts cite: functions that do nothing, whose contracts are the laws.
+ghost use Rattle.std.specs.Cmp.{IsTotalOrder};
+ghost use Rattle.std.specs.FinMap.{IsAntisymmetric};
+ghost use Rattle.pf_table.specs.Entries.{net_order};
+ghost use Rattle.pf_table.specs.Laws.{TableDecides, TableMatches, FamiliesApart, OneTable, AddsWhatIsNamed, DeletesWhatIsNamed, HoldsTheList, AllElseStays, StaysTable, OneAnswerEach, AnswersInOrder, CountsWhatChanged, RepeatsChangeNothing, TellsTheFirstConflict};
+
+/// Networks are in a total order, in which only equal ones tie.
+#[tactic(auto, using(crate::specs::OrderLaws::net_total, crate::specs::OrderLaws::net_same))]
+pub fn networks_are_in_order()
+    ensures total { IsTotalOrder net_order }
+    ensures own { IsAntisymmetric net_order }
+{}
+
+/// In a table at most one entry decides about an address: it contains the address, and every other one that does has a shorter
+/// prefix. There is none exactly where no entry contains the address. The table matches the address exactly where an entry decides
+/// that isn't negated. No entry contains an address of the other family.
+pub fn one_entry_decides()
+    ensures decides { TableDecides }
+    ensures matches { TableMatches }
+    ensures family { FamiliesApart }
+{}
+
+/// Two tables in which each network has the same sign are one.
+#[tactic(auto, using(crate::proofs::TableLaws::one_table_law))]
+pub fn one_table()
+    ensures { OneTable }
+{}
+
+/// After an edit each network has the sign that the edit gives it, or else its own; one that the edit doesn't name stays as it
+/// is. What is left is a table, if it has few enough entries.
+pub fn edits_change_what_they_name()
+    ensures adds { AddsWhatIsNamed }
+    ensures deletes { DeletesWhatIsNamed }
+    ensures replaces { HoldsTheList }
+    ensures stays { AllElseStays }
+    ensures table { StaysTable }
+{}
+
+/// Each entry of an edit has one answer, in the order of the entries. Where the table has its network before the edit, an entry
+/// that is added is answered by that sign; else the first that names its network is `Added`, and those behind it `Same`. One that is
+/// deleted is `Deleted` where the table has it with its sign and no entry before it names its network, else `Absent`. As many are
+/// answered added or deleted as the table grows or shrinks by. To add or to delete an entry once more changes nothing.
+pub fn answers_say_what_changed()
+    ensures each { OneAnswerEach }
+    ensures entries { AnswersInOrder }
+    ensures counts { CountsWhatChanged }
+    ensures repeats { RepeatsChangeNothing }
+{}
+
+/// The conflict that is told is at the first entry whose network stood before it with the other sign; where none is told there is
+/// no such entry.
+#[tactic(auto, using(crate::proofs::TableLaws::tells_the_first_conflict))]
+pub fn the_first_conflict_is_told()
+    ensures { TellsTheFirstConflict }
+{}

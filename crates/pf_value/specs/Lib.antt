@@ -1,0 +1,8 @@
+pub mod Values
+pub mod Tests
+pub mod Ports
+pub mod Spacing
+pub mod Written
+pub mod ReadingLaws
+pub mod TestLaws
+pub mod PortLaws

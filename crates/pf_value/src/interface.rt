@@ -1,0 +1,9 @@
+//! Names of network interfaces.
+
+use pf_path::Name;
+
+/// How many bytes an interface's name may have (pf(4)'s `ifname` with its closing zero).
+pub const INTERFACE_LIMIT: usize = 15;
+
+/// The name of a network interface, as `em0`, of at most [`INTERFACE_LIMIT`] bytes.
+pub type Interface = Name<INTERFACE_LIMIT>;
