@@ -33,39 +33,66 @@ fn children_have_one_component_more(rt: HostRuntime) -> Result<(), Fail> {
     Ok(())
 }
 
-/// Whether there is such a table and it matches an address.
-fn holds(config: &Config, path: &Path, name: &TableName, text: &str) -> Result<bool, Fail> {
-    let address = Addr::parse(text)?;
-    match config.table_at(path, name) {
-        Some(table) => Ok(table.test(address)),
-        None => Ok(false),
-    }
-}
-
-#[test]
-fn tables_are_put_at_paths(rt: HostRuntime) -> Result<(), Fail> {
-    let alloc = rt.alloc();
-    let web = Path::from_ascii(b"web")?;
-    let name = TableName::from_ascii(b"banned")?;
+/// 203.0.113.0/24 without one of its addresses.
+fn banned(alloc: Global) -> Result<Table, Fail> {
     let entries = [
         Entry::new(Net::parse("203.0.113.0/24")?, false),
         Entry::new(Net::parse("203.0.113.7")?, true),
     ];
     let mut table = Table::empty();
     table.replace(alloc, &entries)?;
-    let config = with(alloc, &Config::empty(alloc), b"web", "pass in all")?;
-    let config = config.with_table(alloc, &web, &name, &table)?;
-    assert!(rt; holds(&config, &web, &name, "203.0.113.9")?);
-    assert!(rt; !holds(&config, &web, &name, "203.0.113.7")?);
-    assert!(rt; !holds(&config, &web, &name, "10.0.0.1")?);
-    // It is there alone, and its path's rules stay.
-    let other = TableName::from_ascii(b"other")?;
-    assert!(rt; config.table_at(&web, &other).is_none());
-    assert!(rt; config.table_at(&Path::main(), &name).is_none());
-    assert!(rt; config.rules_at(&web)?.as_slice().len() == 1);
-    // Without entries a table isn't there any more.
-    let config = config.with_table(alloc, &web, &name, &Table::empty())?;
-    assert!(rt; config.table_at(&web, &name).is_none());
-    assert!(rt; config.rules_at(&web)?.as_slice().len() == 1);
+    Ok(table)
+}
+
+fn name() -> Result<TableName, Fail> {
+    Ok(TableName::from_ascii(b"banned")?)
+}
+
+/// With a table of this name at a path.
+fn with_table(alloc: Global, config: &Config, path: &[u8], table: &Table) -> Result<Config, Fail> {
+    Ok(config.with_table(alloc, &Path::from_ascii(path)?, &name()?, table)?)
+}
+
+/// Whether there is a table of this name at a path and it matches an address; None where there is none.
+fn told(config: &Config, path: &[u8], text: &str) -> Result<Option<bool>, Fail> {
+    let address = Addr::parse(text)?;
+    match config.table_at(&Path::from_ascii(path)?, &name()?) {
+        Some(table) => Ok(Some(table.test(address))),
+        None => Ok(None),
+    }
+}
+
+#[test]
+fn tables_are_put_at_paths(rt: HostRuntime) -> Result<(), Fail> {
+    let alloc = rt.alloc();
+    let config = with_table(alloc, &Config::empty(alloc), b"web", &banned(alloc)?)?;
+    assert!(rt; told(&config, b"web", "203.0.113.9")? == Some(true));
+    assert!(rt; told(&config, b"web", "203.0.113.7")? == Some(false));
+    assert!(rt; told(&config, b"web", "10.0.0.1")? == Some(false));
+    assert!(rt; told(&config, b"web/a", "203.0.113.9")?.is_none());
+    Ok(())
+}
+
+#[test]
+fn empty_tables_are_taken_out(rt: HostRuntime) -> Result<(), Fail> {
+    let alloc = rt.alloc();
+    let full = with_table(alloc, &Config::empty(alloc), b"web", &banned(alloc)?)?;
+    let empty = with_table(alloc, &full, b"web", &Table::empty())?;
+    assert!(rt; told(&empty, b"web", "203.0.113.9")?.is_none());
+    Ok(())
+}
+
+#[test]
+fn tables_leave_the_rules(rt: HostRuntime) -> Result<(), Fail> {
+    let alloc = rt.alloc();
+    let ruled = with(alloc, &Config::empty(alloc), b"web", "pass in all")?;
+    let config = with_table(alloc, &ruled, b"web", &banned(alloc)?)?;
+    assert!(rt;
+        config
+            .rules_at(&Path::from_ascii(b"web")?)?
+            .as_slice()
+            .len()
+            == 1
+    );
     Ok(())
 }
