@@ -1,0 +1,34 @@
+-- Names of states are in a total order, and no two of them tie.
+use Rattle.std.proofs.Common.{◌≡◌, true, not, T, refl, ap, subst}
+use Rattle.std.proofs.lemmas.Cmp.{nat_cmp_total, tied_itself}
+use Rattle.std.specs.Cmp.{IsTotalOrder, on_total, then_total}
+use Rattle.std.specs.FinMap.{IsAntisymmetric, nat_cmp-IsAntisymmetric}
+use Rattle.std.specs.Ordering.{is_eq, eq_by_cmp}
+use Rattle.std.specs.declared.cmp.Ordering.{Ordering}
+use Rattle.std.specs.declared.cmp.Ordering.TheVariants.{Less, Equal, Greater}
+use Rattle.pf_map.specs.Pairs.{pairs_alike}
+use Rattle.pf_state.specs.declared.state.StateName.{StateName}
+use Rattle.pf_state.specs.States.{name_order}
+
+pub name_total : IsTotalOrder name_order
+name_total = then_total (on_total (λ (n : StateName). n.id) nat_cmp_total) (on_total (λ (n : StateName). n.creator) nat_cmp_total)
+
+pub name_alike : IsAntisymmetric name_order
+name_alike a b tied =
+    let pair : (a.id, a.creator) ≡ (b.id, b.creator) = pairs_alike nat_cmp-IsAntisymmetric nat_cmp-IsAntisymmetric (a.id, a.creator) (b.id, b.creator) tied in
+    λ i. record { id = (pair i).0; creator = (pair i).1 }
+
+ties : (r : Ordering) → is_eq r ≡ true → r ≡ Equal
+ties Less e = absurd (subst (λ b. T (not b)) e tt)
+ties Equal e = refl
+ties Greater e = absurd (subst (λ b. T (not b)) e tt)
+
+-- the test of names tells whether they are one
+pub one_name : (a b : StateName) → eq_by_cmp name_order a b ≡ true → a ≡ b
+one_name a b e = name_alike a b (ties (name_order a b) e)
+
+pub same_itself : (a : StateName) → eq_by_cmp name_order a a ≡ true
+same_itself a = ap is_eq (tied_itself name_total a)
+
+pub same_name : (a b : StateName) → a ≡ b → eq_by_cmp name_order a b ≡ true
+same_name a b e = subst (λ n. eq_by_cmp name_order a n ≡ true) e (same_itself a)

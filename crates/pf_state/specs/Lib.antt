@@ -1,0 +1,5 @@
+pub mod Flows
+pub mod States
+pub mod Steps
+pub mod Bindings
+pub mod Laws

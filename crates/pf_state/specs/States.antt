@@ -1,0 +1,36 @@
+-- States, and the table of them (pf.conf(5), STATEFUL FILTERING). How states are named and ordered is own.
+use Rattle.std.specs.Prelude.{◌≡◌, ◌≤◌, T, true, List, length, Option, Some}
+use Rattle.std.specs.declared.cmp.Ordering.{Ordering}
+use Rattle.std.specs.FinMap.{find, is_sorted}
+use Rattle.std.specs.List.{find as first_where}
+use Rattle.std.specs.Ordering.{ordering_then, nat_cmp}
+use Rattle.pf_state.specs.declared.limits.TheConstants.{STATE_LIMIT}
+use Rattle.pf_state.specs.declared.state.Held.{Held}
+use Rattle.pf_state.specs.declared.state.StateName.{StateName}
+use Rattle.pf_state.specs.Flows.{PlainFlow, same_flow}
+
+-- a state: its name, and what is held under it
+abbrev pub Stated : Type 0
+Stated = StateName × Held
+
+-- by the number, then by the creator
+abbrev pub name_order : StateName → StateName → Ordering
+name_order a b = ordering_then (nat_cmp a.id b.id) (nat_cmp a.creator b.creator)
+
+-- what is held under a name
+abbrev pub held_at : StateName → List Stated → Option Held
+held_at n es = find name_order n es
+
+-- the state of a flow: the first one there is, and in a table the only one
+abbrev pub state_of : PlainFlow → List Stated → Option Stated
+state_of f es = first_where (λ s. same_flow s.1.flow f) es
+
+-- In the order of names, so no name twice; and no flow twice.
+pub record NamesFlows (es : List Stated) : Type 0 where
+  pub sorted : T (is_sorted name_order es)
+  pub one_flow : (a b : StateName) (x y : Held) → held_at a es ≡ Some x → held_at b es ≡ Some y → same_flow x.flow y.flow ≡ true → a ≡ b
+
+-- what a table keeps: that, and no more states than there may be
+pub record IsStates (es : List Stated) : Type 0 where
+  pub names : NamesFlows es
+  pub few : length es ≤ STATE_LIMIT

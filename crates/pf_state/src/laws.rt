@@ -1,0 +1,44 @@
+//! What follows from the definitions that contracts cite: functions that do nothing, whose contracts are the laws.
+ghost use Rattle.pf_state.specs.Laws.{OneFlowOrAnother, InterfaceIsNoPart, OneStateAFlow, KeepsWhatIsThere, StaleByGeneration, ReadsWhatStepsLeave, NamesAlike, LastStepStands, StaysStates, RefusedByAnyStep, CountsAddUp, BindsExactly, TellsTheNumber};
+
+/// Two flows are one where they are equal, or one is the other turned, which is so of each with itself, of both if of one, and of
+/// the first and the third if of the first and the second and of the second and the third. The interface of a packet is no part of
+/// its flow.
+pub fn flows_are_one_or_another()
+    ensures alike { OneFlowOrAnother }
+    ensures interface { InterfaceIsNoPart }
+{}
+
+/// In a table at most one state has a flow, and it is the one that is found.
+pub fn one_state_a_flow()
+    ensures { OneStateAFlow }
+{}
+
+/// A stale insert, and one that clashes, changes nothing. A delete takes out what is there whatever its generation, and a clear
+/// exactly one creator's states. Whether an insert of a known name is stale its generation alone says.
+pub fn steps_change_what_they_name()
+    ensures keeps { KeepsWhatIsThere }
+    ensures stale { StaleByGeneration }
+    ensures reads { ReadsWhatStepsLeave }
+    ensures names { NamesAlike }
+{}
+
+/// After a batch there is under each name what the last step left that had effect on it; the states are in order, no name and no
+/// flow stands twice, and there are no more than there may be. A batch is refused where that would not be so behind some step.
+pub fn batches_leave_states()
+    ensures last { LastStepStands }
+    ensures stays { StaysStates }
+    ensures refused { RefusedByAnyStep }
+{}
+
+/// Each insert is counted once, and the states grow and shrink by what is counted.
+pub fn counts_add_up()
+    ensures { CountsAddUp }
+{}
+
+/// A state is bound to a main rule only where the checksum that came with it is that of the main rules here, no anchor is named,
+/// and the number is that of one of them. That number is told only while these rules stand.
+pub fn states_are_bound_by_sums()
+    ensures binds { BindsExactly }
+    ensures tells { TellsTheNumber }
+{}

@@ -1,0 +1,22 @@
+//! States of flows, the table that holds them, and how a peer's states change it (pf.conf(5), STATEFUL FILTERING; the rest is own).
+#![tactic(auto)]
+
+mod binding;
+mod change;
+mod counts;
+mod flow;
+pub mod laws;
+mod limits;
+mod refusal;
+mod state;
+mod step;
+mod table;
+
+pub use binding::{ALL_ONES, bind, exported};
+pub use counts::Counts;
+pub use flow::Flow;
+pub use limits::STATE_LIMIT;
+pub use refusal::StatesRefusal;
+pub use state::{Bound, Held, State, StateName};
+pub use step::{Insertion, Step};
+pub use table::StateTable;
