@@ -1,4 +1,4 @@
-pub mod TableCounts
 pub mod Switching
 pub mod LongerWorlds
 pub mod Limits
+pub mod Tracking

@@ -1,12 +1,10 @@
 -- In each opening that a world comes to each ticket was given once, all limits hold, and all is shown.
-use Rattle.std.proofs.Common.{◌≡◌, ℕ, ◌+◌, ◌≤◌, ◌==◌, ◌&&◌, not, Bool, true, false, cond, List, [], ◌∷◌, length, refl, sym, ap, ◌∙◌, subst, inl, inr, Result, Ok, Err, arith, zero, suc, ◌++◌}
-use Rattle.std.specs.Prelude.{nat_lt, fold}
+use Rattle.std.proofs.Common.{◌≡◌, ℕ, ◌+◌, ◌≤◌, Bool, true, false, cond, List, [], ◌∷◌, length, refl, sym, ap, ◌∙◌, subst, inl, inr, Option, Some, None, Result, Ok, Err, arith, zero, suc, ◌++◌}
+use Rattle.std.specs.Prelude.{nat_lt, fold, is_some, if◌then◌else◌}
 use Rattle.std.specs.List.{AllByRecursion}
 use Rattle.std.specs.Ordering.{eq_by_cmp}
 use Rattle.pf_map.specs.ListMaps.{list_by}
-use Rattle.pf_table.specs.declared.limits.TheConstants.{TABLE_LIMIT}
-use Rattle.pf_table.specs.Edits.{added, additions, deleted, deletions, replaced}
-use Rattle.pf_table.specs.EditLaws.{deleted_fewer}
+use Rattle.pf_table.specs.Edits.{additions, deletions}
 use Rattle.pf_table.specs.Entries.{Row}
 use Rattle.std.proofs.lemmas.Bool.Decides.{nat_tests}
 use Rattle.pf_ticket.specs.declared.name.RulesetName.{RulesetName}
@@ -21,7 +19,19 @@ use Rattle.pf_ticket.specs.Replies.{begin_reply, add_reply, define_reply, list_c
 use Rattle.pf_ticket.specs.Tickets.{Open, loaded, content}
 use Rattle.pf_ticket.proofs.Keeping.{begins_give, keeps_the_limits as tickets_keep}
 use Rattle.pf_core.specs.declared.command.Command.{Command}
-use Rattle.pf_core.specs.declared.command.Command.TheVariants.{Transact, Edit as Change, Ask}
+use Rattle.pf_core.specs.declared.command.Command.TheVariants.{Transact, Edit as Change, States as OfStates, Ask}
+use Rattle.pf_rule.specs.Packets.{PlainPacket}
+use Rattle.pf_anchor.specs.declared.verdict.RuleVerdict.{RuleVerdict}
+use Rattle.pf_state.specs.declared.state.Bound.{Bound}
+use Rattle.pf_state.specs.declared.state.StateName.{StateName}
+use Rattle.pf_state.specs.declared.step.Step.TheVariants as step
+use Rattle.pf_state.specs.Flows.{flow_of}
+use Rattle.pf_state.specs.States.{Stated, held_at}
+use Rattle.pf_state.specs.Steps.{counts}
+use Rattle.pf_durable.specs.declared.verdict.Verdict.{Verdict}
+use Rattle.pf_durable.specs.declared.verdict.Verdict.TheVariants.{State as Stateful, Rules as ByRules}
+use Rattle.pf_core.specs.declared.command.StateCommand.{StateCommand}
+use Rattle.pf_core.specs.declared.command.StateCommand.TheVariants.{Track, Peer, Kill as KillState}
 use Rattle.pf_core.specs.declared.command.TableEdit.{TableEdit}
 use Rattle.pf_core.specs.declared.command.TableEdit.TheVariants.{Add as AddTo, Delete, Set, Kill}
 use Rattle.pf_core.specs.declared.command.Question.{Question}
@@ -31,16 +41,21 @@ use Rattle.pf_core.specs.declared.reply.Answer.TheVariants as answer
 use Rattle.pf_core.specs.declared.reply.Outcome.{Outcome}
 use Rattle.pf_core.specs.declared.reply.Outcome.TheVariants as outcome
 use Rattle.pf_core.specs.declared.reply.Refusal.{Refusal}
-use Rattle.pf_core.specs.declared.reply.Refusal.TheVariants.{HistoryFull, TableFull, TooManyRulesets, TooManyTables}
+use Rattle.pf_core.specs.declared.reply.Refusal.TheVariants.{HistoryFull}
+use Rattle.pf_durable.specs.declared.refusal.ChangeRefusal.{ChangeRefusal}
+use Rattle.pf_durable.specs.declared.refusal.ChangeRefusal.TheVariants.{TooManyRulesets, TooManyTables}
 use Rattle.pf_core.specs.declared.reply.Reply.{Reply}
 use Rattle.pf_core.specs.declared.reply.Reply.TheVariants.{Answer as Answered, Applied, Refused}
 use Rattle.pf_core.specs.declared.step.Step.{Step}
 use Rattle.pf_core.specs.declared.step.Step.TheVariants.{Done, Wants}
 use Rattle.pf_core.specs.Calls.{call, mentions_of, Call}
-use Rattle.pf_core.specs.Commands.{unless_refused, items, wanting, added_of, deleted_of, there, edit_step, answer_of, step_by, mentioned}
-use Rattle.pf_core.specs.Edits.{Kept, Edit, commits, adds, deletes, sets, rulesets_in, placed, tables_in, entries_at, with_entries, applied, voided_by, after, and_then, unless, no_conflict, holdable, is_one_more, room_for_table, replaceable, fits}
-use Rattle.pf_core.specs.WorldFacts.{tickets_in, given_by, tickets_given, GivesEachOnce, IsWithin, KeepsTheLimits, ShowsAll}
-use Rattle.pf_core.specs.WorldLaws.{unit_is, IsPassed, passed, none-wanted, AreBothPassed, both_passed, not_refused, IsThis, wants_commit, edit_of, wants_edit, IsWanted, wants}
+use Rattle.pf_core.specs.Commands.{unless_refused, unless_unfit, if_there, is_table, items, wanting, added_of, deleted_of, edit_step, makes_state, tracked, track_step, steps_here, states_step, answer_of, step_by, mentioned}
+use Rattle.pf_durable.specs.Edits.{Kept, Edit, commits, adds, deletes, sets, acts, removes, verdict, rulesets_in, placed, tables_in, entries_at, applied, voided_by, after, unless, no_conflict, fits}
+use Rattle.pf_durable.specs.Laws.{IsWithin}
+use Rattle.pf_durable.proofs.Checks.{AreBothPassed, both_passed, not_refused}
+use Rattle.pf_durable.proofs.Within.{AreFewEntries, keeps_within}
+use Rattle.pf_core.specs.WorldFacts.{tickets_in, given_by, tickets_given, GivesEachOnce, KeepsTheLimits, ShowsAll}
+use Rattle.pf_core.specs.WorldLaws.{unit_is, IsPassed, passed, none-wanted, fit, IsThis, wants_commit, edit_of, wants_edit, IsOfStates, of_steps, of_removal, IsStateChange, wants_states, IsWanted, wants}
 use Rattle.pf_core.specs.Worlds.{Held, log_of, durable_of, step_in, room_for, if_ok, or_refused, due_at, grouped, group_at, LegalReply, State, up, down, Upshot, Event, called, opened, flat, group_in, acked_by, shown_by, heard, next, LegalCall, IsLegal, state_after, IsLegalFrom, IsWorld}
 use Rattle.std.proofs.lemmas.Bool.{cond_both}
 use Rattle.std.proofs.lemmas.List.{append-nil, length-append}
@@ -48,7 +63,7 @@ use Rattle.std.proofs.lemmas.List.Sums.{fold_push}
 use Rattle.pf_rule.specs.Rules.{PlainRule}
 use Rattle.pf_anchor.specs.declared.limits.TheConstants.{RULE_LIMIT, RULESET_LIMIT, TABLE_COUNT_LIMIT}
 use Rattle.pf_anchor.specs.Configurations.{Configuration}
-use Rattle.pf_anchor.specs.Tables.{TableKey, tabled, table_order}
+use Rattle.pf_anchor.specs.Tables.{TableKey, table_order}
 use Rattle.pf_anchor.proofs.TableMaps.{tables_replaced}
 use Rattle.pf_anchor.specs.Rulesets.{rules_at}
 use Rattle.pf_anchor.proofs.RulesetMaps.{replaced_in_turn}
@@ -56,7 +71,6 @@ use Rattle.pf_ticket.specs.declared.entry.Entry.{Entry}
 use Rattle.pf_ticket.proofs.Twice.{gives_each_once as once_given}
 use Rattle.pf_core.proofs.LongerWorlds.{flat-push}
 use Rattle.pf_core.proofs.Switching.{switched_in, rules_of, rules-switched, entries_of, tables-switched}
-use Rattle.pf_core.proofs.TableCounts.{deleted-none, no-table-more}
 
 -- ---- by the step that was answered
 
@@ -93,9 +107,13 @@ question-told : (d : Kept) (q : Question) → tickets_in (Answered (answer_of d 
 question-told d q = grind arith
 
 -- what wants a change isn't only answered
-never-done : (fit : Result (Unit {0}) Refusal) (e : Edit) (o : Outcome) (a : Answer) → and_then fit (Ok (Wants e o)) ≡ Ok (Done a) → ⊥
+never-done : (fit : Result (Unit {0}) ChangeRefusal) (e : Edit) (o : Outcome) (a : Answer) → unless_unfit fit (Ok (Wants e o)) ≡ Ok (Done a) → ⊥
 never-done (Ok u) e o a h = cc (h)
 never-done (Err x) e o a h = cc (h)
+
+never-there : (b : Bool) (e : Edit) (o : Outcome) (a : Answer) → if_there b (Ok (Wants e o)) ≡ Ok (Done a) → ⊥
+never-there true e o a h = cc (h)
+never-there false e o a h = cc (h)
 
 never-committed : (r : Result (Unit {0}) TicketRefusal) (d : Kept) (e : Edit) (o : Outcome) (a : Answer) → unless_refused r (λ _. wanting d e o) ≡ Ok (Done a) → ⊥
 never-committed (Ok u) d e o a h = never-done (fits d e) e o a h
@@ -106,9 +124,35 @@ never-edited d (AddTo p name xs) a h = never-done (fits d (adds p name xs)) (add
 never-edited d (Delete p name xs) a h =
     let e : Edit = deletes p name xs in
     let o : Outcome = deleted_of (deletions (entries_at d p name) xs) in
-    never-done (there (entries_at d p name)) e o a (both_passed (no_conflict xs) (and_then (there (entries_at d p name)) (Ok (Wants e o))) (Done a) h).second
+    never-there (is_table (entries_at d p name)) e o a (fit (no_conflict xs) (if_there (is_table (entries_at d p name)) (Ok (Wants e o))) (Done a) h).second
 never-edited d (Set p name xs) a h = never-done (fits d (sets p name xs)) (sets p name xs) outcome.Set a h
-never-edited d (Kill p name) a h = never-done (there (entries_at d p name)) (sets p name []) outcome.Killed a h
+never-edited d (Kill p name) a h = never-there (is_table (entries_at d p name)) (sets p name []) outcome.Killed a h
+
+-- a change of states that is only answered tells none
+told-is : (x a : Answer) (r : Result Step Refusal) → r ≡ Ok (Done x) → tickets_in (Answered x) ≡ [] → r ≡ Ok (Done a) → tickets_in (Answered a) ≡ []
+told-is x a r this none h =
+    let is : x ≡ a = cc (this, h) in
+    subst (λ (y : Answer). tickets_in (Answered y) ≡ []) is none
+
+make-told : (d : Kept) (v : RuleVerdict) (s : Stated) (stale : Bool) (a : Answer) → (if stale then Ok (Done (answer.Stale v)) else wanting d (acts (step.Insert s ∷ [])) (outcome.Tracked v)) ≡ Ok (Done a) → tickets_in (Answered a) ≡ []
+make-told d v s true a h = told-is (answer.Stale v) a (Ok (Done (answer.Stale v))) refl refl h
+make-told d v s false a h = absurd (never-done (fits d (acts (step.Insert s ∷ []))) (acts (step.Insert s ∷ [])) (outcome.Tracked v) a h)
+
+tracked-told : (d : Kept) (name : StateName) (packet : PlainPacket) (v : RuleVerdict) (made : Option Bound) (a : Answer) → tracked d name packet v made ≡ Ok (Done a) → tickets_in (Answered a) ≡ []
+tracked-told d name packet v None a h = told-is (answer.Judged (ByRules v)) a (Ok (Done (answer.Judged (ByRules v)))) refl refl h
+tracked-told d name packet v (Some b) a h =
+    let s : Stated = (name, record { generation = 0; flow = flow_of packet; bound = b }) in
+    make-told d v s (is_some (held_at s.0 d.states)) a h
+
+verdict-told : (d : Kept) (name : StateName) (packet : PlainPacket) (v : Verdict) (a : Answer) → track_step d name packet v ≡ Ok (Done a) → tickets_in (Answered a) ≡ []
+verdict-told d name packet (Stateful s) a h = told-is (answer.Judged (Stateful s)) a (Ok (Done (answer.Judged (Stateful s)))) refl refl h
+verdict-told d name packet (ByRules by) a h = tracked-told d name packet by (makes_state d by) a h
+
+states-told : (d : Kept) (c : StateCommand) (a : Answer) → states_step d c ≡ Ok (Done a) → tickets_in (Answered a) ≡ []
+states-told d (Track name packet) a h = verdict-told d name packet (verdict d packet) a h
+states-told d (Peer m) a h =
+    absurd (never-done (fits d (acts (steps_here d m))) (acts (steps_here d m)) (outcome.Peered (counts d.states (steps_here d m))) a h)
+states-told d (KillState name) a h = absurd (never-there (is_some (held_at name d.states)) (removes name) outcome.Killed a h)
 
 answered-told : (t : Open) (d : Kept) (c : Command) (a : Answer) → step_by t d c ≡ Ok (Done a) → AreTold t (moved_by t (mentioned c)) (tickets_in (Answered a))
 answered-told t d (Transact (Begin names)) a h = begin-told t names a (passed (begin_reply t names) (λ range. Ok (Done (answer.Given range))) (Done a) h)
@@ -126,6 +170,7 @@ answered-told t d (Transact (Rollback entries)) a h =
     let new : Open = moved_by t (mentioned (Transact (Rollback entries))) in
     subst (AreTold t new) (sym (done-told (list_check entries) a h)) (none-told t new (tickets_keep.rollback t entries) (begins_give.rollback t entries))
 answered-told t d (Change edit) a h = absurd (never-edited d edit a h)
+answered-told t d (OfStates c) a h = subst (AreTold t t) (sym (states-told d c a h)) (none-told t t (λ w. w) (record { epoch = refl; next = omega arith }))
 answered-told t d (Ask q) a h =
     let is : answer_of d q ≡ a = cc (h) in
     subst (AreTold t t) (sym (question-told d q) ∙ ap (λ (x : Answer). tickets_in (Answered x)) is) (none-told t t (λ w. w) (record { epoch = refl; next = omega arith }))
@@ -190,9 +235,6 @@ switched-within P f (n ∷ ns) name old keeps h =
       by true is = subst (λ x. P (f x old)) (sym (name_is n name is)) (keeps old h)
       by false is = h
 
-abbrev AreFewEntries : List Row → Type 0
-AreFewEntries es = length es ≤ TABLE_LIMIT
-
 placed-within : (p : List ℕ) (named : List Named) (k : TableKey) (old : List Row) → AllByRecursion (λ (n : Named). AreFewEntries n.1) named → AreFewEntries old → AreFewEntries (list_by table_order (placed p named) k old)
 placed-within p [] k old each few = few
 placed-within p (t ∷ ts) k old each few = placed-within p ts k (cond (eq_by_cmp table_order (p, t.0) k) t.1 old) each.1 (cond_both (eq_by_cmp table_order (p, t.0) k) t.1 old AreFewEntries (λ _. each.0) (λ _. few))
@@ -213,55 +255,18 @@ commit-within t d entries h all w =
       entries = λ p name. subst AreFewEntries
           (sym (tables_replaced (tables_in (items (content t) entries)) d.config.tables p name ∙ tables-switched t entries p name (entries_at d p name)))
           (switched-within AreFewEntries (entries_of t p name) (names_of entries) (table_ruleset_at p) (entries_at d p name) (λ x old. placed-within p (loaded t (table_ruleset_at p)).tables (p, name) x (all.offered (table_ruleset_at p)).entries old) (w.entries p name));
+      states = w.states;
     }
 
-table-within : (d : Kept) (p name : List ℕ) (es : List Row) → AreFewEntries es → length (with_entries d p name es).config.tables ≤ TABLE_COUNT_LIMIT → IsWithin d → IsWithin (with_entries d p name es)
-table-within d p name es few count w = record {
-  rulesets = w.rulesets;
-  rules = w.rules;
-  tables = count;
-  entries = λ q other. subst AreFewEntries (sym (tables_replaced (tabled p name es ∷ []) d.config.tables q other))
-      (cond_both (eq_by_cmp table_order (p, name) (q, other)) es (entries_at d q other) AreFewEntries (λ _. few) (λ _. w.entries q other));
-}
-
-room-within : (d : Kept) (p name : List ℕ) (es : List Row) → room_for_table d p name es ≡ Ok tt → IsWithin d → length (with_entries d p name es).config.tables ≤ TABLE_COUNT_LIMIT
-room-within d p name es h w = by (is_one_more (entries_at d p name) es) refl (not_refused (is_one_more (entries_at d p name) es && nat_lt TABLE_COUNT_LIMIT (length (with_entries d p name es).config.tables)) TooManyTables h) where
-  by : (b : Bool) → is_one_more (entries_at d p name) es ≡ b → (b && nat_lt TABLE_COUNT_LIMIT (length (with_entries d p name es).config.tables)) ≡ false → length (with_entries d p name es).config.tables ≤ TABLE_COUNT_LIMIT
-  by true is room = grind (arith, nat_tests, room)
-  by false is room =
-      let less : length (with_entries d p name es).config.tables ≤ length d.config.tables = no-table-more d.config.tables p name es is in
-      let before : length d.config.tables ≤ TABLE_COUNT_LIMIT = w.tables in
-      omega (arith, less, before)
-
-replaceable-within : (d : Kept) (p name : List ℕ) (es : List Row) → replaceable d p name es ≡ Ok tt → IsWithin d → IsWithin (with_entries d p name es)
-replaceable-within d p name es h w =
-    let both : AreBothPassed (holdable es) (room_for_table d p name es) tt = both_passed (holdable es) (room_for_table d p name es) tt h in
-    let few : nat_lt TABLE_LIMIT (length es) ≡ false = not_refused (nat_lt TABLE_LIMIT (length es)) TableFull both.first in
-    table-within d p name es (grind (arith, nat_tests, few)) (room-within d p name es both.second w) w
-
--- what is left of a table that isn't there isn't one more
-still-there : (old xs : List Row) → is_one_more old (deleted old xs) ≡ false
-still-there [] xs = ap (λ (es : List Row). is_one_more [] es) (deleted-none xs)
-still-there (e ∷ es) xs =
-    let some : (length (e ∷ es) == 0) ≡ false = grind (arith, nat_tests) in
-    ap (λ (b : Bool). b && not (length (deleted (e ∷ es) xs) == 0)) some
-
-delete-within : (d : Kept) (p name : List ℕ) (xs : List Row) → IsWithin d → IsWithin (applied d (deletes p name xs))
-delete-within d p name xs w =
-    let old : List Row = entries_at d p name in
-    let fewer : length (deleted old xs) ≤ length old = deleted_fewer old xs in
-    let before : length old ≤ TABLE_LIMIT = w.entries p name in
-    let less : length (with_entries d p name (deleted old xs)).config.tables ≤ length d.config.tables = no-table-more d.config.tables p name (deleted old xs) (still-there old xs) in
-    let tables : length d.config.tables ≤ TABLE_COUNT_LIMIT = w.tables in
-    table-within d p name (deleted old xs) (omega (arith, fewer, before)) (omega (arith, less, tables)) w
-
 edit-within : (d : Kept) (edit : TableEdit) → fits d (edit_of edit) ≡ Ok tt → IsWithin d → IsWithin (applied d (edit_of edit))
-edit-within d (AddTo p name xs) h w =
-    let new : List Row = added (entries_at d p name) xs in
-    replaceable-within d p name new (both_passed (no_conflict xs) (replaceable d p name new) tt h).second w
-edit-within d (Delete p name xs) h w = delete-within d p name xs w
-edit-within d (Set p name xs) h w = replaceable-within d p name (replaced xs) (both_passed (no_conflict xs) (replaceable d p name (replaced xs)) tt h).second w
-edit-within d (Kill p name) h w = replaceable-within d p name (replaced []) (both_passed (no_conflict []) (replaceable d p name (replaced [])) tt h).second w
+edit-within d (AddTo p name xs) h w = (keeps_within d w).by_add p name xs h
+edit-within d (Delete p name xs) h w = (keeps_within d w).by_delete p name xs
+edit-within d (Set p name xs) h w = (keeps_within d w).by_set p name xs h
+edit-within d (Kill p name) h w = (keeps_within d w).by_set p name [] h
+
+states-within : (d : Kept) (e : Edit) → IsOfStates e → fits d e ≡ Ok tt → IsWithin d → IsWithin (applied d e)
+states-within d _ (of_steps steps) h w = (keeps_within d w).by_steps steps h
+states-within d _ (of_removal name) h w = (keeps_within d w).by_removal name
 
 change-within : (t : Open) (d : Kept) (c : Command) (e : Edit) (o : Outcome) → step_by t d c ≡ Ok (Wants e o) → AreTicketsWithin t → IsWithin d → IsWithin (applied d e)
 change-within t d (Transact (Begin names)) e o h all w = absurd (none-wanted (begin_reply t names) (λ range. answer.Given range) e o h)
@@ -274,6 +279,9 @@ change-within t d (Transact (Rollback entries)) e o h all w = absurd (none-wante
 change-within t d (Change edit) e o h all w =
     let this : IsThis d (edit_of edit) e = wants_edit d edit e o h in
     subst (λ (x : Edit). IsWithin (applied d x)) this.is (edit-within d edit this.fits w)
+change-within t d (OfStates c) e o h all w =
+    let change : IsStateChange d e = wants_states d c e o h in
+    states-within d e change.is change.fits w
 change-within t d (Ask q) e o h all w = absurd (cc (h))
 
 -- ---- one event more
@@ -360,7 +368,7 @@ holds-next first (down d) ts (opened setting) legal all = record {
   next = omega arith;
   numbered = refl;
   none = refl;
-  logged = record { room = omega arith; shown = refl; kept = λ within. record { rulesets = (all within).rulesets; rules = (all within).rules; tables = (all within).tables; entries = (all within).entries } };
+  logged = record { room = omega arith; shown = refl; kept = λ within. record { rulesets = (all within).rulesets; rules = (all within).rules; tables = (all within).tables; entries = (all within).entries; states = (all within).states } };
 }
 
 holds-from : (first : Kept) (st : State) (ts : List Ticket) (world : List Event) → IsLegalFrom st world → HoldsOf first st ts → HoldsOf first (state_after st world) (fold given_by ts world)

@@ -1,28 +1,26 @@
 -- What a commit leaves of each ruleset, and any call of those that it doesn't name.
-use Rattle.std.proofs.Common.{◌≡◌, ◌≢◌, ◌⊎◌, inl, inr, ℕ, T, Bool, true, false, cond, ◌&&◌, ◌||◌, List, [], ◌∷◌, ◌++◌, length, refl, sym, ap, ◌∙◌, Option, Some, None, Result, Ok, Err, subst}
+use Rattle.std.proofs.Common.{◌≡◌, ℕ, T, Bool, true, false, cond, ◌&&◌, ◌||◌, List, [], ◌∷◌, ◌++◌, length, refl, sym, ap, ◌∙◌, Option, Some, None, Result, Ok, Err, subst}
 use Rattle.std.specs.Prelude.{fold, unwrap_or}
 use Rattle.std.specs.declared.cmp.Ordering.{Ordering}
 use Rattle.std.specs.declared.cmp.Ordering.TheVariants.{Less, Equal, Greater}
 use Rattle.std.specs.FinMap.{find, is_sorted, slice_cmp-IsAntisymmetric, nat_cmp-IsAntisymmetric}
 use Rattle.std.specs.FinMap.Entries.{below_all}
 use Rattle.std.specs.List.{list_all}
-use Rattle.std.specs.Ordering.{is_eq, is_lt, eq_by_cmp, ordering_then}
+use Rattle.std.specs.Ordering.{is_eq, is_lt, eq_by_cmp}
 use Rattle.std.proofs.lemmas.Bool.{or_parts, and_parts, cond_both}
 use Rattle.std.proofs.lemmas.Cmp.{eq_by_cmp_equiv, nat_list_cmp_total}
 use Rattle.std.proofs.lemmas.List.{map-id}
 use Rattle.std.proofs.lemmas.Simd.{map-map}
 use Rattle.pf_rule.specs.Rules.{PlainRule}
-use Rattle.pf_path.proofs.PathsRead.{same_path_is}
 use Rattle.pf_path.specs.Names.{name_order}
-use Rattle.pf_path.specs.Paths.{path_order, same_path}
-use Rattle.pf_table.specs.Edits.{added, deleted, replaced}
+use Rattle.pf_path.specs.Paths.{same_path}
 use Rattle.pf_table.specs.Entries.{Row}
 use Rattle.pf_anchor.specs.Laws.{rules_by}
 use Rattle.pf_map.specs.ListMaps.{list_by}
 use Rattle.pf_anchor.specs.Rulesets.{Ruled, rules_at, with_rules}
-use Rattle.pf_anchor.specs.Tables.{TableKey, Tabled, tabled, table_order, with_table}
-use Rattle.pf_anchor.proofs.RulesetMaps.{map_all, replaced_in_turn}
-use Rattle.pf_anchor.proofs.TableMaps.{table_order_total, tables_replaced, table_maps_stay}
+use Rattle.pf_anchor.specs.Tables.{TableKey, Tabled, table_order, with_table}
+use Rattle.pf_anchor.proofs.RulesetMaps.{replaced_in_turn}
+use Rattle.pf_anchor.proofs.TableMaps.{tables_replaced}
 use Rattle.pf_ticket.specs.declared.entry.Entry.{Entry}
 use Rattle.pf_ticket.specs.declared.name.RulesetKind.{RulesetKind}
 use Rattle.pf_ticket.specs.declared.name.RulesetKind.TheVariants.{Filter, Table}
@@ -37,14 +35,14 @@ use Rattle.pf_ticket.specs.NamedTables.{Named}
 use Rattle.pf_ticket.specs.Tickets.{Loaded, Open, offered_as, loaded, offer_at, ticket_in, content}
 use Rattle.pf_ticket.proofs.Moves.{leaves_the_others as mentions_leave, commit_takes_out, gives-named}
 use Rattle.pf_ticket.proofs.Twice.{otherwise_once}
-use Rattle.pf_core.specs.declared.change.Item.{Item}
-use Rattle.pf_core.specs.declared.command.Command.TheVariants.{Transact, Edit as Change, Ask}
+use Rattle.pf_durable.specs.declared.change.Item.{Item}
+use Rattle.pf_core.specs.declared.command.Command.TheVariants.{Transact, Edit as Change, States as OfStates, Ask}
 use Rattle.pf_core.specs.declared.command.Transaction.TheVariants.{Begin, Add, Define, Commit, Rollback}
 use Rattle.pf_core.specs.Commands.{item_of, items, mentioned, is_accepted}
-use Rattle.pf_core.specs.Edits.{Kept, Edit, commits, rulesets_in, placed, tables_in, entries_at, with_entries, applied}
-use Rattle.pf_core.specs.Laws.{ReplacesExactly, tables_offered, AreTablesSwitched, AreSwitched, SwitchesAll, LeaveTheOtherKind, IsEdited, EditsExactly, DeletesNothing, KeepsNoneValid, MentionsTheNamed, LeavesTheOthers, RefusedMentionNothing}
+use Rattle.pf_durable.specs.Edits.{Kept, Edit, commits, rulesets_in, placed, tables_in, entries_at, applied}
+use Rattle.pf_core.specs.Laws.{tables_offered, AreTablesSwitched, AreSwitched, SwitchesAll, LeaveTheOtherKind, KeepsNoneValid, MentionsTheNamed, LeavesTheOthers, RefusedMentionNothing}
 use Rattle.pf_core.specs.WorldLaws.{IsCommitted, wants_commit}
-use Rattle.pf_core.proofs.TableCounts.{deleted-none}
+use Rattle.pf_durable.proofs.Edited.{same-keys, equal-is}
 
 first_holds : (a b : Bool) → T (a && b) → T a
 first_holds true b h = tt
@@ -53,14 +51,6 @@ first_holds false b h = h
 second_holds : (a b : Bool) → T (a && b) → T b
 second_holds true b h = h
 second_holds false b h = absurd h
-
-pub replaces_exactly : ReplacesExactly
-replaces_exactly d items is = record {
-  epoch = refl;
-  maps = record { rulesets = map_all (rulesets_in items) d.config.rulesets is.rulesets; tables = table_maps_stay (tables_in items) d.config.tables is.tables };
-  rules = replaced_in_turn (rulesets_in items) d.config.rulesets;
-  tables = tables_replaced (tables_in items) d.config.tables;
-}
 
 -- ---- each ruleset by itself
 
@@ -108,15 +98,6 @@ rules-switched t (e ∷ es) p old =
 
 -- ---- tables
 
-then-equal : (r s : Ordering) → is_eq (ordering_then r s) ≡ (is_eq r && is_eq s)
-then-equal Less s = refl
-then-equal Equal s = refl
-then-equal Greater s = refl
-
--- the keys of two tables are one where their paths and names are
-same-keys : (p q name other : List ℕ) → eq_by_cmp table_order (p, name) (q, other) ≡ (same_path p q && eq_by_cmp name_order name other)
-same-keys p q name other = then-equal (path_order p q) (name_order name other)
-
 -- tables at another path change nothing here
 elsewhere : (q : List ℕ) (tables : List Named) (p name : List ℕ) (old : List Row) → same_path q p ≡ false → list_by table_order (placed q tables) (p, name) old ≡ old
 elsewhere q [] p name old h = refl
@@ -146,11 +127,6 @@ below-none name [] h = refl
 below-none name (t ∷ ts) h =
     ap (λ (b : Bool). cond b (Some t.1) (find name_order name ts)) (not-equal (name_order name t.0) (first_holds (is_lt (name_order name t.0)) (below_all name_order name ts) h))
     ∙ below-none name ts (second_holds (is_lt (name_order name t.0)) (below_all name_order name ts) h)
-
-equal-is : (r : Ordering) → is_eq r ≡ true → r ≡ Equal
-equal-is Less h = absurd (cc (h))
-equal-is Equal h = refl
-equal-is Greater h = absurd (cc (h))
 
 -- of tables in the order of their names the one of a name is read
 read-of-name : (p : List ℕ) (tables : List Named) (name : List ℕ) (old : List Row) → T (is_sorted name_order tables) → list_by table_order (placed p tables) (p, name) old ≡ unwrap_or (find name_order name tables) old
@@ -257,42 +233,6 @@ leave_the_other_kind = record {
   rulesets = λ t d es h. ap (λ (rs : List Ruled). fold with_rules d.config.rulesets rs) (no-rulesets t es h);
 }
 
--- ---- edits of tables
-
--- keys that aren't one don't tie
-keys-differ : (p q name other : List ℕ) → (p ≢ q) ⊎ (name ≢ other) → eq_by_cmp table_order (p, name) (q, other) ≡ false
-keys-differ p q name other differ = same-keys p q name other ∙ by (same_path p q) (eq_by_cmp name_order name other) refl refl differ where
-  by : (a b : Bool) → same_path p q ≡ a → eq_by_cmp name_order name other ≡ b → (p ≢ q) ⊎ (name ≢ other) → (a && b) ≡ false
-  by true true paths names (inl apart) = absurd (apart (same_path_is p q paths))
-  by true true paths names (inr apart) = absurd (apart ((slice_cmp-IsAntisymmetric nat_cmp-IsAntisymmetric) name other (equal-is (name_order name other) names)))
-  by true false paths names h = refl
-  by false b paths names h = refl
-
-edited : (d : Kept) (p name : List ℕ) (es : List Row) → IsEdited d p name es (with_entries d p name es)
-edited d p name es = record {
-  epoch = refl;
-  rulesets = refl;
-  here = tables_replaced (tabled p name es ∷ []) d.config.tables p name ∙ ap (λ (b : Bool). cond b es (entries_at d p name)) ((eq_by_cmp_equiv table_order_total).refl (p, name));
-  others = λ q other differ.
-      tables_replaced (tabled p name es ∷ []) d.config.tables q other ∙ ap (λ (b : Bool). cond b es (entries_at d q other)) (keys-differ p q name other differ);
-  map = λ is. table_maps_stay (tabled p name es ∷ []) d.config.tables is;
-}
-
-set-to-none : replaced [] ≡ []
-unfolding added
-set-to-none = refl
-
-pub edits_exactly : EditsExactly
-edits_exactly = record {
-  by_add = λ d p name xs. edited d p name (added (entries_at d p name) xs);
-  by_delete = λ d p name xs. edited d p name (deleted (entries_at d p name) xs);
-  by_set = λ d p name xs. edited d p name (replaced xs);
-  by_kill = λ d p name. subst (λ (es : List Row). IsEdited d p name es (with_entries d p name (replaced []))) set-to-none (edited d p name (replaced []));
-}
-
-pub deletes_nothing : DeletesNothing
-deletes_nothing d p name xs none = (edited d p name (deleted (entries_at d p name) xs)).here ∙ ap (λ (es : List Row). deleted es xs) none ∙ deleted-none xs
-
 -- ---- what any call leaves
 
 pub mentions_the_named : MentionsTheNamed
@@ -302,6 +242,7 @@ mentions_the_named (Transact (Define p u name xs)) = refl
 mentions_the_named (Transact (Commit entries)) = map-map named_in (λ (n : RulesetName). switched n) (names_of entries) ∙ map-id (names_of entries)
 mentions_the_named (Transact (Rollback entries)) = map-map named_in (λ (e : Entry). dropped e.name e.ticket) entries
 mentions_the_named (Change edit) = refl
+mentions_the_named (OfStates c) = refl
 mentions_the_named (Ask q) = refl
 
 pub leaves_the_others : LeavesTheOthers

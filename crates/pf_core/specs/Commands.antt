@@ -1,5 +1,5 @@
--- What a command means: the step that it is due, what it mentions, and whether it takes memory (pf(4), DIOCXBEGIN to DIOCXROLLBACK, DIOCRADDADDRS to DIOCRTSTADDRS). One line each, by family. The limits and the order of refusals are own.
-use Rattle.std.specs.Prelude.{◌==◌, Bool, true, false, List, [], ◌∷◌, length, map, filter, Result, Ok, Err}
+-- What a command means: the step that it is due, what it mentions, and whether it takes memory (pf(4), DIOCXBEGIN to DIOCXROLLBACK, DIOCRADDADDRS to DIOCRTSTADDRS; pf.conf(5); pfctl(8), -k). One line each, by family. The limits, the order of refusals and what peers tell are own.
+use Rattle.std.specs.Prelude.{ℕ, ◌==◌, Bool, true, false, not, if◌then◌else◌, is_some, List, [], ◌∷◌, length, map, filter, Option, Some, None, Result, Ok, Err}
 use Rattle.pf_table.specs.declared.answer.Addition.{Addition}
 use Rattle.pf_table.specs.declared.answer.Addition.TheVariants as addition
 use Rattle.pf_table.specs.declared.answer.Deletion.{Deletion}
@@ -9,6 +9,22 @@ use Rattle.pf_table.specs.Entries.{Row}
 use Rattle.pf_table.specs.Tables.{deciding}
 use Rattle.pf_anchor.specs.Rulesets.{ruled, rules_at}
 use Rattle.pf_anchor.specs.Tables.{tables_at}
+use Rattle.pf_rule.specs.declared.rule.Action.TheVariants.{Pass, Block}
+use Rattle.pf_rule.specs.Packets.{PlainPacket}
+use Rattle.pf_anchor.specs.declared.verdict.RuleVerdict.{RuleVerdict}
+use Rattle.pf_anchor.specs.declared.verdict.RuleVerdict.TheVariants.{Rule as Deciding, Default as NoRule}
+use Rattle.pf_state.specs.declared.state.Bound.{Bound}
+use Rattle.pf_state.specs.declared.state.Bound.TheVariants as bound
+use Rattle.pf_state.specs.declared.state.StateName.{StateName}
+use Rattle.pf_state.specs.declared.step.Step.{Step as StateStep}
+use Rattle.pf_state.specs.declared.step.Step.TheVariants as step
+use Rattle.pf_state.specs.Flows.{flow_of}
+use Rattle.pf_state.specs.States.{Stated, held_at}
+use Rattle.pf_state.specs.Steps.{counts}
+use Rattle.pf_peer.specs.declared.message.Message.{Message}
+use Rattle.pf_peer.specs.Written.{message_bytes}
+use Rattle.pf_failover.specs.Incoming.{steps_of}
+use Rattle.pf_failover.specs.Outgoing.{exported_messages}
 use Rattle.pf_ticket.specs.declared.entry.Entry.{Entry}
 use Rattle.pf_ticket.specs.declared.name.RulesetName.{RulesetName}
 use Rattle.pf_ticket.specs.declared.offered.Offered.{Offered}
@@ -18,12 +34,14 @@ use Rattle.pf_ticket.specs.Names.{filter_at, table_ruleset_at, names_of}
 use Rattle.pf_ticket.specs.Mentions.{Mention, added, defined, gives, switches, drops}
 use Rattle.pf_ticket.specs.Tickets.{Open, content}
 use Rattle.pf_ticket.specs.Replies.{begin_reply, add_reply, define_reply, list_check, commit_check}
-use Rattle.pf_core.specs.declared.change.Item.{Item}
-use Rattle.pf_core.specs.declared.change.Item.TheVariants as item
+use Rattle.pf_durable.specs.declared.change.Item.{Item}
+use Rattle.pf_durable.specs.declared.change.Item.TheVariants as item
 use Rattle.pf_core.specs.declared.command.Command.{Command}
-use Rattle.pf_core.specs.declared.command.Command.TheVariants.{Transact, Edit as Change, Ask}
+use Rattle.pf_core.specs.declared.command.Command.TheVariants.{Transact, Edit as Change, States as OfStates, Ask}
 use Rattle.pf_core.specs.declared.command.Question.{Question}
-use Rattle.pf_core.specs.declared.command.Question.TheVariants.{Judge, Test, ShowRules, ShowTables}
+use Rattle.pf_core.specs.declared.command.Question.TheVariants.{Judge, Test, ShowRules, ShowTables, ShowStates, Sum, Export}
+use Rattle.pf_core.specs.declared.command.StateCommand.{StateCommand}
+use Rattle.pf_core.specs.declared.command.StateCommand.TheVariants.{Track, Peer, Kill as KillState}
 use Rattle.pf_core.specs.declared.command.TableEdit.{TableEdit}
 use Rattle.pf_core.specs.declared.command.TableEdit.TheVariants.{Add as AddTo, Delete, Set, Kill}
 use Rattle.pf_core.specs.declared.command.Transaction.{Transaction}
@@ -38,8 +56,11 @@ use Rattle.pf_core.specs.declared.reply.Reply.{Reply}
 use Rattle.pf_core.specs.declared.reply.Reply.TheVariants.{Answer as Answered, Applied, Refused}
 use Rattle.pf_core.specs.declared.step.Step.{Step}
 use Rattle.pf_core.specs.declared.step.Step.TheVariants.{Done, Wants}
-use Rattle.pf_core.specs.Edits.{Kept, Edit, commits, adds, deletes, sets, entries_at, and_then, unless, no_conflict, fits, verdict}
-use Rattle.pf_core.specs.Refusals.{refusal_of}
+use Rattle.pf_durable.specs.declared.refusal.ChangeRefusal.{ChangeRefusal}
+use Rattle.pf_durable.specs.declared.verdict.Verdict.{Verdict}
+use Rattle.pf_durable.specs.declared.verdict.Verdict.TheVariants.{State as Stateful, Rules as ByRules}
+use Rattle.pf_durable.specs.Edits.{Kept, Edit, commits, adds, deletes, sets, acts, removes, entries_at, main_sum, no_conflict, fits, verdict}
+use Rattle.pf_core.specs.Refusals.{refusal_of, change_refusal_of}
 
 -- ---- steps
 
@@ -57,9 +78,14 @@ item_of name (offered.Tables named) = item.Tables name.path named
 abbrev pub items : (RulesetName → Offered) → List Entry → List Item
 items content entries = map (λ e. item_of e.name (content e.name)) entries
 
+-- what doesn't fit is refused
+abbrev pub unless_unfit : {A : Type 0} → Result (Unit {0}) ChangeRefusal → Result A Refusal → Result A Refusal
+unless_unfit (Ok u) next = next
+unless_unfit (Err e) next = Err (change_refusal_of e)
+
 -- a change is wanted, where it fits
 abbrev pub wanting : Kept → Edit → Outcome → Result Step Refusal
-wanting d e o = and_then (fits d e) (Ok (Wants e o))
+wanting d e o = unless_unfit (fits d e) (Ok (Wants e o))
 
 abbrev pub commit_step : Open → Kept → List Entry → Result Step Refusal
 commit_step t d entries = unless_refused (commit_check t entries) (λ _. wanting d (commits (items (content t) entries)) outcome.Committed)
@@ -96,16 +122,57 @@ same_deletion wanted answer = false
 abbrev pub deleted_of : List Deletion → Outcome
 deleted_of answers = outcome.Deleted (length (filter (same_deletion deletion.Deleted) answers)) (length (filter (same_deletion deletion.Absent) answers))
 
+-- what isn't there is refused
+abbrev pub if_there : {A : Type 0} → Bool → Result A Refusal → Result A Refusal
+if_there true next = next
+if_there false next = Err Absent
+
 -- a table that has entries is there
-abbrev pub there : List Row → Result (Unit {0}) Refusal
-there es = unless (length es == 0) Absent
+abbrev pub is_table : List Row → Bool
+is_table es = not (length es == 0)
 
 -- Each change that is accepted is wanted, also where it leaves all as it is. To kill a table is to set it to no entries.
 abbrev pub edit_step : Kept → TableEdit → Result Step Refusal
 edit_step d (AddTo p name xs) = wanting d (adds p name xs) (added_of (additions (entries_at d p name) xs))
-edit_step d (Delete p name xs) = and_then (no_conflict xs) (and_then (there (entries_at d p name)) (Ok (Wants (deletes p name xs) (deleted_of (deletions (entries_at d p name) xs)))))
+edit_step d (Delete p name xs) = unless_unfit (no_conflict xs) (if_there (is_table (entries_at d p name)) (Ok (Wants (deletes p name xs) (deleted_of (deletions (entries_at d p name) xs)))))
 edit_step d (Set p name xs) = wanting d (sets p name xs) outcome.Set
-edit_step d (Kill p name) = and_then (there (entries_at d p name)) (Ok (Wants (sets p name []) outcome.Killed))
+edit_step d (Kill p name) = if_there (is_table (entries_at d p name)) (Ok (Wants (sets p name []) outcome.Killed))
+
+-- ---- changes of states
+
+-- which rule a state is bound to that a rule at this path, of this number, makes here: of an anchor's rules none is told
+abbrev pub bound_here : Kept → List ℕ → ℕ → Bound
+bound_here d [] number = bound.Rule number (main_sum d)
+bound_here d (b ∷ path) number = bound.Default
+
+-- a rule that passes a packet and keeps state makes one, bound so
+abbrev pub makes_state : Kept → RuleVerdict → Option Bound
+makes_state d (Deciding path number (Pass true)) = Some (bound_here d path number)
+makes_state d (Deciding path number (Pass false)) = None
+makes_state d (Deciding path number Block) = None
+makes_state d NoRule = None
+
+-- it is made under a name that isn't taken
+abbrev pub make_step : Kept → RuleVerdict → Stated → Result Step Refusal
+make_step d by s = if is_some (held_at s.0 d.states) then Ok (Done (answer.Stale by)) else wanting d (acts (step.Insert s ∷ [])) (outcome.Tracked by)
+
+abbrev pub tracked : Kept → StateName → PlainPacket → RuleVerdict → Option Bound → Result Step Refusal
+tracked d name packet by None = Ok (Done (answer.Judged (ByRules by)))
+tracked d name packet by (Some b) = make_step d by (name, record { generation = 0; flow = flow_of packet; bound = b })
+
+abbrev pub track_step : Kept → StateName → PlainPacket → Verdict → Result Step Refusal
+track_step d name packet (Stateful s) = Ok (Done (answer.Judged (Stateful s)))
+track_step d name packet (ByRules by) = tracked d name packet by (makes_state d by)
+
+-- what a peer's message does to the states here
+abbrev pub steps_here : Kept → Message → List StateStep
+steps_here d m = steps_of m (main_sum d) (length (rules_at [] d.config.rulesets))
+
+-- A message that is accepted is a change, also where it leaves all as it is.
+abbrev pub states_step : Kept → StateCommand → Result Step Refusal
+states_step d (Track name packet) = track_step d name packet (verdict d packet)
+states_step d (Peer m) = wanting d (acts (steps_here d m)) (outcome.Peered (counts d.states (steps_here d m)))
+states_step d (KillState name) = if_there (is_some (held_at name d.states)) (Ok (Wants (removes name) outcome.Killed))
 
 -- ---- questions
 
@@ -115,11 +182,15 @@ answer_of d (Judge packet) = answer.Judged (verdict d packet)
 answer_of d (Test p name a) = answer.Tested (deciding (entries_at d p name) a)
 answer_of d (ShowRules p) = answer.Rules (rules_at p d.config.rulesets)
 answer_of d (ShowTables p) = answer.Tables (tables_at p d.config.tables)
+answer_of d ShowStates = answer.States d.states
+answer_of d Sum = answer.Sum (main_sum d)
+answer_of d Export = answer.Exported (map message_bytes (exported_messages (main_sum d) d.states))
 
 -- by the open transactions, and what is kept. A question is never refused, and changes nothing
 abbrev pub step_by : Open → Kept → Command → Result Step Refusal
 step_by t d (Transact transaction) = transact_step t d transaction
 step_by t d (Change edit) = edit_step d edit
+step_by t d (OfStates c) = states_step d c
 step_by t d (Ask q) = Ok (Done (answer_of d q))
 
 -- ---- mentions
@@ -132,10 +203,11 @@ transacted (Define p t name xs) = defined (table_ruleset_at p) t name xs ∷ []
 transacted (Commit entries) = switches (names_of entries)
 transacted (Rollback entries) = drops entries
 
--- an edit of a table mentions no ruleset, and neither does a question
+-- an edit of a table mentions no ruleset, and neither does a change of states or a question
 abbrev pub mentioned : Command → List Mention
 mentioned (Transact t) = transacted t
 mentioned (Change edit) = []
+mentioned (OfStates c) = []
 mentioned (Ask q) = []
 
 -- the rulesets that a command names, by its own words
@@ -146,6 +218,7 @@ named_by (Transact (Define p t name xs)) = table_ruleset_at p ∷ []
 named_by (Transact (Commit entries)) = names_of entries
 named_by (Transact (Rollback entries)) = names_of entries
 named_by (Change edit) = []
+named_by (OfStates c) = []
 named_by (Ask q) = []
 
 abbrev pub is_accepted : Reply → Bool
@@ -168,9 +241,13 @@ asks_for_memory (Test p name a) = false
 -- rules and tables are shared: that they can have no owner more is told as memory that was refused
 asks_for_memory (ShowRules p) = true
 asks_for_memory (ShowTables p) = true
+asks_for_memory ShowStates = true
+asks_for_memory Sum = false
+asks_for_memory Export = true
 
 -- whether a command may be refused because memory was
 abbrev pub takes_memory : Command → Bool
 takes_memory (Transact t) = transacts_in_memory t
 takes_memory (Change edit) = true
+takes_memory (OfStates c) = true
 takes_memory (Ask q) = asks_for_memory q

@@ -1,15 +1,9 @@
 -- What follows from the definitions, as law functions promise it.
-use Rattle.std.specs.Prelude.{◌≡◌, ◌≢◌, ◌⊎◌, ℕ, T, true, false, List, [], map, unwrap_or, None, Ok}
+use Rattle.std.specs.Prelude.{◌≡◌, ℕ, T, true, false, List, [], ◌∷◌, map, unwrap_or, None, Ok}
 use Rattle.std.specs.FinMap.{find, is_sorted}
 use Rattle.std.specs.List.{list_all}
 use Rattle.pf_path.specs.Names.{name_order}
-use Rattle.pf_table.specs.Edits.{added, deleted, replaced}
-use Rattle.pf_table.specs.Entries.{Row}
-use Rattle.pf_anchor.specs.Configurations.{IsConfiguration}
-use Rattle.pf_anchor.specs.Laws.{rules_by}
-use Rattle.pf_map.specs.ListMaps.{list_by}
 use Rattle.pf_anchor.specs.Rulesets.{rules_at}
-use Rattle.pf_anchor.specs.Tables.{table_order, IsTableMap}
 use Rattle.pf_ticket.specs.declared.entry.Entry.{Entry}
 use Rattle.pf_ticket.specs.declared.name.RulesetKind.TheVariants.{Filter, Table}
 use Rattle.pf_ticket.specs.declared.name.RulesetName.{RulesetName}
@@ -17,8 +11,14 @@ use Rattle.pf_ticket.specs.NamedTables.{Named}
 use Rattle.pf_ticket.specs.Tickets.{rules_in as offered_rules, tables_in as offered_tables, offer_at, Open, valid_ticket, content}
 use Rattle.pf_ticket.specs.Mentions.{named_in, after, switches}
 use Rattle.pf_ticket.specs.Names.{same_kind, is_named, names_of, filter_at, table_ruleset_at}
-use Rattle.pf_core.specs.declared.change.Item.{Item}
+use Rattle.pf_rule.specs.Packets.{PlainPacket}
+use Rattle.pf_state.specs.declared.state.StateName.{StateName}
+use Rattle.pf_state.specs.declared.step.Insertion.TheVariants.{New}
+use Rattle.pf_state.specs.declared.step.Step.TheVariants.{Insert}
+use Rattle.pf_state.specs.States.{Stated}
+use Rattle.pf_state.specs.Steps.{insertion}
 use Rattle.pf_core.specs.declared.command.Command.{Command}
+use Rattle.pf_core.specs.declared.command.StateCommand.TheVariants.{Track}
 use Rattle.pf_core.specs.declared.command.Command.TheVariants.{Transact}
 use Rattle.pf_core.specs.declared.command.Transaction.TheVariants.{Commit}
 use Rattle.pf_core.specs.declared.reply.Outcome.{Outcome}
@@ -26,18 +26,8 @@ use Rattle.pf_core.specs.declared.reply.Refusal.{Refusal}
 use Rattle.pf_core.specs.declared.reply.Reply.TheVariants.{Applied, Refused}
 use Rattle.pf_core.specs.declared.step.Step.TheVariants.{Wants}
 use Rattle.pf_core.specs.Calls.{Call, call, mentions_of}
-use Rattle.pf_core.specs.Commands.{items, step_by, mentioned, named_by}
-use Rattle.pf_core.specs.Edits.{Kept, Edit, commits, adds, deletes, sets, rulesets_in, tables_in, entries_at, applied, voided_by, fits}
-
--- what is kept after a commit, whole
-pub record IsReplaced (d : Kept) (items : List Item) (new : Kept) : Type 0 where
-  pub epoch : new.epoch ≡ d.epoch
-  pub maps : IsConfiguration new.config
-  pub rules : (q : List ℕ) → rules_at q new.config.rulesets ≡ rules_by (rulesets_in items) q (rules_at q d.config.rulesets)
-  pub tables : (p name : List ℕ) → entries_at new p name ≡ list_by table_order (tables_in items) (p, name) (entries_at d p name)
-
-abbrev pub ReplacesExactly : Type 0
-ReplacesExactly = (d : Kept) (items : List Item) → IsConfiguration d.config → IsReplaced d items (applied d (commits items))
+use Rattle.pf_core.specs.Commands.{items, step_by, states_step, mentioned, named_by}
+use Rattle.pf_durable.specs.Edits.{Kept, Edit, commits, acts, entries_at, applied, voided_by, fits}
 
 -- the tables that are offered for the table ruleset at a path
 abbrev pub tables_offered : Open → List ℕ → List Named
@@ -64,28 +54,6 @@ pub record LeaveTheOtherKind : Type 0 where
   pub tables : (t : Open) (d : Kept) (entries : List Entry) → list_all (λ e. same_kind e.name.kind Filter) entries ≡ true → (applied d (commits (items (content t) entries))).config.tables ≡ d.config.tables
   pub rulesets : (t : Open) (d : Kept) (entries : List Entry) → list_all (λ e. same_kind e.name.kind Table) entries ≡ true → (applied d (commits (items (content t) entries))).config.rulesets ≡ d.config.rulesets
 
--- ---- edits of tables
-
--- the table at this path under this name has these entries, and all else is as before
-pub record IsEdited (d : Kept) (p name : List ℕ) (es : List Row) (new : Kept) : Type 0 where
-  pub epoch : new.epoch ≡ d.epoch
-  pub rulesets : new.config.rulesets ≡ d.config.rulesets
-  pub here : entries_at new p name ≡ es
-  pub others : (q other : List ℕ) → (p ≢ q) ⊎ (name ≢ other) → entries_at new q other ≡ entries_at d q other
-  pub map : IsTableMap d.config.tables → IsTableMap new.config.tables
-
--- an edit changes exactly the table at its path under its name
-pub record EditsExactly : Type 0 where
-  pub by_add : (d : Kept) (p name : List ℕ) (xs : List Row) → IsEdited d p name (added (entries_at d p name) xs) (applied d (adds p name xs))
-  pub by_delete : (d : Kept) (p name : List ℕ) (xs : List Row) → IsEdited d p name (deleted (entries_at d p name) xs) (applied d (deletes p name xs))
-  pub by_set : (d : Kept) (p name : List ℕ) (xs : List Row) → IsEdited d p name (replaced xs) (applied d (sets p name xs))
-  -- so a table that is killed is there no more
-  pub by_kill : (d : Kept) (p name : List ℕ) → IsEdited d p name [] (applied d (sets p name []))
-
--- to delete entries from a table that isn't there makes none
-abbrev pub DeletesNothing : Type 0
-DeletesNothing = (d : Kept) (p name : List ℕ) (xs : List Row) → entries_at d p name ≡ [] → entries_at (applied d (deletes p name xs)) p name ≡ []
-
 -- what is wanted fits, and so it can be prepared
 abbrev pub WantsWhatFits : Type 0
 WantsWhatFits = (t : Open) (d : Kept) (c : Command) (e : Edit) (o : Outcome) → step_by t d c ≡ Ok (Wants e o) → fits d e ≡ Ok tt
@@ -109,3 +77,12 @@ MentionsTheNamed = (c : Command) → map named_in (mentioned c) ≡ named_by c
 -- a refused command mentions nothing
 abbrev pub RefusedMentionNothing : Type 0
 RefusedMentionNothing = (c : Command) (e : Refusal) → mentions_of (call c (Refused e)) ≡ []
+
+-- A packet that is tracked makes one state, and it is new: its flow is no state's, and its name was free.
+pub record MakesOne (d : Kept) (e : Edit) : Type 0 where
+  pub state : Stated
+  pub change : e ≡ acts (Insert state ∷ [])
+  pub new : insertion d.states state ≡ New
+
+abbrev pub TrackMakesOne : Type 0
+TrackMakesOne = (d : Kept) (name : StateName) (packet : PlainPacket) (e : Edit) (o : Outcome) → states_step d (Track name packet) ≡ Ok (Wants e o) → MakesOne d e

@@ -1,6 +1,4 @@
 pub mod Refusals
-pub mod Edits
-pub mod EditViews
 pub mod Commands
 pub mod Calls
 pub mod Wholes

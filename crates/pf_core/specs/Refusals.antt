@@ -1,9 +1,9 @@
--- What is told where the tickets or a table refuse, and where memory was refused.
-use Rattle.std.specs.Prelude.{◌≡◌, Bool, true, Result, Ok, Err}
+-- What is told where the tickets or a change refuse, and where memory was refused.
+use Rattle.std.specs.Prelude.{◌≡◌, Bool, true, Result, Err}
 use Rattle.pf_core.specs.declared.reply.Refusal.{Refusal}
 use Rattle.pf_core.specs.declared.reply.Refusal.TheVariants as told
-use Rattle.pf_table.specs.declared.refusal.TableRefusal.{TableRefusal}
-use Rattle.pf_table.specs.declared.refusal.TableRefusal.TheVariants as by_table
+use Rattle.pf_durable.specs.declared.refusal.ChangeRefusal.{ChangeRefusal}
+use Rattle.pf_durable.specs.declared.refusal.ChangeRefusal.TheVariants as by_change
 use Rattle.pf_ticket.specs.declared.refusal.TicketRefusal.{TicketRefusal}
 use Rattle.pf_ticket.specs.declared.refusal.TicketRefusal.TheVariants.{BadCount, Twice, Busy, Conflict, RulesetFull, TooManyRulesets, TableFull, TooManyTables, TicketsExhausted, Memory}
 
@@ -19,16 +19,14 @@ refusal_of TooManyTables = told.TooManyTables
 refusal_of TicketsExhausted = told.TicketsExhausted
 refusal_of Memory = told.Memory
 
-abbrev pub table_refusal_of : TableRefusal → Refusal
-table_refusal_of (by_table.Conflict i) = told.Conflict i
-table_refusal_of by_table.TableFull = told.TableFull
-table_refusal_of by_table.Memory = told.Memory
+abbrev pub change_refusal_of : ChangeRefusal → Refusal
+change_refusal_of (by_change.Conflict i) = told.Conflict i
+change_refusal_of by_change.TableFull = told.TableFull
+change_refusal_of by_change.TooManyRulesets = told.TooManyRulesets
+change_refusal_of by_change.TooManyTables = told.TooManyTables
+change_refusal_of by_change.StatesFull = told.StatesFull
+change_refusal_of by_change.Memory = told.Memory
 
 -- this; or memory was refused, where it is taken
 abbrev pub OrMemory : {A : Type 0} → Bool → Result A Refusal → Result A Refusal → Type 0
 OrMemory takes r due = ((r ≡ Err told.Memory → ⊥) → r ≡ due) × (r ≡ Err told.Memory → takes ≡ true)
-
--- done only where nothing refuses it, and refused only for what does; memory may be refused anywhere
-abbrev pub Meets : {A : Type 0} → Result A Refusal → Result (Unit {0}) Refusal → Type 0
-Meets (Ok x) due = due ≡ Ok tt
-Meets (Err e) due = (e ≡ told.Memory → ⊥) → due ≡ Err e

@@ -7,8 +7,8 @@ use Rattle.pf_ticket.specs.Mentions.{after}
 use Rattle.pf_core.specs.declared.reply.Refusal.{Refusal}
 use Rattle.pf_core.specs.declared.step.Step.{Step}
 use Rattle.pf_core.specs.declared.step.Step.TheVariants.{Done, Wants}
-use Rattle.pf_core.specs.Commands.{mentioned}
-use Rattle.pf_core.specs.Edits.{Kept, Edit, applied, voided_by, and_then, fits}
+use Rattle.pf_core.specs.Commands.{mentioned, unless_unfit}
+use Rattle.pf_durable.specs.Edits.{Kept, Edit, applied, voided_by, fits}
 
 -- a core: what is kept, and the open transactions
 pub record Whole : Type 0 where
@@ -28,7 +28,7 @@ ready d names = record { durable = d; voided = names }
 
 -- what is prepared for a change, where it fits
 abbrev pub prepared : Kept → Edit → Result Ready Refusal
-prepared d e = and_then (fits d e) (Ok (ready (applied d e) (voided_by e)))
+prepared d e = unless_unfit (fits d e) (Ok (ready (applied d e) (voided_by e)))
 
 -- what a command leaves of the open transactions: a step that wants a change kept, or is refused, leaves them as they were
 abbrev pub answered : Open → Command → Result Step Refusal → Open

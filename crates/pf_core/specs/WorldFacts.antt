@@ -1,8 +1,5 @@
 -- What holds after every world.
 use Rattle.std.specs.Prelude.{◌≡◌, ℕ, ◌≤◌, List, [], ◌++◌, length, fold}
-use Rattle.pf_anchor.specs.declared.limits.TheConstants.{RULE_LIMIT, RULESET_LIMIT, TABLE_COUNT_LIMIT}
-use Rattle.pf_table.specs.declared.limits.TheConstants.{TABLE_LIMIT}
-use Rattle.pf_anchor.specs.Rulesets.{rules_at}
 use Rattle.pf_ticket.specs.declared.ticket.Ticket.{Ticket}
 use Rattle.pf_ticket.specs.Laws.{AreOnce}
 use Rattle.pf_ticket.specs.Laws.{IsWithin as AreTicketsWithin}
@@ -12,7 +9,8 @@ use Rattle.pf_core.specs.declared.reply.Answer.TheVariants as answer
 use Rattle.pf_core.specs.declared.reply.Reply.{Reply}
 use Rattle.pf_core.specs.declared.reply.Reply.TheVariants.{Answer as Answered}
 use Rattle.pf_core.specs.Calls.{mentions_of}
-use Rattle.pf_core.specs.Edits.{Kept, entries_at}
+use Rattle.pf_durable.specs.Edits.{Kept}
+use Rattle.pf_durable.specs.Laws.{IsWithin}
 use Rattle.pf_core.specs.Worlds.{Held, up, down, Event, called, opened, flat, log_of, durable_of, state_after, IsWorld}
 
 -- ---- tickets
@@ -51,13 +49,6 @@ abbrev pub GivesEachOnce : Type 0
 GivesEachOnce = (first : Kept) (world : List Event) (h : Held) → IsWorld first world → state_after (down first) world ≡ up h → AreGivenOnce h.base.epoch (tickets_given world)
 
 -- ---- limits
-
--- what is kept is within the limits
-pub record IsWithin (d : Kept) : Type 0 where
-  pub rulesets : length d.config.rulesets ≤ RULESET_LIMIT
-  pub rules : (p : List ℕ) → length (rules_at p d.config.rulesets) ≤ RULE_LIMIT
-  pub tables : length d.config.tables ≤ TABLE_COUNT_LIMIT
-  pub entries : (p name : List ℕ) → length (entries_at d p name) ≤ TABLE_LIMIT
 
 -- an opening's transactions are within the limits, and so is what it kept
 pub record AreWithin (h : Held) : Type 0 where

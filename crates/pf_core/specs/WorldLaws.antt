@@ -1,5 +1,5 @@
 -- What is wanted, and what it mentions: lemmas, for the crates above too.
-use Rattle.std.specs.Prelude.{◌≡◌, ℕ, ◌==◌, ◌&&◌, Bool, true, false, List, [], ◌∷◌, length, map, nat_lt, Result, Ok, Err}
+use Rattle.std.specs.Prelude.{◌≡◌, ℕ, ◌==◌, ◌&&◌, Bool, true, false, if◌then◌else◌, is_some, List, [], ◌∷◌, length, map, nat_lt, Option, Some, None, Result, Ok, Err}
 use Rattle.std.proofs.Common.{refl, sym, ap, subst, ◌∙◌}
 use Rattle.pf_table.specs.Edits.{added, additions, deletions, conflict_behind}
 use Rattle.pf_anchor.specs.declared.limits.TheConstants.{TABLE_COUNT_LIMIT}
@@ -14,7 +14,21 @@ use Rattle.pf_ticket.specs.Mentions.{switches}
 use Rattle.pf_ticket.specs.Replies.{begin_reply, add_reply, define_reply, list_check, commit_check}
 use Rattle.pf_ticket.specs.Tickets.{Open, Loaded, offered_as, loaded, content}
 use Rattle.pf_core.specs.declared.command.Command.{Command}
-use Rattle.pf_core.specs.declared.command.Command.TheVariants.{Transact, Edit as Change, Ask}
+use Rattle.pf_core.specs.declared.command.Command.TheVariants.{Transact, Edit as Change, States as OfStates, Ask}
+use Rattle.pf_rule.specs.Packets.{PlainPacket}
+use Rattle.pf_anchor.specs.declared.verdict.RuleVerdict.{RuleVerdict}
+use Rattle.pf_state.specs.declared.state.Bound.{Bound}
+use Rattle.pf_state.specs.declared.state.StateName.{StateName}
+use Rattle.pf_state.specs.declared.step.Step.{Step as StateStep}
+use Rattle.pf_state.specs.declared.step.Step.TheVariants as step
+use Rattle.pf_state.specs.Flows.{flow_of}
+use Rattle.pf_state.specs.States.{Stated, held_at}
+use Rattle.pf_state.specs.Steps.{counts}
+use Rattle.pf_durable.specs.declared.refusal.ChangeRefusal.{ChangeRefusal}
+use Rattle.pf_durable.specs.declared.verdict.Verdict.{Verdict}
+use Rattle.pf_durable.specs.declared.verdict.Verdict.TheVariants.{State as Stateful, Rules as ByRules}
+use Rattle.pf_core.specs.declared.command.StateCommand.{StateCommand}
+use Rattle.pf_core.specs.declared.command.StateCommand.TheVariants.{Track, Peer, Kill as KillState}
 use Rattle.pf_core.specs.declared.command.TableEdit.{TableEdit}
 use Rattle.pf_core.specs.declared.command.TableEdit.TheVariants.{Add as AddTo, Delete, Set, Kill}
 use Rattle.pf_core.specs.declared.command.Transaction.TheVariants.{Begin, Add, Define, Commit, Rollback}
@@ -24,11 +38,11 @@ use Rattle.pf_core.specs.declared.reply.Outcome.{Outcome}
 use Rattle.pf_core.specs.declared.reply.Outcome.TheVariants as outcome
 use Rattle.pf_core.specs.declared.reply.Outcome.TheVariants.{Committed}
 use Rattle.pf_core.specs.declared.reply.Refusal.{Refusal}
-use Rattle.pf_core.specs.declared.reply.Refusal.TheVariants.{TooManyTables}
+use Rattle.pf_durable.specs.declared.refusal.ChangeRefusal.TheVariants.{TooManyTables}
 use Rattle.pf_core.specs.declared.step.Step.{Step}
 use Rattle.pf_core.specs.declared.step.Step.TheVariants.{Done, Wants}
-use Rattle.pf_core.specs.Commands.{unless_refused, item_of, items, wanting, commit_step, added_of, deleted_of, there, edit_step, step_by, mentioned, takes_memory}
-use Rattle.pf_core.specs.Edits.{Kept, Edit, commits, adds, deletes, sets, entries_at, with_entries, name_of, voided_by, and_then, unless, no_conflict, fits}
+use Rattle.pf_core.specs.Commands.{unless_refused, unless_unfit, if_there, is_table, item_of, items, wanting, commit_step, added_of, deleted_of, edit_step, makes_state, tracked, track_step, steps_here, states_step, step_by, mentioned, takes_memory}
+use Rattle.pf_durable.specs.Edits.{Kept, Edit, commits, adds, deletes, sets, acts, removes, entries_at, with_entries, name_of, voided_by, unless, no_conflict, fits, verdict}
 
 -- what the tickets didn't refuse
 pub record IsPassed {A B : Type 0} (r : Result A TicketRefusal) (f : A → Result B Refusal) (x : B) : Type 0 where
@@ -45,28 +59,28 @@ pub none-wanted : {A : Type 0} (r : Result A TicketRefusal) (told : A → Answer
 none-wanted (Ok x) told e o h = cc (h)
 none-wanted (Err x) told e o h = cc (h)
 
--- what two checks in turn didn't refuse
-pub record AreBothPassed {A : Type 0} (r : Result (Unit {0}) Refusal) (next : Result A Refusal) (x : A) : Type 0 where
+-- what fits
+pub record IsFit {A : Type 0} (r : Result (Unit {0}) ChangeRefusal) (next : Result A Refusal) (x : A) : Type 0 where
   pub first : r ≡ Ok tt
   pub second : next ≡ Ok x
 
-pub both_passed : {A : Type 0} (r : Result (Unit {0}) Refusal) (next : Result A Refusal) (x : A) → and_then r next ≡ Ok x → AreBothPassed r next x
-both_passed (Ok tt) next x h = record { first = refl; second = h }
-both_passed (Err e) next x h = absurd (cc (h))
+pub fit : {A : Type 0} (r : Result (Unit {0}) ChangeRefusal) (next : Result A Refusal) (x : A) → unless_unfit r next ≡ Ok x → IsFit r next x
+fit (Ok tt) next x h = record { first = refl; second = h }
+fit (Err e) next x h = absurd (cc (h))
 
--- what wasn't refused doesn't hold
-pub not_refused : (b : Bool) (why : Refusal) → unless b why ≡ Ok tt → b ≡ false
-not_refused true why h = absurd (cc (h))
-not_refused false why h = refl
+-- what is there
+pub found : {A : Type 0} (b : Bool) (next : Result A Refusal) (x : A) → if_there b next ≡ Ok x → next ≡ Ok x
+found true next x h = h
+found false next x h = absurd (cc (h))
 
 -- the change that is wanted is this one, and it fits
 pub record IsThis (d : Kept) (this e : Edit) : Type 0 where
   pub fits : fits d this ≡ Ok tt
   pub is : this ≡ e
 
-wanted : (d : Kept) (this e : Edit) (x o : Outcome) → wanting d this x ≡ Ok (Wants e o) → IsThis d this e
+pub wanted : (d : Kept) (this e : Edit) (x o : Outcome) → wanting d this x ≡ Ok (Wants e o) → IsThis d this e
 wanted d this e x o h =
-    let both : AreBothPassed (fits d this) (Ok (Wants this x)) (Wants e o) = both_passed (fits d this) (Ok (Wants this x)) (Wants e o) h in
+    let both : IsFit (fits d this) (Ok (Wants this x)) (Wants e o) = fit (fits d this) (Ok (Wants this x)) (Wants e o) h in
     let same : Ok (Wants this x) ≡ Ok (Wants e o) = both.second in
     record { fits = both.first; is = cc (same) }
 
@@ -117,14 +131,58 @@ pub wants_edit : (d : Kept) (edit : TableEdit) (e : Edit) (o : Outcome) → edit
 wants_edit d (AddTo p name xs) e o h = wanted d (adds p name xs) e (added_of (additions (entries_at d p name) xs)) o h
 wants_edit d (Delete p name xs) e o h =
     let told : Result Step Refusal = Ok (Wants (deletes p name xs) (deleted_of (deletions (entries_at d p name) xs))) in
-    let both : AreBothPassed (no_conflict xs) (and_then (there (entries_at d p name)) told) (Wants e o) = both_passed (no_conflict xs) (and_then (there (entries_at d p name)) told) (Wants e o) h in
-    let same : told ≡ Ok (Wants e o) = (both_passed (there (entries_at d p name)) told (Wants e o) both.second).second in
+    let both : IsFit (no_conflict xs) (if_there (is_table (entries_at d p name)) told) (Wants e o) = fit (no_conflict xs) (if_there (is_table (entries_at d p name)) told) (Wants e o) h in
+    let same : told ≡ Ok (Wants e o) = found (is_table (entries_at d p name)) told (Wants e o) both.second in
     record { fits = both.first; is = cc (same) }
 wants_edit d (Set p name xs) e o h = wanted d (sets p name xs) e outcome.Set o h
 wants_edit d (Kill p name) e o h =
     let told : Result Step Refusal = Ok (Wants (sets p name []) outcome.Killed) in
-    let same : told ≡ Ok (Wants e o) = (both_passed (there (entries_at d p name)) told (Wants e o) h).second in
+    let same : told ≡ Ok (Wants e o) = found (is_table (entries_at d p name)) told (Wants e o) h in
     record { fits = kill-fits d p name; is = cc (same) }
+
+-- ---- changes of states
+
+-- the change is one of states
+pub data IsOfStates : Edit → Type 0 where
+  of_steps : (steps : List StateStep) → IsOfStates (acts steps)
+  of_removal : (name : StateName) → IsOfStates (removes name)
+
+pub voids_none_of_states : (e : Edit) → IsOfStates e → [] ≡ switches (voided_by e)
+voids_none_of_states _ (of_steps steps) = refl
+voids_none_of_states _ (of_removal name) = refl
+
+pub record IsStateChange (d : Kept) (e : Edit) : Type 0 where
+  pub fits : fits d e ≡ Ok tt
+  pub is : IsOfStates e
+
+steps-wanted : (d : Kept) (steps : List StateStep) (e : Edit) (x o : Outcome) → wanting d (acts steps) x ≡ Ok (Wants e o) → IsStateChange d e
+steps-wanted d steps e x o h =
+    let this : IsThis d (acts steps) e = wanted d (acts steps) e x o h in
+    subst (λ (y : Edit). IsStateChange d y) this.is (record { fits = this.fits; is = of_steps steps })
+
+make-wanted : (d : Kept) (v : RuleVerdict) (s : Stated) (stale : Bool) (e : Edit) (o : Outcome) → (if stale then Ok (Done (answer.Stale v)) else wanting d (acts (step.Insert s ∷ [])) (outcome.Tracked v)) ≡ Ok (Wants e o) → IsStateChange d e
+make-wanted d v s true e o h = absurd (cc (h))
+make-wanted d v s false e o h = steps-wanted d (step.Insert s ∷ []) e (outcome.Tracked v) o h
+
+tracked-wanted : (d : Kept) (name : StateName) (packet : PlainPacket) (v : RuleVerdict) (made : Option Bound) (e : Edit) (o : Outcome) → tracked d name packet v made ≡ Ok (Wants e o) → IsStateChange d e
+tracked-wanted d name packet v None e o h = absurd (cc (h))
+tracked-wanted d name packet v (Some b) e o h =
+    let s : Stated = (name, record { generation = 0; flow = flow_of packet; bound = b }) in
+    make-wanted d v s (is_some (held_at s.0 d.states)) e o h
+
+verdict-wanted : (d : Kept) (name : StateName) (packet : PlainPacket) (v : Verdict) (e : Edit) (o : Outcome) → track_step d name packet v ≡ Ok (Wants e o) → IsStateChange d e
+verdict-wanted d name packet (Stateful s) e o h = absurd (cc (h))
+verdict-wanted d name packet (ByRules by) e o h = tracked-wanted d name packet by (makes_state d by) e o h
+
+-- a change of states that is wanted fits
+pub wants_states : (d : Kept) (c : StateCommand) (e : Edit) (o : Outcome) → states_step d c ≡ Ok (Wants e o) → IsStateChange d e
+wants_states d (Track name packet) e o h = verdict-wanted d name packet (verdict d packet) e o h
+wants_states d (Peer m) e o h = steps-wanted d (steps_here d m) e (outcome.Peered (counts d.states (steps_here d m))) o h
+wants_states d (KillState name) e o h =
+    let told : Result Step Refusal = Ok (Wants (removes name) outcome.Killed) in
+    let same : told ≡ Ok (Wants e o) = found (is_some (held_at name d.states)) told (Wants e o) h in
+    let is : removes name ≡ e = cc (same) in
+    subst (λ (y : Edit). IsStateChange d y) is (record { fits = refl; is = of_removal name })
 
 voids-none : (edit : TableEdit) → [] ≡ switches (voided_by (edit_of edit))
 voids-none (AddTo p name xs) = refl
@@ -151,6 +209,9 @@ wants t d (Transact (Commit entries)) e o h =
     this-wanted d (Transact (Commit entries)) (commits (items (content t) entries)) e (wants_commit t d entries e o h).this refl (ap switches (sym (names-items t entries)))
 wants t d (Transact (Rollback entries)) e o h = absurd (none-wanted (list_check entries) (λ _. answer.Done) e o h)
 wants t d (Change edit) e o h = this-wanted d (Change edit) (edit_of edit) e (wants_edit d edit e o h) refl (voids-none edit)
+wants t d (OfStates c) e o h =
+    let change : IsStateChange d e = wants_states d c e o h in
+    record { fits = change.fits; memory = refl; mentions = voids_none_of_states e change.is }
 wants t d (Ask q) e o h = absurd (cc (h))
 
 -- a change that is wanted fits

@@ -1,53 +1,13 @@
 //! What a client asks.
-ghost use Rattle.std.specs.Prelude.{◌≡◌, IfOk};
 
 use pf_addr::Addr;
 use pf_anchor::Path;
+use pf_durable::EntryList;
 use pf_path::TableName;
+use pf_peer::Message;
 use pf_rule::{Packet, Rule};
-use pf_table::Entry;
+use pf_state::StateName;
 use pf_ticket::{Entries, RulesetNames, Ticket};
-use std::alloc::{AllocError, Global};
-use std::marker::Model;
-
-/// Entries of a table, any number of them, in the order in which a command names them, each network as often as it is named.
-/// Contracts see the list.
-#[derive(Drop)]
-pub struct EntryList {
-    entries: Vec<Entry>,
-}
-
-impl Model for EntryList {
-    ghost use Rattle.std.specs.Prelude.{List};
-    ghost use Rattle.pf_table.specs.Entries.{Row};
-
-    ghost Value = { List Row };
-
-    ghost view = { λ e. e.entries.items };
-}
-
-impl EntryList {
-    /// The list of these. It takes no memory.
-    pub fn new(entries: Vec<Entry>) -> EntryList
-        ensures { result ≡ entries.items }
-    {
-        EntryList { entries }
-    }
-
-    /// The entries in order.
-    pub fn as_slice(&self) -> &[Entry]
-        ensures { result.now ≡ self.now }
-    {
-        self.entries.as_slice()
-    }
-
-    // The same list. `AllocError`: nothing is made.
-    pub(crate) fn copied(&self, alloc: Global) -> Result<EntryList, AllocError>
-        ensures { IfOk result (λ l. l ≡ self.now) }
-    {
-        Ok(EntryList::new(Vec::from_slice(alloc, self.entries.as_slice())?))
-    }
-}
 
 /// One step of a transaction (pf(4), DIOCXBEGIN, DIOCADDRULE, DIOCRINADEFINE, DIOCXCOMMIT, DIOCXROLLBACK).
 #[derive(Drop)]
@@ -103,6 +63,19 @@ pub enum TableEdit {
     },
 }
 
+/// A change of the states, at once and without a ticket.
+#[derive(Drop)]
+pub enum StateCommand {
+    /// Says what happens to a packet. Where no state passes it and a rule that keeps state does, a state of its flow is made under
+    /// this name, with generation 0, unless the name is taken. It is bound to that rule where it is one of the main ruleset, else to
+    /// the default rule.
+    Track { name: StateName, packet: Packet },
+    /// Acts on the records of a peer's message, in their order.
+    Peer(Message),
+    /// Takes out the state of a name. It has to be there (pfctl(8), `-k`).
+    Kill(StateName),
+}
+
 /// What is asked of what is kept. It changes nothing.
 #[derive(Drop)]
 pub enum Question {
@@ -118,6 +91,12 @@ pub enum Question {
     ShowRules(Path),
     /// Shows the tables at a path.
     ShowTables(Path),
+    /// Shows the states.
+    ShowStates,
+    /// Tells the checksum of the main rules.
+    Sum,
+    /// Tells a peer of all states, as messages.
+    Export,
 }
 
 /// One command.
@@ -127,6 +106,8 @@ pub enum Command {
     Transact(Transaction),
     /// A change of one table.
     Edit(TableEdit),
+    /// A change of the states.
+    States(StateCommand),
     /// A question.
     Ask(Question),
 }

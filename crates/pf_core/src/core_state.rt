@@ -1,5 +1,5 @@
 //! One command after the other.
-ghost use Rattle.std.specs.Prelude.{◌≡◌, List, IfOk, OnErr, map, true};
+ghost use Rattle.std.specs.Prelude.{◌≡◌, List, IfOk, OnErr, true};
 ghost use Rattle.std.specs.Arc.{arc_value};
 ghost use Rattle.pf_rule.specs.Packets.{PlainPacket};
 ghost use Rattle.pf_ticket.specs.declared.entry.Entry.{Entry};
@@ -10,17 +10,18 @@ ghost use Rattle.pf_core.specs.declared.command.Question.{Question};
 ghost use Rattle.pf_core.specs.declared.command.Transaction.{Transaction};
 ghost use Rattle.pf_core.specs.declared.reply.Answer.TheVariants as answer;
 ghost use Rattle.pf_core.specs.Commands.{item_of, items, commit_step, rollback_step, transact_step, answer_of, step_by, transacts_in_memory, asks_for_memory, takes_memory};
-ghost use Rattle.pf_core.specs.Edits.{voided_by, name_of, verdict};
+ghost use Rattle.pf_durable.specs.Edits.{verdict};
 ghost use Rattle.pf_core.specs.Refusals.{OrMemory};
 ghost use Rattle.pf_core.specs.Wholes.{whole, prepared, answered, stepped};
 
-use crate::change::{Change, Item, Kind};
 use crate::command::{Command, Question, Transaction};
-use crate::durable::Durable;
-use crate::reply::{Answer, NamedTables, Outcome, Refusal};
+use crate::reply::{Answer, NamedTables, Outcome, Refusal, StateList};
+use crate::state_command::change_states;
 use crate::step::Step;
 use crate::table_edit::edit;
 use pf_anchor::Placed;
+use pf_durable::{Change, Durable, Item};
+use pf_failover::export;
 use pf_ticket::{Entry, Offered, RulesetName, Tickets};
 use std::alloc::{AllocError, Global};
 use std::marker::Model;
@@ -57,37 +58,6 @@ impl Model for Next {
     ghost Value = { Ready };
 
     ghost view = { λ n. ready (arc_value n.durable) n.voided.items };
-}
-
-// The ruleset that an item replaces.
-fn name_of(item: &Item) -> RulesetName
-    ensures { result ≡ name_of item.now }
-{
-    match item {
-        Item::Rules(placed) => RulesetName::filter(placed.key()),
-        Item::Tables { path, .. } => RulesetName::table(path),
-    }
-}
-
-// The rulesets that a commit replaces.
-fn names_of(alloc: Global, items: &[Item]) -> Result<Vec<RulesetName>, AllocError>
-    ensures { IfOk result (λ v. v.items ≡ map name_of items.now) }
-{
-    let mut names = Vec::with_capacity(alloc, items.len())?;
-    for item in items {
-        names.push(name_of(item))?;
-    }
-    Ok(names)
-}
-
-// The rulesets whose tickets a change voids.
-fn voided_by(alloc: Global, change: &Change) -> Result<Vec<RulesetName>, AllocError>
-    ensures { IfOk result (λ v. v.items ≡ voided_by change.now) }
-{
-    match &change.kind {
-        Kind::Commit(items) => names_of(alloc, items.as_slice()),
-        Kind::Add { .. } | Kind::Delete { .. } | Kind::Set { .. } => Ok(Vec::new(alloc)),
-    }
 }
 
 // What replaces a ruleset: what is offered for it. No rule and no table is copied.
@@ -182,6 +152,12 @@ fn answer(alloc: Global, durable: &Durable, question: &Question) -> Result<Answe
         Question::ShowTables(path) => Ok(Answer::Tables(NamedTables::new(
             durable.config().tables_at(alloc, path)?,
         ))),
+        Question::ShowStates => {
+            let states = Vec::from_slice(alloc, durable.states().states())?;
+            Ok(Answer::States(StateList::new(states)))
+        }
+        Question::Sum => Ok(Answer::Sum(durable.sum())),
+        Question::Export => Ok(Answer::Exported(export(alloc, durable.states(), &durable.sum())?)),
     }
 }
 
@@ -214,14 +190,14 @@ impl Core {
         &self.durable
     }
 
-    /// One command. Where it wants a change, or is refused, the core is as before. A judge, a test and a rollback take no memory.
+    /// One command. Where it wants a change, or is refused, the core is as before. A judge, a test, a sum and a rollback take no memory.
     ///
     /// It is refused for the first of these that holds. A begin: `BadCount`, `TooManyRulesets`, `TicketsExhausted`. An
     /// add of a rule: `Busy`, `RulesetFull`. A define: `Conflict`, `Busy`, `TableFull`, `TooManyTables`. A commit: `BadCount`,
     /// `Twice`, `Busy`, `TooManyRulesets`, `TooManyTables`. A rollback: `BadCount`, `Twice`. Entries that are added to a table or
     /// take the place of its own: `Conflict`, `TableFull`, `TooManyTables`. Entries that are deleted: `Conflict`, `Absent`. A
-    /// table that is killed: `Absent`. A question: none. Where a growth of memory is refused, `Memory` may come before any of
-    /// them.
+    /// table or a state that is killed: `Absent`. A packet that is tracked, where a state is to be made of it, and a peer's message:
+    /// `StatesFull`. A question: none. Where a growth of memory is refused, `Memory` may come before any of them.
     /// The history's limit isn't the core's: whoever keeps the history answers `HistoryFull` to a change that is wanted,
     /// and doesn't accept it.
     pub fn step(&mut self, command: &Command) -> Result<Step, Refusal>
@@ -238,6 +214,7 @@ impl Core {
                 transaction,
             ),
             Command::Edit(table_edit) => edit(self.alloc, &self.durable, table_edit),
+            Command::States(command) => change_states(self.alloc, &self.durable, command),
             Command::Ask(question) => {
                 Ok(Step::Done(answer(self.alloc, &self.durable, question)?))
             }
@@ -250,7 +227,7 @@ impl Core {
         ensures { OrMemory true result (prepared self.now.durable change.now) }
     {
         let applied = self.durable.apply(self.alloc, change)?;
-        let voided = voided_by(self.alloc, change)?;
+        let voided = change.voided(self.alloc)?;
         let Ok(durable) = Arc::new(self.alloc, applied) else {
             return Err(Refusal::Memory);
         };

@@ -1,19 +1,6 @@
 //! What follows from the definitions that contracts cite: functions that do nothing, whose contracts are the laws.
-ghost use Rattle.pf_core.specs.Laws.{ReplacesExactly, EditsExactly, DeletesNothing, LeaveTheOtherKind, WantsWhatFits, SwitchesAll, VoidsTheNamed, KeepsNoneValid, LeavesTheOthers, MentionsTheNamed, RefusedMentionNothing};
+ghost use Rattle.pf_core.specs.Laws.{LeaveTheOtherKind, WantsWhatFits, SwitchesAll, VoidsTheNamed, KeepsNoneValid, LeavesTheOthers, MentionsTheNamed, RefusedMentionNothing, TrackMakesOne};
 ghost use Rattle.pf_core.specs.WorldFacts.{TicketsAreOfTheCalls, GivesEachOnce, KeepsTheLimits, ShowsAll};
-
-/// After a commit's change the epoch stays, each path has the rules and tables that the change gives it or else its own, and what is
-/// empty isn't there.
-pub fn replaces_exactly()
-    ensures { ReplacesExactly }
-{}
-
-/// An edit of a table changes exactly the table at its path under its name: other names there, other paths, all rulesets and the
-/// epoch stay. To delete from a table that isn't there makes none.
-pub fn edits_change_one_table()
-    ensures exactly { EditsExactly }
-    ensures nothing { DeletesNothing }
-{}
 
 /// A commit of filter rulesets leaves all tables, and a commit of table rulesets leaves all rulesets.
 pub fn commits_leave_the_other_kind()
@@ -23,6 +10,12 @@ pub fn commits_leave_the_other_kind()
 /// A change that a command wants fits, so it is never refused for a limit when it is prepared.
 pub fn wants_what_fits()
     ensures { WantsWhatFits }
+{}
+
+/// A packet that is tracked with a change makes one state, which is new: it clashes with none, and takes the place of none.
+#[tactic(auto, using(crate::proofs::Tracking::track_makes_one))]
+pub fn track_makes_one_state()
+    ensures { TrackMakesOne }
 {}
 
 /// A commit that isn't refused switches all rulesets that it names, each to what was offered for it, and no other. Of
@@ -69,7 +62,7 @@ pub fn gives_each_ticket_once()
 {}
 
 /// In each opening that a world comes to, where what was held first is within the limits, all of them hold: of rules,
-/// rulesets, entries, tables, tickets and history.
+/// rulesets, entries, tables, states, tickets and history.
 pub fn keeps_the_limits()
     ensures { KeepsTheLimits }
 {}

@@ -1,20 +1,17 @@
 //! What a client is told.
 ghost use Rattle.std.specs.Prelude.{◌≡◌};
 ghost use Rattle.pf_core.specs.declared.reply.Refusal.TheVariants.{Memory};
-ghost use Rattle.pf_core.specs.Refusals.{refusal_of, table_refusal_of};
+ghost use Rattle.pf_core.specs.Refusals.{refusal_of, change_refusal_of};
 
 use pf_anchor::{PlacedTable, RuleList, RuleVerdict};
-use pf_table::{Entry, TableRefusal};
+use pf_durable::{ChangeRefusal, Verdict};
+use pf_failover::Exported;
+use pf_peer::PeerFault;
+use pf_state::{Counts, State};
+use pf_table::Entry;
 use pf_ticket::{TicketRange, TicketRefusal};
 use std::alloc::AllocError;
 use std::marker::Model;
-
-/// What happens to a packet.
-#[derive(Drop)]
-pub enum Verdict {
-    /// The rules say so.
-    Rules(RuleVerdict),
-}
 
 /// Tables at their paths under their names. Contracts see the list.
 #[derive(Drop)]
@@ -47,6 +44,37 @@ impl NamedTables {
     }
 }
 
+/// States, in the order of their names. Contracts see the list.
+#[derive(Drop)]
+pub struct StateList {
+    states: Vec<State>,
+}
+
+impl Model for StateList {
+    ghost use Rattle.std.specs.Prelude.{List};
+    ghost use Rattle.pf_state.specs.States.{Stated};
+
+    ghost Value = { List Stated };
+
+    ghost view = { λ l. l.states.items };
+}
+
+impl StateList {
+    /// The list of these. It takes no memory.
+    pub fn new(states: Vec<State>) -> StateList
+        ensures { result ≡ states.items }
+    {
+        StateList { states }
+    }
+
+    /// The states in order.
+    pub fn as_slice(&self) -> &[State]
+        ensures { result.now ≡ self.now }
+    {
+        self.states.as_slice()
+    }
+}
+
 /// What is told where nothing is to be kept.
 #[derive(Drop)]
 pub enum Answer {
@@ -56,16 +84,24 @@ pub enum Answer {
     Done,
     /// What happens to a packet.
     Judged(Verdict),
+    /// A rule passes a packet and keeps state, and the name that its state was to have is taken.
+    Stale(RuleVerdict),
     /// The entry of a table that decides on an address, where one contains it.
     Tested(Option<Entry>),
     /// The rules of a ruleset, in order.
     Rules(RuleList),
     /// The tables at a path, in the order of their names.
     Tables(NamedTables),
+    /// The states, in the order of their names.
+    States(StateList),
+    /// The checksum of the main rules: MD5, 16 bytes.
+    Sum([u8; 16]),
+    /// Messages that tell a peer of all states.
+    Exported(Exported),
 }
 
 /// What is told, beside its number, of a change that was kept.
-#[derive(Clone, Copy, Debug, PartialEq, Eq)]
+#[derive(Drop)]
 pub enum Outcome {
     /// The rulesets of a commit are active, each with what was offered for it, and none of its tickets is valid now.
     Committed,
@@ -83,8 +119,12 @@ pub enum Outcome {
     },
     /// The table has the entries handed in and no others.
     Set,
-    /// The table is gone.
+    /// The table, or the state, is gone.
     Killed,
+    /// A packet passed by a rule that keeps state, and its state was made.
+    Tracked(RuleVerdict),
+    /// What became of the records of a peer's message.
+    Peered(Counts),
 }
 
 /// Why nothing was done. After each of these all is as before: what is kept, the valid tickets, what is offered with
@@ -106,6 +146,10 @@ pub enum Refusal {
     MixedFamily,
     /// A rule tests a port, and its protocol isn't TCP or UDP. No command was read: all is as before.
     PortNeedsProto,
+    /// The bytes of a peer's message have this fault, or end within a message. No command was read: all is as before.
+    BadPeer(PeerFault),
+    /// The bytes of a peer's message are several messages, or none. No command was read: all is as before.
+    PeerCount,
     /// The list of a begin, a commit or a rollback without entries, or with more than 64. All is as before.
     BadCount,
     /// The first entry of a commit or a rollback, from 0, that names a ruleset named before it. All is as before, for the
@@ -116,7 +160,8 @@ pub enum Refusal {
     Busy { at: usize },
     /// The first entry of a list, from 0, whose network stands before it with the other sign. All is as before.
     Conflict { at: usize },
-    /// Entries are to be deleted from a table, or it is to be killed, and there is no such table. All is as before.
+    /// Entries are to be deleted from a table, or it is to be killed, and there is no such table; or a state is to be killed that
+    /// isn't there. All is as before.
     Absent,
     /// The inactive ruleset has 1,024 rules, and no ruleset may have more. All is as before, and its ticket is valid.
     RulesetFull,
@@ -126,6 +171,9 @@ pub enum Refusal {
     TableFull,
     /// There would be more than 1,024 tables, or more than 1,024 offered under one ticket. All is as before.
     TooManyTables,
+    /// There would be more than 65,536 states after one of the records of a peer's message, also where those behind it would leave
+    /// fewer, or with a state that is to be made. All is as before.
+    StatesFull,
     /// A begin needs more counts than are left up to 4,294,967,295, the last of an opening. All is as before: none of them
     /// is given.
     TicketsExhausted,
@@ -162,14 +210,17 @@ impl From<TicketRefusal> for Refusal {
     }
 }
 
-impl From<TableRefusal> for Refusal {
-    ghost from_gives = { λ r e. e ≡ table_refusal_of r };
+impl From<ChangeRefusal> for Refusal {
+    ghost from_gives = { λ r e. e ≡ change_refusal_of r };
 
-    fn from(refusal: TableRefusal) -> Refusal {
+    fn from(refusal: ChangeRefusal) -> Refusal {
         match refusal {
-            TableRefusal::Conflict { at } => Refusal::Conflict { at },
-            TableRefusal::TableFull => Refusal::TableFull,
-            TableRefusal::Memory => Refusal::Memory,
+            ChangeRefusal::Conflict { at } => Refusal::Conflict { at },
+            ChangeRefusal::TableFull => Refusal::TableFull,
+            ChangeRefusal::TooManyRulesets => Refusal::TooManyRulesets,
+            ChangeRefusal::TooManyTables => Refusal::TooManyTables,
+            ChangeRefusal::StatesFull => Refusal::StatesFull,
+            ChangeRefusal::Memory => Refusal::Memory,
         }
     }
 }

@@ -3,11 +3,10 @@ ghost use Rattle.std.specs.Prelude.{◌≡◌, true, length, filter};
 ghost use Rattle.pf_core.specs.Commands.{same_addition, added_of, same_deletion, deleted_of, edit_step};
 ghost use Rattle.pf_core.specs.Refusals.{OrMemory};
 
-use crate::change::Change;
-use crate::command::{EntryList, TableEdit};
-use crate::durable::Durable;
+use crate::command::TableEdit;
 use crate::reply::{Outcome, Refusal};
 use crate::step::Step;
+use pf_durable::{Change, Durable, EntryList};
 use pf_table::{Addition, Deletion};
 use std::alloc::Global;
 

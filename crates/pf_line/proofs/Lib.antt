@@ -1,3 +1,5 @@
 pub mod Lines
 pub mod SpelledTickets
 pub mod SpelledEntries
+pub mod SpelledStates
+pub mod Choices

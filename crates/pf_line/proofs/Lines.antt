@@ -1,31 +1,39 @@
 -- What a line is answered, and why.
-use Rattle.std.proofs.Common.{◌≡◌, ℕ, ◌-◌, ◌==◌, Bool, true, false, cond, List, [], ◌∷◌, length, Option, Some, None, Result, Ok, Err, inl, inr, refl, ap, subst, arith}
+use Rattle.std.proofs.Common.{◌≡◌, ℕ, ◌-◌, ◌==◌, Bool, true, false, cond, List, [], ◌∷◌, length, Option, Some, None, Result, Ok, Err, inl, inr, refl, sym, ap, ◌∙◌, subst, arith}
 use Rattle.std.specs.Prelude.{IfOk, IfErr, IfSome, not, filter, nat_lt}
 use Rattle.std.specs.List.{slice_split, onto_first, find}
+use denote.Ref.{Bor}
+use Rattle.std.proofs.lemmas.List.{length-map}
 use Rattle.std.proofs.lemmas.Bool.Decides.{nat_tests}
 use Rattle.pf_form.specs.declared.fault.Kind.{Kind}
 use Rattle.pf_form.specs.declared.fault.Kind.TheVariants as kinds
-use Rattle.pf_form.specs.Words.{Word, is_blank, words_of}
-use Rattle.pf_form.specs.Forms.{Spells, RefusedAt, empties, begins, read_all}
+use Rattle.pf_form.specs.Words.{Word, is_blank, words_of, texts}
+use Rattle.pf_form.specs.Forms.{Form, making, Spells, RefusedAt, empties, begins, Read, reads, ended, ◌>>=◌, read_all}
+use Rattle.pf_form.specs.declared.fault.Stop.{Stop}
+use Rattle.pf_form.specs.Readers as Readers
 use Rattle.pf_form.specs.FormLaws.{lawful}
 use Rattle.pf_form.specs.TextLaws.{found, only, refused}
-use Rattle.pf_rule.specs.declared.fault.Mistake.{Mistake}
 use Rattle.pf_rule.specs.declared.fault.Mistake.TheVariants as mistakes
+use Rattle.pf_peer.specs.declared.fault.OneFault.{OneFault}
+use Rattle.pf_peer.specs.declared.fault.OneFault.TheVariants.{Fault, Count}
+use Rattle.pf_peer.specs.declared.message.Message.{Message}
+use Rattle.pf_peer.specs.One.{IsOne}
+use Rattle.pf_peer.proofs.OneMessage.{one_answer}
 use Rattle.pf_core.specs.declared.command.Command.{Command}
 use Rattle.pf_core.specs.declared.reply.Refusal.{Refusal}
 use Rattle.pf_core.specs.declared.reply.Refusal.TheVariants as refusals
 use Rattle.pf_line.specs.Grammar as grammar
-use Rattle.pf_line.specs.Grammar.{decided, SpellsLine}
-use Rattle.pf_line.specs.Lines.{is_bad_line, is_comment, no_command, is_silent, refusal_at, said, said_by, line_at, Parses, Speaks, Refused, Answers}
+use Rattle.pf_line.specs.Grammar.{Spoken, Says, Tells, decided}
+use Rattle.pf_line.specs.Lines.{is_bad_line, is_comment, no_command, is_silent, refusal_at, said, said_by, line_at, peer_command, Means, SpellsLine, IsCommand, Parses, Speaks, Refused, Answers}
 
 -- ---- words that spell a line are no comment
 
 no_hash : (bs : List ℕ) → begins grammar.line (35 ∷ bs) ≡ false
-unfolding grammar.question grammar.edit_or_question
+unfolding grammar.overview grammar.question grammar.state_or_question grammar.edit_or_question grammar.command
 no_hash bs = refl
 
 some_words : empties grammar.line ≡ false
-unfolding grammar.question grammar.edit_or_question
+unfolding grammar.overview grammar.question grammar.state_or_question grammar.edit_or_question grammar.command
 some_words = refl
 
 not_both : (t : Bool) → t ≡ false → t ≡ true → ⊥
@@ -40,7 +48,7 @@ no_comment (b ∷ bs) h = by (b == 35) refl where
       let is : b ≡ 35 = grind (arith, nat_tests) in
       absurd (not_both (begins grammar.line (35 ∷ bs)) (no_hash bs) (subst (λ (n : ℕ). begins grammar.line (n ∷ bs) ≡ true) is h))
 
-speaks : (x : Result Command Mistake) (ws : List Word) → Spells grammar.line x ws → no_command ws ≡ false
+speaks : (x : Spoken) (ws : List Word) → Spells grammar.line x ws → no_command ws ≡ false
 speaks x [] h = absurd (not_both (empties grammar.line) some_words ((lawful grammar.line decided).heads x [] h))
 speaks x (w ∷ ws) h = no_comment w ((lawful grammar.line decided).heads x (w ∷ ws) h)
 
@@ -76,52 +84,96 @@ unfolding line_at
 is_quiet line r (inl h) good silent = rw (good, silent) at h
 is_quiet line r (inr h) good silent = absurd (not_both (is_silent line) h.0.loud silent)
 
+pub one_meaning : (at : Result (Option Spoken) Refusal) (r s : Answer) → Means at r → Means at s → r ≡ s
+one_meaning (Ok None) r s h i = h ∙ sym i
+one_meaning (Ok (Some (Says (Ok c)))) r s h i = h ∙ sym i
+one_meaning (Ok (Some (Says (Err mistake)))) r s h i = h ∙ sym i
+one_meaning (Ok (Some (Tells bytes))) r s (m, is, h) (n, js, i) = h ∙ ap peer_command (one_answer bytes m n is js) ∙ sym i
+one_meaning (Err e) r s h i = h ∙ sym i
+
 abbrev Found : List Word → Answer → Type 0
 Found ws r = IfOk r (λ o. IfSome o (λ c. SpellsLine c ws))
 
-said_found : (ws : List Word) (q : Result (Result Command Mistake) (Kind × List Word)) → read_all grammar.line ws ≡ q → Found ws (said (length ws) q)
-said_found ws (Ok (Ok c)) e = found (Result Command Mistake) grammar.line decided ws (Ok c) e
-said_found ws (Ok (Err mistake)) e = tt
-said_found ws (Err d) e = tt
+said_found : (ws : List Word) (q : Result Spoken (Kind × List Word)) (r : Answer) → read_all grammar.line ws ≡ q → Means (said (length ws) q) r → Found ws r
+said_found ws (Ok (Says (Ok c))) r e h = rw h (Says (Ok c), found Spoken grammar.line decided ws (Says (Ok c)) e, refl)
+said_found ws (Ok (Says (Err mistake))) r e h = rw h tt
+said_found ws (Ok (Tells bytes)) r e (one, is, h) = rw h (by one is) where
+  by : (m : Result Message OneFault) → IsOne bytes m → Found ws (peer_command m)
+  by (Ok m) is = (Tells bytes, found Spoken grammar.line decided ws (Tells bytes) e, (Ok m, is, refl))
+  by (Err (Fault f)) is = tt
+  by (Err Count) is = tt
+said_found ws (Err d) r e h = rw h tt
 
 pub is_found : (line : List ℕ) (r : Answer) → Answers line r → Found (words_of line) r
 unfolding line_at
-is_found line r (inl h) = rw h (by (is_bad_line line) (is_silent line)) where
-  by : (b s : Bool) → Found (words_of line) (cond b (Err refusals.BadLine) (cond s (Ok None) (said_by (words_of line))))
-  by true s = tt
-  by false true = tt
-  by false false = said_found (words_of line) (read_all grammar.line (words_of line)) refl
+is_found line r (inl h) = by (is_bad_line line) (is_silent line) h where
+  by : (b s : Bool) → Means (cond b (Err refusals.BadLine) (cond s (Ok None) (said_by (words_of line)))) r → Found (words_of line) r
+  by true s h = rw h tt
+  by false true h = rw h tt
+  by false false h = said_found (words_of line) (read_all grammar.line (words_of line)) r refl h
 is_found line r (inr h) = rw h.1 tt
 
-pub is_only : (line : List ℕ) (r : Answer) → Answers line r → is_bad_line line ≡ false → (c : Command) → SpellsLine c (words_of line) → Parses r (Ok (Some c))
+means_command : (x : Spoken) (r : Answer) (c : Command) → Means (Ok (Some x)) (Ok (Some c)) → Parses r (Ok (Some x)) → IsCommand r c
+means_command x r c m (inl h) = inl (one_meaning (Ok (Some x)) r (Ok (Some c)) h m)
+means_command x r c m (inr h) = inr h
+
+pub is_only : (line : List ℕ) (r : Answer) → Answers line r → is_bad_line line ≡ false → (c : Command) → SpellsLine c (words_of line) → IsCommand r c
 unfolding line_at
-is_only line r h good c x =
-    let loud : is_silent line ≡ false = speaks (Ok c) (words_of line) x in
-    let there : line_at line ≡ Ok (Some c) = rw (good, loud) (ap (said (length (words_of line))) (only (Result Command Mistake) grammar.line decided (words_of line) (Ok c) x)) in
-    rw there at (is_exact line r h)
+is_only line r h good c (x, spells, means) =
+    let loud : is_silent line ≡ false = speaks x (words_of line) spells in
+    let there : line_at line ≡ Ok (Some x) = rw (good, loud) (ap (said (length (words_of line))) (only Spoken grammar.line decided (words_of line) x spells)) in
+    means_command x r c means (rw there at (is_exact line r h))
 
 abbrev Fails : List ℕ → Answer → Type 0
 Fails line r = IfErr r (λ e. Refused line e)
 
-at_place : (line : List ℕ) (k : Kind) (at : ℕ) → Speaks line → RefusedAt (Result Command Mistake) grammar.line (words_of line) at k → Refused line (refusal_at k at)
+at_place : (line : List ℕ) (k : Kind) (at : ℕ) → Speaks line → RefusedAt Spoken grammar.line (words_of line) at k → Refused line (refusal_at k at)
 at_place line kinds.BadWord at s h = (s, h)
 at_place line kinds.NameTooLong at s h = (s, h)
 at_place line kinds.BadProto at s h = (s, h)
 
-said_refused : (line : List ℕ) → Speaks line → (q : Result (Result Command Mistake) (Kind × List Word)) → read_all grammar.line (words_of line) ≡ q → Fails line (said (length (words_of line)) q)
-said_refused line s (Ok (Ok c)) e = tt
-said_refused line s (Ok (Err mistakes.MixedFamily)) e = (s, found (Result Command Mistake) grammar.line decided (words_of line) (Err mistakes.MixedFamily) e)
-said_refused line s (Ok (Err mistakes.PortNeedsProto)) e = (s, found (Result Command Mistake) grammar.line decided (words_of line) (Err mistakes.PortNeedsProto) e)
-said_refused line s (Err (k, rest)) e = at_place line k (length (words_of line) - length rest) s (refused (Result Command Mistake) grammar.line decided (words_of line) k rest e)
+said_refused : (line : List ℕ) → Speaks line → (q : Result Spoken (Kind × List Word)) (r : Answer) → read_all grammar.line (words_of line) ≡ q → Means (said (length (words_of line)) q) r → Fails line r
+said_refused line s (Ok (Says (Ok c))) r e h = rw h tt
+said_refused line s (Ok (Says (Err mistakes.MixedFamily))) r e h = rw h (s, found Spoken grammar.line decided (words_of line) (Says (Err mistakes.MixedFamily)) e)
+said_refused line s (Ok (Says (Err mistakes.PortNeedsProto))) r e h = rw h (s, found Spoken grammar.line decided (words_of line) (Says (Err mistakes.PortNeedsProto)) e)
+said_refused line s (Ok (Tells bytes)) r e (one, is, h) = rw h (by one is) where
+  by : (m : Result Message OneFault) → IsOne bytes m → Fails line (peer_command m)
+  by (Ok m) is = tt
+  by (Err (Fault f)) is = (s, (bytes, found Spoken grammar.line decided (words_of line) (Tells bytes) e, is))
+  by (Err Count) is = (s, (bytes, found Spoken grammar.line decided (words_of line) (Tells bytes) e, is))
+said_refused line s (Err (k, rest)) r e h = rw h (at_place line k (length (words_of line) - length rest) s (refused Spoken grammar.line decided (words_of line) k rest e))
 
 pub is_refused : (line : List ℕ) (r : Answer) → Answers line r → Fails line r
 unfolding line_at
-is_refused line r (inl h) = rw h (by (is_bad_line line) (is_silent line) refl refl) where
-  by : (b s : Bool) → is_bad_line line ≡ b → is_silent line ≡ s → Fails line (cond b (Err refusals.BadLine) (cond s (Ok None) (said_by (words_of line))))
-  by true s bad e = bad
-  by false true good silent = tt
-  by false false good loud = said_refused line (record { good = good; loud = loud }) (read_all grammar.line (words_of line)) refl
+is_refused line r (inl h) = by (is_bad_line line) (is_silent line) refl refl h where
+  by : (b s : Bool) → is_bad_line line ≡ b → is_silent line ≡ s → Means (cond b (Err refusals.BadLine) (cond s (Ok None) (said_by (words_of line)))) r → Fails line r
+  by true s bad e h = rw h bad
+  by false true good silent h = rw h tt
+  by false false good loud h = said_refused line (record { good = good; loud = loud }) (read_all grammar.line (words_of line)) r refl h
 is_refused line r (inr h) = rw h.1 h.0
+
+-- ---- what words are read as, said
+
+pub made_ok : {A : Type 0} (make : A → Spoken) (f : Form A) (ws : List Word) (x : A) → read_all f ws ≡ Ok x → read_all (making make f) ws ≡ Ok (make x)
+made_ok make f ws x e = by (reads f ws) e where
+  by : (r : Read _) → (r >>= ended) ≡ Ok x → (r >>= (λ y. Ok (make y.0, y.1)) >>= ended) ≡ Ok (make x)
+  by (Ok (y, [])) e = ap (λ z. Ok (make z)) (let is : y ≡ x = cc in is)
+  by (Ok (y, w ∷ ws)) e = absurd cc
+  by (Err d) e = absurd cc
+
+pub made_stopped : {A : Type 0} (make : A → Spoken) (f : Form A) (ws : List Word) (s : Stop) (count : ℕ) → Readers.Fails s (read_all f ws) → said count (read_all (making make f) ws) ≡ Err (refusal_at s.kind (count - s.left))
+made_stopped make f ws s count h = by (reads f ws) h where
+  by : (r : Read _) → Readers.Fails s (r >>= ended) → said count (r >>= (λ y. Ok (make y.0, y.1)) >>= ended) ≡ Err (refusal_at s.kind (count - s.left))
+  by (Ok (y, [])) h = absurd h
+  by (Ok (y, w ∷ ws)) h = rw (h.0, h.1) refl
+  by (Err d) h = rw (h.0, h.1) refl
+
+-- the words of a line, in a slice of as many
+pub said_words : (items seen : List (Bor Word)) (ws : List Word) (n : ℕ) (r : Answer) → texts items ≡ ws → seen ≡ items → n ≡ length seen → Parses r (said n (read_all grammar.line (texts seen))) → Parses r (said_by ws)
+said_words items seen ws n r e same l h =
+    let count : n ≡ length ws = l ∙ ap length same ∙ sym (length-map items (λ w. w.now)) ∙ ap length e in
+    let all : texts seen ≡ ws = ap texts same ∙ e in
+    subst (λ (m : ℕ). Parses r (said m (read_all grammar.line ws))) count (subst (λ (vs : List Word). Parses r (said n (read_all grammar.line vs))) all h)
 
 -- ---- a line is silent by its first byte that is no blank
 

@@ -15,7 +15,7 @@ use Rattle.pf_line.specs.Tickets.{is_dot, of_32_bits, part_of, ticket_with, cut_
 
 -- ---- an epoch or a count
 
-part_read : (text : List ℕ) (n : ℕ) → IsPart text n → part_of text ≡ Some n
+pub part_read : (text : List ℕ) (n : ℕ) → IsPart text n → part_of text ≡ Some n
 part_read text n is = rw (number_only 10 text n is.number, lt-ltb n (2 ^ 32) is.small) refl
 
 low_number : (o : Option ℕ) (n : ℕ) → of_32_bits o ≡ Some n → o ≡ Some n
@@ -24,7 +24,7 @@ low_number o n e = grind (arith, nat_tests)
 low : (o : Option ℕ) (n : ℕ) → of_32_bits o ≡ Some n → n < 2 ^ 32
 low o n e = grind (arith, nat_tests)
 
-part_found : (text : List ℕ) (n : ℕ) → part_of text ≡ Some n → IsPart text n
+pub part_found : (text : List ℕ) (n : ℕ) → part_of text ≡ Some n → IsPart text n
 part_found text n e = record { number = number_found 10 text n (low_number (number_of 10 text) n e); small = low (number_of 10 text) n e }
 
 part_written : (n : ℕ) → n < 2 ^ 32 → IsPart (decimal n) n

@@ -1,32 +1,36 @@
 -- The grammar of lines. Own, with pf(4)'s names of what a client may ask.
-use Rattle.std.specs.Prelude.{◌≡◌, ℕ, true, false, List, codes, Option, Some, None, Result, Ok, Err}
+use Rattle.std.specs.Prelude.{◌≡◌, ℕ, true, false, List, [], ◌∷◌, codes, Option, Some, None, Result, Ok, Err}
 use Rattle.std.proofs.Common.{refl}
 use Rattle.pf_form.specs.declared.fault.Kind.{Kind}
 use Rattle.pf_form.specs.declared.fault.Kind.TheVariants.{BadWord}
 use Rattle.pf_form.specs.Words.{Word}
-use Rattle.pf_form.specs.Forms.{Form, nothing, word, key, or, pair, making, any_number, one_or_more, is_decided, Spells}
+use Rattle.pf_form.specs.Forms.{Form, nothing, word, key, or, pair, making, any_number, one_or_more, is_decided}
 use Rattle.pf_addr.specs.declared.addr.Addr.{Addr}
 use Rattle.pf_addr.specs.declared.addr.Addr.TheVariants as addr
 use Rattle.pf_addr.specs.Address.{network_of}
 use Rattle.pf_rule.specs.declared.fault.Mistake.{Mistake}
 use Rattle.pf_rule.specs.Rules.{PlainRule}
 use Rattle.pf_rule.specs.RuleGrammar.{rule, rule_decided}
+use Rattle.pf_rule.specs.Packets.{PlainPacket}
 use Rattle.pf_rule.specs.PacketGrammar.{packet, packet_decided}
 use Rattle.pf_table.specs.Entries.{Row}
 use Rattle.pf_core.specs.declared.command.Command.{Command}
-use Rattle.pf_core.specs.declared.command.Command.TheVariants.{Transact, Edit, Ask}
+use Rattle.pf_core.specs.declared.command.Command.TheVariants.{Transact, Edit, States, Ask}
+use Rattle.pf_core.specs.declared.command.StateCommand.TheVariants.{Track, Kill as KillState}
 use Rattle.pf_core.specs.declared.command.Transaction.TheVariants.{Begin, Add, Define, Commit, Rollback}
 use Rattle.pf_core.specs.declared.command.TableEdit.TheVariants as edits
-use Rattle.pf_core.specs.declared.command.Question.TheVariants.{Judge, Test, ShowRules, ShowTables}
+use Rattle.pf_core.specs.declared.command.Question.TheVariants.{Judge, Test, ShowRules, ShowTables, ShowStates, Sum, Export}
 use Rattle.pf_ticket.specs.declared.entry.Entry.{Entry}
 use Rattle.pf_ticket.specs.declared.name.RulesetKind.{RulesetKind}
 use Rattle.pf_ticket.specs.declared.name.RulesetKind.TheVariants.{Filter, Table}
 use Rattle.pf_ticket.specs.declared.name.RulesetName.{RulesetName}
 use Rattle.pf_ticket.specs.declared.ticket.Ticket.{Ticket}
 use Rattle.pf_ticket.specs.Names.{ticket}
+use Rattle.pf_state.specs.declared.state.StateName.{StateName}
 use Rattle.pf_path.specs.Names.{table_name_of}
 use Rattle.pf_path.specs.Paths.{path_of, main}
-use Rattle.pf_line.specs.Tickets.{ticket_of}
+use Rattle.pf_line.specs.Tickets.{part_of, ticket_of}
+use Rattle.pf_line.specs.States.{id_of, bytes_of, a_byte}
 use Rattle.pf_line.specs.Entries.{entry_of, entry_taken, address_of, address_taken}
 
 -- ---- words that stand for values
@@ -39,8 +43,8 @@ kind = or (codes "filter") (nothing Filter) (key (codes "table") (nothing Table)
 abbrev pub path : Form (List ℕ)
 path = word (record { of = path_of; sample = codes "-"; value = main; takes = refl })
 
-abbrev or_bad : Option Ticket → Result Ticket Kind
-or_bad (Some t) = Ok t
+abbrev pub or_bad : {A : Type 0} → Option A → Result A Kind
+or_bad (Some x) = Ok x
 or_bad None = Err BadWord
 
 abbrev pub ticket_word : Word → Result Ticket Kind
@@ -66,6 +70,18 @@ row = word (record { of = entry_of; sample = codes "0.0.0.0"; value = (network_o
 abbrev pub address : Form Addr
 address = word (record { of = address_of; sample = codes "0.0.0.0"; value = addr.V4 0; takes = address_taken })
 
+-- ID, of a state
+abbrev pub id : Form ℕ
+id = word (record { of = λ w. or_bad (id_of w); sample = codes "1"; value = 1; takes = refl })
+
+-- CREATOR, of a state
+abbrev pub creator : Form ℕ
+creator = word (record { of = λ w. or_bad (part_of w); sample = codes "1"; value = 1; takes = refl })
+
+-- HEX
+abbrev pub hex : Form (List ℕ)
+hex = word (record { of = bytes_of; sample = codes "00"; value = 0 ∷ []; takes = a_byte })
+
 -- ---- what is named
 
 -- KIND PATH
@@ -83,6 +99,10 @@ table = pair path table_name
 -- PATH T NAME
 abbrev pub offered_table : Form (List ℕ × Ticket × List ℕ)
 offered_table = making (λ x. (x.0, x.1.0, x.1.1)) (pair path (pair ticket_text table_name))
+
+-- ID CREATOR
+abbrev pub state : Form StateName
+state = making (λ x. record { id = x.0; creator = x.1 }) (pair id creator)
 
 -- ---- what follows each command's word: a command, or the mistake that its rule or its packet makes
 
@@ -148,6 +168,19 @@ entries_set = making set_entries_of (pair table (any_number row))
 unfoldable pub killed : Form (Result Command Mistake)
 killed = making (λ x. Ok (Edit (edits.Kill x.0 x.1))) table
 
+-- ---- changes of states
+
+abbrev pub track_of : StateName × Result PlainPacket Mistake → Result Command Mistake
+track_of x = as_command (λ p. States (Track x.0 p)) x.1
+
+-- ID CREATOR PACKET
+unfoldable pub tracked : Form (Result Command Mistake)
+tracked = making track_of (pair state packet)
+
+-- ID CREATOR
+unfoldable pub state_killed : Form (Result Command Mistake)
+state_killed = making (λ n. Ok (States (KillState n))) state
+
 -- ---- questions
 
 unfoldable pub judged : Form (Result Command Mistake)
@@ -157,29 +190,44 @@ judged = making (as_command (λ p. Ask (Judge p))) packet
 unfoldable pub tested : Form (Result Command Mistake)
 tested = making (λ x. Ok (Ask (Test x.0.0 x.0.1 x.1))) (pair table address)
 
--- "rules" PATH | "tables" PATH
+-- "rules" PATH | "tables" PATH | "states"
 unfoldable pub shown : Form (Result Command Mistake)
-shown = or (codes "rules") (making (λ p. Ok (Ask (ShowRules p))) path) (key (codes "tables") (making (λ p. Ok (Ask (ShowTables p))) path))
+shown = or (codes "rules") (making (λ p. Ok (Ask (ShowRules p))) path) (or (codes "tables") (making (λ p. Ok (Ask (ShowTables p))) path) (key (codes "states") (nothing (Ok (Ask ShowStates)))))
 
 -- ---- lines
 
--- "judge" PACKET | "test" PATH NAME ADDRESS | "show" ("rules" | "tables") PATH
+-- "sum" | "export" | "show" what is shown
+unfoldable pub overview : Form (Result Command Mistake)
+overview = or (codes "sum") (nothing (Ok (Ask Sum))) (or (codes "export") (nothing (Ok (Ask Export))) (key (codes "show") shown))
+
+-- "judge" PACKET | "test" PATH NAME ADDRESS | an overview
 unfoldable pub question : Form (Result Command Mistake)
-question = or (codes "judge") judged (or (codes "test") tested (key (codes "show") shown))
+question = or (codes "judge") judged (or (codes "test") tested overview)
 
--- "tadd" PATH NAME ENTRY .. | "tdel" PATH NAME ENTRY .. | "tset" PATH NAME [ENTRY ..] | "tkill" PATH NAME | a question
+-- "track" ID CREATOR PACKET | "kill" ID CREATOR | a question
+unfoldable pub state_or_question : Form (Result Command Mistake)
+state_or_question = or (codes "track") tracked (or (codes "kill") state_killed question)
+
+-- "tadd" PATH NAME ENTRY .. | "tdel" PATH NAME ENTRY .. | "tset" PATH NAME [ENTRY ..] | "tkill" PATH NAME | of states, or a question
 unfoldable pub edit_or_question : Form (Result Command Mistake)
-edit_or_question = or (codes "tadd") entries_added (or (codes "tdel") entries_deleted (or (codes "tset") entries_set (or (codes "tkill") killed question)))
+edit_or_question = or (codes "tadd") entries_added (or (codes "tdel") entries_deleted (or (codes "tset") entries_set (or (codes "tkill") killed state_or_question)))
 
--- "begin" KIND PATH .. | "add" PATH T RULE | "define" PATH T NAME [ENTRY ..] | "commit" KIND PATH T .. | "rollback" KIND PATH T .. | an edit | a question
-abbrev pub line : Form (Result Command Mistake)
-line = or (codes "begin") begun (or (codes "add") added (or (codes "define") defined (or (codes "commit") committed (or (codes "rollback") rolled_back edit_or_question))))
+-- "begin" KIND PATH .. | "add" PATH T RULE | "define" PATH T NAME [ENTRY ..] | "commit" KIND PATH T .. | "rollback" KIND PATH T .. | an edit, of states, or a question
+unfoldable pub command : Form (Result Command Mistake)
+command = or (codes "begin") begun (or (codes "add") added (or (codes "define") defined (or (codes "commit") committed (or (codes "rollback") rolled_back edit_or_question))))
+
+-- what the words of a line say
+pub data Spoken : Type 0 where
+  -- a command, or the mistake that its rule or its packet makes
+  Says : Result Command Mistake → Spoken
+  -- to act on a peer's message, whose bytes these are to be
+  Tells : List ℕ → Spoken
+
+-- "peer" HEX | a command that its words say whole
+abbrev pub line : Form Spoken
+line = or (codes "peer") (making Tells hex) (making Says command)
 
 -- One word of look-ahead decides it.
 pub decided : is_decided line ≡ true
-unfolding begun added defined committed rolled_back entries_added entries_deleted entries_set killed judged tested shown question edit_or_question
+unfolding begun added defined committed rolled_back entries_added entries_deleted entries_set killed tracked state_killed judged tested shown overview question state_or_question edit_or_question command
 decided = rw (rule_decided, packet_decided) refl
-
--- The words of a line spell the command.
-abbrev pub SpellsLine : Command → List Word → Type 0
-SpellsLine c ws = Spells line (Ok c) ws

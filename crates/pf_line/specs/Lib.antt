@@ -1,4 +1,5 @@
 pub mod Tickets
 pub mod Entries
+pub mod States
 pub mod Grammar
 pub mod Lines

@@ -5,15 +5,24 @@ use Rattle.std.proofs.Common.{refl}
 use Rattle.std.proofs.lemmas.Bool.{lt-ltb}
 use Rattle.pf_form.specs.declared.fault.Kind.{Kind}
 use Rattle.pf_form.specs.declared.fault.Kind.TheVariants as kinds
+use Rattle.pf_form.specs.declared.fault.Unread.{Unread}
+use Rattle.pf_form.specs.declared.fault.Unread.TheVariants as unread
 use Rattle.pf_form.specs.Words.{Word, words_of}
 use Rattle.pf_form.specs.Forms.{Spells, RefusedAt, read_all}
 use Rattle.pf_rule.specs.declared.fault.Mistake.{Mistake}
 use Rattle.pf_rule.specs.declared.fault.Mistake.TheVariants as mistakes
+use Rattle.pf_peer.specs.declared.fault.OneFault.{OneFault}
+use Rattle.pf_peer.specs.declared.fault.OneFault.TheVariants.{Fault, Count}
+use Rattle.pf_peer.specs.declared.message.Message.{Message}
+use Rattle.pf_peer.specs.One.{IsOne}
 use Rattle.pf_core.specs.declared.command.Command.{Command}
+use Rattle.pf_core.specs.declared.command.Command.TheVariants.{States}
+use Rattle.pf_core.specs.declared.command.StateCommand.TheVariants.{Peer}
 use Rattle.pf_core.specs.declared.reply.Refusal.{Refusal}
-use Rattle.pf_core.specs.declared.reply.Refusal.TheVariants.{BadLine, BadWord, NameTooLong, BadProto, MixedFamily, PortNeedsProto, Memory}
+use Rattle.pf_core.specs.declared.reply.Refusal.TheVariants.{BadLine, BadWord, NameTooLong, BadProto, MixedFamily, PortNeedsProto, BadPeer, PeerCount, Memory}
 use Rattle.pf_line.specs.declared.line.TheConstants.{LINE_LIMIT}
 use Rattle.pf_line.specs.Grammar as grammar
+use Rattle.pf_line.specs.Grammar.{Spoken, Says, Tells}
 
 -- a printable byte of ASCII (a space among them), a tab or a carriage return
 abbrev pub is_line_byte : ℕ → Bool
@@ -41,26 +50,52 @@ refusal_at kinds.BadWord at = BadWord at
 refusal_at kinds.NameTooLong at = NameTooLong at
 refusal_at kinds.BadProto at = BadProto at
 
+-- of so many words, by why they weren't read
+abbrev pub refusal_of : Unread → ℕ → Refusal
+refusal_of (unread.Stopped stop) count = refusal_at stop.kind (count - stop.left)
+refusal_of unread.Memory count = Memory
+
 abbrev pub refusal_for : Mistake → Refusal
 refusal_for mistakes.MixedFamily = MixedFamily
 refusal_for mistakes.PortNeedsProto = PortNeedsProto
 
 -- what so many words say, by what was read of them
-abbrev pub said : ℕ → Result (Result Command Mistake) (Kind × List Word) → Result (Option Command) Refusal
-said count (Ok (Ok c)) = Ok (Some c)
-said count (Ok (Err mistake)) = Err (refusal_for mistake)
+abbrev pub said : ℕ → Result Spoken (Kind × List Word) → Result (Option Spoken) Refusal
+said count (Ok x) = Ok (Some x)
 said count (Err e) = Err (refusal_at e.0 (count - length e.1))
 
-abbrev pub said_by : List Word → Result (Option Command) Refusal
+abbrev pub said_by : List Word → Result (Option Spoken) Refusal
 said_by ws = said (length ws) (read_all grammar.line ws)
 
--- what a line is answered
-unfoldable pub line_at : List ℕ → Result (Option Command) Refusal
+-- what a line says, as far as its words go
+unfoldable pub line_at : List ℕ → Result (Option Spoken) Refusal
 line_at line = if is_bad_line line then Err BadLine else (if is_silent line then Ok None else said_by (words_of line))
 
--- The first is the second, or memory was refused.
-abbrev pub Parses : Result (Option Command) Refusal → Result (Option Command) Refusal → Type 0
-Parses r answer = (r ≡ answer) ⊎ (r ≡ Err Memory)
+-- the command of a peer's message, or what its bytes are refused for
+abbrev pub peer_command : Result Message OneFault → Result (Option Command) Refusal
+peer_command (Ok m) = Ok (Some (States (Peer m)))
+peer_command (Err (Fault f)) = Err (BadPeer f)
+peer_command (Err Count) = Err PeerCount
+
+-- What is said comes to this command, or is refused so. Only here are the bytes of a peer's message looked into.
+abbrev pub Means : Result (Option Spoken) Refusal → Result (Option Command) Refusal → Type 0
+Means (Ok None) r = r ≡ Ok None
+Means (Ok (Some (Says (Ok c)))) r = r ≡ Ok (Some c)
+Means (Ok (Some (Says (Err mistake)))) r = r ≡ Err (refusal_for mistake)
+Means (Ok (Some (Tells bytes))) r = (one : Result Message OneFault) × IsOne bytes one × (r ≡ peer_command one)
+Means (Err e) r = r ≡ Err e
+
+-- The words of a line say the command.
+abbrev pub SpellsLine : Command → List Word → Type 0
+SpellsLine c ws = (x : Spoken) × Spells grammar.line x ws × Means (Ok (Some x)) (Ok (Some c))
+
+-- It is this command, or memory was refused.
+abbrev pub IsCommand : Result (Option Command) Refusal → Command → Type 0
+IsCommand r c = (r ≡ Ok (Some c)) ⊎ (r ≡ Err Memory)
+
+-- What is said means this, or memory was refused.
+abbrev pub Parses : Result (Option Command) Refusal → Result (Option Spoken) Refusal → Type 0
+Parses r at = Means at r ⊎ (r ≡ Err Memory)
 
 -- neither bad nor silent
 pub record Speaks (line : List ℕ) : Type 0 where
@@ -69,10 +104,18 @@ pub record Speaks (line : List ℕ) : Type 0 where
 
 -- It is answered as it is to be, or memory was refused, which only a line that speaks wants.
 abbrev pub Answers : List ℕ → Result (Option Command) Refusal → Type 0
-Answers line r = (r ≡ line_at line) ⊎ (Speaks line × (r ≡ Err Memory))
+Answers line r = Means (line_at line) r ⊎ (Speaks line × (r ≡ Err Memory))
 
 abbrev IsRefused : List ℕ → ℕ → Kind → Type 0
-IsRefused line at kind = Speaks line × RefusedAt (Result Command Mistake) grammar.line (words_of line) at kind
+IsRefused line at kind = Speaks line × RefusedAt Spoken grammar.line (words_of line) at kind
+
+-- its words are right, and its rule or its packet makes this mistake
+abbrev IsMistaken : List ℕ → Mistake → Type 0
+IsMistaken line mistake = Speaks line × Spells grammar.line (Says (Err mistake)) (words_of line)
+
+-- its words are right, and the bytes that it has for a peer's message aren't one
+abbrev IsNoMessage : List ℕ → OneFault → Type 0
+IsNoMessage line fault = Speaks line × ((bytes : List ℕ) × Spells grammar.line (Tells bytes) (words_of line) × IsOne bytes (Err fault))
 
 -- A refusal of a line. Its place and its kind are by the grammar alone: the words before it begin a line, with the word at it none does.
 abbrev pub Refused : List ℕ → Refusal → Type 0
@@ -80,8 +123,10 @@ Refused line BadLine = is_bad_line line ≡ true
 Refused line (BadWord at) = IsRefused line at kinds.BadWord
 Refused line (NameTooLong at) = IsRefused line at kinds.NameTooLong
 Refused line (BadProto at) = IsRefused line at kinds.BadProto
-Refused line MixedFamily = Speaks line × Spells grammar.line (Err mistakes.MixedFamily) (words_of line)
-Refused line PortNeedsProto = Speaks line × Spells grammar.line (Err mistakes.PortNeedsProto) (words_of line)
+Refused line MixedFamily = IsMistaken line mistakes.MixedFamily
+Refused line PortNeedsProto = IsMistaken line mistakes.PortNeedsProto
+Refused line (BadPeer f) = IsNoMessage line (Fault f)
+Refused line PeerCount = IsNoMessage line Count
 Refused line Memory = Speaks line
 Refused line _ = ⊥
 
@@ -92,10 +137,8 @@ pub long_line : (line : List ℕ) → LINE_LIMIT < length line → line_at line 
 unfolding line_at
 long_line line long = let t : nat_lt LINE_LIMIT (length line) ≡ true = lt-ltb LINE_LIMIT (length line) long in rw t refl
 
-no_silence : (count : ℕ) (r : Result (Result Command Mistake) (Kind × List Word)) → (said count r ≡ Ok None → ⊥) × (said count r ≡ Err BadLine → ⊥)
-no_silence count (Ok (Ok c)) = (λ e. cc, λ e. cc)
-no_silence count (Ok (Err mistakes.MixedFamily)) = (λ e. cc, λ e. cc)
-no_silence count (Ok (Err mistakes.PortNeedsProto)) = (λ e. cc, λ e. cc)
+no_silence : (count : ℕ) (r : Result Spoken (Kind × List Word)) → (said count r ≡ Ok None → ⊥) × (said count r ≡ Err BadLine → ⊥)
+no_silence count (Ok x) = (λ e. cc, λ e. cc)
 no_silence count (Err (kinds.BadWord, rest)) = (λ e. cc, λ e. cc)
 no_silence count (Err (kinds.NameTooLong, rest)) = (λ e. cc, λ e. cc)
 no_silence count (Err (kinds.BadProto, rest)) = (λ e. cc, λ e. cc)

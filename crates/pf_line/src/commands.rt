@@ -1,12 +1,13 @@
 //! Reading the words of a line.
 ghost use Rattle.pf_form.specs.Readers.{ReadsWhole, ReadsAll};
-ghost use Rattle.pf_line.specs.Grammar.{begun, added, defined, committed, rolled_back, entries_added, entries_deleted, entries_set, killed, judged, tested, shown, question, edit_or_question, line};
+ghost use Rattle.pf_line.specs.Grammar.{begun, added, defined, committed, rolled_back, entries_added, entries_deleted, entries_set, killed, judged, tested, tracked, state_killed, shown, overview, question, state_or_question, edit_or_question, command};
 
 use crate::lists::{read_rows, read_some_rows};
 use crate::words::{
-    address_word, path_word, read_entry, read_name, read_offered, read_table, ticket_word,
+    address_word, path_word, read_entry, read_name, read_offered, read_state, read_table,
+    ticket_word,
 };
-use pf_core::{Command, Question, TableEdit, Transaction};
+use pf_core::{Command, Question, StateCommand, TableEdit, Transaction};
 use pf_form::{Stop, Unread, Words, each, end, expect, takes};
 use pf_rule::{Mistake, Packet, Rule};
 use pf_ticket::{Entries, RulesetNames};
@@ -128,6 +129,30 @@ fn kill<'a>(words: Words<'a>) -> Result<Result<Command, Mistake>, Stop>
     Ok(Ok(Command::Edit(TableEdit::Kill { path, name })))
 }
 
+#[tactic(auto, unfolding(crate::specs::Grammar::tracked))]
+fn track<'a>(words: Words<'a>) -> Result<Result<Command, Mistake>, Stop>
+    ensures { ReadsWhole (λ x. x) tracked result words.now }
+{
+    let mut rest = words;
+    let name = read_state(&mut rest)?;
+    let read = Packet::read(&mut rest)?;
+    end(rest)?;
+    match read {
+        Ok(packet) => Ok(Ok(Command::States(StateCommand::Track { name, packet }))),
+        Err(mistake) => Ok(Err(mistake)),
+    }
+}
+
+#[tactic(auto, unfolding(crate::specs::Grammar::state_killed))]
+fn kill_state<'a>(words: Words<'a>) -> Result<Result<Command, Mistake>, Stop>
+    ensures { ReadsWhole (λ x. x) state_killed result words.now }
+{
+    let mut rest = words;
+    let name = read_state(&mut rest)?;
+    end(rest)?;
+    Ok(Ok(Command::States(StateCommand::Kill(name))))
+}
+
 #[tactic(auto, unfolding(crate::specs::Grammar::judged))]
 fn judge<'a>(words: Words<'a>) -> Result<Result<Command, Mistake>, Stop>
     ensures { ReadsWhole (λ x. x) judged result words.now }
@@ -167,10 +192,32 @@ fn show<'a>(words: Words<'a>) -> Result<Result<Command, Mistake>, Stop>
         end(rest)?;
         return Ok(Ok(Command::Ask(Question::ShowRules(path))));
     }
-    expect(&mut rest, b"tables")?;
-    let path = path_word(&mut rest)?;
+    if takes(&mut rest, b"tables") {
+        let path = path_word(&mut rest)?;
+        end(rest)?;
+        return Ok(Ok(Command::Ask(Question::ShowTables(path))));
+    }
+    expect(&mut rest, b"states")?;
     end(rest)?;
-    Ok(Ok(Command::Ask(Question::ShowTables(path))))
+    Ok(Ok(Command::Ask(Question::ShowStates)))
+}
+
+/// A question about all of something.
+#[tactic(auto, unfolding(crate::specs::Grammar::overview))]
+fn ask_overview<'a>(words: Words<'a>) -> Result<Result<Command, Mistake>, Stop>
+    ensures { ReadsWhole (λ x. x) overview result words.now }
+{
+    let mut rest = words;
+    if takes(&mut rest, b"sum") {
+        end(rest)?;
+        return Ok(Ok(Command::Ask(Question::Sum)));
+    }
+    if takes(&mut rest, b"export") {
+        end(rest)?;
+        return Ok(Ok(Command::Ask(Question::Export)));
+    }
+    expect(&mut rest, b"show")?;
+    show(rest)
 }
 
 /// A question.
@@ -185,11 +232,25 @@ fn ask<'a>(words: Words<'a>) -> Result<Result<Command, Mistake>, Stop>
     if takes(&mut rest, b"test") {
         return test(rest);
     }
-    expect(&mut rest, b"show")?;
-    show(rest)
+    ask_overview(rest)
 }
 
-/// A change of one table, or a question.
+/// A change of states whose words say it whole, or a question.
+#[tactic(auto, unfolding(crate::specs::Grammar::state_or_question))]
+fn change_state_or_ask<'a>(words: Words<'a>) -> Result<Result<Command, Mistake>, Stop>
+    ensures { ReadsWhole (λ x. x) state_or_question result words.now }
+{
+    let mut rest = words;
+    if takes(&mut rest, b"track") {
+        return track(rest);
+    }
+    if takes(&mut rest, b"kill") {
+        return kill_state(rest);
+    }
+    ask(rest)
+}
+
+/// A change of one table, a change of states, or a question.
 #[tactic(auto, unfolding(crate::specs::Grammar::edit_or_question))]
 fn edit_or_ask<'a>(alloc: Global, words: Words<'a>) -> Result<Result<Command, Mistake>, Unread>
     ensures { ReadsAll (λ x. x) edit_or_question result words.now }
@@ -207,15 +268,16 @@ fn edit_or_ask<'a>(alloc: Global, words: Words<'a>) -> Result<Result<Command, Mi
     if takes(&mut rest, b"tkill") {
         return Ok(kill(rest)?);
     }
-    Ok(ask(rest)?)
+    Ok(change_state_or_ask(rest)?)
 }
 
-/// The command that the words of a line say, or the mistake that its rule or its packet makes.
+/// The command that the words of a line say whole, or the mistake that its rule or its packet makes.
+#[tactic(auto, unfolding(crate::specs::Grammar::command))]
 pub(crate) fn command<'a>(
     alloc: Global,
     words: Words<'a>,
 ) -> Result<Result<Command, Mistake>, Unread>
-    ensures { ReadsAll (λ x. x) line result words.now }
+    ensures { ReadsAll (λ x. x) command result words.now }
 {
     let mut rest = words;
     if takes(&mut rest, b"begin") {

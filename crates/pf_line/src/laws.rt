@@ -1,19 +1,25 @@
 //! Laws of the texts. Each function does nothing; its contract is the law.
-ghost use Rattle.std.specs.Prelude.{◌≡◌, ℕ, ◌^◌, ◌<◌, List, Result, length, Some, Ok, Err};
+ghost use Rattle.std.specs.Prelude.{◌≡◌, [], ◌∷◌, codes, ℕ, ◌^◌, ◌<◌, List, Option, Result, length, Some, Ok, Err};
 ghost use Rattle.pf_form.specs.declared.fault.Kind.{Kind};
+ghost use Rattle.hex.specs.Hex.{IsBytes, encode_lower, encode_upper};
+ghost use Rattle.pf_peer.specs.declared.message.Message.{Message};
+ghost use Rattle.pf_peer.specs.Written.{message_bytes, CanBeWritten};
+ghost use Rattle.pf_core.specs.declared.command.Command.TheVariants.{States};
+ghost use Rattle.pf_core.specs.declared.command.StateCommand.TheVariants.{Peer};
 ghost use Rattle.pf_form.specs.Words.{Word};
 ghost use Rattle.pf_form.specs.Forms.{RefusedAt};
 ghost use Rattle.pf_ticket.specs.declared.ticket.Ticket.{Ticket};
-ghost use Rattle.pf_rule.specs.declared.fault.Mistake.{Mistake};
 ghost use Rattle.pf_core.specs.declared.command.Command.{Command};
+ghost use Rattle.pf_core.specs.declared.reply.Refusal.{Refusal};
 ghost use Rattle.pf_core.specs.declared.reply.Refusal.TheVariants.{BadLine};
 ghost use Rattle.pf_line.specs.declared.line.TheConstants.{LINE_LIMIT};
-ghost use Rattle.pf_line.specs.Grammar.{line as the_grammar};
-ghost use Rattle.pf_line.specs.Lines.{line_at};
+ghost use Rattle.pf_line.specs.Grammar.{Spoken, line as the_grammar};
+ghost use Rattle.pf_line.specs.Lines.{line_at, Means, SpellsLine};
 ghost use Rattle.pf_addr.specs.SpellingLaws.{IsNetwork};
 ghost use Rattle.pf_table.specs.Entries.{Row};
 ghost use Rattle.pf_reply.specs.Texts.{ticket_text, entry_text};
-ghost use Rattle.pf_line.specs.Tickets.{ticket_of, SpellsTicket};
+ghost use Rattle.pf_line.specs.Tickets.{part_of, ticket_of, IsPart, SpellsTicket};
+ghost use Rattle.pf_line.specs.States.{id_of, IsId, bytes_of};
 ghost use Rattle.pf_line.specs.Entries.{entry_of, SpellsEntry};
 
 /// A ticket is read from a word exactly where the word spells it.
@@ -42,13 +48,37 @@ pub fn written_entry_is_read_again()
     ensures { (row : Row) → IsNetwork row.0 → entry_of (entry_text row) ≡ Ok row }
 {}
 
+/// A line means one thing: it is silent, a command, or a refusal.
+pub fn a_line_has_one_meaning()
+    ensures { (line : List ℕ) (r s : Result (Option Command) Refusal) → Means (line_at line) r → Means (line_at line) s → r ≡ s }
+{}
+
 /// The words of a line are refused at one place, and for one reason.
 pub fn a_refusal_is_one()
-    ensures { (ws : List Word) (m n : ℕ) (j k : Kind) → RefusedAt (Result Command Mistake) the_grammar ws m j → RefusedAt (Result Command Mistake) the_grammar ws n k → (m ≡ n) × (j ≡ k) }
+    ensures { (ws : List Word) (m n : ℕ) (j k : Kind) → RefusedAt Spoken the_grammar ws m j → RefusedAt Spoken the_grammar ws n k → (m ≡ n) × (j ≡ k) }
 {}
 
 /// A line that is too long is bad, whatever its bytes are.
 #[tactic(auto, using(crate::specs::Lines::long_line))]
 pub fn long_line_is_bad()
     ensures { (line : List ℕ) → LINE_LIMIT < length line → line_at line ≡ Err BadLine }
+{}
+
+/// A state's number is read from a word exactly where the word writes it, and so is who made it.
+pub fn names_of_states_are_read_as_written()
+    ensures id { (w : Word) (n : ℕ) → id_of w ≡ Some n → IsId w n }
+    ensures written_id { (w : Word) (n : ℕ) → IsId w n → id_of w ≡ Some n }
+    ensures creator { (w : Word) (n : ℕ) → part_of w ≡ Some n → IsPart w n }
+    ensures written_creator { (w : Word) (n : ℕ) → IsPart w n → part_of w ≡ Some n }
+{}
+
+/// Bytes are read again from their hexadecimal, with letters of either case.
+pub fn written_bytes_are_read_again()
+    ensures lower { (bytes : List ℕ) → IsBytes bytes → bytes_of (encode_lower bytes) ≡ Ok bytes }
+    ensures upper { (bytes : List ℕ) → IsBytes bytes → bytes_of (encode_upper bytes) ≡ Ok bytes }
+{}
+
+/// The words that a message is exported as say to act on that message.
+pub fn exported_message_is_read_again()
+    ensures { (m : Message) → CanBeWritten m → IsBytes (message_bytes m) → SpellsLine (States (Peer m)) (codes "peer" ∷ encode_lower (message_bytes m) ∷ []) }
 {}

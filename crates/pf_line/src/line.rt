@@ -1,15 +1,18 @@
 //! Lines.
 ghost use Rattle.std.specs.Prelude.{◌≡◌, ◌-◌, ℕ, not, true, false, Some, None, Ok, Err, IfOk, IfErr, IfSome, length};
 ghost use Rattle.std.specs.List.{list_all, find};
-ghost use Rattle.pf_form.specs.Words.{is_blank, words_of};
+ghost use Rattle.pf_form.specs.Forms.{making, read_all};
+ghost use Rattle.pf_form.specs.Words.{is_blank, words_of, texts};
 ghost use Rattle.pf_core.specs.declared.command.Command.{Command};
 ghost use Rattle.pf_core.specs.declared.reply.Refusal.TheVariants.{BadLine};
-ghost use Rattle.pf_line.specs.Grammar.{SpellsLine};
-ghost use Rattle.pf_line.specs.Lines.{is_line_byte, is_bad_line, is_silent, line_at, said_by, refusal_at, refusal_for, Parses, Answers, Refused};
+ghost use Rattle.pf_line.specs.Grammar.{Says, Tells, hex, command, line as the_grammar};
+ghost use Rattle.pf_line.specs.Lines.{is_line_byte, is_bad_line, is_silent, line_at, said_by, refusal_at, refusal_for, said, refusal_of, SpellsLine, IsCommand, Parses, Answers, Refused};
 
 use crate::commands::command;
-use pf_core::{Command, Refusal};
-use pf_form::{Kind, Stop, Unread, is_blank, words};
+use crate::state::read_bytes;
+use pf_core::{Command, Refusal, StateCommand};
+use pf_form::{Kind, Unread, Words, is_blank, takes, words};
+use pf_peer::{OneFault, read_one};
 use pf_rule::Mistake;
 use std::alloc::Global;
 
@@ -53,12 +56,21 @@ fn silent(line: &[u8]) -> bool
     }
 }
 
-/// The refusal of a line of so many words that stop there.
-fn refusal(stop: Stop, count: usize) -> Refusal
-    ensures { result ≡ refusal_at stop.kind (count - stop.left) }
+/// The refusal of a line of so many words that weren't read for this.
+fn refusal(unread: Unread, count: usize) -> Refusal
+    ensures { result ≡ refusal_of unread count }
 {
-    let at = count.saturating_sub(stop.left);
-    match stop.kind {
+    match unread {
+        Unread::Stopped(stop) => refusal_at(stop.kind, count.saturating_sub(stop.left)),
+        Unread::Memory => Refusal::Memory,
+    }
+}
+
+/// The refusal of the word at this place.
+fn refusal_at(kind: Kind, at: usize) -> Refusal
+    ensures { result ≡ refusal_at kind at }
+{
+    match kind {
         Kind::BadWord => Refusal::BadWord { at },
         Kind::NameTooLong => Refusal::NameTooLong { at },
         Kind::BadProto => Refusal::BadProto { at },
@@ -79,13 +91,14 @@ fn refusal_for(mistake: Mistake) -> Refusal
 /// A line of more than 4,096 bytes, or with a byte that is neither printable ASCII nor a blank, is `BadLine`. Of any
 /// other line one without words, or whose first word begins with `#`, says nothing. `BadWord`, `NameTooLong` and
 /// `BadProto` stand at the first word at which no line can go on; words are counted from 0, and a missing word is at
-/// the number of words. `MixedFamily` and then `PortNeedsProto` come after the last word. `Memory` comes only where memory was refused, and
-/// never for a bad line or one that says nothing.
+/// the number of words. `MixedFamily` and then `PortNeedsProto` come after the last word, and so do `BadPeer` and `PeerCount`, of the
+/// bytes that a line has for a peer's message. `Memory` comes only where memory was refused, and never for a bad line or one that says
+/// nothing.
 pub fn parse_line(alloc: Global, line: &[u8]) -> Result<Option<Command>, Refusal>
     ensures bad { is_bad_line line.now ≡ true → result ≡ Err BadLine }
     ensures silent { is_bad_line line.now ≡ false → is_silent line.now ≡ true → result ≡ Ok None }
     ensures found { IfOk result (λ said. IfSome said (λ c. SpellsLine c (words_of line.now))) }
-    ensures only { is_bad_line line.now ≡ false → (c : Command) → SpellsLine c (words_of line.now) → Parses result (Ok (Some c)) }
+    ensures only { is_bad_line line.now ≡ false → (c : Command) → SpellsLine c (words_of line.now) → IsCommand result c }
     ensures refused { IfErr result (λ e. Refused line.now e) }
     ensures exact { Parses result (line_at line.now) }
 {
@@ -112,10 +125,55 @@ fn read(alloc: Global, line: &[u8]) -> Result<Option<Command>, Refusal>
     let Ok(words) = words(alloc, line) else {
         return Err(Refusal::Memory);
     };
-    match command(alloc, &words) {
+    say(alloc, &words, words.len())
+}
+
+/// What so many words say.
+fn say<'a>(alloc: Global, words: Words<'a>, count: usize) -> Result<Option<Command>, Refusal>
+    ensures { Parses result (said count (read_all the_grammar (texts words.now))) }
+{
+    let mut rest = words;
+    if takes(&mut rest, b"peer") {
+        return say_peer(alloc, rest, count);
+    }
+    say_command(alloc, rest, count)
+}
+
+/// What the words behind the first of so many say of a peer's message.
+#[tactic(auto, using(crate::proofs::Lines::made_ok, crate::proofs::Lines::made_stopped))]
+fn say_peer<'a>(alloc: Global, words: Words<'a>, count: usize) -> Result<Option<Command>, Refusal>
+    ensures { Parses result (said count (read_all (making Tells hex) (texts words.now))) }
+{
+    match read_bytes(alloc, words) {
+        Ok(bytes) => peer_command(alloc, &bytes),
+        Err(unread) => Err(refusal(unread, count)),
+    }
+}
+
+/// What words of so many say whole.
+#[tactic(auto, using(crate::proofs::Lines::made_ok, crate::proofs::Lines::made_stopped))]
+fn say_command<'a>(
+    alloc: Global,
+    words: Words<'a>,
+    count: usize,
+) -> Result<Option<Command>, Refusal>
+    ensures { Parses result (said count (read_all (making Says command) (texts words.now))) }
+{
+    match command(alloc, words) {
         Ok(Ok(command)) => Ok(Some(command)),
         Ok(Err(mistake)) => Err(refusal_for(mistake)),
-        Err(Unread::Stopped(stop)) => Err(refusal(stop, words.len())),
-        Err(Unread::Memory) => Err(Refusal::Memory),
+        Err(unread) => Err(refusal(unread, count)),
+    }
+}
+
+/// The command to act on the message that these bytes have to be.
+fn peer_command(alloc: Global, bytes: &[u8]) -> Result<Option<Command>, Refusal>
+    ensures { Parses result (Ok (Some (Tells bytes.now))) }
+{
+    match read_one(alloc, bytes) {
+        Ok(Ok(message)) => Ok(Some(Command::States(StateCommand::Peer(message)))),
+        Ok(Err(OneFault::Fault(fault))) => Err(Refusal::BadPeer(fault)),
+        Ok(Err(OneFault::Count)) => Err(Refusal::PeerCount),
+        Err(_) => Err(Refusal::Memory),
     }
 }

@@ -34,8 +34,8 @@ fn first_dot(word: &[u8]) -> Option<usize>
     word.iter().position(|b| *b == b'.')
 }
 
-/// An epoch or a count.
-fn part(text: &[u8]) -> Option<u32>
+/// An epoch or a count, or who made a state.
+pub(crate) fn part(text: &[u8]) -> Option<u32>
     ensures { result ≡ part_of text.now }
 {
     match read_number(text, DIGIT_LIMIT) {

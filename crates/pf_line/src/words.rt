@@ -1,13 +1,15 @@
 //! Reading the words that stand for values, each from the front of those that are left.
 ghost use Rattle.pf_form.specs.Readers.{Moves};
-ghost use Rattle.pf_line.specs.Grammar.{kind, path, ticket_text, table_name, row, address, name, entry, table, offered_table};
+ghost use Rattle.pf_line.specs.Grammar.{kind, path, ticket_text, table_name, row, address, name, entry, table, offered_table, id, creator, state};
 
 use crate::entries::{address_of, entry_of};
+use crate::state::{read_creator, read_id};
 use crate::ticket::read_ticket;
 use pf_addr::Addr;
 use pf_anchor::Path;
 use pf_form::{Stop, Words, bad_word, expect, stop, takes};
 use pf_path::TableName;
+use pf_state::StateName;
 use pf_ticket::{Entry, RulesetKind, RulesetName, Ticket};
 
 /// Takes the first word where it reads as a value.
@@ -67,6 +69,18 @@ pub(crate) fn address_word<'a>(words: &mut Words<'a>) -> Result<Addr, Stop>
     take_word!(words, word => address_of(word))
 }
 
+fn id_word<'a>(words: &mut Words<'a>) -> Result<u64, Stop>
+    ensures { Moves id result words.old.now words.new.now }
+{
+    take_word!(words, word => read_id(word))
+}
+
+fn creator_word<'a>(words: &mut Words<'a>) -> Result<u32, Stop>
+    ensures { Moves creator result words.old.now words.new.now }
+{
+    take_word!(words, word => read_creator(word))
+}
+
 /// A ruleset.
 pub(crate) fn read_name<'a>(words: &mut Words<'a>) -> Result<RulesetName, Stop>
     ensures { Moves name result words.old.now words.new.now }
@@ -102,4 +116,13 @@ pub(crate) fn read_offered<'a>(words: &mut Words<'a>) -> Result<(Path, Ticket, T
     let ticket = ticket_word(words)?;
     let name = name_word(words)?;
     Ok((path, ticket, name))
+}
+
+/// A state, by its name.
+pub(crate) fn read_state<'a>(words: &mut Words<'a>) -> Result<StateName, Stop>
+    ensures { Moves state result words.old.now words.new.now }
+{
+    let id = id_word(words)?;
+    let creator = creator_word(words)?;
+    Ok(StateName { id, creator })
 }

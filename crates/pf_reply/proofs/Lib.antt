@@ -1,2 +1,3 @@
 pub mod Writers
 pub mod Newlines
+pub mod StateTexts

@@ -1,3 +1,4 @@
 pub mod Parts
 pub mod Texts
+pub mod StateTexts
 pub mod Replies

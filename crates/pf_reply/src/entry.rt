@@ -44,7 +44,11 @@ fn sign(is_negated: bool) -> &'static [u8]
     if is_negated { b"!" } else { b"" }
 }
 
-fn write_network<W: Write>(out: &mut W, so_far: io::Result<()>, net: Net) -> io::Result<()>
+pub(crate) fn write_network<W: Write>(
+    out: &mut W,
+    so_far: io::Result<()>,
+    net: Net,
+) -> io::Result<()>
     ensures { GoesOn so_far (W.contents out.old) result (W.contents out.new) (net_text net) }
 {
     // The law says what bytes a network's text has, and its family what each network keeps.

@@ -7,6 +7,7 @@ mod part;
 mod refusal;
 mod reply;
 mod shown;
+mod state_line;
 mod ticket;
 mod verdict;
 

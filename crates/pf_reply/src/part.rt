@@ -26,7 +26,12 @@ pub(crate) fn write_part<W: Write>(
     write_more(out, so_far, text)
 }
 
-fn write_number<W: Write>(out: &mut W, so_far: io::Result<()>, number: u64) -> io::Result<()>
+/// Writes a number in decimal digits.
+pub(crate) fn write_number<W: Write>(
+    out: &mut W,
+    so_far: io::Result<()>,
+    number: u64,
+) -> io::Result<()>
     ensures { GoesOn so_far (W.contents out.old) result (W.contents out.new) (decimal number) }
 {
     write_more_number(out, so_far, number)

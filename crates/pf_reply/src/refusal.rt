@@ -4,6 +4,7 @@ ghost use Rattle.pf_reply.specs.Parts.{GoesOn};
 ghost use Rattle.pf_reply.specs.Replies.{refusal_text};
 
 use crate::part::{write_numbered, write_part};
+use crate::state_line::fault_text;
 use pf_core::Refusal;
 use std::io::{self, Write};
 
@@ -25,6 +26,9 @@ pub(crate) fn write_refusal<W: Write>(
         Refusal::TooManyRulesets => write_part(out, so_far, b"err rulesets"),
         Refusal::TooManyTables => write_part(out, so_far, b"err tables"),
         Refusal::TicketsExhausted => write_part(out, so_far, b"err tickets"),
+        Refusal::StatesFull => write_part(out, so_far, b"err states"),
+        Refusal::BadPeer(fault) => write_part(out, so_far, fault_text(fault)),
+        Refusal::PeerCount => write_part(out, so_far, b"err peer count"),
         Refusal::HistoryFull => write_part(out, so_far, b"err history"),
         Refusal::Memory => write_part(out, so_far, b"err memory"),
         Refusal::BadWord { at } => write_numbered(out, so_far, b"err word ", at as u64),

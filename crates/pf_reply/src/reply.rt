@@ -11,11 +11,12 @@ use crate::answer::{write_answer, write_applied};
 use crate::part::end_line;
 use crate::refusal::write_refusal;
 use crate::shown::{write_rules, write_tables};
+use crate::state_line::{write_messages, write_states};
 use pf_core::{Answer, Reply};
 use std::io::{self, ErrorKind, Write};
 
-/// Writes the reply's text: of a shown ruleset a line for each rule, of shown tables a line for each, and of each reply
-/// one line behind them. No other newline is in it.
+/// Writes the reply's text: of a shown ruleset a line for each rule, of shown tables, states and messages a line for
+/// each, and of each reply one line behind them. No other newline is in it.
 ///
 /// The error is the writer's first, save that a write that a signal interrupts is tried again; some front of the text is
 /// then written.
@@ -36,6 +37,8 @@ fn write_shown<W: Write>(out: &mut W, reply: &Reply) -> io::Result<()>
     match reply {
         Reply::Answer(Answer::Rules(rules)) => write_rules(out, rules.as_slice()),
         Reply::Answer(Answer::Tables(tables)) => write_tables(out, tables.as_slice()),
+        Reply::Answer(Answer::States(states)) => write_states(out, states.as_slice()),
+        Reply::Answer(Answer::Exported(exported)) => write_messages(out, exported.messages()),
         _ => Ok(()),
     }
 }
@@ -46,7 +49,7 @@ fn write_words<W: Write>(out: &mut W, so_far: io::Result<()>, reply: &Reply) -> 
 {
     match reply {
         Reply::Answer(answer) => write_answer(out, so_far, answer),
-        Reply::Applied { seq, outcome } => write_applied(out, so_far, *seq, *outcome),
+        Reply::Applied { seq, outcome } => write_applied(out, so_far, *seq, outcome),
         Reply::Refused(refusal) => write_refusal(out, so_far, *refusal),
     }
 }

@@ -1,17 +1,46 @@
 //! Texts of verdicts.
 ghost use Rattle.std.specs.Prelude.{◌≡◌, ◌++◌, codes, decimal};
 ghost use Rattle.pf_reply.specs.Parts.{newlines, GoesOn};
-ghost use Rattle.pf_reply.specs.Replies.{place_text, action_text, rule_verdict_text, sign_word, tested_text};
+ghost use Rattle.pf_reply.specs.Replies.{place_text, action_text, rule_verdict_text, verdict_text, sign_word, tested_text};
+ghost use Rattle.pf_reply.specs.StateTexts.{name_text};
 
 use crate::entry::write_entry;
 use crate::part::{write_numbered, write_part};
+use crate::state_line::write_name;
 use pf_anchor::{Path, RuleVerdict};
+use pf_durable::Verdict;
 use pf_path::laws::{paths_are_read_again, paths_are_read_as_spelled};
 use pf_rule::Action;
+use pf_state::StateName;
 use pf_table::Entry;
 use std::io::{self, Write};
 
 pub(crate) fn write_verdict<W: Write>(
+    out: &mut W,
+    so_far: io::Result<()>,
+    verdict: &Verdict,
+) -> io::Result<()>
+    ensures { GoesOn so_far (W.contents out.old) result (W.contents out.new) (verdict_text verdict.now) }
+{
+    match verdict {
+        Verdict::State(name) => write_state_verdict(out, so_far, *name),
+        Verdict::Rules(verdict) => write_rule_verdict(out, so_far, verdict),
+    }
+}
+
+#[tactic(auto, using(crate::proofs::Writers::goes_on))]
+fn write_state_verdict<W: Write>(
+    out: &mut W,
+    so_far: io::Result<()>,
+    name: StateName,
+) -> io::Result<()>
+    ensures { GoesOn so_far (W.contents out.old) result (W.contents out.new) (codes "pass state " ++ name_text name) }
+{
+    let so_far = write_part(out, so_far, b"pass state ");
+    write_name(out, so_far, name)
+}
+
+pub(crate) fn write_rule_verdict<W: Write>(
     out: &mut W,
     so_far: io::Result<()>,
     verdict: &RuleVerdict,

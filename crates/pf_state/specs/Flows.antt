@@ -1,4 +1,4 @@
--- Flows: what a state is looked for by (pf.conf(5), STATEFUL FILTERING). That the interface is no part of a flow is own.
+-- Flows: what a state is looked for by (pf.conf(5)). That the interface is no part of a flow is own.
 use Rattle.std.specs.Prelude.{◌≡◌, ◌<◌, ◌==◌, ◌&&◌, ◌||◌, Bool, false}
 use Rattle.pf_addr.specs.declared.addr.Addr.{Addr}
 use Rattle.pf_addr.specs.declared.addr.Addr.TheVariants.{V4, V6}

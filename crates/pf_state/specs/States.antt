@@ -1,4 +1,4 @@
--- States, and the table of them (pf.conf(5), STATEFUL FILTERING). How states are named and ordered is own.
+-- States, and the table of them (pf.conf(5)). How states are named and ordered is own.
 use Rattle.std.specs.Prelude.{◌≡◌, ◌≤◌, T, true, List, length, Option, Some}
 use Rattle.std.specs.declared.cmp.Ordering.{Ordering}
 use Rattle.std.specs.FinMap.{find, is_sorted}

@@ -1,9 +1,10 @@
 //! Changes of a list of states.
-ghost use Rattle.std.specs.Prelude.{◌≡◌, ◌<◌, length, IfOk, IfSome, OnOk, cond, Some};
+ghost use Rattle.std.specs.Prelude.{◌≡◌, ◌<◌, nat_le, false, length, IfOk, IfSome, OnOk, cond, Some};
 ghost use Rattle.std.specs.List.{position};
+ghost use Rattle.std.specs.Option.{option_map_or};
 ghost use Rattle.std.specs.Ordering.{is_lt};
 ghost use Rattle.pf_state.specs.States.{NamesFlows, held_at, name_order};
-ghost use Rattle.pf_state.specs.Steps.{is_stale, is_clash, insertion, stepped, counted, without_state, without_creator, named_count, creator_count, has_effect, is_over};
+ghost use Rattle.pf_state.specs.Steps.{is_clash, insertion, stepped, counted, without_state, without_creator, named_count, creator_count, has_effect, is_over};
 ghost use Rattle.pf_map.specs.Maps.{with_value};
 
 use crate::counts::Counts;
@@ -28,19 +29,21 @@ pub(crate) fn held_at(states: &[State], name: StateName) -> Option<Held>
 fn is_clash(states: &[State], new: &State) -> bool
     ensures { result ≡ is_clash states.now new.now }
 {
+    let flow = new.held().flow;
+    let turned = flow.turned();
     for state in states {
-        if !state.name().same(&new.name()) && state.held().flow.same(&new.held().flow) {
+        if state.has_flow(&flow, &turned) && !state.name().same(&new.name()) {
             return true;
         }
     }
     false
 }
 
-// Whether the state's name is known, with a generation that isn't less.
-fn is_stale(states: &[State], new: &State) -> bool
-    ensures { result ≡ is_stale states.now new.now }
+// Whether what is held under the state's name has a generation that isn't less.
+fn is_stale(known: Option<Held>, new: &State) -> bool
+    ensures { result ≡ option_map_or (λ held. nat_le new.now.1.generation held.generation) known false }
 {
-    match held_at(states, new.name()) {
+    match known {
         Some(held) => new.held().generation <= held.generation,
         None => false,
     }
@@ -50,11 +53,12 @@ fn is_stale(states: &[State], new: &State) -> bool
 fn judge(states: &[State], new: &State) -> Insertion
     ensures { result ≡ insertion states.now new.now }
 {
-    if is_stale(states, new) {
+    let known = held_at(states, new.name());
+    if is_stale(known, new) {
         Insertion::Stale
     } else if is_clash(states, new) {
         Insertion::Clash
-    } else if held_at(states, new.name()).is_some() {
+    } else if known.is_some() {
         Insertion::Replaced
     } else {
         Insertion::New

@@ -7,7 +7,7 @@ use pf_rule::Packet;
 use pf_value::{Direction, Protocol};
 use std::marker::Model;
 
-/// What the packets of one flow have in common, as the first of them has it (pf.conf(5), STATEFUL FILTERING). Contracts see a
+/// What the packets of one flow have in common, as the first of them has it (pf.conf(5)). Contracts see a
 /// [`Flow`] as these fields (`PlainFlow`), each as they see its type. That the interface is no part of it is own.
 #[derive(Clone, Copy)]
 struct FlowParts {
@@ -114,7 +114,7 @@ impl Flow {
     }
 
     // Whether all fields are equal.
-    fn is_equal(&self, other: &Flow) -> bool
+    pub(crate) fn is_equal(&self, other: &Flow) -> bool
         ensures { result ≡ is_equal self.now other.now }
     {
         self.0.direction == other.0.direction

@@ -1,4 +1,4 @@
-//! States of flows, the table that holds them, and how a peer's states change it (pf.conf(5), STATEFUL FILTERING; the rest is own).
+//! States of flows, the table that holds them, and how a peer's states change it (pf.conf(5); the rest is own).
 #![tactic(auto)]
 
 mod binding;
@@ -18,5 +18,5 @@ pub use flow::Flow;
 pub use limits::STATE_LIMIT;
 pub use refusal::StatesRefusal;
 pub use state::{Bound, Held, State, StateName};
-pub use step::{Insertion, Step};
+pub use step::{Insertion, Step, StepList};
 pub use table::StateTable;

@@ -1,7 +1,7 @@
 //! States.
 ghost use Rattle.std.specs.Prelude.{◌≡◌};
 ghost use Rattle.std.specs.Ordering.{eq_by_cmp};
-ghost use Rattle.pf_state.specs.Flows.{IsFlow};
+ghost use Rattle.pf_state.specs.Flows.{IsFlow, turned, same_flow};
 ghost use Rattle.pf_state.specs.States.{name_order};
 
 use crate::flow::Flow;
@@ -29,7 +29,7 @@ pub enum Bound {
 /// What is held under a state's name.
 #[derive(Clone, Copy)]
 pub struct Held {
-    /// How often the creator changed the state.
+    /// Which of two tellings of this state is the later one: the greater generation. 0 for a state that was made here.
     pub generation: u32,
     /// The flow whose packets it lets pass.
     pub flow: Flow,
@@ -95,5 +95,14 @@ impl State {
         ensures { result ≡ self.now.1 }
     {
         self.held
+    }
+
+    // Whether it has a flow, which is handed in turned too.
+    #[tactic(auto, unfolding(crate::specs::Flows::same_flow))]
+    pub(crate) fn has_flow(&self, flow: &Flow, back: &Flow) -> bool
+        requires { back.now ≡ turned flow.now }
+        ensures { result ≡ same_flow self.now.1.flow flow.now }
+    {
+        self.held.flow.is_equal(flow) || self.held.flow.is_equal(back)
     }
 }

@@ -1,6 +1,8 @@
 //! Steps that change states.
+ghost use Rattle.std.specs.Prelude.{◌≡◌};
 
 use crate::state::{State, StateName};
+use std::marker::Model;
 
 /// What a record of a peer, or the judging of a packet, does with the states.
 #[derive(Clone, Copy)]
@@ -24,4 +26,35 @@ pub enum Insertion {
     Replaced,
     /// It is a new state.
     New,
+}
+
+/// Steps, which act in their order. Contracts see the list of them.
+#[derive(Drop)]
+pub struct StepList {
+    steps: Vec<Step>,
+}
+
+impl Model for StepList {
+    ghost use Rattle.std.specs.Prelude.{List};
+    ghost use Rattle.pf_state.specs.declared.step.Step.{Step};
+
+    ghost Value = { List Step };
+
+    ghost view = { λ l. l.steps.items };
+}
+
+impl StepList {
+    /// The list of these. It takes no memory.
+    pub fn new(steps: Vec<Step>) -> StepList
+        ensures { result ≡ steps.items }
+    {
+        StepList { steps }
+    }
+
+    /// Them, in order.
+    pub fn as_slice(&self) -> &[Step]
+        ensures { result.now ≡ self.now }
+    {
+        &self.steps
+    }
 }

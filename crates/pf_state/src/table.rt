@@ -36,8 +36,9 @@ impl Model for StateTable {
 fn state_of<'a>(states: &'a [State], flow: &Flow) -> Option<&'a State>
     ensures { option_map (λ s. s.now) result ≡ state_of flow.now states.now }
 {
+    let turned = flow.turned();
     for state in states {
-        if state.held().flow.same(flow) {
+        if state.has_flow(flow, &turned) {
             return Some(state);
         }
     }
@@ -94,14 +95,18 @@ impl StateTable {
         held_at(&self.states, name)
     }
 
-    /// Acts on steps in turn, and counts what became of them.
+    /// The table after steps in turn, and what became of them. This one stays as it is.
     ///
     /// [`StatesRefusal::StatesFull`] is exactly for steps of which one would leave more than 65,536 states, also where those
-    /// behind it leave fewer; [`StatesRefusal::Memory`] may come before. After a refusal the table is as before.
-    pub fn apply_batch(&mut self, alloc: Global, steps: &[Step]) -> Result<Counts, StatesRefusal>
-        ensures refused { Refuses result (passes_limit self.old steps.now) }
-        ensures counts { IfOk result (λ c. c ≡ counts self.old steps.now) }
-        ensures after { self.new ≡ cond (is_ok result) (after self.old steps.now) self.old }
+    /// behind it leave fewer; [`StatesRefusal::Memory`] may come before. After a refusal nothing is made.
+    pub fn after_batch(
+        &self,
+        alloc: Global,
+        steps: &[Step],
+    ) -> Result<(StateTable, Counts), StatesRefusal>
+        ensures refused { Refuses result (passes_limit self.now steps.now) }
+        ensures counts { IfOk result (λ r. r.1 ≡ counts self.now steps.now) }
+        ensures after { IfOk result (λ r. r.0 ≡ after self.now steps.now) }
     {
         let mut states = copied(alloc, &self.states)?;
         let mut counts = Counts::NONE;
@@ -112,7 +117,17 @@ impl StateTable {
                 return Err(StatesRefusal::StatesFull);
             }
         }
-        self.states = states;
+        Ok((StateTable { states }, counts))
+    }
+
+    /// Acts on steps in turn, and counts what became of them. It is refused as `after_batch` is, and then the table is as before.
+    pub fn apply_batch(&mut self, alloc: Global, steps: &[Step]) -> Result<Counts, StatesRefusal>
+        ensures refused { Refuses result (passes_limit self.old steps.now) }
+        ensures counts { IfOk result (λ c. c ≡ counts self.old steps.now) }
+        ensures after { self.new ≡ cond (is_ok result) (after self.old steps.now) self.old }
+    {
+        let (table, counts) = self.after_batch(alloc, steps)?;
+        *self = table;
         Ok(counts)
     }
 

@@ -16,15 +16,16 @@ use Rattle.pf_core.specs.declared.step.Step.TheVariants.{Done, Wants}
 use Rattle.pf_ticket.specs.Tickets.{Open}
 use Rattle.pf_ticket.specs.Mentions.{after as moved_by, switches}
 use Rattle.pf_core.specs.Calls.{call}
-use Rattle.pf_core.specs.Commands.{step_by, takes_memory}
-use Rattle.pf_core.specs.Edits.{Kept, Edit, applied, after, voided_by, and_then, fits}
-use Rattle.pf_core.specs.Refusals.{OrMemory}
+use Rattle.pf_core.specs.Commands.{unless_unfit, step_by, takes_memory}
+use Rattle.pf_durable.specs.Edits.{Kept, Edit, applied, after, voided_by, fits}
+use Rattle.pf_durable.specs.declared.refusal.ChangeRefusal.{ChangeRefusal}
+use Rattle.pf_core.specs.Refusals.{change_refusal_of, OrMemory}
 use Rattle.pf_core.specs.Pages.{Page, IsFolded, IsAt, Leads}
 use Rattle.pf_core.specs.Wholes.{Whole, Ready, ready, prepared}
-use Rattle.pf_core.specs.WorldLaws.{both_passed, wants_memory, wants_mentions, wants_what_fits}
+use Rattle.pf_core.specs.WorldLaws.{fit, wants_memory, wants_mentions, wants_what_fits}
 use Rattle.pf_core.specs.Worlds.{Held, upshot, flat, log_of, durable_of, step_in, if_ok, or_refused, due_at, grouped, group_at, due, group_in, LegalReply}
 use Rattle.pf_core.proofs.LongerWorlds.{flat-push, refused-leads}
-use Rattle.pfd.specs.Books.{singles, IsMore, IsUnkept}
+use Rattle.pfd.specs.Books.{singles, IsMore, told, IsUnkept}
 
 pub flat-singles : (es : List Edit) → flat (singles es) ≡ es
 flat-singles [] = refl
@@ -118,29 +119,30 @@ unkept-leads h b new c e o why folded none steps (inr (inl full)) same at =
     subst (λ (x : Refusal). Leads h new (call c (Refused x)) (upshot new.shown false)) (sym full.0) (refused-leads h b new c HistoryFull (full-is-legal h b c e o at folded none steps full.1) same at)
 -- what is wanted fits
 unkept-leads h b new c e o why folded none steps (inr (inr unfit)) same at =
-    let fit : fits b.whole.durable e ≡ Ok tt = wants_what_fits b.whole.tickets b.whole.durable c e o (sym (steps.0 (λ m. cc (m)))) in
-    absurd (cc (sym fit ∙ unfit))
+    let fits_it : fits b.whole.durable e ≡ Ok tt = wants_what_fits b.whole.tickets b.whole.durable c e o (sym (steps.0 (λ m. cc (m)))) in
+    let fine : told (fits b.whole.durable e) ≡ Ok tt = ap told fits_it in
+    absurd (cc (sym fine ∙ unfit))
 
 -- ---- what is prepared
 
 pub is-ready : (d : Kept) (e : Edit) (n : Ready) → OrMemory true (Ok n) (prepared d e) → n ≡ ready (applied d e) (voided_by e)
-is-ready d e n told =
-    let due : Ok n ≡ prepared d e = told.0 (λ m. cc (m)) in
-    let same : Ok (ready (applied d e) (voided_by e)) ≡ Ok n = (both_passed (fits d e) (Ok (ready (applied d e) (voided_by e))) n (sym due)).second in
+is-ready d e n by =
+    let due : Ok n ≡ prepared d e = by.0 (λ m. cc (m)) in
+    let same : Ok (ready (applied d e) (voided_by e)) ≡ Ok n = (fit (fits d e) (Ok (ready (applied d e) (voided_by e))) n (sym due)).second in
     sym (cc (same))
 
-refused-by : (r : Result (Unit {0}) Refusal) (n : Ready) (why : Refusal) → Err why ≡ and_then r (Ok n) → r ≡ Err why
+refused-by : (r : Result (Unit {0}) ChangeRefusal) (n : Ready) (why : Refusal) → Err why ≡ unless_unfit r (Ok n) → told r ≡ Err why
 refused-by (Ok u) n why h = absurd (cc (h))
-refused-by (Err e) n why h = let same : why ≡ e = cc (h) in ap (λ (x : Refusal). Err x) (sym same)
+refused-by (Err e) n why h = let same : why ≡ change_refusal_of e = cc (h) in ap (λ (x : Refusal). Err x) (sym same)
 
 -- what can't be prepared has no memory, or doesn't fit
 unprepared : (b : Page) (e : Edit) (why : Refusal) → OrMemory true (Err why) (prepared b.whole.durable e) → IsUnkept b e why
-unprepared b e Memory told = inl refl
-unprepared b e why told = inr (inr (refused-by (fits b.whole.durable e) (ready (applied b.whole.durable e) (voided_by e)) why (told.0 (λ m. cc (m)))))
+unprepared b e Memory due = inl refl
+unprepared b e why due = inr (inr (refused-by (fits b.whole.durable e) (ready (applied b.whole.durable e) (voided_by e)) why (due.0 (λ m. cc (m)))))
 
 pub not-kept : (b now : Page) (e : Edit) (r : Result ℕ Refusal) (why : Refusal) → b ≡ now → OrMemory true (Err why) (prepared b.whole.durable e) → IsErrAnd r (λ x. x ≡ why) → IfErr r (λ x. IsUnkept now e x × (now ≡ now))
-not-kept b now e (Ok n) why is told h = absurd h
-not-kept b now e (Err x) why is told h = (subst (λ (y : Refusal). IsUnkept now e y) (sym h) (subst (λ (p : Page). IsUnkept p e why) is (unprepared b e why told)), refl)
+not-kept b now e (Ok n) why is by h = absurd h
+not-kept b now e (Err x) why is by h = (subst (λ (y : Refusal). IsUnkept now e y) (sym h) (subst (λ (p : Page). IsUnkept p e why) is (unprepared b e why by)), refl)
 
 -- the book is still what its changes leave, and shows them all
 pub folded-more : (b new : Page) (e : Edit) → IsFolded b → new.base ≡ b.base → new.acked ≡ b.acked ++ (e ∷ []) ∷ [] → new.whole.durable ≡ applied b.whole.durable e → new.published ≡ new.whole.durable → new.shown ≡ length (flat new.acked) → IsFolded new

@@ -13,7 +13,9 @@ use Rattle.pf_core.specs.declared.reply.Refusal.{Refusal}
 use Rattle.pf_core.specs.declared.reply.Refusal.TheVariants.{HistoryFull, Memory}
 use Rattle.pf_core.specs.declared.reply.Reply.{Reply}
 use Rattle.pf_core.specs.declared.reply.Reply.TheVariants.{Answer, Applied, Refused}
-use Rattle.pf_core.specs.Edits.{Kept, Edit, voided_by, fits, verdict}
+use Rattle.pf_durable.specs.declared.refusal.ChangeRefusal.{ChangeRefusal}
+use Rattle.pf_durable.specs.Edits.{Kept, Edit, voided_by, fits, verdict}
+use Rattle.pf_core.specs.Commands.{unless_unfit}
 use Rattle.pf_core.specs.Pages.{Page}
 use Rattle.pf_core.specs.Refusals.{refusal_of}
 use Rattle.pf_core.specs.Worlds.{flat}
@@ -68,6 +70,10 @@ pub record IsMore (old new : Page) (e : Edit) (seq : ℕ) : Type 0 where
   pub pending : new.pending ≡ old.pending
   pub limit : new.limit ≡ old.limit
 
+-- what is told of a change: why it doesn't fit, where it doesn't
+abbrev pub told : Result (Unit {0}) ChangeRefusal → Result (Unit {0}) Refusal
+told fit = unless_unfit fit (Ok tt)
+
 -- why a change is not kept: memory was refused, the history is full, or it doesn't fit
 abbrev pub IsUnkept : Page → Edit → Refusal → Type 0
-IsUnkept b e why = (why ≡ Memory) ⊎ (((why ≡ HistoryFull) × (b.limit ≤ length (flat b.acked))) ⊎ (fits b.whole.durable e ≡ Err why))
+IsUnkept b e why = (why ≡ Memory) ⊎ (((why ≡ HistoryFull) × (b.limit ≤ length (flat b.acked))) ⊎ (told (fits b.whole.durable e) ≡ Err why))

@@ -2,31 +2,38 @@
 use Rattle.std.specs.Prelude.{◌≡◌, ℕ, List, [], ◌∷◌, ◌++◌, Option, Some, None, Result, Ok, Err, ◌⊎◌}
 use Rattle.pf_core.specs.declared.command.Command.{Command}
 use Rattle.pf_core.specs.declared.reply.Refusal.{Refusal}
-use Rattle.pf_core.specs.declared.reply.Refusal.TheVariants.{BadLine, Memory}
+use Rattle.pf_core.specs.declared.reply.Refusal.TheVariants.{Memory}
 use Rattle.pf_core.specs.declared.reply.Reply.{Reply}
 use Rattle.pf_core.specs.declared.reply.Reply.TheVariants.{Refused}
 use Rattle.pf_core.specs.Calls.{call}
-use Rattle.pf_core.specs.Edits.{Kept}
+use Rattle.pf_durable.specs.Edits.{Kept}
 use Rattle.pf_core.specs.Pages.{Page, StandsFor}
 use Rattle.pf_core.specs.Worlds.{Upshot, Event, called}
-use Rattle.pf_line.specs.Lines.{line_at}
+use Rattle.pf_line.specs.Lines.{line_at, Means, Speaks}
 use Rattle.pf_reply.specs.Replies.{reply_text}
 
--- What a line says, the event of the call that it comes to, and what is written for it: nothing for a silent line, the
--- refusal of a line that is refused, the reply to a command. A bad line is told just that; instead of reading a command, or of any
--- other refusal, it may be that of memory, and then there is no call.
+-- What a line means, the event of the call that it comes to, and what is written for it: nothing for a silent line, the refusal of a
+-- line that is refused, the reply to a command.
 abbrev pub Says : Result (Option Command) Refusal → List Event → List ℕ → Type 0
 Says (Ok None) events text = (events ≡ []) × (text ≡ [])
-Says (Ok (Some c)) events text =
-    ((r : Reply) × (t : Upshot) × (events ≡ called (call c r) t ∷ []) × (text ≡ reply_text r)) ⊎ ((events ≡ []) × (text ≡ reply_text (Refused Memory)))
-Says (Err BadLine) events text = (events ≡ []) × (text ≡ reply_text (Refused BadLine))
-Says (Err e) events text = (events ≡ []) × ((text ≡ reply_text (Refused e)) ⊎ (text ≡ reply_text (Refused Memory)))
+Says (Ok (Some c)) events text = (r : Reply) × (t : Upshot) × (events ≡ called (call c r) t ∷ []) × (text ≡ reply_text r)
+Says (Err e) events text = (events ≡ []) × (text ≡ reply_text (Refused e))
+
+-- in place of reading what a line means there was no memory: then there is no call
+pub record HasNoMemory (line : List ℕ) (events : List Event) (text : List ℕ) : Type 0 where
+  pub speaks : Speaks line
+  pub no_call : events ≡ []
+  pub told : text ≡ reply_text (Refused Memory)
+
+-- A line is told what it means; one that is neither bad nor silent may be told that memory was refused.
+abbrev pub IsTold : List ℕ → List Event → List ℕ → Type 0
+IsTold line events text = ((meant : Result (Option Command) Refusal) × Means (line_at line) meant × Says meant events text) ⊎ HasNoMemory line events text
 
 -- These events and this text are those of the lines, one after the other.
 abbrev pub Served : List (List ℕ) → List Event → List ℕ → Type 0
 Served [] events text = (events ≡ []) × (text ≡ [])
 Served (line ∷ lines) events text =
-    (first rest : List Event) × (reply replies : List ℕ) × Says (line_at line) first reply × Served lines rest replies
+    (first rest : List Event) × (reply replies : List ℕ) × IsTold line first reply × Served lines rest replies
     × (events ≡ first ++ rest) × (text ≡ reply ++ replies)
 
 -- Of whatever world the Book stood for, it now stands for that with these events at its end; its history's limit stays.
@@ -45,5 +52,5 @@ text_of None = []
 text_of (Some r) = reply_text r
 
 -- A line was told this, or nothing: the Book got the call that the line comes to, if any.
-abbrev pub Told : Result (Option Command) Refusal → Option Reply → Page → Page → Type 0
-Told said told old new = (events : List Event) × Says said events (text_of told) × Continues old new events
+abbrev pub Told : List ℕ → Option Reply → Page → Page → Type 0
+Told line told old new = (events : List Event) × IsTold line events (text_of told) × Continues old new events

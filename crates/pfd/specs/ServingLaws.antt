@@ -2,14 +2,14 @@
 use Rattle.std.proofs.Common.{◌≡◌, ℕ, List, [], ◌∷◌, ◌++◌, length, Option, Result, inl, inr, refl, sym, ap, ◌∙◌, subst, append_assoc, arith}
 use Rattle.std.proofs.lemmas.List.{append-nil, length-take, take_all}
 use Rattle.std.proofs.lemmas.Bool.{cases_lt}
-use Rattle.pf_core.specs.declared.command.Command.{Command}
 use Rattle.pf_core.specs.declared.reply.Refusal.{Refusal}
 use Rattle.pf_core.specs.declared.reply.Reply.{Reply}
 use Rattle.pf_core.specs.Pages.{Page, StandsFor}
 use Rattle.pf_core.specs.Worlds.{Event}
-use Rattle.pf_line.specs.Lines.{line_at, long_line}
+use Rattle.pf_line.specs.Grammar.{Spoken}
+use Rattle.pf_line.specs.Lines.{line_at, long_line, Means, Speaks, speaks}
 use Rattle.pf_engine.specs.Lines.{seen}
-use Rattle.pfd.specs.Serving.{Says, Served, Continues, Serves, Told, text_of}
+use Rattle.pfd.specs.Serving.{IsTold, HasNoMemory, Served, Continues, Serves, Told, text_of}
 
 pub continues-still : (page : Page) → Continues page page []
 continues-still page = record {
@@ -46,11 +46,21 @@ seen-says line = elim (cases_lt 4097 (length line)) [
   | inr h ↦ ap line_at (take_all 4097 line h)
 ]
 
+seen-speaks : (line : List ℕ) → Speaks (seen line) → Speaks line
+seen-speaks line is = elim (cases_lt 4097 (length line)) [
+  | inl h ↦ absurd ((speaks (seen line) is).1 (long_line (seen line) (omega (arith, length-take 4097 line))))
+  | inr h ↦ subst Speaks (take_all 4097 line h) is
+]
+
+seen-told : (line : List ℕ) (events : List Event) (text : List ℕ) → IsTold (seen line) events text → IsTold line events text
+seen-told line events text (inl (meant, means, says)) = inl (meant, subst (λ (said : Result (Option Spoken) Refusal). Means said meant) (seen-says line) means, says)
+seen-told line events text (inr none) = inr (record { speaks = seen-speaks line none.speaks; no_call = none.no_call; told = none.told })
+
 pub serves-none : (page : Page) → Serves page page [] []
 serves-none page = record { events = []; served = (refl, refl); book = continues-still page }
 
 -- one line and what it was told
-pub serves-one : (line : List ℕ) (told : Option Reply) (old new : Page) → Told (line_at line) told old new → Serves old new (line ∷ []) (text_of told)
+pub serves-one : (line : List ℕ) (told : Option Reply) (old new : Page) → Told line told old new → Serves old new (line ∷ []) (text_of told)
 serves-one line told old new (events, says, book) = record {
   events = events;
   served = (events, [], text_of told, [], says, (refl, refl), sym (append-nil events), sym (append-nil (text_of told)));
@@ -67,4 +77,4 @@ serves-then old mid new lines others text more p q = record {
 pub serves-seen : (old new : Page) (line text : List ℕ) → Serves old new (seen line ∷ []) text → Serves old new (line ∷ []) text
 serves-seen old new line text p =
     let (first, rest, reply, replies, says, more, c, t) = p.served in
-    record { events = p.events; served = (first, rest, reply, replies, subst (λ (said : Result (Option Command) Refusal). Says said first reply) (seen-says line) says, more, c, t); book = p.book }
+    record { events = p.events; served = (first, rest, reply, replies, seen-told line first reply says, more, c, t); book = p.book }

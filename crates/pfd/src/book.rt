@@ -1,7 +1,7 @@
 //! A core with the history of what it kept.
 ghost use Rattle.std.specs.Prelude.{◌≡◌, ℕ, ◌≤◌, [], ◌∷◌, ◌++◌, List, IfOk, IfErr, take, false};
 ghost use Rattle.pf_core.specs.Calls.{call};
-ghost use Rattle.pf_core.specs.Edits.{Kept, kept_nothing, after, verdict};
+ghost use Rattle.pf_durable.specs.Edits.{Kept, kept_nothing, after, verdict};
 ghost use Rattle.pf_core.specs.Worlds.{Held, setting_with, upshot, Event, called, opened, flat, LegalReply, shown_by};
 ghost use Rattle.pf_core.specs.Pages.{IsAt, IsFolded, StandsFor, Leads};
 ghost use Rattle.pfd.specs.Books.{IsNumbered, IsJudged, IsRolledBack, StaysIfRefused, IsMore, IsUnkept};
@@ -41,7 +41,7 @@ impl Model for Book {
 }
 
 impl Book {
-    /// No rulesets and no tables, in epoch 1, and no history yet: an opening of what never held anything. The history will have at most
+    /// No rulesets, no tables and no states, in epoch 1, and no history yet: an opening of what never held anything. The history will have at most
     /// so many changes; the caller sees to it that these are from 1 to 1,048,576. `Err`: memory was refused, and nothing
     /// is left of what was made.
     pub fn fresh(alloc: Global, history_limit: usize) -> Result<Book, AllocError>
@@ -50,7 +50,8 @@ impl Book {
         ensures stands { IfOk result (λ b. StandsFor (kept_nothing 0) b (opened (setting_with history_limit) ∷ [])) }
         ensures limit { IfOk result (λ b. b.limit ≡ history_limit) }
     {
-        let base = Arc::new(alloc, Durable::empty(alloc, FIRST_EPOCH))?;
+        let opening = Durable::empty(alloc, FIRST_EPOCH)?;
+        let base = Arc::new(alloc, opening)?;
         let durable = Arc::try_clone(&base)?;
         let shown = Arc::try_clone(&base)?;
         Ok(Book {

@@ -1,6 +1,5 @@
 //! Lines that a Book answers.
 ghost use Rattle.std.specs.Prelude.{◌≡◌};
-ghost use Rattle.pf_line.specs.Lines.{line_at};
 ghost use Rattle.pf_engine.specs.Sessions.{IsSession};
 ghost use Rattle.pfd.specs.Serving.{Told, Serves};
 ghost use Rattle.pfd.specs.ServingLaws.{serves-none, serves-then, serves-seen};
@@ -14,7 +13,7 @@ use std::io::{self, Read, Write};
 
 // What a line is told: nothing where it is silent. A want of memory to read it is its reply.
 fn reply_to(alloc: Global, line: &[u8], book: &mut Book) -> Option<Reply>
-    ensures { Told (line_at line.now) result book.old book.new }
+    ensures { Told line.now result book.old book.new }
 {
     match parse_line(alloc, line) {
         Ok(None) => None,

@@ -1,7 +1,7 @@
-use Rattle.std.proofs.Common.{refl, ap, ◌∙◌, arith, []}
+use Rattle.std.proofs.Common.{refl, ap, ◌∙◌, arith}
 use Rattle.std.specs.Prelude.{map}
 use Rattle.std.specs.Arc.{arc_value}
-use Rattle.pf_core.specs.Edits.{Kept, kept_nothing}
+use Rattle.pf_durable.specs.Edits.{Kept, kept_nothing}
 use Rattle.pf_ticket.specs.Tickets.{fresh}
 use Rattle.pf_core.specs.Wholes.{Whole}
 use Rattle.pf_core.specs.Worlds.{setting_with}
@@ -13,8 +13,8 @@ pub returns-clause-stands : goal.returns-clause-stands
 returns-clause-stands c =
     stands-opened (kept_nothing 0) _ (setting_with c.args.history_limit) (omega arith)
     (record {
-      base = c.in_ok-base.ensures.ok ∙ c.empty.ensures;
-      tickets = ap (λ (w : Whole). w.tickets) c.new-2.ensures ∙ ap (λ (k : Kept). fresh k.epoch) (c.in_ok-durable.ensures ∙ c.in_ok-base.ensures.ok ∙ c.empty.ensures);
+      base = c.in_ok-base.ensures.ok ∙ c.in_ok-opening.ensures;
+      tickets = ap (λ (w : Whole). w.tickets) c.new-2.ensures ∙ ap (λ (k : Kept). fresh k.epoch) (c.in_ok-durable.ensures ∙ c.in_ok-base.ensures.ok ∙ c.in_ok-opening.ensures);
       acked = ap (λ xs. singles (map arc_value xs)) c.new-3.ensures.items;
       pending = refl;
       shown = refl;

@@ -1,7 +1,12 @@
 use Rattle.pf_reply.specs.Replies.{reply_text}
 use Rattle.std.specs.Prelude.{Some}
+use Rattle.std.proofs.Common.{[], None}
+use Rattle.pfd.proofs.Calling.{appends_none}
 use Rattle.pfd.specs.ServingLaws.{serves-one}
 use Rattle.pfd.proofs.engine.BookAnswerLine.answer_line.Goals as goal
 
 pub returns-in-Some : goal.returns-in-Some
 returns-in-Some g c = (reply_text c.in-Some.reply, serves-one c.args.line.now (Some c.in-Some.reply) c.args.self.now c.reply_to.new.book c.in-Some.ensures, c.write_reply.ensures.text)
+
+pub returns-in-None : goal.returns-in-None
+returns-in-None g c = ([], serves-one c.args.line.now None c.args.self.now c.reply_to.new.book c.in-None.ensures, appends_none (g.W.Write.contents c.args.writer.now))

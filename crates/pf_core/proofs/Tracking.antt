@@ -1,0 +1,64 @@
+-- A packet that is tracked makes a new state.
+use Rattle.std.proofs.Common.{◌≡◌, Bool, true, false, ◌&&◌, cond, List, [], ◌∷◌, Option, Some, None, Result, Ok, refl, ap, sym, ◌∙◌, subst}
+use Rattle.std.specs.Prelude.{not, is_some, if◌then◌else◌}
+use Rattle.std.specs.List.{find as first_where, list_any}
+use Rattle.std.specs.Option.{option_map_or}
+use Rattle.std.specs.Ordering.{eq_by_cmp}
+use Rattle.pf_rule.specs.Packets.{PlainPacket}
+use Rattle.pf_anchor.specs.declared.verdict.RuleVerdict.{RuleVerdict}
+use Rattle.pf_anchor.specs.Evaluation.{judged}
+use Rattle.pf_state.specs.declared.state.Bound.{Bound}
+use Rattle.pf_state.specs.declared.state.Held.{Held}
+use Rattle.pf_state.specs.declared.state.StateName.{StateName}
+use Rattle.pf_state.specs.declared.step.Insertion.TheVariants.{New}
+use Rattle.pf_state.specs.declared.step.Step.TheVariants.{Insert}
+use Rattle.pf_state.specs.Flows.{flow_of, same_flow}
+use Rattle.pf_state.specs.States.{Stated, name_order, held_at, state_of}
+use Rattle.pf_state.specs.Steps.{is_clash, insertion}
+use Rattle.pf_durable.specs.declared.verdict.Verdict.TheVariants.{State, Rules}
+use Rattle.pf_durable.specs.Edits.{Kept, Edit, acts}
+use Rattle.pf_core.specs.declared.reply.Answer.TheVariants as answer
+use Rattle.pf_core.specs.declared.reply.Outcome.{Outcome}
+use Rattle.pf_core.specs.declared.reply.Outcome.TheVariants as outcome
+use Rattle.pf_core.specs.declared.step.Step.TheVariants.{Done, Wants}
+use Rattle.pf_core.specs.Commands.{wanting, makes_state, tracked, track_step}
+use Rattle.pf_core.specs.Laws.{MakesOne, TrackMakesOne}
+use Rattle.pf_core.specs.WorldLaws.{IsThis, wanted}
+
+-- where none passes a test none passes it and another
+none-of-both : {X : Type 0} (p q : X → Bool) (xs : List X) → first_where p xs ≡ None → list_any (λ x. q x && p x) xs ≡ false
+none-of-both p q [] h = refl
+none-of-both p q (x ∷ xs) h = by (p x) (q x) refl refl (none-of-both p q xs) where
+  by : (a b : Bool) → p x ≡ a → q x ≡ b → (first_where p xs ≡ None → list_any (λ y. q y && p y) xs ≡ false) → list_any (λ y. q y && p y) (x ∷ xs) ≡ false
+  by true b is also rest = absurd (cc (is, h))
+  by false true is also rest = rw (is, also) (rest (cc (is, h)))
+  by false false is also rest = rw (is, also) (rest (cc (is, h)))
+
+-- a state of no state's flow, under a free name, is new
+new-state : (es : List Stated) (s : Stated) → state_of s.1.flow es ≡ None → held_at s.0 es ≡ None → insertion es s ≡ New
+new-state es s flow name =
+    let apart : is_clash es s ≡ false = none-of-both (λ (t : Stated). same_flow t.1.flow s.1.flow) (λ (t : Stated). not (eq_by_cmp name_order t.0 s.0)) es flow in
+    rw (name, apart) refl
+
+not-held : (h : Option Held) → is_some h ≡ false → h ≡ None
+not-held None is = refl
+not-held (Some x) is = absurd (cc (is))
+
+made : (d : Kept) (v : RuleVerdict) (s : Stated) (taken : Bool) (e : Edit) (o : Outcome) → is_some (held_at s.0 d.states) ≡ taken → state_of s.1.flow d.states ≡ None → (if taken then Ok (Done (answer.Stale v)) else wanting d (acts (Insert s ∷ [])) (outcome.Tracked v)) ≡ Ok (Wants e o) → MakesOne d e
+made d v s true e o is flow h = absurd (cc (h))
+made d v s false e o is flow h =
+    let this : IsThis d (acts (Insert s ∷ [])) e = wanted d (acts (Insert s ∷ [])) e (outcome.Tracked v) o h in
+    record { state = s; change = sym this.is; new = new-state d.states s flow (not-held (held_at s.0 d.states) is) }
+
+by-rules : (d : Kept) (name : StateName) (packet : PlainPacket) (v : RuleVerdict) (b : Option Bound) (e : Edit) (o : Outcome) → state_of (flow_of packet) d.states ≡ None → tracked d name packet v b ≡ Ok (Wants e o) → MakesOne d e
+by-rules d name packet v None e o flow h = absurd (cc (h))
+by-rules d name packet v (Some b) e o flow h =
+    let s : Stated = (name, record { generation = 0; flow = flow_of packet; bound = b }) in
+    made d v s (is_some (held_at name d.states)) e o refl flow h
+
+by-state : (d : Kept) (name : StateName) (packet : PlainPacket) (found : Option Stated) (e : Edit) (o : Outcome) → state_of (flow_of packet) d.states ≡ found → track_step d name packet (option_map_or (λ (s : Stated). State s.0) found (Rules (judged d.config packet))) ≡ Ok (Wants e o) → MakesOne d e
+by-state d name packet (Some s) e o is h = absurd (cc (h))
+by-state d name packet None e o is h = by-rules d name packet (judged d.config packet) (makes_state d (judged d.config packet)) e o is h
+
+pub track_makes_one : TrackMakesOne
+track_makes_one d name packet e o h = by-state d name packet (state_of (flow_of packet) d.states) e o refl h

@@ -1,0 +1,113 @@
+//! Changes of states: which change each one wants, and what it is told.
+ghost use Rattle.std.specs.Prelude.{◌≡◌, length, true, IfOk};
+ghost use Rattle.pf_anchor.specs.Rulesets.{rules_at};
+ghost use Rattle.pf_durable.specs.Edits.{verdict};
+ghost use Rattle.pf_core.specs.Commands.{bound_here, makes_state, make_step, track_step, steps_here, states_step};
+ghost use Rattle.pf_core.specs.Refusals.{OrMemory};
+
+use crate::command::StateCommand;
+use crate::reply::{Answer, Outcome, Refusal};
+use crate::step::Step;
+use pf_anchor::{Path, RuleVerdict};
+use pf_durable::{Change, Durable, Verdict};
+use pf_failover::steps_of;
+use pf_peer::Message;
+use pf_rule::{Action, Packet};
+use pf_state::{Bound, Flow, Held, State, StateName, Step as StateStep, StepList};
+use std::alloc::{AllocError, Global};
+
+// Which rule a state is bound to that a rule at this path, of this number, makes.
+fn bound_here(durable: &Durable, path: &Path, number: u32) -> Bound
+    ensures { result ≡ bound_here durable.now path.now number }
+{
+    if path.as_bytes().is_empty() {
+        Bound::Rule {
+            number,
+            sum: durable.sum(),
+        }
+    } else {
+        Bound::Default
+    }
+}
+
+// Which rule the state is bound to that is made where the rules say this, if one is made.
+fn makes_state(durable: &Durable, by: &RuleVerdict) -> Option<Bound>
+    ensures { result ≡ makes_state durable.now by.now }
+{
+    match by {
+        RuleVerdict::Rule {
+            path,
+            number,
+            action: Action::Pass { keeps_state: true },
+        } => Some(bound_here(durable, path, *number)),
+        _ => None,
+    }
+}
+
+// Makes a state, unless its name is taken.
+fn make(alloc: Global, durable: &Durable, by: RuleVerdict, state: State) -> Result<Step, Refusal>
+    ensures { OrMemory true result (make_step durable.now by state) }
+{
+    if durable.states().held_at(state.name()).is_some() {
+        return Ok(Step::Done(Answer::Stale(by)));
+    }
+    let steps = StepList::new(Vec::from_slice(alloc, &[StateStep::Insert(state)])?);
+    durable.with_stepped(alloc, steps.as_slice())?;
+    Ok(Step::Wants(Change::states(steps), Outcome::Tracked(by)))
+}
+
+// Judges a packet, and makes its state where a rule says so.
+fn track(
+    alloc: Global,
+    durable: &Durable,
+    name: StateName,
+    packet: &Packet,
+) -> Result<Step, Refusal>
+    ensures { OrMemory true result (track_step durable.now name packet.now (verdict durable.now packet.now)) }
+{
+    let by = match durable.verdict(packet) {
+        Verdict::Rules(by) => by,
+        state => return Ok(Step::Done(Answer::Judged(state))),
+    };
+    let Some(bound) = makes_state(durable, &by) else {
+        return Ok(Step::Done(Answer::Judged(Verdict::Rules(by))));
+    };
+    let held = Held {
+        generation: 0,
+        flow: Flow::of(packet),
+        bound,
+    };
+    make(alloc, durable, by, State::new(name, held))
+}
+
+// What a peer's message does to the states here.
+fn steps_here(alloc: Global, durable: &Durable, message: &Message) -> Result<StepList, AllocError>
+    ensures { IfOk result (λ l. l ≡ steps_here durable.now message.now) }
+{
+    let main_rules = durable.config().rules_at(&Path::main())?;
+    steps_of(alloc, message, &durable.sum(), main_rules.as_slice().len())
+}
+
+// One change of states.
+pub(crate) fn change_states(
+    alloc: Global,
+    durable: &Durable,
+    command: &StateCommand,
+) -> Result<Step, Refusal>
+    ensures { OrMemory true result (states_step durable.now command.now) }
+{
+    match command {
+        StateCommand::Track { name, packet } => track(alloc, durable, *name, packet),
+        StateCommand::Peer(message) => {
+            let steps = steps_here(alloc, durable, message)?;
+            let (_, counts) = durable.with_stepped(alloc, steps.as_slice())?;
+            Ok(Step::Wants(Change::states(steps), Outcome::Peered(counts)))
+        }
+        StateCommand::Kill(name) => {
+            if durable.states().held_at(*name).is_none() {
+                return Err(Refusal::Absent);
+            }
+            Ok(Step::Wants(Change::remove(*name), Outcome::Killed))
+        }
+    }
+}

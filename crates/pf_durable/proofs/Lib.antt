@@ -1,0 +1,5 @@
+pub mod MainRules
+pub mod TableCounts
+pub mod Checks
+pub mod Edited
+pub mod Within

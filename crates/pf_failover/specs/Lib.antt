@@ -1,0 +1,3 @@
+pub mod Incoming
+pub mod Outgoing
+pub mod Laws

@@ -1,0 +1,19 @@
+use Rattle.std.proofs.Common.{sym, subst}
+use Rattle.std.specs.Prelude.{codes, Result, List}
+use Rattle.pf_form.specs.Words.{Word, texts}
+use Rattle.pf_form.specs.Forms.{making}
+use Rattle.pf_form.specs.declared.fault.Kind.{Kind}
+use Rattle.pf_line.specs.Grammar.{Spoken, Says, Tells, hex, command}
+use Rattle.pf_line.specs.Lines.{Parses, said}
+use Rattle.pf_line.proofs.Choices.{here, elsewhere}
+use Rattle.pf_line.proofs.line.say.Goals as goal
+
+pub returns-then-takes : goal.returns-then-takes
+returns-then-takes c =
+    let same = here (codes "peer") (making Tells hex) (making Says command) (texts c.args.words.now) (texts c.takes.new.words.now) c.takes.result c.takes.ensures c.if-takes.true in
+    subst (λ (q : Result Spoken (Kind × List Word)). Parses c.say_peer.result (said c.args.count q)) (sym same) c.say_peer.ensures
+
+pub returns : goal.returns
+returns c =
+    let same = elsewhere (codes "peer") (making Tells hex) (making Says command) (texts c.args.words.now) (texts c.takes.new.words.now) c.takes.result c.takes.ensures c.if-takes.false in
+    subst (λ (q : Result Spoken (Kind × List Word)). Parses c.say_command.result (said c.args.count q)) (sym same) c.say_command.ensures

@@ -1,0 +1,8 @@
+use Rattle.pf_peer.proofs.OneMessage.{one_answer, message_alone}
+use Rattle.pf_peer.proofs.laws.one_message_has_one_answer.Goals as goal
+
+pub returns-clause-one : goal.returns-clause-one
+returns-clause-one c = one_answer
+
+pub returns-clause-message : goal.returns-clause-message
+returns-clause-message c = message_alone

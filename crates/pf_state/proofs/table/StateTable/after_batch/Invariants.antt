@@ -1,0 +1,5 @@
+use Rattle.pf_state.proofs.Batches.{Acting}
+use Rattle.pf_state.proofs.table.StateTable.after_batch.Given as goal
+
+abbrev pub invariant-loop-step : goal.invariant-loop-step
+invariant-loop-step l = Acting l.self l.steps l.step-index l.states.items l.counts

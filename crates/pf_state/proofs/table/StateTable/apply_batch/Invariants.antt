@@ -1,5 +1,0 @@
-use Rattle.pf_state.proofs.Batches.{Acting}
-use Rattle.pf_state.proofs.table.StateTable.apply_batch.Given as goal
-
-abbrev pub invariant-loop-step : goal.invariant-loop-step
-invariant-loop-step l = Acting l.self-inside.states.items l.steps l.step-index l.states.items l.counts
