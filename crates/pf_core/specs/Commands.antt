@@ -245,9 +245,27 @@ asks_for_memory ShowStates = true
 asks_for_memory Sum = false
 asks_for_memory Export = true
 
--- whether a command may be refused because memory was
-abbrev pub takes_memory : Command → Bool
-takes_memory (Transact t) = transacts_in_memory t
-takes_memory (Change edit) = true
-takes_memory (OfStates c) = true
-takes_memory (Ask q) = asks_for_memory q
+-- a kill of what isn't there takes none
+abbrev pub edits_in_memory : Kept → TableEdit → Bool
+edits_in_memory d (AddTo p name xs) = true
+edits_in_memory d (Delete p name xs) = true
+edits_in_memory d (Set p name xs) = true
+edits_in_memory d (Kill p name) = is_table (entries_at d p name)
+
+abbrev pub is_done : Result Step Refusal → Bool
+is_done (Ok (Done a)) = true
+is_done (Ok (Wants e o)) = false
+is_done (Err e) = false
+
+-- a packet that is tracked takes none where it is answered without a change
+abbrev pub changes_states_in_memory : Kept → StateCommand → Bool
+changes_states_in_memory d (Track name packet) = not (is_done (track_step d name packet (verdict d packet)))
+changes_states_in_memory d (Peer m) = true
+changes_states_in_memory d (KillState name) = is_some (held_at name d.states)
+
+-- whether a command may be refused because memory was, by what is kept
+abbrev pub takes_memory : Kept → Command → Bool
+takes_memory d (Transact t) = transacts_in_memory t
+takes_memory d (Change edit) = edits_in_memory d edit
+takes_memory d (OfStates c) = changes_states_in_memory d c
+takes_memory d (Ask q) = asks_for_memory q

@@ -1,5 +1,5 @@
 -- What is wanted, and what it mentions: lemmas, for the crates above too.
-use Rattle.std.specs.Prelude.{◌≡◌, ℕ, ◌==◌, ◌&&◌, Bool, true, false, if◌then◌else◌, is_some, List, [], ◌∷◌, length, map, nat_lt, Option, Some, None, Result, Ok, Err}
+use Rattle.std.specs.Prelude.{◌≡◌, ℕ, ◌==◌, ◌&&◌, Bool, true, false, if◌then◌else◌, not, is_some, List, [], ◌∷◌, length, map, nat_lt, Option, Some, None, Result, Ok, Err}
 use Rattle.std.proofs.Common.{refl, sym, ap, subst, ◌∙◌}
 use Rattle.pf_table.specs.Edits.{added, additions, deletions, conflict_behind}
 use Rattle.pf_anchor.specs.declared.limits.TheConstants.{TABLE_COUNT_LIMIT}
@@ -41,7 +41,7 @@ use Rattle.pf_core.specs.declared.reply.Refusal.{Refusal}
 use Rattle.pf_durable.specs.declared.refusal.ChangeRefusal.TheVariants.{TooManyTables}
 use Rattle.pf_core.specs.declared.step.Step.{Step}
 use Rattle.pf_core.specs.declared.step.Step.TheVariants.{Done, Wants}
-use Rattle.pf_core.specs.Commands.{unless_refused, unless_unfit, if_there, is_table, item_of, items, wanting, commit_step, added_of, deleted_of, edit_step, makes_state, tracked, track_step, steps_here, states_step, step_by, mentioned, takes_memory}
+use Rattle.pf_core.specs.Commands.{unless_refused, unless_unfit, if_there, is_table, item_of, items, wanting, commit_step, added_of, deleted_of, edit_step, makes_state, tracked, track_step, steps_here, states_step, step_by, mentioned, edits_in_memory, is_done, changes_states_in_memory, takes_memory}
 use Rattle.pf_durable.specs.Edits.{Kept, Edit, commits, adds, deletes, sets, acts, removes, entries_at, with_entries, name_of, voided_by, unless, no_conflict, fits, verdict}
 
 -- what the tickets didn't refuse
@@ -72,6 +72,10 @@ fit (Err e) next x h = absurd (cc (h))
 pub found : {A : Type 0} (b : Bool) (next : Result A Refusal) (x : A) → if_there b next ≡ Ok x → next ≡ Ok x
 found true next x h = h
 found false next x h = absurd (cc (h))
+
+is-there : {A : Type 0} (b : Bool) (next : Result A Refusal) (x : A) → if_there b next ≡ Ok x → b ≡ true
+is-there true next x h = refl
+is-there false next x h = absurd (cc (h))
 
 -- the change that is wanted is this one, and it fits
 pub record IsThis (d : Kept) (this e : Edit) : Type 0 where
@@ -190,15 +194,28 @@ voids-none (Delete p name xs) = refl
 voids-none (Set p name xs) = refl
 voids-none (Kill p name) = refl
 
+-- ---- memory
+
+edit-memory : (d : Kept) (edit : TableEdit) (e : Edit) (o : Outcome) → edit_step d edit ≡ Ok (Wants e o) → edits_in_memory d edit ≡ true
+edit-memory d (AddTo p name xs) e o h = refl
+edit-memory d (Delete p name xs) e o h = refl
+edit-memory d (Set p name xs) e o h = refl
+edit-memory d (Kill p name) e o h = is-there (is_table (entries_at d p name)) (Ok (Wants (sets p name []) outcome.Killed)) (Wants e o) h
+
+states-memory : (d : Kept) (c : StateCommand) (e : Edit) (o : Outcome) → states_step d c ≡ Ok (Wants e o) → changes_states_in_memory d c ≡ true
+states-memory d (Track name packet) e o h = ap (λ (step : Result Step Refusal). not (is_done step)) h
+states-memory d (Peer m) e o h = refl
+states-memory d (KillState name) e o h = is-there (is_some (held_at name d.states)) (Ok (Wants (removes name) outcome.Killed)) (Wants e o) h
+
 -- ---- any command
 
 -- a change that is wanted fits, the command takes memory, and it mentions exactly what the change voids
 pub record IsWanted (d : Kept) (c : Command) (e : Edit) : Type 0 where
   pub fits : fits d e ≡ Ok tt
-  pub memory : takes_memory c ≡ true
+  pub memory : takes_memory d c ≡ true
   pub mentions : mentioned c ≡ switches (voided_by e)
 
-this-wanted : (d : Kept) (c : Command) (this e : Edit) → IsThis d this e → takes_memory c ≡ true → mentioned c ≡ switches (voided_by this) → IsWanted d c e
+this-wanted : (d : Kept) (c : Command) (this e : Edit) → IsThis d this e → takes_memory d c ≡ true → mentioned c ≡ switches (voided_by this) → IsWanted d c e
 this-wanted d c this e by memory mentions = subst (λ (x : Edit). IsWanted d c x) by.is (record { fits = by.fits; memory = memory; mentions = mentions })
 
 pub wants : (t : Open) (d : Kept) (c : Command) (e : Edit) (o : Outcome) → step_by t d c ≡ Ok (Wants e o) → IsWanted d c e
@@ -208,10 +225,10 @@ wants t d (Transact (Define p u name xs)) e o h = absurd (none-wanted (define_re
 wants t d (Transact (Commit entries)) e o h =
     this-wanted d (Transact (Commit entries)) (commits (items (content t) entries)) e (wants_commit t d entries e o h).this refl (ap switches (sym (names-items t entries)))
 wants t d (Transact (Rollback entries)) e o h = absurd (none-wanted (list_check entries) (λ _. answer.Done) e o h)
-wants t d (Change edit) e o h = this-wanted d (Change edit) (edit_of edit) e (wants_edit d edit e o h) refl (voids-none edit)
+wants t d (Change edit) e o h = this-wanted d (Change edit) (edit_of edit) e (wants_edit d edit e o h) (edit-memory d edit e o h) (voids-none edit)
 wants t d (OfStates c) e o h =
     let change : IsStateChange d e = wants_states d c e o h in
-    record { fits = change.fits; memory = refl; mentions = voids_none_of_states e change.is }
+    record { fits = change.fits; memory = states-memory d c e o h; mentions = voids_none_of_states e change.is }
 wants t d (Ask q) e o h = absurd (cc (h))
 
 -- a change that is wanted fits
@@ -219,7 +236,7 @@ pub wants_what_fits : (t : Open) (d : Kept) (c : Command) (e : Edit) (o : Outcom
 wants_what_fits t d c e o h = (wants t d c e o h).fits
 
 -- a command that wants a change takes memory
-pub wants_memory : (t : Open) (d : Kept) (c : Command) (e : Edit) (o : Outcome) → step_by t d c ≡ Ok (Wants e o) → takes_memory c ≡ true
+pub wants_memory : (t : Open) (d : Kept) (c : Command) (e : Edit) (o : Outcome) → step_by t d c ≡ Ok (Wants e o) → takes_memory d c ≡ true
 wants_memory t d c e o h = (wants t d c e o h).memory
 
 -- and mentions exactly what the change voids

@@ -144,12 +144,12 @@ next st e = st
 -- ---- which events are legal
 
 -- what may stand in place of the reply that is due: memory was refused, where the command takes any
-abbrev pub StandsIn : Command → Bool → Reply → Reply → Type 0
-StandsIn c failed due (Refused Memory) = takes_memory c ≡ true
-StandsIn c failed due r = ⊥
+abbrev pub StandsIn : Held → Command → Bool → Reply → Reply → Type 0
+StandsIn h c failed due (Refused Memory) = takes_memory (durable_of h) c ≡ true
+StandsIn h c failed due r = ⊥
 
 abbrev pub LegalReply : Held → Command → Reply → Bool → Type 0
-LegalReply h c r failed = (r ≡ due h c) ⊎ StandsIn c failed (due h c) r
+LegalReply h c r failed = (r ≡ due h c) ⊎ StandsIn h c failed (due h c) r
 
 -- a change that is answered `Applied` is shown with all before it; nothing else is shown
 abbrev pub shown_by : Reply → ℕ → ℕ

@@ -190,7 +190,8 @@ impl Core {
         &self.durable
     }
 
-    /// One command. Where it wants a change, or is refused, the core is as before. A judge, a test, a sum and a rollback take no memory.
+    /// One command. Where it wants a change, or is refused, the core is as before. A judge, a test, a sum and a rollback take no memory,
+    /// and neither does a `track` that makes no state or a kill of what isn't there.
     ///
     /// It is refused for the first of these that holds. A begin: `BadCount`, `TooManyRulesets`, `TicketsExhausted`. An
     /// add of a rule: `Busy`, `RulesetFull`. A define: `Conflict`, `Busy`, `TableFull`, `TooManyTables`. A commit: `BadCount`,
@@ -201,7 +202,7 @@ impl Core {
     /// The history's limit isn't the core's: whoever keeps the history answers `HistoryFull` to a change that is wanted,
     /// and doesn't accept it.
     pub fn step(&mut self, command: &Command) -> Result<Step, Refusal>
-        ensures reply { OrMemory (takes_memory command.now) result (step_by self.old.tickets self.old.durable command.now) }
+        ensures reply { OrMemory (takes_memory self.old.durable command.now) result (step_by self.old.tickets self.old.durable command.now) }
         ensures left { self.new ≡ stepped self.old command.now result }
         ensures judged { (packet : PlainPacket) → command.now ≡ Command.Ask (Question.Judge packet) → result ≡ Ok (Step.Done (answer.Judged (verdict self.old.durable packet))) }
         ensures rolled_back { (entries : List Entry) → command.now ≡ Command.Transact (Transaction.Rollback entries) → result ≡ rollback_step entries }

@@ -1,8 +1,8 @@
 //! Changes of states: which change each one wants, and what it is told.
-ghost use Rattle.std.specs.Prelude.{◌≡◌, length, true, IfOk};
+ghost use Rattle.std.specs.Prelude.{◌≡◌, length, not, IfOk};
 ghost use Rattle.pf_anchor.specs.Rulesets.{rules_at};
 ghost use Rattle.pf_durable.specs.Edits.{verdict};
-ghost use Rattle.pf_core.specs.Commands.{bound_here, makes_state, make_step, track_step, steps_here, states_step};
+ghost use Rattle.pf_core.specs.Commands.{bound_here, makes_state, make_step, track_step, steps_here, states_step, is_done, changes_states_in_memory};
 ghost use Rattle.pf_core.specs.Refusals.{OrMemory};
 
 use crate::command::StateCommand;
@@ -46,7 +46,7 @@ fn makes_state(durable: &Durable, by: &RuleVerdict) -> Option<Bound>
 
 // Makes a state, unless its name is taken.
 fn make(alloc: Global, durable: &Durable, by: RuleVerdict, state: State) -> Result<Step, Refusal>
-    ensures { OrMemory true result (make_step durable.now by state) }
+    ensures { let due = make_step durable.now by state in OrMemory (not (is_done due)) result due }
 {
     if durable.states().held_at(state.name()).is_some() {
         return Ok(Step::Done(Answer::Stale(by)));
@@ -63,7 +63,7 @@ fn track(
     name: StateName,
     packet: &Packet,
 ) -> Result<Step, Refusal>
-    ensures { OrMemory true result (track_step durable.now name packet.now (verdict durable.now packet.now)) }
+    ensures { let due = track_step durable.now name packet.now (verdict durable.now packet.now) in OrMemory (not (is_done due)) result due }
 {
     let by = match durable.verdict(packet) {
         Verdict::Rules(by) => by,
@@ -94,7 +94,7 @@ pub(crate) fn change_states(
     durable: &Durable,
     command: &StateCommand,
 ) -> Result<Step, Refusal>
-    ensures { OrMemory true result (states_step durable.now command.now) }
+    ensures { OrMemory (changes_states_in_memory durable.now command.now) result (states_step durable.now command.now) }
 {
     match command {
         StateCommand::Track { name, packet } => track(alloc, durable, *name, packet),

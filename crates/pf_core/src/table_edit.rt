@@ -1,6 +1,6 @@
 //! Edits of tables: which change each one wants, and what it is told.
-ghost use Rattle.std.specs.Prelude.{◌≡◌, true, length, filter};
-ghost use Rattle.pf_core.specs.Commands.{same_addition, added_of, same_deletion, deleted_of, edit_step};
+ghost use Rattle.std.specs.Prelude.{◌≡◌, length, filter};
+ghost use Rattle.pf_core.specs.Commands.{same_addition, added_of, same_deletion, deleted_of, edit_step, edits_in_memory};
 ghost use Rattle.pf_core.specs.Refusals.{OrMemory};
 
 use crate::command::TableEdit;
@@ -72,7 +72,7 @@ fn deleted_of(answers: &[Deletion]) -> Outcome
 
 // One edit of a table.
 pub(crate) fn edit(alloc: Global, durable: &Durable, edit: &TableEdit) -> Result<Step, Refusal>
-    ensures { OrMemory true result (edit_step durable.now edit.now) }
+    ensures { OrMemory (edits_in_memory durable.now edit.now) result (edit_step durable.now edit.now) }
 {
     match edit {
         TableEdit::Add {

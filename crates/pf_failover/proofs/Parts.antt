@@ -1,12 +1,14 @@
 -- The parts of an export, and how long its messages are.
 use Rattle.std.proofs.Common.{◌≡◌, ◌+◌, ◌-◌, ◌*◌, ◌<◌, ◌≤◌, ℕ, suc, List, [], ◌∷◌, ◌++◌, length, map, take, drop, min, refl, sym, subst, ap, ◌∙◌, append_assoc, length-append, arith}
 use Rattle.std.proofs.lemmas.List.{append-nil, length-drop, length-map, take_all, drop_all, take_at, drop_at}
-use Rattle.std.specs.List.{flat_map}
+use Rattle.std.specs.List.{concat, flat_map}
 use Rattle.std.specs.Slice.Iter.{chunk_count}
 use Rattle.pf_addr.specs.declared.addr.Addr.{Addr}
 use Rattle.pf_addr.specs.declared.addr.Addr.TheVariants.{V4, V6}
 use Rattle.pf_peer.specs.Records.{PlainInsert, address_bytes, insert_bytes}
-use Rattle.pf_peer.specs.Written.{message_length, message_bytes}
+use Rattle.pf_peer.specs.Messages.{IsMessage}
+use Rattle.pf_peer.specs.Streams.{Reads, Unfinished}
+use Rattle.pf_peer.specs.Written.{Each, message_length, message_bytes}
 use Rattle.pf_state.specs.States.{Stated}
 use Rattle.pf_failover.specs.declared.outgoing.TheConstants.{EXPORT_RECORDS}
 use Rattle.pf_failover.specs.Outgoing.{insert_of, told, parts, exported_messages}
@@ -60,12 +62,17 @@ cut_off : (part behind : List Stated) → 0 < length (part ++ behind) → length
 cut_off part behind some long = next_part (part ++ behind) some
     ∙ ap (λ (p : List Stated). p ∷ parts (drop 31 (part ++ behind))) (front_is part behind long) ∙ ap (λ (b : List Stated). part ∷ parts b) (back_is part behind long)
 
+front_part : (rest part behind : List Stated) → rest ≡ part ++ behind → length part ≡ min 31 (length rest) → 0 < length rest
+    → parts rest ≡ part ∷ parts behind
+front_part rest part behind split long some =
+    let so_long = subst (λ (l : List Stated). length part ≡ min 31 (length l)) split long in
+    ap parts split ∙ cut_off part behind (subst (λ (l : List Stated). 0 < length l) split some) so_long
+
 pub one_more_part : (current : List ℕ) (rest part behind : List Stated) (before more all : List (List ℕ)) (bytes : List ℕ)
     → rest ≡ part ++ behind → length part ≡ min 31 (length rest) → 0 < length rest → bytes ≡ message_bytes (told current part) → more ≡ before ++ bytes ∷ []
     → before ++ map message_bytes (exported_messages current rest) ≡ all → more ++ map message_bytes (exported_messages current behind) ≡ all
 one_more_part current rest part behind before more all bytes split long some written grown so =
-    let cut : parts rest ≡ part ∷ parts behind =
-    ap parts split ∙ cut_off part behind (subst (λ (l : List Stated). 0 < length l) split some) (subst (λ (l : List Stated). length part ≡ min 31 (length l)) split long) in
+    let cut = front_part rest part behind split long some in
     let now : before ++ (message_bytes (told current part) ∷ map message_bytes (exported_messages current behind)) ≡ all =
     ap (λ (ps : List (List Stated)). before ++ map message_bytes (map (told current) ps)) (sym cut) ∙ so in
     rw (grown, append_assoc, written) now
@@ -75,3 +82,30 @@ pub all_parts : (current : List ℕ) (rest : List Stated) (before all : List (Li
 all_parts current rest before all none so =
     let cut : before ++ [] ≡ all = ap (λ (ps : List (List Stated)). before ++ map message_bytes (map (told current) ps)) (sym (no_part rest none)) ∙ so in
     sym (append-nil before) ∙ cut
+
+-- ---- each message is read from its bytes
+
+abbrev pub IsRead : List ℕ → List Stated → Type 0
+IsRead current part = IsMessage (message_bytes (told current part)) (told current part)
+
+-- where those of what follows a part are, and the part's is, all are
+pub one_read_more : (current : List ℕ) (rest part behind : List Stated) (bytes : List ℕ) (All : Type 0)
+    → rest ≡ part ++ behind → length part ≡ min 31 (length rest) → 0 < length rest → bytes ≡ message_bytes (told current part)
+    → IsMessage bytes (told current part) → (Each (IsRead current) (parts rest) → All) → Each (IsRead current) (parts behind) → All
+one_read_more current rest part behind bytes All split long some written is so are =
+    so (rw (front_part rest part behind split long some) (rw written at is, are))
+
+pub all_read : (current : List ℕ) (rest : List Stated) (All : Type 0) → length rest ≡ 0 → (Each (IsRead current) (parts rest) → All) → All
+all_read current rest All none so = so (rw (no_part rest none) tt)
+
+-- and they are read one after the other, with nothing left
+pub read_in_turn : (current : List ℕ) (ps : List (List Stated)) → Each (IsRead current) ps
+    → Reads (concat (map message_bytes (map (told current) ps))) (map (told current) ps) (Unfinished [])
+read_in_turn current [] each = (refl, tt)
+read_in_turn current (p ∷ ps) each = (
+  message_bytes (told current p),
+  concat (map message_bytes (map (told current) ps)),
+  refl,
+  each.0,
+  read_in_turn current ps each.1,
+)

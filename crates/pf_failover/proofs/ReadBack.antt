@@ -1,12 +1,10 @@
 -- The bytes of an export are read as its messages.
-use Rattle.std.proofs.Common.{◌≡◌, ◌<◌, ◌^◌, ℕ, zero, suc, List, [], ◌∷◌, length, map, take, drop, cond, Bool, true, false, refl, arith}
-use Rattle.std.specs.List.{concat}
+use Rattle.std.proofs.Common.{◌≡◌, ◌<◌, ◌^◌, ℕ, zero, suc, List, [], ◌∷◌, length, map, take, drop, cond, Bool, true, false, arith}
 use Rattle.std.specs.Str.{bytes_eq}
 use Rattle.std.proofs.lemmas.List.{length-take}
 use Rattle.pf_peer.specs.declared.message.Message.{Message}
 use Rattle.pf_peer.specs.Messages.{IsMessage}
 use Rattle.pf_peer.specs.Records.{IsInsert}
-use Rattle.pf_peer.specs.Streams.{Reads, Unfinished}
 use Rattle.pf_peer.specs.Written.{Each, message_bytes, CanBeWritten}
 use Rattle.pf_state.specs.declared.binding.TheConstants.{ALL_ONES}
 use Rattle.pf_state.specs.declared.state.Bound.{Bound}
@@ -16,7 +14,7 @@ use Rattle.pf_state.specs.States.{Stated}
 use Rattle.pf_failover.specs.Outgoing.{insert_of, told, parts}
 use Rattle.pf_failover.specs.Laws.{IsBound, IsState, IsReadBack}
 use Rattle.pf_failover.proofs.Cut.{by_parts}
-use Rattle.pf_failover.proofs.Parts.{told_fits}
+use Rattle.pf_failover.proofs.Parts.{told_fits, IsRead, read_in_turn}
 
 each_take : (n : ℕ) (es : List Stated) → Each IsState es → Each IsState (take n es)
 each_take zero es each = tt
@@ -64,12 +62,6 @@ can_be_written current es long each = record {
 
 pub read_back : ((m : Message) → CanBeWritten m → IsMessage (message_bytes m) m) → IsReadBack
 read_back again current es long each =
-    by_parts (λ fs ps. Each IsState fs → Reads (concat (map message_bytes (map (told current) ps))) (map (told current) ps) (Unfinished [])) (λ none. (refl, tt))
-    (λ fs some rest are. (
-      message_bytes (told current (take 31 fs)),
-      concat (map message_bytes (map (told current) (parts (drop 31 fs)))),
-      refl,
-      again (told current (take 31 fs)) (can_be_written current fs long are),
-      rest (each_drop 31 fs are),
-    ))
-    es each
+    let each_read = by_parts (λ fs ps. Each IsState fs → Each (IsRead current) ps) (λ none. tt)
+    (λ fs some rest are. (again (told current (take 31 fs)) (can_be_written current fs long are), rest (each_drop 31 fs are))) es each in
+    read_in_turn current (parts es) each_read

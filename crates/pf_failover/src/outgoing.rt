@@ -1,5 +1,8 @@
 //! Messages that tell a peer of the states here.
-ghost use Rattle.std.specs.Prelude.{◌≡◌, ◌≤◌, ◌==◌, ℕ, length, map, IfOk};
+ghost use Rattle.std.specs.Prelude.{◌≡◌, ◌≤◌, ◌==◌, ℕ, [], length, map, IfOk};
+ghost use Rattle.std.specs.List.{concat};
+ghost use Rattle.pf_peer.specs.Messages.{IsMessage};
+ghost use Rattle.pf_peer.specs.Streams.{Reads, Unfinished};
 ghost use Rattle.pf_peer.specs.Written.{message_bytes};
 ghost use Rattle.pf_failover.specs.Outgoing.{insert_of, told, exported_messages};
 
@@ -51,13 +54,15 @@ impl Exported {
 /// The messages, in bytes, that tell a peer of all states, in the table's order. Each has the checksum of the main rules here,
 /// which is `current`, 16 bytes, and one group of [`EXPORT_RECORDS`] inserts, the last message one of what is left; without states
 /// there is no message. An insert names the number of its state's main rule where the state was bound by these very rules, else
-/// all ones; its anchor is all ones. `AllocError`: nothing is made.
+/// all ones; its anchor is all ones. One after the other they are read as these messages, and nothing is left. `AllocError`: nothing
+/// is made.
 pub fn export(
     alloc: Global,
     states: &StateTable,
     current: &[u8; 16],
 ) -> Result<Exported, AllocError>
-    ensures { IfOk result (λ e. e ≡ map message_bytes (exported_messages current.now states.now)) }
+    ensures told { IfOk result (λ e. e ≡ map message_bytes (exported_messages current.now states.now)) }
+    ensures read { IfOk result (λ e. Reads (concat e) (exported_messages current.now states.now) (Unfinished [])) }
 {
     let mut messages = Vec::new(alloc);
     for part in states.states().chunks(EXPORT_RECORDS) {
@@ -69,7 +74,8 @@ pub fn export(
 // The message that tells of these states, in bytes.
 fn written(alloc: Global, states: &[State], current: &[u8; 16]) -> Result<Vec<u8>, AllocError>
     requires { length states.now ≤ EXPORT_RECORDS }
-    ensures { IfOk result (λ bytes. bytes.items ≡ message_bytes (told current.now states.now)) }
+    ensures written { IfOk result (λ bytes. bytes.items ≡ message_bytes (told current.now states.now)) }
+    ensures read { IfOk result (λ bytes. IsMessage bytes.items (told current.now states.now)) }
 {
     let mut groups = Vec::new(alloc);
     groups.push(Group::Inserts(inserts_of(alloc, states, current)?))?;

@@ -1,19 +1,20 @@
 //! Numbers in decimal digits.
-ghost use Rattle.std.specs.Prelude.{◌≡◌, ◌≤◌, ◌<◌, ◌-◌, length};
+ghost use Rattle.std.specs.Prelude.{◌≡◌, ℕ, ◌≤◌, ◌+◌, ◌*◌, ◌-◌, Some};
 ghost use Rattle.std.specs.List.{list_all};
-ghost use Rattle.pf_form.specs.Numbers.{is_digit, decimal_value, number_of};
+ghost use Rattle.pf_form.specs.Numbers.{is_digit, decimal_value, number_of, of_bits, number_in};
 
 /// The number that a word of 1 to `most` decimal digits writes, of which the first may be zeros; `None` of any other word.
 ///
-/// `most` is at most 10, as many digits as a number of 32 bits has.
+/// It is `None` too where the number has more than 64 bits, and then there are 20 digits at least.
+#[tactic(auto, using(crate::specs::NumberLaws::few_digits))]
 pub fn read_number(word: &[u8], most: usize) -> Option<u64>
-    requires { most ≤ 10 }
-    ensures { result ≡ number_of most word.now }
+    ensures value { result ≡ number_in 64 most word.now }
+    ensures short { most ≤ 19 → result ≡ number_of most word.now }
 {
     if word.is_empty() || most < word.len() || !all_digits(word) {
         return None;
     }
-    Some(value_of(word))
+    value_of(word)
 }
 
 fn all_digits(word: &[u8]) -> bool
@@ -28,21 +29,21 @@ fn digit(b: u8) -> bool
     b.is_ascii_digit()
 }
 
-fn figure(b: u8) -> u64
-    ensures value { result ≡ b - 48 }
-    ensures small { result < 208 }
+/// The number that digits write, unless it has more than 64 bits.
+fn value_of(digits: &[u8]) -> Option<u64>
+    ensures { result ≡ of_bits 64 (Some (decimal_value digits.now)) }
 {
-    u64::from(b.saturating_sub(b'0'))
-}
-
-/// The number that at most 10 digits write.
-fn value_of(digits: &[u8]) -> u64
-    requires { length digits.now ≤ 10 }
-    ensures { result ≡ decimal_value digits.now }
-{
-    let mut value = 0;
+    let mut value = Some(0);
     for digit in digits {
-        value = value * 10 + figure(*digit);
+        value = with_digit(value, *digit);
     }
     value
+}
+
+/// A number with one more digit behind it, unless that has more than 64 bits, or it has.
+fn with_digit(value: Option<u64>, digit: u8) -> Option<u64>
+    ensures { (n : ℕ) → value ≡ of_bits 64 (Some n) → result ≡ of_bits 64 (Some (n * 10 + (digit - 48))) }
+{
+    let figure = u64::from(digit.saturating_sub(b'0'));
+    value?.checked_mul(10)?.checked_add(figure)
 }

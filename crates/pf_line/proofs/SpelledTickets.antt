@@ -1,31 +1,16 @@
 -- A word is read as a ticket exactly where it spells it, and so what a ticket is written as is read again.
 use Rattle.std.proofs.Common.{◌≡◌, ℕ, ◌+◌, ◌^◌, ◌<◌, List, [], ◌∷◌, ◌++◌, length, take, drop, decimal, Some, None, Option, refl, sym, ap, ◌∙◌, arith, append_assoc}
 use Rattle.std.specs.List.{position}
-use Rattle.std.proofs.lemmas.Bool.{lt-ltb}
-use Rattle.std.proofs.lemmas.Bool.Decides.{nat_tests}
 use Rattle.std.proofs.lemmas.Fmt.{decimal_is_IsNumeral, length-decimal-le}
 use Rattle.std.proofs.lemmas.List.{take_at, drop_at, length-append}
 use Rattle.pf_addr.specs.PlaceLaws.{digits_without, place_after, cut_there}
 use Rattle.pf_form.specs.Words.{Word}
-use Rattle.pf_form.specs.Numbers.{number_of}
-use Rattle.pf_form.specs.NumberLaws.{number_found, number_only}
+use Rattle.pf_form.specs.NumberLaws.{number_in_found, number_in_only}
 use Rattle.pf_ticket.specs.declared.ticket.Ticket.{Ticket}
 use Rattle.pf_reply.specs.Texts.{ticket_text}
-use Rattle.pf_line.specs.Tickets.{is_dot, of_32_bits, part_of, ticket_with, cut_at, ticket_of, IsPart, SpellsTicket}
+use Rattle.pf_line.specs.Tickets.{is_dot, part_of, ticket_with, cut_at, ticket_of, IsPart, SpellsTicket}
 
 -- ---- an epoch or a count
-
-pub part_read : (text : List ℕ) (n : ℕ) → IsPart text n → part_of text ≡ Some n
-part_read text n is = rw (number_only 10 text n is.number, lt-ltb n (2 ^ 32) is.small) refl
-
-low_number : (o : Option ℕ) (n : ℕ) → of_32_bits o ≡ Some n → o ≡ Some n
-low_number o n e = grind (arith, nat_tests)
-
-low : (o : Option ℕ) (n : ℕ) → of_32_bits o ≡ Some n → n < 2 ^ 32
-low o n e = grind (arith, nat_tests)
-
-pub part_found : (text : List ℕ) (n : ℕ) → part_of text ≡ Some n → IsPart text n
-part_found text n e = record { number = number_found 10 text n (low_number (number_of 10 text) n e); small = low (number_of 10 text) n e }
 
 part_written : (n : ℕ) → n < 2 ^ 32 → IsPart (decimal n) n
 part_written n lt =
@@ -45,7 +30,7 @@ behind xs ys =
 pub spelled_is_read : (t : Ticket) (w : Word) → SpellsTicket t w → ticket_of w ≡ Some t
 unfolding ticket_of
 spelled_is_read t w is =
-    rw (is.dotted, place_after 46 is.front is.rest (digits_without 46 is.front (omega arith) is.epoch.number.digits.1), take_at is.front (46 ∷ is.rest) (length is.front) refl, behind is.front is.rest, part_read is.front t.epoch is.epoch, part_read is.rest t.count is.count) refl
+    rw (is.dotted, place_after 46 is.front is.rest (digits_without 46 is.front (omega arith) is.epoch.number.digits.1), take_at is.front (46 ∷ is.rest) (length is.front) refl, behind is.front is.rest, number_in_only 32 10 is.front t.epoch is.epoch, number_in_only 32 10 is.rest t.count is.count) refl
 
 epoch_of : (a b : Option ℕ) (t : Ticket) → ticket_with a b ≡ Some t → a ≡ Some t.epoch
 epoch_of a b t e = grind arith
@@ -58,8 +43,8 @@ spelled_by None t w at e = absurd (cc)
 spelled_by (Some i) t w at e = record {
   front = take i w;
   rest = drop (i + 1) w;
-  epoch = part_found (take i w) t.epoch (epoch_of (part_of (take i w)) (part_of (drop (i + 1) w)) t e);
-  count = part_found (drop (i + 1) w) t.count (count_of (part_of (take i w)) (part_of (drop (i + 1) w)) t e);
+  epoch = number_in_found 32 10 (take i w) t.epoch (epoch_of (part_of (take i w)) (part_of (drop (i + 1) w)) t e);
+  count = number_in_found 32 10 (drop (i + 1) w) t.count (count_of (part_of (take i w)) (part_of (drop (i + 1) w)) t e);
   dotted = cut_there 46 w i at;
 }
 

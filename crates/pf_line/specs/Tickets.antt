@@ -1,20 +1,15 @@
 -- The text of a ticket: its epoch and its count in decimal digits, with a dot between them.
-use Rattle.std.specs.Prelude.{◌≡◌, ℕ, ◌+◌, ◌<◌, ◌^◌, ◌==◌, nat_lt, Bool, List, ◌∷◌, ◌++◌, take, drop, Option, Some, None, if◌then◌else◌}
+use Rattle.std.specs.Prelude.{◌≡◌, ℕ, ◌+◌, ◌==◌, Bool, List, ◌∷◌, ◌++◌, take, drop, Option, Some, None}
 use Rattle.std.specs.List.{position}
 use Rattle.pf_form.specs.Words.{Word}
-use Rattle.pf_form.specs.Numbers.{IsNumber, number_of}
+use Rattle.pf_form.specs.Numbers.{IsNumberIn, number_in}
 use Rattle.pf_ticket.specs.declared.ticket.Ticket.{Ticket}
 use Rattle.pf_ticket.specs.Names.{ticket}
 use Rattle.pf_line.specs.declared.ticket.TheConstants.{DIGIT_LIMIT}
 
--- a number of 32 bits
-abbrev pub of_32_bits : Option ℕ → Option ℕ
-of_32_bits None = None
-of_32_bits (Some n) = if nat_lt n (2 ^ 32) then Some n else None
-
 -- an epoch or a count: 1 to 10 digits of a number of 32 bits
 abbrev pub part_of : Word → Option ℕ
-part_of w = of_32_bits (number_of DIGIT_LIMIT w)
+part_of w = number_in 32 DIGIT_LIMIT w
 
 abbrev pub ticket_with : Option ℕ → Option ℕ → Option Ticket
 ticket_with (Some e) (Some c) = Some (ticket e c)
@@ -35,9 +30,8 @@ ticket_of w = cut_at w (position is_dot w)
 -- ---- which words spell a ticket, by cases
 
 -- a number of 32 bits in 1 to 10 decimal digits, of which the first may be zeros
-pub record IsPart (text : List ℕ) (n : ℕ) : Type 0 where
-  pub number : IsNumber DIGIT_LIMIT text n
-  pub small : n < 2 ^ 32
+abbrev pub IsPart : List ℕ → ℕ → Type 0
+IsPart text n = IsNumberIn 32 DIGIT_LIMIT text n
 
 -- the epoch's digits, a dot (46) and the count's digits
 pub record SpellsTicket (t : Ticket) (w : Word) : Type 0 where

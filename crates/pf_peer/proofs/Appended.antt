@@ -1,12 +1,14 @@
 -- What is written in turn stands there in order.
-use Rattle.std.proofs.Common.{◌≡◌, ◌<◌, ◌≤◌, ℕ, zero, suc, List, [], ◌∷◌, ◌++◌, length, get_or, subst, ap, ◌∙◌, append_assoc, length-append, arith}
-use Rattle.std.specs.List.{flat_map}
+use Rattle.std.proofs.Common.{◌≡◌, ◌+◌, ◌<◌, ◌≤◌, ℕ, zero, suc, List, [], ◌∷◌, ◌++◌, length, take, get_or, subst, ap, ◌∙◌, append_assoc, length-append, arith}
+use Rattle.std.specs.List.{All, flat_map}
+use Rattle.std.proofs.lemmas.List.{take_all}
+use Rattle.std.proofs.lemmas.List.Elements.{All-head, All-tail, All-more}
 use Rattle.pf_peer.specs.declared.message.Group.{Group}
 use Rattle.pf_peer.specs.declared.message.Group.TheVariants.{Inserts, Deletes, Clears}
 use Rattle.pf_peer.specs.declared.record.Delete.{Delete}
 use Rattle.pf_peer.specs.declared.record.Clear.{Clear}
 use Rattle.pf_peer.specs.Records.{PlainInsert, insert_bytes, delete_bytes, clear_bytes}
-use Rattle.pf_peer.specs.Written.{group_bytes, group_with}
+use Rattle.pf_peer.specs.Written.{Each, group_bytes, group_with}
 
 pub two : (o a b p q : List ℕ) → p ≡ o ++ a → q ≡ p ++ b → q ≡ o ++ (a ++ b)
 two o a b p q e f = f ∙ ap (λ (l : List ℕ). l ++ b) e ∙ append_assoc o a b
@@ -51,3 +53,17 @@ few_clears g xs e lt = few_of 0 clear_bytes (λ x. omega arith) xs (subst (λ (h
 
 pub group_fits : (gs : List Group) (i : ℕ) (g : Group) → g ≡ get_or gs i g → i < length gs → length (flat_map group_bytes gs) < 65536 → length (group_bytes g) < 65536
 group_fits gs i g e lt fits = omega (arith, one_fits group_bytes gs i g lt, ap (λ (h : Group). length (group_bytes h)) e, fits)
+
+-- ---- what holds of each that was written
+
+each : {A : Type 0} (P : A → Type 0) (xs : List A) → All P xs → Each P xs
+each P [] all = tt
+each P (x ∷ xs) all = (All-head P x xs all, each P xs (All-tail P x xs all))
+
+-- of all of them, once so many were written
+pub each_of : {A : Type 0} (P : A → Type 0) (n : ℕ) (xs : List A) → length xs ≤ n → All P (take n xs) → Each P xs
+each_of P n xs all so_far = each P xs (rw (take_all n xs all) at so_far)
+
+pub one_more : {A : Type 0} (P : A → Type 0) (xs : List A) (i : ℕ) (x : A) → i < length xs → x ≡ get_or xs i x → All P (take i xs)
+    → P x → All P (take (i + 1) xs)
+one_more P xs i x lt is so_far holds = All-more P xs i x lt so_far (subst P is holds)

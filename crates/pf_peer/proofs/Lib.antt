@@ -5,4 +5,5 @@ pub mod Headers
 pub mod OneReading
 pub mod OneMessage
 pub mod Pieces
+pub mod SomeReading
 pub mod RoundTrip

@@ -15,6 +15,11 @@ pub fn stream_has_one_reading()
     ensures { (bytes : List ℕ) (ms ns : List Message) (d e : Ending) → Reads bytes ms d → Reads bytes ns e → (ms ≡ ns) × (d ≡ e) }
 {}
 
+/// Whatever the bytes so far are, they are some list of messages and end in some way.
+pub fn stream_has_a_reading()
+    ensures { (bytes : List ℕ) → (ms : List Message) × (e : Ending) × Reads bytes ms e }
+{}
+
 /// A fault is there with the first bytes that show it, and no further ones change it or the messages before it.
 #[tactic(auto, using(crate::proofs::Pieces::fault_stays))]
 pub fn fault_stays_the_same()
@@ -34,6 +39,7 @@ pub fn written_message_is_read()
 
 /// Bytes that have to be one message have one answer, and it is a message exactly where they are that message.
 pub fn one_message_has_one_answer()
+    ensures some { (bytes : List ℕ) → (r : Result Message OneFault) × IsOne bytes r }
     ensures one { (bytes : List ℕ) (r s : Result Message OneFault) → IsOne bytes r → IsOne bytes s → r ≡ s }
     ensures message { (bytes : List ℕ) (m : Message) → IsOne bytes (Ok m) ↔ IsMessage bytes m }
 {}

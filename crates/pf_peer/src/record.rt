@@ -100,6 +100,9 @@ pub trait Record: Drop + Sized {
     /// The bytes that it is written as.
     ghost writing: { Self → List ℕ };
 
+    /// What each of them keeps.
+    ghost keeps: { Self → Type 0 };
+
     /// What the bytes say, or `None` where a field has what it can't have.
     fn read(row: &[u8]) -> Option<Self>
         requires { length row.now ≡ RECORD }
@@ -107,15 +110,18 @@ pub trait Record: Drop + Sized {
 
     /// Writes the record behind these bytes. Where memory is refused, how much of it stands there isn't said.
     fn write(&self, out: &mut Vec<u8>) -> Result<(), AllocError>
-        ensures { OnOk result (out.new.items ≡ out.old.items ++ writing self.now) };
+        ensures written { OnOk result (out.new.items ≡ out.old.items ++ writing self.now) }
+        ensures kept { OnOk result (keeps self.now) };
 }
 
 impl Record for Insert {
-    ghost use Rattle.pf_peer.specs.Records.{insert_of, insert_bytes};
+    ghost use Rattle.pf_peer.specs.Records.{IsInsert, insert_of, insert_bytes};
 
     ghost reading = { insert_of };
 
     ghost writing = { insert_bytes };
+
+    ghost keeps = { IsInsert };
 
     fn read(row: &[u8]) -> Option<Insert> {
         if !is_allowed(row) {
@@ -142,10 +148,13 @@ impl Record for Insert {
 
 impl Record for Delete {
     ghost use Rattle.pf_peer.specs.Records.{delete_of, delete_bytes};
+    ghost use Rattle.pf_peer.specs.Written.{IsDelete};
 
     ghost reading = { delete_of };
 
     ghost writing = { delete_bytes };
+
+    ghost keeps = { IsDelete };
 
     fn read(row: &[u8]) -> Option<Delete> {
         Some(Delete {
@@ -163,10 +172,13 @@ impl Record for Delete {
 
 impl Record for Clear {
     ghost use Rattle.pf_peer.specs.Records.{clear_of, clear_bytes};
+    ghost use Rattle.pf_peer.specs.Written.{IsClear};
 
     ghost reading = { clear_of };
 
     ghost writing = { clear_bytes };
+
+    ghost keeps = { IsClear };
 
     fn read(row: &[u8]) -> Option<Clear> {
         Some(Clear {

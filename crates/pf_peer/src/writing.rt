@@ -2,7 +2,8 @@
 ghost use Rattle.std.specs.Prelude.{◌≡◌, ◌++◌, ◌<◌, ◌∷◌, [], length, IfOk, OnOk, List};
 ghost use Rattle.byteorder.specs.Endian.{big_bytes};
 ghost use Rattle.pf_peer.specs.Records.{address_bytes, direction_byte, family_byte};
-ghost use Rattle.pf_peer.specs.Written.{message_bytes, message_length, groups_bytes, group_bytes, group_with};
+ghost use Rattle.pf_peer.specs.Messages.{IsMessage};
+ghost use Rattle.pf_peer.specs.Written.{message_bytes, message_length, groups_bytes, group_bytes, group_with, Each, IsGroup};
 
 use crate::fields::{FAMILY_4, FAMILY_6, IN, OUT};
 use crate::message::{CLEAR, DELETE, Group, INSERT, Message, VERSION};
@@ -18,7 +19,8 @@ use std::alloc::{AllocError, Global};
 /// [`RECORD`](crate::RECORD) for each record. The only error is that memory is refused.
 pub fn write_peer(alloc: Global, message: &Message) -> Result<Vec<u8>, AllocError>
     requires { message_length message.now < 65536 }
-    ensures { IfOk result (λ bytes. bytes.items ≡ message_bytes message.now) }
+    ensures written { IfOk result (λ bytes. bytes.items ≡ message_bytes message.now) }
+    ensures read { IfOk result (λ bytes. IsMessage bytes.items message.now) }
 {
     let mut groups = Vec::new(alloc);
     push_groups(&mut groups, message.groups.as_slice())?;
@@ -32,7 +34,8 @@ pub fn write_peer(alloc: Global, message: &Message) -> Result<Vec<u8>, AllocErro
 
 fn push_groups(out: &mut Vec<u8>, groups: &[Group]) -> Result<(), AllocError>
     requires { length (groups_bytes groups.now) < 65536 }
-    ensures { OnOk result (out.new.items ≡ out.old.items ++ groups_bytes groups.now) }
+    ensures written { OnOk result (out.new.items ≡ out.old.items ++ groups_bytes groups.now) }
+    ensures kept { OnOk result (Each IsGroup groups.now) }
 {
     for group in groups {
         push_group(out, group)?;
@@ -42,7 +45,8 @@ fn push_groups(out: &mut Vec<u8>, groups: &[Group]) -> Result<(), AllocError>
 
 fn push_group(out: &mut Vec<u8>, group: &Group) -> Result<(), AllocError>
     requires { length (group_bytes group.now) < 65536 }
-    ensures { OnOk result (out.new.items ≡ out.old.items ++ group_bytes group.now) }
+    ensures written { OnOk result (out.new.items ≡ out.old.items ++ group_bytes group.now) }
+    ensures kept { OnOk result (IsGroup group.now) }
 {
     match group {
         Group::Inserts(inserts) => push_records(out, INSERT, inserts.as_slice()),
@@ -53,7 +57,8 @@ fn push_group(out: &mut Vec<u8>, group: &Group) -> Result<(), AllocError>
 
 fn push_records<T: Record>(out: &mut Vec<u8>, action: u8, records: &[T]) -> Result<(), AllocError>
     requires { length records.now < 65536 }
-    ensures { OnOk result (out.new.items ≡ out.old.items ++ group_with action T.writing records.now) }
+    ensures written { OnOk result (out.new.items ≡ out.old.items ++ group_with action T.writing records.now) }
+    ensures kept { OnOk result (Each T.keeps records.now) }
 {
     out.extend_from_slice(&[action, 0])?;
     push_u16(out, records.len() as u16)?;

@@ -76,7 +76,7 @@ counted_fits es steps index now c x is short =
       deleted = omega (arith, one, most, moved, deleted, short);
     }
 
-ahead : (steps : List Step) (index : ℕ) (x : Step) → index < length steps → x ≡ get_or steps index x → drop index steps ≡ x ∷ drop (suc index) steps
+pub ahead : (steps : List Step) (index : ℕ) (x : Step) → index < length steps → x ≡ get_or steps index x → drop index steps ≡ x ∷ drop (suc index) steps
 ahead steps index x within here = drop-cons steps index x within ∙ ap (λ y. y ∷ drop (suc index) steps) (sym here)
 
 counts_ahead : (now : List Stated) (x : Step) (more : List Step) → counts now (x ∷ more) ≡ both (counted now x) (counts (stepped now x) more)

@@ -23,12 +23,13 @@ use Rattle.pf_state.specs.Laws.{IsStateOf, OneStateAFlow, StaysStates, RefusedBy
 use Rattle.pf_state.proofs.Names.{name_total, one_name, same_itself}
 use Rattle.pf_state.proofs.Flows.{same_back, same_third}
 use Rattle.pf_state.proofs.Leaves.{reads_put, reads_delete, reads_clear}
+use Rattle.pf_state.proofs.Places.{first_of, second_of}
 
-no : {X : Type 0} → true ≡ false → X
+pub no : {X : Type 0} → true ≡ false → X
 no e = absurd (true≢false e)
 
 -- nothing that isn't there is
-nothing_is : {X Y : Type 0} (x : X) → None ≡ Some x → Y
+pub nothing_is : {X Y : Type 0} (x : X) → None ≡ Some x → Y
 nothing_is x e = no (sym (ap is_some e))
 
 front_within : (a b : Bool) → (a || b) ≡ false → a ≡ false
@@ -50,7 +51,7 @@ no_clash : (es : List Stated) (s : Stated) → has_effect (insertion es s) ≡ t
 no_clash es s e = clash_none (is_stale es s) (is_clash es s) (is_some (held_at s.0 es)) e
 
 -- where none clashes, a state of another name has another flow
-others_differ : (es : List Stated) (s : Stated) (b : StateName) (y : Held) → is_clash es s ≡ false → held_at b es ≡ Some y → eq_by_cmp name_order b s.0 ≡ false → same_flow y.flow s.1.flow ≡ true → ⊥
+pub others_differ : (es : List Stated) (s : Stated) (b : StateName) (y : Held) → is_clash es s ≡ false → held_at b es ≡ Some y → eq_by_cmp name_order b s.0 ≡ false → same_flow y.flow s.1.flow ≡ true → ⊥
 others_differ [] s b y none there other same = nothing_is y there
 others_differ (e ∷ es) s b y none there other same = by (eq_by_cmp name_order b e.0) refl there none (λ clear found. others_differ es s b y clear found other same) where
   by : (t : Bool) → eq_by_cmp name_order b e.0 ≡ t → cond t (Some e.1) (held_at b es) ≡ Some y → is_clash (e ∷ es) s ≡ false → (is_clash es s ≡ false → held_at b es ≡ Some y → ⊥) → ⊥
@@ -81,7 +82,7 @@ names_put es s is none = record {
   by a b x y false is_a false is_b at_a at_b same = is.one_flow a b x y at_a at_b same
 
 -- what is left is what was there
-left_of : {X : Type 0} (t : Bool) (o : Option X) (x : X) → cond t None o ≡ Some x → o ≡ Some x
+pub left_of : {X : Type 0} (t : Bool) (o : Option X) (x : X) → cond t None o ≡ Some x → o ≡ Some x
 left_of true o x e = nothing_is x e
 left_of false o x e = e
 
@@ -150,15 +151,7 @@ less_not_tied Less p = refl
 less_not_tied Equal p = absurd p
 less_not_tied Greater p = absurd p
 
-first_of : (a b : Bool) → T (a && b) → T a
-first_of true b p = tt
-first_of false b p = p
-
-second_of : (a b : Bool) → T (a && b) → T b
-second_of true b p = p
-second_of false b p = absurd p
-
-none_behind : (n : StateName) (es : List Stated) → T (below_all name_order n es) → held_at n es ≡ None
+pub none_behind : (n : StateName) (es : List Stated) → T (below_all name_order n es) → held_at n es ≡ None
 none_behind n [] h = refl
 none_behind n (e ∷ es) h = ap (λ b. cond b (Some e.1) (held_at n es)) (less_not_tied (name_order n e.0) (first_of _ _ h)) ∙ none_behind n es (second_of _ _ h)
 

@@ -3,3 +3,4 @@ pub mod States
 pub mod Steps
 pub mod Bindings
 pub mod Laws
+pub mod Candidates

@@ -1,6 +1,8 @@
 //! Flows.
-ghost use Rattle.std.specs.Prelude.{◌≡◌, ◌&&◌, cond, Some, None};
-ghost use Rattle.pf_state.specs.Flows.{PlainFlow, IsFlow, flow_of, is_flow, is_equal, turned, same_flow, other_way};
+ghost use Rattle.std.specs.Prelude.{◌≡◌, ◌<◌, ◌^◌, ◌==◌, ◌&&◌, cond, Some, None};
+ghost use Rattle.pf_value.specs.Tests.{same_direction};
+ghost use Rattle.pf_state.specs.Candidates.{key_of, low_bits};
+ghost use Rattle.pf_state.specs.Flows.{PlainFlow, IsFlow, flow_of, is_flow, same_addr, is_equal, turned, same_flow, other_way};
 
 use pf_addr::Addr;
 use pf_rule::Packet;
@@ -11,18 +13,19 @@ use std::marker::Model;
 /// [`Flow`] as these fields (`PlainFlow`), each as they see its type. That the interface is no part of it is own.
 #[derive(Clone, Copy)]
 struct FlowParts {
-    /// Which way the first packet goes through the interface.
+    // the widest first: a table of states takes less room
+    /// The address that the first packet comes from.
+    source: Addr,
+    /// The address that it goes to, of the source's family.
+    destination: Addr,
+    /// The port that it comes from, 0 to 65535; 0 where the protocol has no ports.
+    source_port: u16,
+    /// The port that it goes to, as `source_port`.
+    destination_port: u16,
+    /// Which way it goes through the interface.
     direction: Direction,
     /// Its protocol, as the number, 1 to 255.
     protocol: Protocol,
-    /// The address that it comes from.
-    source: Addr,
-    /// The port that it comes from, 0 to 65535; 0 where the protocol has no ports.
-    source_port: u16,
-    /// The address that it goes to, of the source's family.
-    destination: Addr,
-    /// The port that it goes to, as `source_port`.
-    destination_port: u16,
 }
 
 /// A flow. Its addresses are of one family, and its ports are 0 unless it is of TCP or UDP.
@@ -47,6 +50,16 @@ fn other_way(direction: Direction) -> Direction
     match direction {
         Direction::In => Direction::Out,
         Direction::Out => Direction::In,
+    }
+}
+
+fn low_bits(addr: Addr) -> u64
+    ensures value { result ≡ low_bits addr }
+    ensures small { result < 2 ^ 32 }
+{
+    match addr {
+        Addr::V4(number) => u64::from(number),
+        Addr::V6(number) => (number % 4_294_967_296) as u64,
     }
 }
 
@@ -113,16 +126,40 @@ impl Flow {
         })
     }
 
-    // Whether all fields are equal.
-    pub(crate) fn is_equal(&self, other: &Flow) -> bool
-        ensures { result ≡ is_equal self.now other.now }
+    // Whether the ports are equal.
+    fn same_ports(&self, other: &Flow) -> bool
+        ensures { result ≡ (self.now.source_port == other.now.source_port) && (self.now.destination_port == other.now.destination_port) }
+    {
+        self.0.source_port == other.0.source_port
+            && self.0.destination_port == other.0.destination_port
+    }
+
+    // Whether all but the ports is equal.
+    fn same_but_ports(&self, other: &Flow) -> bool
+        ensures { result ≡ same_direction self.now.direction other.now.direction && (self.now.protocol == other.now.protocol) && same_addr self.now.source other.now.source && same_addr self.now.destination other.now.destination }
     {
         self.0.direction == other.0.direction
             && self.0.protocol == other.0.protocol
             && self.0.source == other.0.source
-            && self.0.source_port == other.0.source_port
             && self.0.destination == other.0.destination
-            && self.0.destination_port == other.0.destination_port
+    }
+
+    // Whether all fields are equal. The ports, which differ most often, are asked first.
+    pub(crate) fn is_equal(&self, other: &Flow) -> bool
+        ensures { result ≡ is_equal self.now other.now }
+    {
+        self.same_ports(other) && self.same_but_ports(other)
+    }
+
+    // A number that both ways of the flow have, and few other flows.
+    #[tactic(auto, unfolding(crate::specs::Candidates::key_of))]
+    pub(crate) fn key(&self) -> u64
+        ensures { result ≡ key_of self.now }
+    {
+        low_bits(self.0.source)
+            + low_bits(self.0.destination)
+            + u64::from(self.0.source_port)
+            + u64::from(self.0.destination_port)
     }
 
     /// Whether both are one flow: they are equal, or each is the other turned.

@@ -2,12 +2,14 @@
 #![tactic(auto)]
 
 mod binding;
+mod candidates;
 mod change;
 mod counts;
 mod flow;
 pub mod laws;
 mod limits;
 mod refusal;
+mod search;
 mod state;
 mod step;
 mod table;

@@ -1,6 +1,7 @@
 //! States.
 ghost use Rattle.std.specs.Prelude.{◌≡◌};
 ghost use Rattle.std.specs.Ordering.{eq_by_cmp};
+ghost use Rattle.pf_state.specs.Candidates.{key_of};
 ghost use Rattle.pf_state.specs.Flows.{IsFlow, turned, same_flow};
 ghost use Rattle.pf_state.specs.States.{name_order};
 
@@ -29,19 +30,20 @@ pub enum Bound {
 /// What is held under a state's name.
 #[derive(Clone, Copy)]
 pub struct Held {
-    /// Which of two tellings of this state is the later one: the greater generation. 0 for a state that was made here.
-    pub generation: u32,
     /// The flow whose packets it lets pass.
     pub flow: Flow,
     /// The rule that it is bound to.
     pub bound: Bound,
+    /// Which of two tellings of this state is the later one: the greater generation. 0 for a state that was made here.
+    pub generation: u32,
 }
 
 /// A state: what it is named by, and what is held. Contracts see the pair.
 #[derive(Clone, Copy)]
 pub struct State {
-    name: StateName,
+    // the widest first, as in what is held: a table of states takes less room
     held: Held,
+    name: StateName,
 }
 
 impl Model for State {
@@ -95,6 +97,13 @@ impl State {
         ensures { result ≡ self.now.1 }
     {
         self.held
+    }
+
+    // The key of its flow.
+    pub(crate) fn key(&self) -> u64
+        ensures { result ≡ key_of self.now.1.flow }
+    {
+        self.held.flow.key()
     }
 
     // Whether it has a flow, which is handed in turned too.

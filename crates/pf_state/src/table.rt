@@ -5,10 +5,12 @@ ghost use Rattle.pf_state.specs.Flows.{flow_of, same_flow};
 ghost use Rattle.pf_state.specs.States.{Stated, IsStates, held_at, state_of};
 ghost use Rattle.pf_state.specs.Steps.{Refuses, passes_limit, after, counts, without_state, without_creator, creator_count, named_count};
 
-use crate::change::{act, clear, held_at, is_over, remove};
+use crate::candidates::{candidates, note};
+use crate::change::{act, clear, is_over, remove};
 use crate::counts::Counts;
 use crate::flow::Flow;
 use crate::refusal::StatesRefusal;
+use crate::search::held_at;
 use crate::state::{Held, State, StateName};
 use crate::step::Step;
 use pf_rule::Packet;
@@ -45,11 +47,11 @@ fn state_of<'a>(states: &'a [State], flow: &Flow) -> Option<&'a State>
     None
 }
 
-// A list of the same states.
-fn copied(alloc: Global, states: &[State]) -> Result<Vec<State>, AllocError>
+// A list of the same states, with room for some more.
+fn copied(alloc: Global, states: &[State], room: usize) -> Result<Vec<State>, AllocError>
     ensures { IfOk result (λ v. v.items ≡ states.now) }
 {
-    let mut all = Vec::with_capacity(alloc, states.len())?;
+    let mut all = Vec::with_capacity(alloc, states.len().saturating_add(room))?;
     all.extend_from_slice(states)?;
     Ok(all)
 }
@@ -68,7 +70,7 @@ impl StateTable {
     pub fn copied(&self, alloc: Global) -> Result<StateTable, AllocError>
         ensures { IfOk result (λ t. t ≡ self.now) }
     {
-        let states = copied(alloc, &self.states)?;
+        let states = copied(alloc, &self.states, 0)?;
         Ok(StateTable { states })
     }
 
@@ -108,10 +110,12 @@ impl StateTable {
         ensures counts { IfOk result (λ r. r.1 ≡ counts self.now steps.now) }
         ensures after { IfOk result (λ r. r.0 ≡ after self.now steps.now) }
     {
-        let mut states = copied(alloc, &self.states)?;
+        let mut states = copied(alloc, &self.states, steps.len())?;
+        let mut candidates = candidates(alloc, &self.states, steps)?;
         let mut counts = Counts::NONE;
         for step in steps {
-            let counted = act(&mut states, step)?;
+            let counted = act(&mut states, &candidates, step)?;
+            note(&mut candidates, step)?;
             counts = counts.and(counted);
             if is_over(&states) {
                 return Err(StatesRefusal::StatesFull);

@@ -37,13 +37,16 @@ with_core b w = record b { whole = w }
 
 -- what a step says of a core
 abbrev pub Steps : Page → Command → Result Step Refusal → Type 0
-Steps b c r = OrMemory (takes_memory c) r (step_by b.whole.tickets b.whole.durable c)
+Steps b c r = OrMemory (takes_memory b.whole.durable c) r (step_by b.whole.tickets b.whole.durable c)
+
+-- what the core keeps is the world's
+durable-is : (h : Held) (b : Page) → IsAt h b → IsFolded b → b.whole.durable ≡ durable_of h
+durable-is h b at folded = folded.durable ∙ ap (λ (k : Kept). after k (flat b.acked)) at.base ∙ ap (λ (l : List (List Edit)). after h.base (flat l)) at.acked
 
 -- the step that is taken is the world's
 step-is : (h : Held) (b : Page) (c : Command) (r : Result Step Refusal) → IsAt h b → IsFolded b → Steps b c r → (r ≡ Err Memory → ⊥) → r ≡ step_in h c
 step-is h b c r at folded steps other =
-    let durable : b.whole.durable ≡ durable_of h = folded.durable ∙ ap (λ (k : Kept). after k (flat b.acked)) at.base ∙ ap (λ (l : List (List Edit)). after h.base (flat l)) at.acked in
-    steps.0 other ∙ ap (λ (t : Open). step_by t b.whole.durable c) at.tickets ∙ ap (λ (k : Kept). step_by h.tickets k c) durable
+    steps.0 other ∙ ap (λ (t : Open). step_by t b.whole.durable c) at.tickets ∙ ap (λ (k : Kept). step_by h.tickets k c) (durable-is h b at folded)
 
 -- ---- nothing is kept
 
@@ -52,7 +55,7 @@ answer-is-legal h b c a at folded steps = inl (ap (due_at h) (step-is h b c (Ok 
 
 -- the core's own refusal
 pub refusal-is-legal : (h : Held) (b : Page) (c : Command) (e : Refusal) → IsAt h b → IsFolded b → Steps b c (Err e) → LegalReply h c (Refused e) false
-refusal-is-legal h b c Memory at folded steps = inr (steps.1 refl)
+refusal-is-legal h b c Memory at folded steps = inr (subst (λ (k : Kept). takes_memory k c ≡ true) (durable-is h b at folded) (steps.1 refl))
 refusal-is-legal h b c e at folded steps = inl (ap (due_at h) (step-is h b c (Err e) at folded steps (λ m. cc (m))))
 
 -- ---- a change is wanted

@@ -1,5 +1,5 @@
 -- What one line comes to.
-use Rattle.std.proofs.Common.{sym, append-nil, ◌≡◌, ℕ, List, [], ◌∷◌, Option, Some, None, Result, Ok, Err, inl, inr, refl, subst}
+use Rattle.std.proofs.Common.{sym, append-nil, ℕ, List, [], ◌∷◌, Option, Some, None, Ok, Err, inl, inr, refl}
 use Rattle.pf_core.specs.declared.command.Command.{Command}
 use Rattle.pf_core.specs.declared.reply.Refusal.{Refusal}
 use Rattle.pf_core.specs.declared.reply.Refusal.TheVariants.{Memory}

@@ -4,6 +4,36 @@ use std::alloc::Global;
 use std::process::Abort;
 use std::test::*;
 
+const SHOWN: &str =
+    "7 1 0 in tcp 10.0.0.1 5 10.0.0.2 80 rule 0 886e234b9265e355a4e6de823beba1c2\nend 1\n";
+
+/// A message of that state, in its parts: header and group, name and kind, the two addresses, ports and rule.
+const EXPORTED: &str = concat!(
+    "peer 05000058886e234b9265e355a4e6de823beba1c201000001",
+    "0000000000000007000000010000000001040600",
+    "0a000001000000000000000000000000",
+    "0a000002000000000000000000000000",
+    "0005005000000000ffffffff\nend 1\n"
+);
+
+/// A message that inserts a state of creator 2.
+const INSERT: &str = concat!(
+    "peer 05000058d41d8cd98f00b204e9800998ecf8427e01000001",
+    "00000000000000010000000200000000",
+    "01040600",
+    "0a000001000000000000000000000000",
+    "0a000002000000000000000000000000",
+    "04d2005000000000ffffffff"
+);
+
+/// A message that clears the states of creator 2.
+const CLEAR: &str = concat!(
+    "peer 05000058d41d8cd98f00b204e9800998ecf8427e00000001",
+    "0000000000000000000000020000000000000000",
+    "0000000000000000000000000000000000000000",
+    "000000000000000000000000000000000000000000000000"
+);
+
 /// Lines of every kind, in turn, and their replies.
 const LINES: &[(&str, &str)] = &[
     ("begin filter - filter web filter a/b", "ok 1.1 1.2 1.3\n"),
@@ -46,6 +76,37 @@ const LINES: &[(&str, &str)] = &[
     ("tkill web banned", "err absent\n"),
     ("test web banned ::1", "nomatch\n"),
     ("show tables web", "end 0\n"),
+    ("begin filter -", "ok 1.8\n"),
+    ("add - 1.8 pass", "ok\n"),
+    ("commit filter - 1.8", "applied 8\n"),
+    ("sum", "886e234b9265e355a4e6de823beba1c2\n"),
+    (
+        "track 7 1 in em0 tcp 10.0.0.1 5 10.0.0.2 80",
+        "applied 9 pass rule 0\n",
+    ),
+    (
+        "track 8 1 in em0 tcp 10.0.0.1 5 10.0.0.2 80",
+        "pass state 7 1\n",
+    ),
+    (
+        "track 7 1 in em0 tcp 10.0.0.1 6 10.0.0.2 80",
+        "pass rule 0 stale\n",
+    ),
+    ("show states", SHOWN),
+    ("export", EXPORTED),
+    (
+        INSERT,
+        "applied 10 new 1 replaced 0 stale 0 clash 0 deleted 0\n",
+    ),
+    (
+        CLEAR,
+        "applied 11 new 0 replaced 0 stale 0 clash 0 deleted 1\n",
+    ),
+    ("peer 05", "err peer ended\n"),
+    ("kill 7 1", "applied 12\n"),
+    ("kill 7 1", "err absent\n"),
+    ("show states", "end 0\n"),
+    ("export", "end 0\n"),
     ("judge in em0 0", "err proto 3\n"),
     ("frob", "err word 0\n"),
     ("# a comment", ""),
@@ -74,7 +135,7 @@ fn fresh(alloc: Global, again: bool) -> Result<Book, Fail> {
 // Each line in turn has its reply. One for which memory was refused is given once more, if it may be.
 fn ask_each(rt: &impl Abort, alloc: Global, book: &mut Book, again: bool) -> Result<(), Fail> {
     let mut written = Vec::new(alloc);
-    written.reserve(100)?;
+    written.reserve(200)?;
     for (line, reply) in LINES {
         let mut end = answer(alloc, book, line, &mut written);
         let refused = end == Err(EngineFault::Memory)

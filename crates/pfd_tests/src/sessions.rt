@@ -38,24 +38,42 @@ const CASES: &[Case] = &[
     (BROKEN, 100, 0, 9, Err(Read), 18),
 ];
 
-fn check(rt: &impl Abort, alloc: Global, case: &Case) -> Result<(), Fail> {
-    let (reads, room, interruptions, flushes, end, written) = *case;
-    let waiting = &Cell::new(false);
+// How the session of a case ends, and what is written. A flag says that replies wait to be flushed.
+fn end_of(
+    alloc: Global,
+    case: &Case,
+    book: &mut Book,
+    written: &mut Vec<u8>,
+    waiting: &Cell<bool>,
+) -> Result<(), EngineFault> {
+    let (reads, room, interruptions, flushes, _, _) = *case;
     let pieces = reads.split('|');
     let mut reader = Script { pieces, waiting };
     let mut writer = Tight {
-        text: Vec::new(alloc),
+        text: written,
         room,
         interruptions,
         flushes,
         waiting,
     };
-    let mut book = Book::fresh(alloc, HISTORY_LIMIT)?;
-    let got = serve_alone(alloc, &mut reader, &mut writer, &mut book);
+    serve_alone(alloc, &mut reader, &mut writer, book)
+}
+
+// It borrows the Book, so that it has not to let go of it wherever it may fail.
+fn check_on(rt: &impl Abort, alloc: Global, case: &Case, book: &mut Book) {
+    let (_, room, _, _, end, length) = *case;
+    let waiting = &Cell::new(false);
+    let mut written = Vec::new(alloc);
+    let got = end_of(alloc, case, book, &mut written, waiting);
     assert!(rt; got == end, "with room for {room}");
-    assert!(rt; writer.text.len() == written, "with room for {room}");
-    assert!(rt; REPLIES.as_bytes().starts_with(writer.text.as_slice()));
+    assert!(rt; written.len() == length, "with room for {room}");
+    assert!(rt; REPLIES.as_bytes().starts_with(written.as_slice()));
     assert!(rt; !waiting.get() || end.is_err());
+}
+
+fn check(rt: &impl Abort, alloc: Global, case: &Case) -> Result<(), Fail> {
+    let mut book = Book::fresh(alloc, HISTORY_LIMIT)?;
+    check_on(rt, alloc, case, &mut book);
     Ok(())
 }
 

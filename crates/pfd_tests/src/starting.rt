@@ -10,38 +10,53 @@ use std::test::*;
 /// Words, what a read gives, the writer's room and flushes.
 type Case<'a> = (&'a str, &'a str, usize, u32);
 
-// Starts with such words, and tells how what is written and what the faults are told have to begin.
-fn check(
-    rt: &impl Abort,
-    alloc: Global,
-    (line, read, room, flushes): Case,
-    (status, writes, faults): (u8, &str, &str),
-) -> Result<(), Fail> {
+fn words_of(alloc: Global, line: &str) -> Result<Vec<String>, Fail> {
     let mut words = Vec::new(alloc);
     for word in line.split(' ') {
         words.push(String::from_str(alloc, word)?)?;
     }
+    Ok(words)
+}
+
+// Starts with such words: the status, and what is written and what the faults are told.
+fn status_of(
+    alloc: Global,
+    (line, read, room, flushes): Case,
+    written: &mut Vec<u8>,
+    told: &mut Vec<u8>,
+) -> Result<u8, Fail> {
+    let words = words_of(alloc, line)?;
     let waiting = &Cell::new(false);
     let pieces = read.split('|');
     let mut reader = Script { pieces, waiting };
     let mut writer = Tight {
-        text: Vec::new(alloc),
+        text: written,
         room,
         interruptions: 0,
         flushes,
         waiting,
     };
-    let mut told = Vec::new(alloc);
-    let got = start(alloc, words.as_slice(), &mut reader, &mut writer, &mut told);
-    assert!(rt; got == status, "at {line}");
-    assert!(rt;
-        writer.text.as_slice().starts_with(writes.as_bytes()),
-        "at {line}"
-    );
-    assert!(rt; writer.text.is_empty() == writes.is_empty(), "at {line}");
-    assert!(rt; told.as_slice().starts_with(faults.as_bytes()), "at {line}");
+    Ok(start(alloc, words.as_slice(), &mut reader, &mut writer, told))
+}
+
+/// Whether the status is this one, and what is written and what the faults are told begin so.
+fn is_so(
+    (status, written, told): (u8, &[u8], &[u8]),
+    (wanted, writes, faults): (u8, &str, &str),
+) -> bool {
     // A fault has a line of its own, and where all went well there is nothing to tell.
-    assert!(rt; got == 2 || told.len() == faults.len(), "at {line}");
+    let is_whole = status == 2 || told.len() == faults.len();
+    let is_written = written.starts_with(writes.as_bytes())
+        && written.is_empty() == writes.is_empty();
+    status == wanted && is_written && told.starts_with(faults.as_bytes()) && is_whole
+}
+
+fn check(rt: &impl Abort, alloc: Global, case: Case, wanted: (u8, &str, &str)) -> Result<(), Fail> {
+    let mut written = Vec::new(alloc);
+    let mut told = Vec::new(alloc);
+    let status = status_of(alloc, case, &mut written, &mut told)?;
+    let got = (status, written.as_slice(), told.as_slice());
+    assert!(rt; is_so(got, wanted), "at {}", case.0);
     Ok(())
 }
 

@@ -27,7 +27,7 @@ impl Read for Script<'_> {
 /// A writer with room for so many bytes, which is interrupted so often at first, and flushed so often at most.
 #[derive(Drop)]
 pub(crate) struct Tight<'a> {
-    pub(crate) text: Vec<u8>,
+    pub(crate) text: &'a mut Vec<u8>,
     pub(crate) room: usize,
     pub(crate) interruptions: u32,
     pub(crate) flushes: u32,

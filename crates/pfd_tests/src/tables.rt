@@ -1,8 +1,9 @@
-//! Commands on tables that no line can carry: lists without entries, and tables with as many entries as they may have.
+//! Commands on tables that no line can carry: lists without entries, and lists longer than a line.
 use pf_addr::{Addr, Net};
 use pf_anchor::Path;
-use pf_core::{Command, EntryList, Outcome, Refusal, Reply, TableEdit, Transaction};
+use pf_core::{Command, EntryList, TableEdit, Transaction};
 use pf_path::TableName;
+use pf_reply::write_reply;
 use pf_table::{Entry, TABLE_LIMIT};
 use pf_ticket::{RulesetName, RulesetNames, Ticket};
 use pfd::{Book, HISTORY_LIMIT};
@@ -10,10 +11,46 @@ use std::alloc::Global;
 use std::process::Abort;
 use std::test::*;
 
-/// The first ticket of the first opening.
-const FIRST: Ticket = Ticket { epoch: 1, count: 1 };
+/// What is done with some entries, at the main ruleset's table `banned`.
+#[derive(Clone, Copy)]
+enum Deed {
+    /// Gives the first ticket, with which they can be offered.
+    Begin,
+    Define,
+    Set,
+    Add,
+    Delete,
+}
 
-/// The networks of the first so many addresses, one each.
+/// A deed with the networks of the first so many addresses, one each, and its reply.
+type Row = (Deed, usize, &'static str);
+
+const WITHOUT_ENTRIES: &[Row] = &[
+    // Nothing is added to a table that isn't there, and it isn't there after it.
+    (Deed::Add, 0, "applied 1 added 0 same 0 conflict 0\n"),
+    (Deed::Delete, 0, "err absent\n"),
+    (Deed::Set, 1, "applied 2\n"),
+    (Deed::Add, 0, "applied 3 added 0 same 0 conflict 0\n"),
+    (Deed::Delete, 0, "applied 4 deleted 0 absent 0\n"),
+];
+
+const FULL: &[Row] = &[
+    (Deed::Set, TABLE_LIMIT + 1, "err table\n"),
+    (Deed::Set, TABLE_LIMIT, "applied 1\n"),
+    (Deed::Add, TABLE_LIMIT + 1, "err table\n"),
+    (
+        Deed::Add,
+        TABLE_LIMIT,
+        "applied 2 added 0 same 65536 conflict 0\n",
+    ),
+];
+
+const OFFERED: &[Row] = &[
+    (Deed::Begin, 0, "ok 1.1\n"),
+    (Deed::Define, TABLE_LIMIT + 1, "err table\n"),
+    (Deed::Define, TABLE_LIMIT, "ok\n"),
+];
+
 fn networks(alloc: Global, count: usize) -> Result<EntryList, Fail> {
     let mut entries = Vec::with_capacity(alloc, count)?;
     for number in (0..u32::MAX).take(count) {
@@ -22,150 +59,84 @@ fn networks(alloc: Global, count: usize) -> Result<EntryList, Fail> {
     Ok(EntryList::new(entries))
 }
 
-fn name() -> Result<TableName, Fail> {
-    Ok(TableName::from_ascii(b"banned")?)
-}
-
-fn add(entries: EntryList) -> Result<Command, Fail> {
-    Ok(Command::Edit(TableEdit::Add {
-        path: Path::main(),
-        name: name()?,
-        entries,
-    }))
-}
-
-fn delete(entries: EntryList) -> Result<Command, Fail> {
-    Ok(Command::Edit(TableEdit::Delete {
-        path: Path::main(),
-        name: name()?,
-        entries,
-    }))
-}
-
-fn set(entries: EntryList) -> Result<Command, Fail> {
-    Ok(Command::Edit(TableEdit::Set {
-        path: Path::main(),
-        name: name()?,
-        entries,
-    }))
-}
-
-fn define(entries: EntryList) -> Result<Command, Fail> {
-    Ok(Command::Transact(Transaction::Define {
-        path: Path::main(),
-        ticket: FIRST,
-        name: name()?,
-        entries,
-    }))
-}
-
-/// Gives the first ticket, for the tables of the main ruleset.
-fn begin(alloc: Global) -> Result<Command, Fail> {
+/// The tables of the main ruleset.
+fn main_tables(alloc: Global) -> Result<RulesetNames, Fail> {
     let mut names = Vec::new(alloc);
     names.push(RulesetName::table(&Path::main()))?;
-    Ok(Command::Transact(Transaction::Begin(RulesetNames::new(names))))
+    Ok(RulesetNames::new(names))
 }
 
-/// The number of a change that was kept, and what became of its entries: how many are new, were there, or are there with the other
-/// sign; or how many went, and weren't there.
-fn kept(reply: &Reply) -> Option<(u64, [usize; 3])> {
-    match reply {
-        Reply::Applied { seq, outcome } => Some((*seq, counted(outcome))),
-        _ => None,
+fn command(deed: Deed, name: TableName, entries: EntryList, tables: RulesetNames) -> Command {
+    let path = Path::main();
+    let ticket = Ticket { epoch: 1, count: 1 };
+    match deed {
+        Deed::Begin => Command::Transact(Transaction::Begin(tables)),
+        Deed::Define => Command::Transact(Transaction::Define {
+            path,
+            ticket,
+            name,
+            entries,
+        }),
+        Deed::Set => Command::Edit(TableEdit::Set {
+            path,
+            name,
+            entries,
+        }),
+        Deed::Add => Command::Edit(TableEdit::Add {
+            path,
+            name,
+            entries,
+        }),
+        Deed::Delete => Command::Edit(TableEdit::Delete {
+            path,
+            name,
+            entries,
+        }),
     }
 }
 
-fn counted(outcome: &Outcome) -> [usize; 3] {
-    match outcome {
-        Outcome::Added {
-            added,
-            same,
-            conflict,
-        } => [*added, *same, *conflict],
-        Outcome::Deleted { deleted, absent } => [*deleted, *absent, 0],
-        _ => [0; 3],
+/// The command of a row.
+fn command_of(alloc: Global, deed: Deed, count: usize) -> Result<Command, Fail> {
+    let name = TableName::from_ascii(b"banned")?;
+    let entries = networks(alloc, count)?;
+    let tables = main_tables(alloc)?;
+    Ok(command(deed, name, entries, tables))
+}
+
+/// What a command is answered.
+fn answer(alloc: Global, book: &mut Book, command: Command) -> Result<Vec<u8>, Fail> {
+    let reply = book.run(command);
+    let mut text = Vec::new(alloc);
+    write_reply(&mut text, &reply)?;
+    Ok(text)
+}
+
+// It borrows the Book, so that it has not to let go of it wherever it may fail.
+fn play_on(rt: &impl Abort, alloc: Global, book: &mut Book, rows: &[Row]) -> Result<(), Fail> {
+    for (deed, count, reply) in rows {
+        let command = command_of(alloc, *deed, *count)?;
+        let text = answer(alloc, book, command)?;
+        assert!(rt; text.as_slice() == reply.as_bytes(), "at {reply}");
     }
-}
-
-fn is_full(reply: &Reply) -> bool {
-    match reply {
-        Reply::Refused(refusal) => *refusal == Refusal::TableFull,
-        _ => false,
-    }
-}
-
-/// Whether a command is applied as this change, and this became of its entries.
-fn applies(book: &mut Book, command: Command, number: u64, wanted: [usize; 3]) -> bool {
-    kept(&book.run(command)) == Some((number, wanted))
-}
-
-/// Whether a command is refused, since a table would have too many entries.
-fn finds_it_full(book: &mut Book, command: Command) -> bool {
-    is_full(&book.run(command))
-}
-
-/// Whether a command is answered, and changes nothing.
-fn answers(book: &mut Book, command: Command) -> bool {
-    matches!(book.run(command), Reply::Answer(_))
-}
-
-/// Whether a command is refused, since there is no such table.
-fn finds_none(book: &mut Book, command: Command) -> bool {
-    matches!(book.run(command), Reply::Refused(Refusal::Absent))
-}
-
-// The tests borrow their book, so that none of them has to let go of it wherever it may fail.
-
-fn take_lists_without_entries(rt: &impl Abort, alloc: Global, book: &mut Book) -> Result<(), Fail> {
-    // Nothing is added to a table that isn't there, and it isn't there after it.
-    assert!(rt; applies(book, add(networks(alloc, 0)?)?, 1, [0; 3]));
-    assert!(rt; finds_none(book, delete(networks(alloc, 0)?)?));
-    assert!(rt; applies(book, set(networks(alloc, 1)?)?, 2, [0; 3]));
-    assert!(rt; applies(book, add(networks(alloc, 0)?)?, 3, [0; 3]));
-    assert!(rt; applies(book, delete(networks(alloc, 0)?)?, 4, [0; 3]));
     Ok(())
+}
+
+fn play(rt: &impl Abort, alloc: Global, rows: &[Row]) -> Result<(), Fail> {
+    let mut book = Book::fresh(alloc, HISTORY_LIMIT)?;
+    play_on(rt, alloc, &mut book, rows)
 }
 
 #[test]
 fn lists_without_entries_are_taken(rt: HostRuntime) -> Result<(), Fail> {
-    let alloc = rt.alloc();
-    let mut book = Book::fresh(alloc, HISTORY_LIMIT)?;
-    take_lists_without_entries(&rt, alloc, &mut book)
-}
-
-fn fill_a_table(rt: &impl Abort, alloc: Global, book: &mut Book) -> Result<(), Fail> {
-    assert!(rt; finds_it_full(book, set(networks(alloc, TABLE_LIMIT + 1)?)?));
-    assert!(rt; applies(book, set(networks(alloc, TABLE_LIMIT)?)?, 1, [0; 3]));
-    // One more isn't taken.
-    assert!(rt; finds_it_full(book, add(networks(alloc, TABLE_LIMIT + 1)?)?));
-    assert!(rt;
-        applies(
-            book,
-            add(networks(alloc, TABLE_LIMIT)?)?,
-            2,
-            [0, TABLE_LIMIT, 0]
-        )
-    );
-    Ok(())
+    play(&rt, rt.alloc(), WITHOUT_ENTRIES)
 }
 
 #[test]
 fn tables_have_so_many_entries(rt: HostRuntime) -> Result<(), Fail> {
-    let alloc = rt.alloc();
-    let mut book = Book::fresh(alloc, HISTORY_LIMIT)?;
-    fill_a_table(&rt, alloc, &mut book)
-}
-
-fn fill_an_offer(rt: &impl Abort, alloc: Global, book: &mut Book) -> Result<(), Fail> {
-    assert!(rt; answers(book, begin(alloc)?));
-    assert!(rt; finds_it_full(book, define(networks(alloc, TABLE_LIMIT + 1)?)?));
-    assert!(rt; answers(book, define(networks(alloc, TABLE_LIMIT)?)?));
-    Ok(())
+    play(&rt, rt.alloc(), FULL)
 }
 
 #[test]
 fn so_many_entries_are_offered(rt: HostRuntime) -> Result<(), Fail> {
-    let alloc = rt.alloc();
-    let mut book = Book::fresh(alloc, HISTORY_LIMIT)?;
-    fill_an_offer(&rt, alloc, &mut book)
+    play(&rt, rt.alloc(), OFFERED)
 }

@@ -1,5 +1,9 @@
 use Rattle.pf_peer.proofs.OneMessage.{one_answer, message_alone}
+use Rattle.pf_peer.proofs.SomeReading.{some_answer}
 use Rattle.pf_peer.proofs.laws.one_message_has_one_answer.Goals as goal
+
+pub returns-clause-some : goal.returns-clause-some
+returns-clause-some c = some_answer
 
 pub returns-clause-one : goal.returns-clause-one
 returns-clause-one c = one_answer

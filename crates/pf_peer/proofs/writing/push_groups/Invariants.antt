@@ -1,7 +1,10 @@
 use Rattle.std.proofs.Common.{◌≡◌, ◌++◌, take}
-use Rattle.std.specs.List.{flat_map}
-use Rattle.pf_peer.specs.Written.{group_bytes}
+use Rattle.std.specs.List.{All, flat_map}
+use Rattle.pf_peer.specs.Written.{IsGroup, group_bytes}
 use Rattle.pf_peer.proofs.writing.push_groups.Given as goal
 
 abbrev pub invariant-loop-group : goal.invariant-loop-group
-invariant-loop-group l = l.out.items ≡ l.fn.out.items ++ flat_map group_bytes (take l.group-index l.fn.groups)
+invariant-loop-group l = record {
+  written : l.out.items ≡ l.fn.out.items ++ flat_map group_bytes (take l.group-index l.fn.groups);
+  kept : All IsGroup (take l.group-index l.fn.groups);
+}

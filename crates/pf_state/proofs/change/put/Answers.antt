@@ -1,6 +1,15 @@
-use Rattle.std.proofs.Common.{◌∙◌, sym, ap, length}
-use Rattle.pf_state.proofs.Putting.{put_placed}
+use Rattle.std.proofs.Common.{sym, ◌∙◌}
+use Rattle.pf_state.proofs.Places.{put_known, put_unknown}
 use Rattle.pf_state.proofs.change.put.Goals as goal
 
-pub returns : goal.returns
-returns c = put_placed c.args.states.now.items c.remove.new.states.items c.deref.result.now c.insert.new.self.items c.name.result c.name-2.result c.args.new c.first_behind.result c.len.result c.unwrap_or-place.result c.name.ensures c.name-2.ensures c.remove.ensures c.deref.ensures.value c.first_behind.ensures.place (c.len.ensures ∙ sym c.deref.ensures.len ∙ ap length c.deref.ensures.value) c.unwrap_or-place.ensures c.in_ok-insert.ensures.items
+pub returns-in-Ok : goal.returns-in-Ok
+returns-in-Ok c =
+    let bound = rw c.deref.ensures.value at c.in-Ok.ensures.bound in
+    let known = rw (c.deref.ensures.value, c.name.ensures) at c.in-Ok.ensures.known in
+    sym (put_known c.args.states.now.items c.args.new c.in-Ok.place c.requires bound known)
+
+pub returns-in_ok-insert-in-Err : goal.returns-in_ok-insert-in-Err
+returns-in_ok-insert-in-Err c =
+    let bound = rw c.deref.ensures.value at c.in-Err.ensures.bound in
+    let unknown = rw (c.deref.ensures.value, c.name.ensures) at c.in-Err.ensures.unknown in
+    c.in_ok-insert-in-Err.ensures.items ∙ sym (put_unknown c.args.states.now.items c.args.new c.in-Err.place bound unknown)

@@ -1,8 +1,15 @@
-use Rattle.std.proofs.Common.{rules, not}
-use Rattle.std.specs.Ordering.{eq_by_cmp}
-use Rattle.std.proofs.lemmas.Fn.{filter_same}
-use Rattle.pf_state.specs.States.{Stated, name_order}
+use Rattle.std.proofs.Common.{sym, ◌∙◌}
+use Rattle.pf_state.proofs.Places.{without_known, without_unknown}
 use Rattle.pf_state.proofs.change.remove.Goals as goal
 
-pub returns : goal.returns
-returns c = filter_same _ (λ (s : Stated). not (eq_by_cmp name_order c.args.name s.0)) _ (λ x b f' k. search rules) _ _ c.retain.ensures.filtered
+pub returns-in-Ok : goal.returns-in-Ok
+returns-in-Ok c =
+    let bound = rw c.deref.ensures.value at c.in-Ok.ensures.bound in
+    let known = rw c.deref.ensures.value at c.in-Ok.ensures.known in
+    c.remove.ensures.items ∙ sym (without_known c.args.states.now.items c.args.name c.in-Ok.place c.requires bound known c.remove.result)
+
+pub returns-in_default : goal.returns-in_default
+returns-in_default c =
+    let bound = rw c.deref.ensures.value at c.in_default.ensures.bound in
+    let unknown = rw c.deref.ensures.value at c.in_default.ensures.unknown in
+    sym (without_unknown c.args.states.now.items c.args.name c.in_default.field-0 bound unknown)
