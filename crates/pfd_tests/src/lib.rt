@@ -1,13 +1,11 @@
-//! Tests of what no line can reach: want of memory, readers and writers that fail in mid-stream, the program's words and statuses,
-//! values that no line has yet. What lines are answered stands in the tables of `pfd_rows`.
+//! Tests of what no line can reach: readers and writers that fail in mid-stream, the program's words and statuses, a peer's stream in
+//! pieces, calls that no line comes to. What lines are answered stands in the tables of `pfd_rows`.
 #![tactic(auto)]
 
 #[cfg(test)]
 mod addresses;
 #[cfg(test)]
 mod anchors;
-#[cfg(test)]
-mod memory;
 #[cfg(test)]
 mod peers;
 #[cfg(test)]

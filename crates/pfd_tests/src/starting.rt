@@ -60,39 +60,45 @@ fn check(rt: &impl Abort, alloc: Global, case: Case, wanted: (u8, &str, &str)) -
     Ok(())
 }
 
-/// Words, the status, and how what is written and what the faults are told begin.
-const WORDS: &[(&str, u8, &str, &str)] = &[
-    ("pfd run", 0, "err word 0\n", ""),
-    ("pfd --help", 0, "A control plane", ""),
-    ("pfd help", 0, "A control plane", ""),
-    ("pfd run --help", 0, "Answers the lines", ""),
-    ("pfd", 2, "", "error: 'pfd' requires a subcommand"),
-    ("pfd frob", 2, "", "error: unrecognized subcommand"),
-    ("pfd run now", 2, "", "error: unexpected argument 'now'"),
-    ("pfd run --size 1", 2, "", "error: unexpected argument"),
-];
-
-/// Words over a reader or writer that fails, what is written by then, and the line on the faults.
-const FAULTS: &[(Case, &str, &str)] = &[
-    (("pfd run", "!", 100, 9), "", "pfd: input\n"),
-    (("pfd run", "frob", 100, 0), "", "pfd: output\n"),
-    (("pfd --help", "", 9, 9), "A control", "pfd: output\n"),
-    (("pfd --help", "", 9_999, 0), "A control", "pfd: output\n"),
+/// Starts, the status of each, and how what is written and what the faults are told begin.
+const STARTS: &[(Case, (u8, &str, &str))] = &[
+    (("pfd run", "frob", 99, 9), (0, "err word 0\n", "")),
+    (("pfd --help", "frob", 9_999, 9), (0, "A control plane", "")),
+    (("pfd help", "frob", 9_999, 9), (0, "A control plane", "")),
+    (
+        ("pfd run --help", "frob", 9_999, 9),
+        (0, "Answers the lines", ""),
+    ),
+    (
+        ("pfd", "frob", 99, 9),
+        (2, "", "error: 'pfd' requires a subcommand"),
+    ),
+    (
+        ("pfd frob", "frob", 99, 9),
+        (2, "", "error: unrecognized subcommand"),
+    ),
+    (
+        ("pfd run now", "frob", 99, 9),
+        (2, "", "error: unexpected argument 'now'"),
+    ),
+    (
+        ("pfd run --size 1", "frob", 99, 9),
+        (2, "", "error: unexpected argument"),
+    ),
+    // A reader or a writer that fails.
+    (("pfd run", "!", 100, 9), (1, "", "pfd: input\n")),
+    (("pfd run", "frob", 100, 0), (1, "", "pfd: output\n")),
+    (("pfd --help", "", 9, 9), (1, "A control", "pfd: output\n")),
+    (
+        ("pfd --help", "", 9_999, 0),
+        (1, "A control", "pfd: output\n"),
+    ),
 ];
 
 #[test]
 fn starts_as_its_words_say(rt: HostRuntime) -> Result<(), Fail> {
-    for (line, status, writes, faults) in WORDS {
-        let case = (*line, "frob", 9_999, 9);
-        check(&rt, rt.alloc(), case, (*status, writes, faults))?;
-    }
-    Ok(())
-}
-
-#[test]
-fn says_what_failed(rt: HostRuntime) -> Result<(), Fail> {
-    for (case, writes, fault) in FAULTS {
-        check(&rt, rt.alloc(), *case, (1, writes, fault))?;
+    for (case, wanted) in STARTS {
+        check(&rt, rt.alloc(), *case, *wanted)?;
     }
     Ok(())
 }

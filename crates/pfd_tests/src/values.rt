@@ -1,4 +1,4 @@
-//! Values that no line has yet, and that values cross threads.
+//! Public calls that no line comes to, and that values cross threads.
 use pf_addr::{Addr, Net, write_addr, write_net};
 use pf_core::{Change, Command, Durable, Reply};
 use pf_rule::{Packet, Rule};
