@@ -1,3 +1,5 @@
+pub mod Cutting
+pub mod Answering
 pub mod Booking
 pub mod Calling
 pub mod Limits

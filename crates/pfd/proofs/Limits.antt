@@ -1,9 +1,9 @@
 -- A session keeps the history's limit.
 use Rattle.std.proofs.Common.{◌≡◌, ℕ, List, Option, Result, Ok, Err, inl, inr, ap, ◌∙◌}
 use Rattle.pf_core.specs.Pages.{Page}
-use Rattle.pf_engine.specs.declared.fault.EngineFault.{EngineFault}
-use Rattle.pf_engine.specs.declared.fault.EngineFault.TheVariants as fault
-use Rattle.pf_engine.specs.Sessions.{CutOff, Ends}
+use Rattle.pfd.specs.declared.line_engine.fault.EngineFault.{EngineFault}
+use Rattle.pfd.specs.declared.line_engine.fault.EngineFault.TheVariants as fault
+use Rattle.pfd.specs.LineEngine.Sessions.{CutOff, Ends}
 use Rattle.pfd.specs.Serving.{Serves}
 
 cut-limit : {lines : List (List ℕ)} {old new : Page} {held held' : Option (List ℕ)} → CutOff Serves lines old new held held' → new.limit ≡ old.limit

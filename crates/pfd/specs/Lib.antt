@@ -1,3 +1,4 @@
+pub mod LineEngine
 pub mod Books
 pub mod Serving
 pub mod ServingLaws

@@ -6,9 +6,9 @@ use Rattle.std.specs.declared.io.ErrorKind.TheVariants.{OutOfMemory}
 use Rattle.pf_durable.specs.Edits.{kept_nothing}
 use Rattle.pf_core.specs.Pages.{Page, StandsFor}
 use Rattle.pf_core.specs.Worlds.{setting_with, opened}
-use Rattle.pf_engine.specs.declared.fault.EngineFault.{EngineFault}
-use Rattle.pf_engine.specs.declared.fault.EngineFault.TheVariants.{Memory}
-use Rattle.pf_engine.specs.Sessions.{IsSession}
+use Rattle.pfd.specs.declared.line_engine.fault.EngineFault.{EngineFault}
+use Rattle.pfd.specs.declared.line_engine.fault.EngineFault.TheVariants.{Memory}
+use Rattle.pfd.specs.LineEngine.Sessions.{IsSession}
 use Rattle.pfd.specs.declared.program.TheConstants.{HISTORY_LIMIT}
 use Rattle.pfd.specs.Serving.{Serves}
 

@@ -8,7 +8,7 @@ use Rattle.pf_core.specs.Pages.{Page, StandsFor}
 use Rattle.pf_core.specs.Worlds.{Event}
 use Rattle.pf_line.specs.Grammar.{Spoken}
 use Rattle.pf_line.specs.Lines.{line_at, long_line, Means, Speaks, speaks}
-use Rattle.pf_engine.specs.Lines.{seen}
+use Rattle.pfd.specs.LineEngine.Lines.{seen}
 use Rattle.pfd.specs.Serving.{IsTold, Served, Continues, Serves, Told, text_of}
 
 pub continues-still : (page : Page) → Continues page page []

@@ -1,12 +1,12 @@
 //! Lines that a Book answers.
 ghost use Rattle.std.specs.Prelude.{◌≡◌};
-ghost use Rattle.pf_engine.specs.Sessions.{IsSession};
+ghost use Rattle.pfd.specs.LineEngine.Sessions.{IsSession};
 ghost use Rattle.pfd.specs.Serving.{Told, Serves};
 ghost use Rattle.pfd.specs.ServingLaws.{serves-none, serves-then, serves-seen};
 
 use crate::book::Book;
+use crate::line_engine::{AnswerLine, EngineFault, serve};
 use pf_core::{Refusal, Reply};
-use pf_engine::{AnswerLine, EngineFault, serve};
 use pf_line::{parse_line, write_reply};
 use std::alloc::Global;
 use std::io::{self, Read, Write};

@@ -3,9 +3,10 @@
 
 mod book;
 mod engine;
+pub mod line_engine;
 mod program;
 
 pub use book::Book;
 pub use engine::serve_alone;
-pub use pf_engine::EngineFault;
+pub use line_engine::EngineFault;
 pub use program::{HISTORY_LIMIT, run_process, start, without_words};

@@ -7,9 +7,9 @@ ghost use Rattle.pfd.specs.Program.{IsRun, Runs, RanWith, status_without_words};
 
 use crate::book::Book;
 use crate::engine::serve_alone;
+use crate::line_engine::EngineFault;
 use clap::error::ErrorKind;
 use clap::{Command, Error};
-use pf_engine::EngineFault;
 use std::alloc::Global;
 use std::env;
 use std::io::{self, BufWriter, Read, Write};

@@ -1,6 +1,6 @@
 //! Rows, played over Books.
 ghost use Rattle.std.specs.Prelude.{◌≡◌, ℕ, List, [], Option, Some, None, Ok};
-ghost use Rattle.pf_engine.specs.Sessions.{IsSession};
+ghost use Rattle.pfd.specs.LineEngine.Sessions.{IsSession};
 ghost use Rattle.pfd.specs.Serving.{Serves};
 
 use crate::spelling::{choose, fill, push_line, reply_bytes};

@@ -1,5 +1,5 @@
 use Rattle.std.proofs.Common.{Err, inr, refl}
-use Rattle.pf_engine.specs.declared.fault.EngineFault.TheVariants.{Memory}
+use Rattle.pfd.specs.declared.line_engine.fault.EngineFault.TheVariants.{Memory}
 use Rattle.std.proofs.KnownBytes.{Keeps-refl}
 use Rattle.pfd.proofs.program.start.Goals as goal
 
