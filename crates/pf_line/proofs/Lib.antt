@@ -1,3 +1,6 @@
+pub mod Writers
+pub mod Newlines
+pub mod StateTexts
 pub mod Lines
 pub mod SpelledTickets
 pub mod SpelledEntries

@@ -12,7 +12,7 @@ use Rattle.pf_addr.specs.ReadingLaws.{net_found, net_only, net_without}
 use Rattle.pf_addr.specs.Spelling.{net_text}
 use Rattle.pf_addr.specs.SpellingLaws.{IsNetwork, net_text_spells}
 use Rattle.pf_table.specs.Entries.{Row}
-use Rattle.pf_reply.specs.Texts.{entry_text}
+use Rattle.pf_line.specs.Reply.Texts.{entry_text}
 use Rattle.pf_line.specs.Entries.{SpellsEntry, signed, entry_of}
 
 -- ---- an entry's network

@@ -1,3 +1,4 @@
+pub mod Reply
 pub mod Tickets
 pub mod Entries
 pub mod States

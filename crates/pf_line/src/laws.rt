@@ -17,7 +17,7 @@ ghost use Rattle.pf_line.specs.Grammar.{Spoken, line as the_grammar};
 ghost use Rattle.pf_line.specs.Lines.{line_at, Means, SpellsLine};
 ghost use Rattle.pf_addr.specs.SpellingLaws.{IsNetwork};
 ghost use Rattle.pf_table.specs.Entries.{Row};
-ghost use Rattle.pf_reply.specs.Texts.{ticket_text, entry_text};
+ghost use Rattle.pf_line.specs.Reply.Texts.{ticket_text, entry_text};
 ghost use Rattle.pf_line.specs.Tickets.{part_of, ticket_of, IsPart, SpellsTicket};
 ghost use Rattle.pf_line.specs.States.{id_of, IsId, bytes_of};
 ghost use Rattle.pf_line.specs.Entries.{entry_of, SpellsEntry};

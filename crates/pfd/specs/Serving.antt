@@ -10,7 +10,7 @@ use Rattle.pf_durable.specs.Edits.{Kept}
 use Rattle.pf_core.specs.Pages.{Page, StandsFor}
 use Rattle.pf_core.specs.Worlds.{Upshot, Event, called}
 use Rattle.pf_line.specs.Lines.{line_at, Means, Speaks}
-use Rattle.pf_reply.specs.Replies.{reply_text}
+use Rattle.pf_line.specs.Reply.Replies.{reply_text}
 
 -- What a line means, the event of the call that it comes to, and what is written for it: nothing for a silent line, the refusal of a
 -- line that is refused, the reply to a command.

@@ -1,4 +1,4 @@
-use Rattle.pf_reply.specs.Replies.{reply_text}
+use Rattle.pf_line.specs.Reply.Replies.{reply_text}
 use Rattle.std.specs.Prelude.{Some}
 use Rattle.std.proofs.Common.{[], None}
 use Rattle.pfd.proofs.Calling.{appends_none}

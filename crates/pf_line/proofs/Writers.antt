@@ -1,0 +1,110 @@
+-- Parts of a line, lines, tickets and entries, that are written one after the other.
+use Rattle.std.proofs.Common.{◌≡◌, ℕ, zero, suc, ◌+◌, ◌<◌, List, [], ◌∷◌, ◌++◌, length, take, get_or, Option, Result, refl, sym, ap, ◌∙◌, subst, arith, append_assoc, append-nil, add-zero}
+use Rattle.std.proofs.lemmas.List.{take_more, length-append, length-take}
+use Rattle.std.specs.declared.io.Error.{Error}
+use Rattle.pf_addr.specs.Writing.{Wrote, Continues, Continues-then}
+use Rattle.pf_rule.specs.Rules.{PlainRule}
+use Rattle.pf_table.specs.Entries.{Row}
+use Rattle.pf_ticket.specs.Names.{ticket, tickets_from}
+use Rattle.pf_anchor.specs.Tables.{Tabled}
+use Rattle.pf_line.specs.Reply.Texts.{ticket_text, tickets_text, entry_text, entries_text}
+use Rattle.pf_line.specs.Reply.Parts.{newlines, lines_text, HasLines, GoesOn, WroteLines}
+use Rattle.pf_line.specs.Reply.Replies.{rule_line, rule_lines, table_line, table_lines}
+use Rattle.pf_line.proofs.Newlines.{newlines-append}
+
+pub goes_on : {A B C : Type 0} {q : Result A Error} {r : Result B Error} {s : Result C Error} {old mid new : Option (List ℕ)} {a b : List ℕ} → GoesOn q old r mid a → GoesOn r mid s new b → GoesOn q old s new (a ++ b)
+goes_on {a = a} {b = b} first second = record { written = Continues-then first.written second.written; one_line = omega (arith, newlines-append a b, first.one_line, second.one_line) }
+
+-- behind nothing nothing is written
+pub still : (q : Result (Unit {0}) Error) (old : Option (List ℕ)) → GoesOn q old q old []
+still q old = record { written = record { behind = λ at front w. subst (λ (t : List ℕ). Wrote q at old t) (sym (append-nil front)) w }; one_line = refl }
+
+-- ---- lines
+
+-- lines, and a last one
+pub lined : (n : ℕ) (lines last : List ℕ) → newlines lines ≡ n → newlines last ≡ 0 → HasLines (n + 1) (lines ++ (last ++ 10 ∷ []))
+lined n lines last e f = record {
+  front = lines ++ last;
+  ends = sym (append_assoc lines last (10 ∷ []));
+  count = omega (arith, newlines-append lines (last ++ 10 ∷ []), newlines-append last (10 ∷ []), e, f);
+}
+
+last_added : (ls : List (List ℕ)) (l : List ℕ) → lines_text (ls ++ l ∷ []) ≡ lines_text ls ++ (l ++ 10 ∷ [])
+last_added [] l = refl
+last_added (k ∷ ls) l = ap (λ (t : List ℕ). k ++ 10 ∷ t) (last_added ls l) ∙ sym (append_assoc k (10 ∷ lines_text ls) (l ++ 10 ∷ []))
+
+pub one_more_line : (q s t : Result (Unit {0}) Error) (old mid more new : Option (List ℕ)) (ls : List (List ℕ)) (l : List ℕ) → WroteLines q old mid ls → GoesOn q mid s more l → Continues s more t new (10 ∷ []) → WroteLines t old new (ls ++ l ∷ [])
+one_more_line q s t old mid more new ls l p w e =
+    let whole = lined (length ls) (lines_text ls) l p.count w.one_line in
+    record {
+      text = rw (last_added ls l) ((Continues-then w.written e).behind old (lines_text ls) p.text);
+      count = rw (last_added ls l) (omega (arith, whole.count, length-append ls (l ∷ [])));
+    }
+
+-- ---- rules
+
+last_rule : (n : ℕ) (rs : List PlainRule) (r : PlainRule) → rule_lines n (rs ++ r ∷ []) ≡ rule_lines n rs ++ rule_line (n + length rs) r ∷ []
+last_rule n [] r = let e : n + 0 ≡ n = omega arith in rw e refl
+last_rule n (q ∷ rs) r =
+    let e : n + 1 + length rs ≡ n + length (q ∷ rs) = omega arith in
+    ap (λ (ls : List (List ℕ)). rule_line n q ∷ ls) (last_rule (n + 1) rs r ∙ ap (λ (m : ℕ). rule_lines (n + 1) rs ++ rule_line m r ∷ []) e)
+
+rules_before : (rs : List PlainRule) (i : ℕ) (r : PlainRule) → i < length rs → r ≡ get_or rs i r → rule_lines 0 (take (i + 1) rs) ≡ rule_lines 0 (take i rs) ++ rule_line i r ∷ []
+rules_before rs i r lt is =
+    let at : 0 + length (take i rs) ≡ i = omega (arith, length-take i rs) in
+    let more : take (i + 1) rs ≡ take i rs ++ r ∷ [] = take_more rs i r lt ∙ ap (λ (x : PlainRule). take i rs ++ x ∷ []) (sym is) in
+    ap (rule_lines 0) more ∙ last_rule 0 (take i rs) r ∙ ap (λ (m : ℕ). rule_lines 0 (take i rs) ++ rule_line m r ∷ []) at
+
+pub one_more_rule : (q s t : Result (Unit {0}) Error) (old mid more new : Option (List ℕ)) (rs : List PlainRule) (i : ℕ) (r : PlainRule) → i < length rs → r ≡ get_or rs i r → WroteLines q old mid (rule_lines 0 (take i rs)) → GoesOn q mid s more (rule_line i r) → Continues s more t new (10 ∷ []) → WroteLines t old new (rule_lines 0 (take (i + 1) rs))
+one_more_rule q s t old mid more new rs i r lt is p w e =
+    subst (WroteLines t old new) (sym (rules_before rs i r lt is)) (one_more_line q s t old mid more new (rule_lines 0 (take i rs)) (rule_line i r) p w e)
+
+-- ---- tables
+
+last_table : (ts : List Tabled) (t : Tabled) → table_lines (ts ++ t ∷ []) ≡ table_lines ts ++ table_line t ∷ []
+last_table [] t = refl
+last_table (u ∷ ts) t = ap (λ (ls : List (List ℕ)). table_line u ∷ ls) (last_table ts t)
+
+tables_before : (ts : List Tabled) (i : ℕ) (t : Tabled) → i < length ts → t ≡ get_or ts i t → table_lines (take (i + 1) ts) ≡ table_lines (take i ts) ++ table_line t ∷ []
+tables_before ts i t lt is =
+    let more : take (i + 1) ts ≡ take i ts ++ t ∷ [] = take_more ts i t lt ∙ ap (λ (x : Tabled). take i ts ++ x ∷ []) (sym is) in
+    ap table_lines more ∙ last_table (take i ts) t
+
+pub one_more_table : (q s r : Result (Unit {0}) Error) (old mid more new : Option (List ℕ)) (ts : List Tabled) (i : ℕ) (t : Tabled) → i < length ts → t ≡ get_or ts i t → WroteLines q old mid (table_lines (take i ts)) → GoesOn q mid s more (table_line t) → Continues s more r new (10 ∷ []) → WroteLines r old new (table_lines (take (i + 1) ts))
+one_more_table q s r old mid more new ts i t lt is p w e =
+    subst (WroteLines r old new) (sym (tables_before ts i t lt is)) (one_more_line q s r old mid more new (table_lines (take i ts)) (table_line t) p w e)
+
+-- ---- entries
+
+last_entry : (rows : List Row) (row : Row) → entries_text (rows ++ row ∷ []) ≡ entries_text rows ++ (32 ∷ entry_text row)
+last_entry [] row = append-nil (32 ∷ entry_text row)
+last_entry (first ∷ rows) row = ap (λ (t : List ℕ). 32 ∷ entry_text first ++ t) (last_entry rows row) ∙ sym (append_assoc (32 ∷ entry_text first) (entries_text rows) (32 ∷ entry_text row))
+
+entries_before : (rows : List Row) (i : ℕ) (row : Row) → i < length rows → row ≡ get_or rows i row → entries_text (take (i + 1) rows) ≡ entries_text (take i rows) ++ (32 ∷ entry_text row)
+entries_before rows i row lt is =
+    let more : take (i + 1) rows ≡ take i rows ++ row ∷ [] = take_more rows i row lt ∙ ap (λ (x : Row). take i rows ++ x ∷ []) (sym is) in
+    ap entries_text more ∙ last_entry (take i rows) row
+
+-- a space, and one more entry
+pub one_more_entry : (p q s t : Result (Unit {0}) Error) (old mid more new : Option (List ℕ)) (rows : List Row) (i : ℕ) (row : Row) → i < length rows → row ≡ get_or rows i row → GoesOn p old q mid (entries_text (take i rows)) → GoesOn q mid s more (32 ∷ []) → GoesOn s more t new (entry_text row) → GoesOn p old t new (entries_text (take (i + 1) rows))
+one_more_entry p q s t old mid more new rows i row lt is a b c =
+    subst (λ (text : List ℕ). GoesOn p old t new text) (sym (entries_before rows i row lt is)) (goes_on a (goes_on b c))
+
+-- ---- tickets
+
+abbrev pub texts_from : ℕ → ℕ → ℕ → List ℕ
+texts_from epoch count n = tickets_text (tickets_from epoch count n)
+
+last_ticket : (epoch count i : ℕ) → texts_from epoch count (i + 1) ≡ texts_from epoch count i ++ (32 ∷ ticket_text (ticket epoch (count + i)))
+last_ticket epoch count zero = let e = add-zero count in rw e (append-nil (32 ∷ ticket_text (ticket epoch count)))
+last_ticket epoch count (suc i) =
+    let first : List ℕ = 32 ∷ ticket_text (ticket epoch count) in
+    let len : suc i + 1 ≡ suc (i + 1) = omega arith in
+    let at : count + 1 + i ≡ count + suc i = omega arith in
+    ap (λ (m : ℕ). texts_from epoch count m) len
+    ∙ ap (λ (t : List ℕ). first ++ t) (last_ticket epoch (count + 1) i ∙ ap (λ (m : ℕ). texts_from epoch (count + 1) i ++ (32 ∷ ticket_text (ticket epoch m))) at)
+    ∙ sym (append_assoc first (texts_from epoch (count + 1) i) (32 ∷ ticket_text (ticket epoch (count + suc i))))
+
+-- one more is written
+pub one_more_ticket : (p q s : Result (Unit {0}) Error) (old mid new : Option (List ℕ)) (epoch count i : ℕ) → GoesOn p old q mid (texts_from epoch count i) → GoesOn q mid s new (32 ∷ ticket_text (ticket epoch (count + i))) → GoesOn p old s new (texts_from epoch count (i + 1))
+one_more_ticket p q s old mid new epoch count i a b = subst (λ (t : List ℕ). GoesOn p old s new t) (sym (last_ticket epoch count i)) (goes_on a b)

@@ -1,0 +1,13 @@
+use Rattle.pf_addr.specs.Writing.{Continues-ok, Continues-err}
+use Rattle.pf_rule.specs.RuleText.{rule_text}
+use Rattle.pf_line.proofs.Newlines.{rule_plain}
+use Rattle.pf_line.proofs.reply.shown.write_rule_text.Goals as goal
+
+pub returns-in-Ok : goal.returns-in-Ok
+returns-in-Ok g c = record {
+  written = Continues-ok c.args.so_far _ c.write.result (g.W.Write.contents c.args.out.now) (g.W.Write.contents c.write.new.out) (rule_text c.args.rule.now) c.in-Ok.is c.write.ensures.text c.write.ensures.retried;
+  one_line = rule_plain c.args.rule.now c.effect-kept.ensures.kept;
+}
+
+pub returns-in-Err : goal.returns-in-Err
+returns-in-Err g c = record { written = Continues-err c.args.so_far c.in-Err.e (g.W.Write.contents c.args.out.now) (rule_text c.args.rule.now) c.in-Err.is; one_line = rule_plain c.args.rule.now c.effect-kept.ensures.kept }

@@ -1,0 +1,13 @@
+//! Replies: how a client is answered.
+
+mod answer;
+mod entry;
+mod part;
+mod refusal;
+mod reply;
+mod shown;
+mod state_line;
+mod ticket;
+mod verdict;
+
+pub use reply::write_reply;

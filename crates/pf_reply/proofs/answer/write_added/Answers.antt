@@ -1,5 +1,0 @@
-use Rattle.pf_reply.proofs.Writers.{goes_on}
-use Rattle.pf_reply.proofs.answer.write_added.Goals as goal
-
-pub returns : goal.returns
-returns g c = goes_on c.write_numbered-so_far.ensures (goes_on c.write_numbered-so_far-2.ensures c.write_numbered.ensures)

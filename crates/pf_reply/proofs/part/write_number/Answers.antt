@@ -1,6 +1,0 @@
-use Rattle.std.proofs.Common.{arith}
-use Rattle.pf_reply.proofs.Newlines.{number_plain}
-use Rattle.pf_reply.proofs.part.write_number.Goals as goal
-
-pub returns : goal.returns
-returns g c = record { written = c.write_more_number.ensures; one_line = number_plain c.args.number (omega (arith, c.ranges.number.fits)) }

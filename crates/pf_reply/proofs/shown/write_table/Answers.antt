@@ -1,5 +1,0 @@
-use Rattle.pf_reply.proofs.Writers.{goes_on}
-use Rattle.pf_reply.proofs.shown.write_table.Goals as goal
-
-pub returns : goal.returns
-returns g c = goes_on (rw c.key.ensures at c.write_name-so_far.ensures) (rw (c.entries.ensures.value, c.value.ensures) at c.write_entries.ensures)

@@ -1,5 +1,0 @@
-use Rattle.pf_reply.proofs.Writers.{goes_on}
-use Rattle.pf_reply.proofs.state_line.write_message.Goals as goal
-
-pub returns : goal.returns
-returns g c = goes_on c.write_part-so_far.ensures c.write_hex.ensures

@@ -1,5 +1,0 @@
-use Rattle.pf_reply.proofs.Writers.{goes_on}
-use Rattle.pf_reply.proofs.ticket.write_next.Goals as goal
-
-pub returns : goal.returns
-returns g c = goes_on c.write_numbered-so_far.ensures c.write_numbered.ensures

@@ -1,6 +1,0 @@
-use Rattle.pf_reply.specs.Parts.{GoesOn}
-use Rattle.pf_reply.proofs.Writers.{texts_from}
-use Rattle.pf_reply.proofs.ticket.write_tickets.Given as goal
-
-abbrev pub invariant-loop-i : goal.invariant-loop-i
-invariant-loop-i g l = GoesOn l.fn.begun (g.W.Write.contents l.initial.out) l.so_far (g.W.Write.contents l.out) (texts_from l.given.first.epoch l.given.first.count l.i)
