@@ -1,3 +1,8 @@
+pub mod MainRules
+pub mod TableCounts
+pub mod Checks
+pub mod Edited
+pub mod Within
 pub mod Switching
 pub mod LongerWorlds
 pub mod Limits

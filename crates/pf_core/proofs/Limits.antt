@@ -28,8 +28,8 @@ use Rattle.pf_state.specs.declared.step.Step.TheVariants as step
 use Rattle.pf_state.specs.Flows.{flow_of}
 use Rattle.pf_state.specs.States.{Stated, held_at}
 use Rattle.pf_state.specs.Steps.{counts}
-use Rattle.pf_durable.specs.declared.verdict.Verdict.{Verdict}
-use Rattle.pf_durable.specs.declared.verdict.Verdict.TheVariants.{State as Stateful, Rules as ByRules}
+use Rattle.pf_core.specs.declared.durable.verdict.Verdict.{Verdict}
+use Rattle.pf_core.specs.declared.durable.verdict.Verdict.TheVariants.{State as Stateful, Rules as ByRules}
 use Rattle.pf_core.specs.declared.command.StateCommand.{StateCommand}
 use Rattle.pf_core.specs.declared.command.StateCommand.TheVariants.{Track, Peer, Kill as KillState}
 use Rattle.pf_core.specs.declared.command.TableEdit.{TableEdit}
@@ -42,18 +42,18 @@ use Rattle.pf_core.specs.declared.reply.Outcome.{Outcome}
 use Rattle.pf_core.specs.declared.reply.Outcome.TheVariants as outcome
 use Rattle.pf_core.specs.declared.reply.Refusal.{Refusal}
 use Rattle.pf_core.specs.declared.reply.Refusal.TheVariants.{HistoryFull}
-use Rattle.pf_durable.specs.declared.refusal.ChangeRefusal.{ChangeRefusal}
-use Rattle.pf_durable.specs.declared.refusal.ChangeRefusal.TheVariants.{TooManyRulesets, TooManyTables}
+use Rattle.pf_core.specs.declared.durable.refusal.ChangeRefusal.{ChangeRefusal}
+use Rattle.pf_core.specs.declared.durable.refusal.ChangeRefusal.TheVariants.{TooManyRulesets, TooManyTables}
 use Rattle.pf_core.specs.declared.reply.Reply.{Reply}
 use Rattle.pf_core.specs.declared.reply.Reply.TheVariants.{Answer as Answered, Applied, Refused}
 use Rattle.pf_core.specs.declared.step.Step.{Step}
 use Rattle.pf_core.specs.declared.step.Step.TheVariants.{Done, Wants}
 use Rattle.pf_core.specs.Calls.{call, mentions_of, Call}
 use Rattle.pf_core.specs.Commands.{unless_refused, unless_unfit, if_there, is_table, items, wanting, added_of, deleted_of, edit_step, makes_state, tracked, track_step, steps_here, states_step, answer_of, step_by, mentioned}
-use Rattle.pf_durable.specs.Edits.{Kept, Edit, commits, adds, deletes, sets, acts, removes, verdict, rulesets_in, placed, tables_in, entries_at, applied, voided_by, after, unless, no_conflict, fits}
-use Rattle.pf_durable.specs.Laws.{IsWithin}
-use Rattle.pf_durable.proofs.Checks.{AreBothPassed, both_passed, not_refused}
-use Rattle.pf_durable.proofs.Within.{AreFewEntries, keeps_within}
+use Rattle.pf_core.specs.Durable.Edits.{Kept, Edit, commits, adds, deletes, sets, acts, removes, verdict, rulesets_in, placed, tables_in, entries_at, applied, voided_by, after, unless, no_conflict, fits}
+use Rattle.pf_core.specs.Durable.Laws.{IsWithin}
+use Rattle.pf_core.proofs.Checks.{AreBothPassed, both_passed, not_refused}
+use Rattle.pf_core.proofs.Within.{AreFewEntries, keeps_within}
 use Rattle.pf_core.specs.WorldFacts.{tickets_in, given_by, tickets_given, GivesEachOnce, KeepsTheLimits, ShowsAll}
 use Rattle.pf_core.specs.WorldLaws.{unit_is, IsPassed, passed, none-wanted, fit, IsThis, wants_commit, edit_of, wants_edit, IsOfStates, of_steps, of_removal, IsStateChange, wants_states, IsWanted, wants}
 use Rattle.pf_core.specs.Worlds.{Held, log_of, durable_of, step_in, room_for, if_ok, or_refused, due_at, grouped, group_at, LegalReply, State, up, down, Upshot, Event, called, opened, flat, group_in, acked_by, shown_by, heard, next, LegalCall, IsLegal, state_after, IsLegalFrom, IsWorld}

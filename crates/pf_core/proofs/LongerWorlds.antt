@@ -9,7 +9,7 @@ use Rattle.pf_core.specs.declared.reply.Reply.TheVariants.{Refused}
 use Rattle.pf_ticket.specs.Tickets.{Open, fresh}
 use Rattle.pf_ticket.specs.Mentions.{Mention, moved, after, opened as left_by}
 use Rattle.pf_core.specs.Calls.{Call, call, mentions_of}
-use Rattle.pf_durable.specs.Edits.{Kept, Edit}
+use Rattle.pf_core.specs.Durable.Edits.{Kept, Edit}
 use Rattle.pf_core.specs.Pages.{Page, IsAt, StandsFor, Leads}
 use Rattle.pf_core.specs.Wholes.{Whole}
 use Rattle.pf_core.specs.WorldFacts.{mentions_by, mentions_since, TicketsAreOfTheCalls}

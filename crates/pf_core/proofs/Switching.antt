@@ -35,14 +35,14 @@ use Rattle.pf_ticket.specs.NamedTables.{Named}
 use Rattle.pf_ticket.specs.Tickets.{Loaded, Open, offered_as, loaded, offer_at, ticket_in, content}
 use Rattle.pf_ticket.proofs.Moves.{leaves_the_others as mentions_leave, commit_takes_out, gives-named}
 use Rattle.pf_ticket.proofs.Twice.{otherwise_once}
-use Rattle.pf_durable.specs.declared.change.Item.{Item}
+use Rattle.pf_core.specs.declared.durable.change.Item.{Item}
 use Rattle.pf_core.specs.declared.command.Command.TheVariants.{Transact, Edit as Change, States as OfStates, Ask}
 use Rattle.pf_core.specs.declared.command.Transaction.TheVariants.{Begin, Add, Define, Commit, Rollback}
 use Rattle.pf_core.specs.Commands.{item_of, items, mentioned, is_accepted}
-use Rattle.pf_durable.specs.Edits.{Kept, Edit, commits, rulesets_in, placed, tables_in, entries_at, applied}
+use Rattle.pf_core.specs.Durable.Edits.{Kept, Edit, commits, rulesets_in, placed, tables_in, entries_at, applied}
 use Rattle.pf_core.specs.Laws.{tables_offered, AreTablesSwitched, AreSwitched, SwitchesAll, LeaveTheOtherKind, KeepsNoneValid, MentionsTheNamed, LeavesTheOthers, RefusedMentionNothing}
 use Rattle.pf_core.specs.WorldLaws.{IsCommitted, wants_commit}
-use Rattle.pf_durable.proofs.Edited.{same-keys, equal-is}
+use Rattle.pf_core.proofs.Edited.{same-keys, equal-is}
 
 first_holds : (a b : Bool) → T (a && b) → T a
 first_holds true b h = tt

@@ -15,8 +15,8 @@ use Rattle.pf_state.specs.declared.step.Step.TheVariants.{Insert}
 use Rattle.pf_state.specs.Flows.{flow_of, same_flow}
 use Rattle.pf_state.specs.States.{Stated, name_order, held_at, state_of}
 use Rattle.pf_state.specs.Steps.{is_clash, insertion}
-use Rattle.pf_durable.specs.declared.verdict.Verdict.TheVariants.{State, Rules}
-use Rattle.pf_durable.specs.Edits.{Kept, Edit, acts}
+use Rattle.pf_core.specs.declared.durable.verdict.Verdict.TheVariants.{State, Rules}
+use Rattle.pf_core.specs.Durable.Edits.{Kept, Edit, acts}
 use Rattle.pf_core.specs.declared.reply.Answer.TheVariants as answer
 use Rattle.pf_core.specs.declared.reply.Outcome.{Outcome}
 use Rattle.pf_core.specs.declared.reply.Outcome.TheVariants as outcome

@@ -34,8 +34,8 @@ use Rattle.pf_ticket.specs.Names.{filter_at, table_ruleset_at, names_of}
 use Rattle.pf_ticket.specs.Mentions.{Mention, added, defined, gives, switches, drops}
 use Rattle.pf_ticket.specs.Tickets.{Open, content}
 use Rattle.pf_ticket.specs.Replies.{begin_reply, add_reply, define_reply, list_check, commit_check}
-use Rattle.pf_durable.specs.declared.change.Item.{Item}
-use Rattle.pf_durable.specs.declared.change.Item.TheVariants as item
+use Rattle.pf_core.specs.declared.durable.change.Item.{Item}
+use Rattle.pf_core.specs.declared.durable.change.Item.TheVariants as item
 use Rattle.pf_core.specs.declared.command.Command.{Command}
 use Rattle.pf_core.specs.declared.command.Command.TheVariants.{Transact, Edit as Change, States as OfStates, Ask}
 use Rattle.pf_core.specs.declared.command.Question.{Question}
@@ -56,10 +56,10 @@ use Rattle.pf_core.specs.declared.reply.Reply.{Reply}
 use Rattle.pf_core.specs.declared.reply.Reply.TheVariants.{Answer as Answered, Applied, Refused}
 use Rattle.pf_core.specs.declared.step.Step.{Step}
 use Rattle.pf_core.specs.declared.step.Step.TheVariants.{Done, Wants}
-use Rattle.pf_durable.specs.declared.refusal.ChangeRefusal.{ChangeRefusal}
-use Rattle.pf_durable.specs.declared.verdict.Verdict.{Verdict}
-use Rattle.pf_durable.specs.declared.verdict.Verdict.TheVariants.{State as Stateful, Rules as ByRules}
-use Rattle.pf_durable.specs.Edits.{Kept, Edit, commits, adds, deletes, sets, acts, removes, entries_at, main_sum, no_conflict, fits, verdict}
+use Rattle.pf_core.specs.declared.durable.refusal.ChangeRefusal.{ChangeRefusal}
+use Rattle.pf_core.specs.declared.durable.verdict.Verdict.{Verdict}
+use Rattle.pf_core.specs.declared.durable.verdict.Verdict.TheVariants.{State as Stateful, Rules as ByRules}
+use Rattle.pf_core.specs.Durable.Edits.{Kept, Edit, commits, adds, deletes, sets, acts, removes, entries_at, main_sum, no_conflict, fits, verdict}
 use Rattle.pf_core.specs.Refusals.{refusal_of, change_refusal_of}
 
 -- ---- steps

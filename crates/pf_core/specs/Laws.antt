@@ -27,7 +27,7 @@ use Rattle.pf_core.specs.declared.reply.Reply.TheVariants.{Applied, Refused}
 use Rattle.pf_core.specs.declared.step.Step.TheVariants.{Wants}
 use Rattle.pf_core.specs.Calls.{Call, call, mentions_of}
 use Rattle.pf_core.specs.Commands.{items, step_by, states_step, mentioned, named_by}
-use Rattle.pf_durable.specs.Edits.{Kept, Edit, commits, acts, entries_at, applied, voided_by, fits}
+use Rattle.pf_core.specs.Durable.Edits.{Kept, Edit, commits, acts, entries_at, applied, voided_by, fits}
 
 -- the tables that are offered for the table ruleset at a path
 abbrev pub tables_offered : Open → List ℕ → List Named

@@ -1,3 +1,4 @@
+pub mod Durable
 pub mod Refusals
 pub mod Commands
 pub mod Calls

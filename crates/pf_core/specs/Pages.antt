@@ -1,7 +1,7 @@
 -- What contracts see of a Book, and when it stands for a world. Own.
 use Rattle.std.specs.Prelude.{◌≡◌, ℕ, ◌≤◌, List, length, take}
 use Rattle.pf_core.specs.Calls.{Call}
-use Rattle.pf_durable.specs.Edits.{Kept, Edit, after}
+use Rattle.pf_core.specs.Durable.Edits.{Kept, Edit, after}
 use Rattle.pf_core.specs.Wholes.{Whole}
 use Rattle.pf_core.specs.Worlds.{Held, up, down, Upshot, Event, flat, LegalCall, heard, state_after, IsWorld}
 

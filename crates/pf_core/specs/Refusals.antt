@@ -2,8 +2,8 @@
 use Rattle.std.specs.Prelude.{◌≡◌, Bool, true, Result, Err}
 use Rattle.pf_core.specs.declared.reply.Refusal.{Refusal}
 use Rattle.pf_core.specs.declared.reply.Refusal.TheVariants as told
-use Rattle.pf_durable.specs.declared.refusal.ChangeRefusal.{ChangeRefusal}
-use Rattle.pf_durable.specs.declared.refusal.ChangeRefusal.TheVariants as by_change
+use Rattle.pf_core.specs.declared.durable.refusal.ChangeRefusal.{ChangeRefusal}
+use Rattle.pf_core.specs.declared.durable.refusal.ChangeRefusal.TheVariants as by_change
 use Rattle.pf_ticket.specs.declared.refusal.TicketRefusal.{TicketRefusal}
 use Rattle.pf_ticket.specs.declared.refusal.TicketRefusal.TheVariants.{BadCount, Twice, Busy, Conflict, RulesetFull, TooManyRulesets, TableFull, TooManyTables, TicketsExhausted, Memory}
 

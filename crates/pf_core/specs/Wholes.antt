@@ -8,7 +8,7 @@ use Rattle.pf_core.specs.declared.reply.Refusal.{Refusal}
 use Rattle.pf_core.specs.declared.step.Step.{Step}
 use Rattle.pf_core.specs.declared.step.Step.TheVariants.{Done, Wants}
 use Rattle.pf_core.specs.Commands.{mentioned, unless_unfit}
-use Rattle.pf_durable.specs.Edits.{Kept, Edit, applied, voided_by, fits}
+use Rattle.pf_core.specs.Durable.Edits.{Kept, Edit, applied, voided_by, fits}
 
 -- a core: what is kept, and the open transactions
 pub record Whole : Type 0 where

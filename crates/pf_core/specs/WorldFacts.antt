@@ -9,8 +9,8 @@ use Rattle.pf_core.specs.declared.reply.Answer.TheVariants as answer
 use Rattle.pf_core.specs.declared.reply.Reply.{Reply}
 use Rattle.pf_core.specs.declared.reply.Reply.TheVariants.{Answer as Answered}
 use Rattle.pf_core.specs.Calls.{mentions_of}
-use Rattle.pf_durable.specs.Edits.{Kept}
-use Rattle.pf_durable.specs.Laws.{IsWithin}
+use Rattle.pf_core.specs.Durable.Edits.{Kept}
+use Rattle.pf_core.specs.Durable.Laws.{IsWithin}
 use Rattle.pf_core.specs.Worlds.{Held, up, down, Event, called, opened, flat, log_of, durable_of, state_after, IsWorld}
 
 -- ---- tickets

@@ -24,9 +24,9 @@ use Rattle.pf_state.specs.declared.step.Step.TheVariants as step
 use Rattle.pf_state.specs.Flows.{flow_of}
 use Rattle.pf_state.specs.States.{Stated, held_at}
 use Rattle.pf_state.specs.Steps.{counts}
-use Rattle.pf_durable.specs.declared.refusal.ChangeRefusal.{ChangeRefusal}
-use Rattle.pf_durable.specs.declared.verdict.Verdict.{Verdict}
-use Rattle.pf_durable.specs.declared.verdict.Verdict.TheVariants.{State as Stateful, Rules as ByRules}
+use Rattle.pf_core.specs.declared.durable.refusal.ChangeRefusal.{ChangeRefusal}
+use Rattle.pf_core.specs.declared.durable.verdict.Verdict.{Verdict}
+use Rattle.pf_core.specs.declared.durable.verdict.Verdict.TheVariants.{State as Stateful, Rules as ByRules}
 use Rattle.pf_core.specs.declared.command.StateCommand.{StateCommand}
 use Rattle.pf_core.specs.declared.command.StateCommand.TheVariants.{Track, Peer, Kill as KillState}
 use Rattle.pf_core.specs.declared.command.TableEdit.{TableEdit}
@@ -38,11 +38,11 @@ use Rattle.pf_core.specs.declared.reply.Outcome.{Outcome}
 use Rattle.pf_core.specs.declared.reply.Outcome.TheVariants as outcome
 use Rattle.pf_core.specs.declared.reply.Outcome.TheVariants.{Committed}
 use Rattle.pf_core.specs.declared.reply.Refusal.{Refusal}
-use Rattle.pf_durable.specs.declared.refusal.ChangeRefusal.TheVariants.{TooManyTables}
+use Rattle.pf_core.specs.declared.durable.refusal.ChangeRefusal.TheVariants.{TooManyTables}
 use Rattle.pf_core.specs.declared.step.Step.{Step}
 use Rattle.pf_core.specs.declared.step.Step.TheVariants.{Done, Wants}
 use Rattle.pf_core.specs.Commands.{unless_refused, unless_unfit, if_there, is_table, item_of, items, wanting, commit_step, added_of, deleted_of, edit_step, makes_state, tracked, track_step, steps_here, states_step, step_by, mentioned, edits_in_memory, is_done, changes_states_in_memory, takes_memory}
-use Rattle.pf_durable.specs.Edits.{Kept, Edit, commits, adds, deletes, sets, acts, removes, entries_at, with_entries, name_of, voided_by, unless, no_conflict, fits, verdict}
+use Rattle.pf_core.specs.Durable.Edits.{Kept, Edit, commits, adds, deletes, sets, acts, removes, entries_at, with_entries, name_of, voided_by, unless, no_conflict, fits, verdict}
 
 -- what the tickets didn't refuse
 pub record IsPassed {A B : Type 0} (r : Result A TicketRefusal) (f : A → Result B Refusal) (x : B) : Type 0 where

@@ -11,7 +11,7 @@ use Rattle.pf_ticket.specs.Tickets.{Open, fresh}
 use Rattle.pf_ticket.specs.Mentions.{after as moved_by}
 use Rattle.pf_core.specs.Calls.{Call, mentions_of}
 use Rattle.pf_core.specs.Commands.{step_by, takes_memory}
-use Rattle.pf_durable.specs.Edits.{Kept, Edit, after}
+use Rattle.pf_core.specs.Durable.Edits.{Kept, Edit, after}
 
 -- ---- states
 

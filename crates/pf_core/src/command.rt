@@ -1,8 +1,8 @@
 //! What a client asks.
 
+use crate::durable::EntryList;
 use pf_addr::Addr;
 use pf_anchor::Path;
-use pf_durable::EntryList;
 use pf_path::TableName;
 use pf_peer::Message;
 use pf_rule::{Packet, Rule};

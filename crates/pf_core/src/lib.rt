@@ -3,6 +3,7 @@
 
 mod command;
 mod core_state;
+pub mod durable;
 pub mod laws;
 mod reply;
 mod state_command;
@@ -11,6 +12,6 @@ mod table_edit;
 
 pub use command::{Command, Question, StateCommand, TableEdit, Transaction};
 pub use core_state::{Core, Next};
-pub use pf_durable::{Change, Durable, EntryList, Item, Verdict};
+pub use durable::{Change, Durable, EntryList, Item, Verdict};
 pub use reply::{Answer, NamedTables, Outcome, Refusal, Reply, StateList};
 pub use step::Step;

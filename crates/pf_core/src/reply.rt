@@ -3,8 +3,8 @@ ghost use Rattle.std.specs.Prelude.{◌≡◌};
 ghost use Rattle.pf_core.specs.declared.reply.Refusal.TheVariants.{Memory};
 ghost use Rattle.pf_core.specs.Refusals.{refusal_of, change_refusal_of};
 
+use crate::durable::{ChangeRefusal, Verdict};
 use pf_anchor::{PlacedTable, RuleList, RuleVerdict};
-use pf_durable::{ChangeRefusal, Verdict};
 use pf_failover::Exported;
 use pf_peer::PeerFault;
 use pf_state::{Counts, State};

@@ -1,15 +1,15 @@
 //! Changes of states: which change each one wants, and what it is told.
 ghost use Rattle.std.specs.Prelude.{◌≡◌, length, not, IfOk};
 ghost use Rattle.pf_anchor.specs.Rulesets.{rules_at};
-ghost use Rattle.pf_durable.specs.Edits.{verdict};
+ghost use Rattle.pf_core.specs.Durable.Edits.{verdict};
 ghost use Rattle.pf_core.specs.Commands.{bound_here, makes_state, make_step, track_step, steps_here, states_step, is_done, changes_states_in_memory};
 ghost use Rattle.pf_core.specs.Refusals.{OrMemory};
 
 use crate::command::StateCommand;
+use crate::durable::{Change, Durable, Verdict};
 use crate::reply::{Answer, Outcome, Refusal};
 use crate::step::Step;
 use pf_anchor::{Path, RuleVerdict};
-use pf_durable::{Change, Durable, Verdict};
 use pf_failover::steps_of;
 use pf_peer::Message;
 use pf_rule::{Action, Packet};

@@ -1,6 +1,6 @@
 //! What one command comes to.
+use crate::durable::Change;
 use crate::reply::{Answer, Outcome};
-use pf_durable::Change;
 
 /// What a command comes to, where it isn't refused.
 #[derive(Drop)]

@@ -4,9 +4,9 @@ ghost use Rattle.pf_core.specs.Commands.{same_addition, added_of, same_deletion,
 ghost use Rattle.pf_core.specs.Refusals.{OrMemory};
 
 use crate::command::TableEdit;
+use crate::durable::{Change, Durable, EntryList};
 use crate::reply::{Outcome, Refusal};
 use crate::step::Step;
-use pf_durable::{Change, Durable, EntryList};
 use pf_table::{Addition, Deletion};
 use std::alloc::Global;
 

@@ -17,8 +17,8 @@ use Rattle.pf_ticket.specs.Tickets.{Open}
 use Rattle.pf_ticket.specs.Mentions.{after as moved_by, switches}
 use Rattle.pf_core.specs.Calls.{call}
 use Rattle.pf_core.specs.Commands.{unless_unfit, step_by, takes_memory}
-use Rattle.pf_durable.specs.Edits.{Kept, Edit, applied, after, voided_by, fits}
-use Rattle.pf_durable.specs.declared.refusal.ChangeRefusal.{ChangeRefusal}
+use Rattle.pf_core.specs.Durable.Edits.{Kept, Edit, applied, after, voided_by, fits}
+use Rattle.pf_core.specs.declared.durable.refusal.ChangeRefusal.{ChangeRefusal}
 use Rattle.pf_core.specs.Refusals.{change_refusal_of, OrMemory}
 use Rattle.pf_core.specs.Pages.{Page, IsFolded, IsAt, Leads}
 use Rattle.pf_core.specs.Wholes.{Whole, Ready, ready, prepared}

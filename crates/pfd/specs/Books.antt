@@ -13,8 +13,8 @@ use Rattle.pf_core.specs.declared.reply.Refusal.{Refusal}
 use Rattle.pf_core.specs.declared.reply.Refusal.TheVariants.{HistoryFull, Memory}
 use Rattle.pf_core.specs.declared.reply.Reply.{Reply}
 use Rattle.pf_core.specs.declared.reply.Reply.TheVariants.{Answer, Applied, Refused}
-use Rattle.pf_durable.specs.declared.refusal.ChangeRefusal.{ChangeRefusal}
-use Rattle.pf_durable.specs.Edits.{Kept, Edit, voided_by, fits, verdict}
+use Rattle.pf_core.specs.declared.durable.refusal.ChangeRefusal.{ChangeRefusal}
+use Rattle.pf_core.specs.Durable.Edits.{Kept, Edit, voided_by, fits, verdict}
 use Rattle.pf_core.specs.Commands.{unless_unfit}
 use Rattle.pf_core.specs.Pages.{Page}
 use Rattle.pf_core.specs.Refusals.{refusal_of}

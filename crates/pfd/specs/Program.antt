@@ -3,7 +3,7 @@ use Rattle.std.specs.Prelude.{◌≡◌, ℕ, List, [], ◌∷◌, Option, Resul
 use Rattle.std.specs.Io.KnownBytes.{Keeps}
 use Rattle.std.specs.declared.io.ErrorKind.{ErrorKind}
 use Rattle.std.specs.declared.io.ErrorKind.TheVariants.{OutOfMemory}
-use Rattle.pf_durable.specs.Edits.{kept_nothing}
+use Rattle.pf_core.specs.Durable.Edits.{kept_nothing}
 use Rattle.pf_core.specs.Pages.{Page, StandsFor}
 use Rattle.pf_core.specs.Worlds.{setting_with, opened}
 use Rattle.pfd.specs.declared.line_engine.fault.EngineFault.{EngineFault}

@@ -6,7 +6,7 @@ use Rattle.pf_core.specs.declared.reply.Refusal.TheVariants.{Memory}
 use Rattle.pf_core.specs.declared.reply.Reply.{Reply}
 use Rattle.pf_core.specs.declared.reply.Reply.TheVariants.{Refused}
 use Rattle.pf_core.specs.Calls.{call}
-use Rattle.pf_durable.specs.Edits.{Kept}
+use Rattle.pf_core.specs.Durable.Edits.{Kept}
 use Rattle.pf_core.specs.Pages.{Page, StandsFor}
 use Rattle.pf_core.specs.Worlds.{Upshot, Event, called}
 use Rattle.pf_line.specs.Lines.{line_at, Means, Speaks}

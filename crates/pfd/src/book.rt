@@ -1,7 +1,7 @@
 //! A core with the history of what it kept.
 ghost use Rattle.std.specs.Prelude.{◌≡◌, ℕ, ◌≤◌, [], ◌∷◌, ◌++◌, List, IfOk, IfErr, take, false};
 ghost use Rattle.pf_core.specs.Calls.{call};
-ghost use Rattle.pf_durable.specs.Edits.{Kept, kept_nothing, after, verdict};
+ghost use Rattle.pf_core.specs.Durable.Edits.{Kept, kept_nothing, after, verdict};
 ghost use Rattle.pf_core.specs.Worlds.{Held, setting_with, upshot, Event, called, opened, flat, LegalReply, shown_by};
 ghost use Rattle.pf_core.specs.Pages.{IsAt, IsFolded, StandsFor, Leads};
 ghost use Rattle.pfd.specs.Books.{IsNumbered, IsJudged, IsRolledBack, StaysIfRefused, IsMore, IsUnkept};

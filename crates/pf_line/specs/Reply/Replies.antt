@@ -16,8 +16,8 @@ use Rattle.pf_core.specs.declared.reply.Reply.TheVariants as replies
 use Rattle.pf_anchor.specs.Tables.{Tabled}
 use Rattle.pf_anchor.specs.declared.verdict.RuleVerdict.{RuleVerdict}
 use Rattle.pf_anchor.specs.declared.verdict.RuleVerdict.TheVariants.{Rule, Default}
-use Rattle.pf_durable.specs.declared.verdict.Verdict.{Verdict}
-use Rattle.pf_durable.specs.declared.verdict.Verdict.TheVariants.{State, Rules}
+use Rattle.pf_core.specs.declared.durable.verdict.Verdict.{Verdict}
+use Rattle.pf_core.specs.declared.durable.verdict.Verdict.TheVariants.{State, Rules}
 use Rattle.hex.specs.Hex.{encode_lower}
 use Rattle.pf_ticket.specs.Names.{tickets_of}
 use Rattle.pf_line.specs.Reply.Parts.{lines_text}

@@ -8,7 +8,7 @@ use crate::reply::entry::write_entry;
 use crate::reply::part::{write_numbered, write_part};
 use crate::reply::state_line::write_name;
 use pf_anchor::{Path, RuleVerdict};
-use pf_durable::Verdict;
+use pf_core::durable::Verdict;
 use pf_path::laws::{paths_are_read_again, paths_are_read_as_spelled};
 use pf_rule::Action;
 use pf_state::StateName;

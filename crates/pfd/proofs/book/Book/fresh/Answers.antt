@@ -1,7 +1,7 @@
 use Rattle.std.proofs.Common.{refl, ap, ◌∙◌, arith}
 use Rattle.std.specs.Prelude.{map}
 use Rattle.std.specs.Arc.{arc_value}
-use Rattle.pf_durable.specs.Edits.{Kept, kept_nothing}
+use Rattle.pf_core.specs.Durable.Edits.{Kept, kept_nothing}
 use Rattle.pf_ticket.specs.Tickets.{fresh}
 use Rattle.pf_core.specs.Wholes.{Whole}
 use Rattle.pf_core.specs.Worlds.{setting_with}

@@ -4,7 +4,7 @@ use Rattle.std.proofs.lemmas.List.{map-append}
 use Rattle.std.specs.Prelude.{map}
 use Rattle.std.specs.Arc.{arc_value}
 use Rattle.pf_ticket.specs.Mentions.{after, switches}
-use Rattle.pf_durable.specs.Edits.{Edit}
+use Rattle.pf_core.specs.Durable.Edits.{Edit}
 use Rattle.pf_core.specs.Pages.{Page}
 use Rattle.pf_core.specs.Wholes.{Whole, Ready}
 use Rattle.pf_core.specs.declared.reply.Refusal.TheVariants.{HistoryFull}

@@ -1,0 +1,86 @@
+-- What changes leave.
+use Rattle.std.proofs.Common.{◌≡◌, ◌≢◌, ◌⊎◌, inl, inr, ℕ, Bool, true, false, cond, ◌&&◌, List, [], ◌∷◌, refl, ap, ◌∙◌, subst}
+use Rattle.std.specs.declared.cmp.Ordering.{Ordering}
+use Rattle.std.specs.declared.cmp.Ordering.TheVariants.{Less, Equal, Greater}
+use Rattle.std.specs.FinMap.{slice_cmp-IsAntisymmetric, nat_cmp-IsAntisymmetric}
+use Rattle.std.specs.Ordering.{is_eq, eq_by_cmp, ordering_then}
+use Rattle.std.proofs.lemmas.Cmp.{eq_by_cmp_equiv}
+use Rattle.pf_path.proofs.PathsRead.{same_path_is}
+use Rattle.pf_path.specs.Names.{name_order}
+use Rattle.pf_path.specs.Paths.{path_order, same_path}
+use Rattle.pf_table.specs.Edits.{added, deleted, replaced}
+use Rattle.pf_table.specs.Entries.{Row}
+use Rattle.pf_anchor.specs.Tables.{tabled, table_order}
+use Rattle.pf_anchor.proofs.RulesetMaps.{map_all, replaced_in_turn}
+use Rattle.pf_anchor.proofs.TableMaps.{table_order_total, tables_replaced, table_maps_stay}
+use Rattle.pf_core.specs.Durable.Edits.{Kept, rulesets_in, tables_in, entries_at, with_entries}
+use Rattle.pf_core.specs.Durable.Laws.{ReplacesExactly, IsEdited, EditsExactly, DeletesNothing, StepsExactly}
+use Rattle.pf_core.proofs.TableCounts.{deleted-none}
+
+pub replaces_exactly : ReplacesExactly
+replaces_exactly d items is = record {
+  epoch = refl;
+  states = refl;
+  maps = record { rulesets = map_all (rulesets_in items) d.config.rulesets is.rulesets; tables = table_maps_stay (tables_in items) d.config.tables is.tables };
+  rules = replaced_in_turn (rulesets_in items) d.config.rulesets;
+  tables = tables_replaced (tables_in items) d.config.tables;
+}
+
+-- ---- keys of tables
+
+then-equal : (r s : Ordering) → is_eq (ordering_then r s) ≡ (is_eq r && is_eq s)
+then-equal Less s = refl
+then-equal Equal s = refl
+then-equal Greater s = refl
+
+-- the keys of two tables are one where their paths and names are
+pub same-keys : (p q name other : List ℕ) → eq_by_cmp table_order (p, name) (q, other) ≡ (same_path p q && eq_by_cmp name_order name other)
+same-keys p q name other = then-equal (path_order p q) (name_order name other)
+
+pub equal-is : (r : Ordering) → is_eq r ≡ true → r ≡ Equal
+equal-is Less h = absurd (cc (h))
+equal-is Equal h = refl
+equal-is Greater h = absurd (cc (h))
+
+-- keys that aren't one don't tie
+keys-differ : (p q name other : List ℕ) → (p ≢ q) ⊎ (name ≢ other) → eq_by_cmp table_order (p, name) (q, other) ≡ false
+keys-differ p q name other differ = same-keys p q name other ∙ by (same_path p q) (eq_by_cmp name_order name other) refl refl differ where
+  by : (a b : Bool) → same_path p q ≡ a → eq_by_cmp name_order name other ≡ b → (p ≢ q) ⊎ (name ≢ other) → (a && b) ≡ false
+  by true true paths names (inl apart) = absurd (apart (same_path_is p q paths))
+  by true true paths names (inr apart) = absurd (apart ((slice_cmp-IsAntisymmetric nat_cmp-IsAntisymmetric) name other (equal-is (name_order name other) names)))
+  by true false paths names h = refl
+  by false b paths names h = refl
+
+-- ---- edits of tables
+
+edited : (d : Kept) (p name : List ℕ) (es : List Row) → IsEdited d p name es (with_entries d p name es)
+edited d p name es = record {
+  epoch = refl;
+  rulesets = refl;
+  states = refl;
+  here = tables_replaced (tabled p name es ∷ []) d.config.tables p name ∙ ap (λ (b : Bool). cond b es (entries_at d p name)) ((eq_by_cmp_equiv table_order_total).refl (p, name));
+  others = λ q other differ.
+      tables_replaced (tabled p name es ∷ []) d.config.tables q other ∙ ap (λ (b : Bool). cond b es (entries_at d q other)) (keys-differ p q name other differ);
+  map = λ is. table_maps_stay (tabled p name es ∷ []) d.config.tables is;
+}
+
+set-to-none : replaced [] ≡ []
+unfolding added
+set-to-none = refl
+
+pub edits_exactly : EditsExactly
+edits_exactly = record {
+  by_add = λ d p name xs. edited d p name (added (entries_at d p name) xs);
+  by_delete = λ d p name xs. edited d p name (deleted (entries_at d p name) xs);
+  by_set = λ d p name xs. edited d p name (replaced xs);
+  by_kill = λ d p name. subst (λ (es : List Row). IsEdited d p name es (with_entries d p name (replaced []))) set-to-none (edited d p name (replaced []));
+}
+
+pub deletes_nothing : DeletesNothing
+deletes_nothing d p name xs none = (edited d p name (deleted (entries_at d p name) xs)).here ∙ ap (λ (es : List Row). deleted es xs) none ∙ deleted-none xs
+
+pub steps_exactly : StepsExactly
+steps_exactly = record {
+  by_steps = λ d steps. record { epoch = refl; config = refl; states = refl };
+  by_removal = λ d name. record { epoch = refl; config = refl; states = refl };
+}

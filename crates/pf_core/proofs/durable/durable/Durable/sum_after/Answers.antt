@@ -1,0 +1,14 @@
+use Rattle.std.proofs.Common.{◌≡◌, ap, sym, ◌∙◌}
+use Rattle.pf_anchor.specs.Configurations.{Configuration}
+use Rattle.pf_sum.specs.Forms.{ruleset_sum}
+use Rattle.pf_core.specs.Durable.Edits.{Kept, sum_of}
+use Rattle.pf_core.proofs.MainRules.{stays}
+use Rattle.pf_core.proofs.durable.durable.Durable.sum_after.Goals as goal
+
+-- the main ruleset isn't replaced, and its checksum is that of before
+pub returns-then-not-replaces_main : goal.returns-then-not-replaces_main
+returns-then-not-replaces_main c =
+    c.self.invariant
+    ∙ ap (λ (d : Kept). sum_of d.config) c.self.view_is
+    ∙ ap ruleset_sum (sym (stays c.args.rulesets.now c.args.self.now.config (sym c.replaces_main.ensures ∙ c.if-not-replaces_main.true)))
+    ∙ ap sum_of (sym c.requires)

@@ -1,0 +1,177 @@
+-- What is kept, what a change does to it (pf(4), DIOCXCOMMIT and DIOCRADDADDRS to DIOCRSETADDRS), and what it says of a packet (pf.conf(5), PACKET FILTERING, ANCHORS and TABLES). That an empty table doesn't exist, how a peer's states act, and the limits, are own.
+use Rattle.std.specs.Prelude.{ℕ, ◌==◌, ◌&&◌, Bool, not, if◌then◌else◌, List, [], ◌∷◌, ◌++◌, fold, length, map, nat_lt, Option, Some, None, Result, Ok, Err}
+use Rattle.std.specs.List.{list_any}
+use Rattle.std.specs.Option.{option_map_or}
+use Rattle.pf_path.specs.Paths.{same_path}
+use Rattle.pf_rule.specs.Packets.{PlainPacket}
+use Rattle.pf_table.specs.declared.limits.TheConstants.{TABLE_LIMIT}
+use Rattle.pf_table.specs.Entries.{Row}
+use Rattle.pf_table.specs.Edits.{added, deleted, replaced, conflict_in}
+use Rattle.pf_anchor.specs.declared.limits.TheConstants.{RULESET_LIMIT, TABLE_COUNT_LIMIT}
+use Rattle.pf_anchor.specs.Configurations.{Configuration, nothing, with_rulesets, with_tables}
+use Rattle.pf_anchor.specs.Evaluation.{judged}
+use Rattle.pf_anchor.specs.Rulesets.{Ruled, rules_at}
+use Rattle.pf_anchor.specs.Tables.{Tabled, tabled, table_at}
+use Rattle.pf_state.specs.declared.state.StateName.{StateName}
+use Rattle.pf_state.specs.declared.step.Step.{Step}
+use Rattle.pf_state.specs.Flows.{flow_of}
+use Rattle.pf_state.specs.States.{Stated, state_of}
+use Rattle.pf_state.specs.Steps.{after as stepped_on, passes_limit, without_state}
+use Rattle.pf_sum.specs.Forms.{ruleset_sum}
+use Rattle.pf_ticket.specs.declared.name.RulesetName.{RulesetName}
+use Rattle.pf_ticket.specs.Names.{filter_at, table_ruleset_at}
+use Rattle.pf_ticket.specs.NamedTables.{Named}
+use Rattle.pf_core.specs.declared.durable.change.Item.{Item}
+use Rattle.pf_core.specs.declared.durable.change.Item.TheVariants as item
+use Rattle.pf_core.specs.declared.durable.refusal.ChangeRefusal.{ChangeRefusal}
+use Rattle.pf_core.specs.declared.durable.refusal.ChangeRefusal.TheVariants.{Conflict, TableFull, TooManyRulesets, TooManyTables, StatesFull}
+use Rattle.pf_core.specs.declared.durable.verdict.Verdict.{Verdict}
+use Rattle.pf_core.specs.declared.durable.verdict.Verdict.TheVariants.{State as Stateful, Rules}
+
+pub record Kept : Type 0 where
+  pub epoch : ℕ
+  pub config : Configuration
+  pub states : List Stated
+
+abbrev pub kept : ℕ → Configuration → List Stated → Kept
+kept e c ss = record { epoch = e; config = c; states = ss }
+
+-- no rulesets, no tables and no states, in the opening with this epoch
+abbrev pub kept_nothing : ℕ → Kept
+kept_nothing e = kept e nothing []
+
+-- the checksum of the main rules
+abbrev pub sum_of : Configuration → List ℕ
+sum_of c = ruleset_sum (rules_at [] c.rulesets)
+
+abbrev pub main_sum : Kept → List ℕ
+main_sum d = sum_of d.config
+
+-- the entries of the table at a path under a name, and none where there is no table
+abbrev pub entries_at : Kept → List ℕ → List ℕ → List Row
+entries_at d p name = table_at p name d.config.tables
+
+-- ---- changes
+
+-- A change: what a commit replaces, in the command's order; or entries, as handed in, that are added to the table at a path under a name, deleted from it, or take its place; or steps that act on the states, in order, those that change nothing too; or the state of a name that is taken out.
+pub data Edit : Type 0 where
+  commits : List Item → Edit
+  adds : List ℕ → List ℕ → List Row → Edit
+  deletes : List ℕ → List ℕ → List Row → Edit
+  sets : List ℕ → List ℕ → List Row → Edit
+  acts : List Step → Edit
+  removes : StateName → Edit
+
+-- the rulesets among what a commit replaces
+abbrev pub rulesets_in : List Item → List Ruled
+rulesets_in [] = []
+rulesets_in (item.Rules r ∷ items) = r ∷ rulesets_in items
+rulesets_in (item.Tables p named ∷ items) = rulesets_in items
+
+-- the main ruleset is among these
+abbrev pub replaces_main : List Ruled → Bool
+replaces_main rulesets = list_any (λ r. same_path r.0 []) rulesets
+
+-- named tables at a path
+abbrev pub placed : List ℕ → List Named → List Tabled
+placed p named = map (λ t. tabled p t.0 t.1) named
+
+-- and the tables: of each table ruleset those that were defined
+abbrev pub tables_in : List Item → List Tabled
+tables_in [] = []
+tables_in (item.Rules r ∷ items) = tables_in items
+tables_in (item.Tables p named ∷ items) = placed p named ++ tables_in items
+
+-- ---- what a change leaves
+
+-- with these entries in one table, or without the table where there are none
+abbrev pub with_entries : Kept → List ℕ → List ℕ → List Row → Kept
+with_entries d p name es = kept d.epoch (with_tables d.config (tabled p name es ∷ [])) d.states
+
+-- with these states in place of its own
+abbrev pub with_states : Kept → List Stated → Kept
+with_states d ss = kept d.epoch d.config ss
+
+-- what is kept after a change: exactly the named rulesets and tables are replaced, all else stays
+abbrev pub applied : Kept → Edit → Kept
+applied d (commits items) = kept d.epoch (with_tables (with_rulesets d.config (rulesets_in items)) (tables_in items)) d.states
+applied d (adds p name xs) = with_entries d p name (added (entries_at d p name) xs)
+applied d (deletes p name xs) = with_entries d p name (deleted (entries_at d p name) xs)
+applied d (sets p name xs) = with_entries d p name (replaced xs)
+applied d (acts steps) = with_states d (stepped_on d.states steps)
+applied d (removes name) = with_states d (without_state d.states name)
+
+-- what is kept after all changes, in order
+abbrev pub after : Kept → List Edit → Kept
+after d changes = fold applied d changes
+
+abbrev pub name_of : Item → RulesetName
+name_of (item.Rules r) = filter_at r.0
+name_of (item.Tables p named) = table_ruleset_at p
+
+-- the rulesets whose tickets a change voids: edits of tables and changes of states void none
+abbrev pub voided_by : Edit → List RulesetName
+voided_by (commits items) = map name_of items
+voided_by (adds p name xs) = []
+voided_by (deletes p name xs) = []
+voided_by (sets p name xs) = []
+voided_by (acts steps) = []
+voided_by (removes name) = []
+
+-- ---- which changes fit
+
+-- a check, and where it passes another
+abbrev pub and_then : {A : Type 0} → Result (Unit {0}) ChangeRefusal → Result A ChangeRefusal → Result A ChangeRefusal
+and_then (Ok u) next = next
+and_then (Err e) next = Err e
+
+-- refused where this holds
+abbrev pub unless : Bool → ChangeRefusal → Result (Unit {0}) ChangeRefusal
+unless b why = if b then Err why else Ok tt
+
+abbrev pub conflict_at : Option ℕ → Result (Unit {0}) ChangeRefusal
+conflict_at None = Ok tt
+conflict_at (Some i) = Err (Conflict i)
+
+-- no network stands in the list with both signs
+abbrev pub no_conflict : List Row → Result (Unit {0}) ChangeRefusal
+no_conflict xs = conflict_at (conflict_in xs)
+
+-- entries that a table can hold
+abbrev pub holdable : List Row → Result (Unit {0}) ChangeRefusal
+holdable es = unless (nat_lt TABLE_LIMIT (length es)) TableFull
+
+-- a table that isn't there yet is one more
+abbrev pub is_one_more : List Row → List Row → Bool
+is_one_more old new = (length old == 0) && not (length new == 0)
+
+-- it isn't made where there would be too many with it
+abbrev pub room_for_table : Kept → List ℕ → List ℕ → List Row → Result (Unit {0}) ChangeRefusal
+room_for_table d p name new = unless (is_one_more (entries_at d p name) new && nat_lt TABLE_COUNT_LIMIT (length (with_entries d p name new).config.tables)) TooManyTables
+
+-- these entries may be the table's
+abbrev pub replaceable : Kept → List ℕ → List ℕ → List Row → Result (Unit {0}) ChangeRefusal
+replaceable d p name new = and_then (holdable new) (room_for_table d p name new)
+
+-- no more rulesets and tables than there may be
+abbrev pub few : Configuration → Result (Unit {0}) ChangeRefusal
+few c = and_then (unless (nat_lt RULESET_LIMIT (length c.rulesets)) TooManyRulesets) (unless (nat_lt TABLE_COUNT_LIMIT (length c.tables)) TooManyTables)
+
+-- Why a change isn't made, where there is a cause. A commit's limits are counted once it is whole, those of states behind each step. To delete entries or a state no limit is asked.
+abbrev pub fits : Kept → Edit → Result (Unit {0}) ChangeRefusal
+fits d (commits items) = few (applied d (commits items)).config
+fits d (adds p name xs) = and_then (no_conflict xs) (replaceable d p name (added (entries_at d p name) xs))
+fits d (deletes p name xs) = no_conflict xs
+fits d (sets p name xs) = and_then (no_conflict xs) (replaceable d p name (replaced xs))
+fits d (acts steps) = unless (passes_limit d.states steps) StatesFull
+fits d (removes name) = Ok tt
+
+-- what a change leaves, where it fits
+abbrev pub changed : Kept → Edit → Result Kept ChangeRefusal
+changed d e = and_then (fits d e) (Ok (applied d e))
+
+-- ---- packets
+
+-- a packet passes by the state of its flow; without one it is judged by the main ruleset, and where its anchor rules match by what they lead to
+abbrev pub verdict : Kept → PlainPacket → Verdict
+verdict d packet = option_map_or (λ s. Stateful s.0) (state_of (flow_of packet) d.states) (Rules (judged d.config packet))

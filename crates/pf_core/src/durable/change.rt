@@ -1,0 +1,163 @@
+//! A change of what is kept.
+ghost use Rattle.std.specs.Prelude.{◌≡◌, map, IfOk};
+ghost use Rattle.pf_core.specs.Durable.Edits.{commits, adds, deletes, sets, acts, removes, name_of, voided_by};
+
+use crate::durable::entry_list::EntryList;
+use pf_anchor::{Path, Placed};
+use pf_path::TableName;
+use pf_state::{StateName, StepList};
+use pf_ticket::{Defined, RulesetName};
+use std::alloc::{AllocError, Global};
+use std::marker::Model;
+
+/// What a commit replaces.
+#[derive(Drop)]
+pub enum Item {
+    /// The rules at a path, by these.
+    Rules(Placed),
+    /// Of the tables at a path those that were defined, in the order of their names.
+    Tables { path: Path, tables: Defined },
+}
+
+#[derive(Drop)]
+pub(crate) enum Kind {
+    /// What is replaced, whole, in the order of the commit's entries.
+    Commit(Vec<Item>),
+    /// Entries as handed in, that are added to a table.
+    Add {
+        path: Path,
+        name: TableName,
+        entries: EntryList,
+    },
+    /// Entries as handed in, that are deleted from a table.
+    Delete {
+        path: Path,
+        name: TableName,
+        entries: EntryList,
+    },
+    /// Entries as handed in, that take the place of a table's.
+    Set {
+        path: Path,
+        name: TableName,
+        entries: EntryList,
+    },
+    /// Steps that act on the states, those that change nothing too.
+    States(StepList),
+    /// The removal of one state.
+    Remove(StateName),
+}
+
+/// What is to be kept. Contracts see it as an `Edit`.
+#[derive(Drop)]
+pub struct Change {
+    pub(crate) kind: Kind,
+}
+
+impl Model for Change {
+    ghost use Rattle.pf_core.specs.Durable.Edits.{Edit};
+
+    ghost Value = { Edit };
+
+    ghost use Rattle.pf_core.specs.Durable.EditViews.{edit_of};
+
+    ghost view = { λ c. edit_of c.kind };
+}
+
+impl Change {
+    /// A commit's change.
+    pub fn commit(items: Vec<Item>) -> Change
+        ensures { result ≡ commits items.items }
+    {
+        Change {
+            kind: Kind::Commit(items),
+        }
+    }
+
+    /// Entries that are added to a table.
+    pub fn add(path: Path, name: TableName, entries: EntryList) -> Change
+        ensures { result ≡ adds path name entries }
+    {
+        Change {
+            kind: Kind::Add {
+                path,
+                name,
+                entries,
+            },
+        }
+    }
+
+    /// Entries that are deleted from a table.
+    pub fn delete(path: Path, name: TableName, entries: EntryList) -> Change
+        ensures { result ≡ deletes path name entries }
+    {
+        Change {
+            kind: Kind::Delete {
+                path,
+                name,
+                entries,
+            },
+        }
+    }
+
+    /// Entries that take the place of a table's.
+    pub fn set(path: Path, name: TableName, entries: EntryList) -> Change
+        ensures { result ≡ sets path name entries }
+    {
+        Change {
+            kind: Kind::Set {
+                path,
+                name,
+                entries,
+            },
+        }
+    }
+
+    /// Steps that act on the states.
+    pub fn states(steps: StepList) -> Change
+        ensures { result ≡ acts steps }
+    {
+        Change {
+            kind: Kind::States(steps),
+        }
+    }
+
+    /// The removal of the state of a name.
+    pub fn remove(name: StateName) -> Change
+        ensures { result ≡ removes name }
+    {
+        Change {
+            kind: Kind::Remove(name),
+        }
+    }
+
+    /// The rulesets whose tickets the change voids: those that a commit replaces, in its order. `AllocError`: nothing is made.
+    pub fn voided(&self, alloc: Global) -> Result<Vec<RulesetName>, AllocError>
+        ensures { IfOk result (λ v. v.items ≡ voided_by self.now) }
+    {
+        match &self.kind {
+            Kind::Commit(items) => names_of(alloc, items.as_slice()),
+            _ => Ok(Vec::new(alloc)),
+        }
+    }
+}
+
+// The ruleset that an item replaces.
+fn name_of(item: &Item) -> RulesetName
+    ensures { result ≡ name_of item.now }
+{
+    match item {
+        Item::Rules(placed) => RulesetName::filter(placed.key()),
+        Item::Tables { path, .. } => RulesetName::table(path),
+    }
+}
+
+// The rulesets that a commit replaces.
+fn names_of(alloc: Global, items: &[Item]) -> Result<Vec<RulesetName>, AllocError>
+    ensures { IfOk result (λ v. v.items ≡ map name_of items.now) }
+{
+    let mut names = Vec::with_capacity(alloc, items.len())?;
+    for item in items {
+        names.push(name_of(item))?;
+    }
+    Ok(names)
+}

@@ -1,0 +1,407 @@
+//! What is kept.
+ghost use Rattle.std.specs.Prelude.{◌≡◌, ◌==◌, ◌++◌, [], not, true, length, IfOk, OnOk};
+ghost use Rattle.std.specs.Arc.{arc_value};
+ghost use Rattle.pf_anchor.specs.Configurations.{with_rulesets};
+ghost use Rattle.pf_table.specs.Edits.{added, additions, deleted, deletions, replaced};
+ghost use Rattle.pf_table.specs.Tables.{deciding};
+ghost use Rattle.pf_state.specs.Steps.{after, counts, without_state};
+ghost use Rattle.pf_core.specs.Durable.Edits.{kept_nothing, commits, adds, deletes, sets, acts, rulesets_in, replaces_main, placed, tables_in, entries_at, sum_of, main_sum, with_entries, with_states, room_for_table, fits, changed, verdict};
+ghost use Rattle.pf_core.specs.Durable.Refusals.{OrMemory, Meets};
+
+use crate::durable::change::{Change, Item, Kind};
+use crate::durable::refusal::ChangeRefusal;
+use crate::durable::verdict::Verdict;
+use pf_addr::Addr;
+use pf_anchor::{Config, Path, Placed, PlacedTable};
+use pf_path::TableName;
+use pf_rule::Packet;
+use pf_state::{Counts, StateName, StateTable, Step};
+use pf_sum::ruleset_sum;
+use pf_table::{Addition, Deletion, Entry, Table};
+use pf_ticket::Defined;
+use std::alloc::{AllocError, Global};
+use std::marker::Model;
+use std::sync::Arc;
+
+/// What is kept: the epoch of the opening, the active rulesets and tables, and the states. Contracts see it as a `Kept`.
+#[derive(Drop)]
+pub struct Durable {
+    epoch: u32,
+    config: Arc<Config>,
+    states: Arc<StateTable>,
+    // the checksum of the main rules, so that it isn't computed for each message of a peer
+    sum: [u8; 16],
+}
+
+impl Model for Durable {
+    ghost use Rattle.std.specs.Prelude.{◌≡◌};
+    ghost use Rattle.std.specs.Arc.{arc_value};
+    ghost use Rattle.pf_core.specs.Durable.Edits.{Kept, kept, sum_of};
+
+    ghost Value = { Kept };
+
+    ghost view = { λ d. kept d.epoch (arc_value d.config) (arc_value d.states) };
+
+    ghost invariant = { λ d. d.sum ≡ sum_of (arc_value d.config) };
+}
+
+// Whether the main ruleset is among these.
+fn replaces_main(rulesets: &[Placed]) -> bool
+    ensures { result ≡ replaces_main rulesets.now }
+{
+    rulesets
+        .iter()
+        .any(|placed| placed.key().same(&Path::main()))
+}
+
+// A value that can have several owners.
+fn shared<T: Drop>(alloc: Global, value: T) -> Result<Arc<T>, AllocError>
+    ensures { IfOk result (λ a. arc_value a ≡ value) }
+{
+    Arc::new(alloc, value).map_err(|_| AllocError)
+}
+
+// The rulesets that are replaced, shared.
+fn rulesets_in(alloc: Global, items: &[Item]) -> Result<Vec<Placed>, AllocError>
+    ensures { IfOk result (λ v. v.items ≡ rulesets_in items.now) }
+{
+    let mut rulesets = Vec::new(alloc);
+    for item in items {
+        if let Item::Rules(placed) = item {
+            rulesets.push(placed.shared()?)?;
+        }
+    }
+    Ok(rulesets)
+}
+
+// Puts tables at a path behind the others, shared.
+fn push_placed(
+    alloc: Global,
+    found: &mut Vec<PlacedTable>,
+    path: &Path,
+    tables: &Defined,
+) -> Result<(), AllocError>
+    ensures { OnOk result (found.new.items ≡ found.old.items ++ placed path.now tables.now) }
+{
+    let named_tables = tables.as_slice();
+    for named in named_tables {
+        let table = named.table().shared()?;
+        found.push(PlacedTable::new(alloc, (path.copied(), *named.name()), table)?)?;
+    }
+    Ok(())
+}
+
+// The tables that are replaced, shared.
+fn tables_in(alloc: Global, items: &[Item]) -> Result<Vec<PlacedTable>, AllocError>
+    ensures { IfOk result (λ v. v.items ≡ tables_in items.now) }
+{
+    let mut found = Vec::new(alloc);
+    for item in items {
+        if let Item::Tables { path, tables } = item {
+            push_placed(alloc, &mut found, path, tables)?;
+        }
+    }
+    Ok(found)
+}
+
+impl Durable {
+    /// No rulesets, no tables and no states, in the opening with this epoch. `AllocError`: nothing is made.
+    pub fn empty(alloc: Global, epoch: u32) -> Result<Durable, AllocError>
+        ensures { IfOk result (λ d. d ≡ kept_nothing epoch) }
+    {
+        Ok(Durable {
+            epoch,
+            config: shared(alloc, Config::empty(alloc))?,
+            states: shared(alloc, StateTable::empty(alloc))?,
+            sum: ruleset_sum(&[]),
+        })
+    }
+
+    /// The epoch of the opening.
+    pub fn epoch(&self) -> u32
+        ensures { result ≡ self.now.epoch }
+    {
+        self.epoch
+    }
+
+    /// The active rulesets and tables.
+    pub fn config(&self) -> &Config
+        ensures { result.now ≡ self.now.config }
+    {
+        &self.config
+    }
+
+    /// The states.
+    pub fn states(&self) -> &StateTable
+        ensures { result.now ≡ self.now.states }
+    {
+        &self.states
+    }
+
+    /// The checksum of the main rules: MD5, 16 bytes. It takes no memory.
+    pub fn sum(&self) -> [u8; 16]
+        ensures { result ≡ main_sum self.now }
+    {
+        self.sum
+    }
+
+    /// What happens to a packet: the state of its flow passes it; without one the rule decides that the evaluation of the main
+    /// ruleset finds, there or in an anchor, or the packet passes. It takes no memory.
+    pub fn verdict(&self, packet: &Packet) -> Verdict
+        ensures { result ≡ verdict self.now packet.now }
+    {
+        match self.states.find(packet) {
+            Some(state) => Verdict::State(state.name()),
+            None => Verdict::Rules(self.config.judge(packet)),
+        }
+    }
+
+    /// The entry that decides on an address, of the table at exactly this path under this name. It takes no memory.
+    #[tactic(auto, unfolding(pf_table::specs::Tables::deciding))]
+    pub fn lookup(&self, path: &Path, name: &TableName, address: Addr) -> Option<Entry>
+        ensures { result ≡ deciding (entries_at self.now path.now name.now) address }
+    {
+        self.config.table_at(path, name)?.lookup(address)
+    }
+
+    // The table at a path under a name, shared, and an empty one where there is none.
+    fn table(&self, path: &Path, name: &TableName) -> Result<Table, AllocError>
+        ensures { IfOk result (λ t. t ≡ entries_at self.now path.now name.now) }
+    {
+        match self.config.table_at(path, name) {
+            Some(table) => table.shared(),
+            None => Ok(Table::empty()),
+        }
+    }
+
+    /// Whether there is a table at a path under a name.
+    pub fn has_table(&self, path: &Path, name: &TableName) -> bool
+        ensures { result ≡ not (length (entries_at self.now path.now name.now) == 0) }
+    {
+        self.config.table_at(path, name).is_some()
+    }
+
+    // Refuses a table where it would be one too many.
+    fn check_room(
+        &self,
+        alloc: Global,
+        path: &Path,
+        name: &TableName,
+        new: &Table,
+    ) -> Result<(), ChangeRefusal>
+        ensures { OrMemory result (room_for_table self.now path.now name.now new.now) }
+    {
+        if self.has_table(path, name) || new.entries().is_empty() {
+            return Ok(());
+        }
+        let tables = [PlacedTable::new(alloc, (path.copied(), *name), new.shared()?)?];
+        if self.config.would_be_too_many_tables(alloc, &tables)? {
+            return Err(ChangeRefusal::TooManyTables);
+        }
+        Ok(())
+    }
+
+    /// The table after entries are added to it, and what became of each. It is refused with `Conflict`, `TableFull` or
+    /// `TooManyTables`, the first that holds.
+    pub fn with_added(
+        &self,
+        alloc: Global,
+        path: &Path,
+        name: &TableName,
+        entries: &[Entry],
+    ) -> Result<(Table, Vec<Addition>), ChangeRefusal>
+        ensures fits { Meets result (fits self.now (adds path.now name.now entries.now)) }
+        ensures table { IfOk result (λ r. r.0 ≡ added (entries_at self.now path.now name.now) entries.now) }
+        ensures answers { IfOk result (λ r. r.1.items ≡ additions (entries_at self.now path.now name.now) entries.now) }
+    {
+        let mut table = self.table(path, name)?;
+        let additions = table.add(alloc, entries)?;
+        self.check_room(alloc, path, name, &table)?;
+        Ok((table, additions))
+    }
+
+    /// The table after entries are deleted from it, and what became of each. It is refused with `Conflict`.
+    pub fn with_deleted(
+        &self,
+        alloc: Global,
+        path: &Path,
+        name: &TableName,
+        entries: &[Entry],
+    ) -> Result<(Table, Vec<Deletion>), ChangeRefusal>
+        ensures fits { Meets result (fits self.now (deletes path.now name.now entries.now)) }
+        ensures table { IfOk result (λ r. r.0 ≡ deleted (entries_at self.now path.now name.now) entries.now) }
+        ensures answers { IfOk result (λ r. r.1.items ≡ deletions (entries_at self.now path.now name.now) entries.now) }
+    {
+        let mut table = self.table(path, name)?;
+        let deletions = table.delete(alloc, entries)?;
+        Ok((table, deletions))
+    }
+
+    /// The table that these entries make, in place of the one that is there. It is refused with `Conflict`, `TableFull` or
+    /// `TooManyTables`, the first that holds.
+    pub fn with_set(
+        &self,
+        alloc: Global,
+        path: &Path,
+        name: &TableName,
+        entries: &[Entry],
+    ) -> Result<Table, ChangeRefusal>
+        ensures fits { Meets result (fits self.now (sets path.now name.now entries.now)) }
+        ensures table { IfOk result (λ t. t ≡ replaced entries.now) }
+    {
+        let mut table = Table::empty();
+        table.replace(alloc, entries)?;
+        self.check_room(alloc, path, name, &table)?;
+        Ok(table)
+    }
+
+    /// Refuses a commit that would leave more rulesets than there may be, or else more tables: `TooManyRulesets`,
+    /// `TooManyTables`.
+    pub fn check_commit(&self, alloc: Global, items: &[Item]) -> Result<(), ChangeRefusal>
+        ensures { OrMemory result (fits self.now (commits items.now)) }
+    {
+        let rulesets = rulesets_in(alloc, items)?;
+        if self.config.would_be_too_many(alloc, rulesets.as_slice())? {
+            return Err(ChangeRefusal::TooManyRulesets);
+        }
+        let tables = tables_in(alloc, items)?;
+        if self
+            .config
+            .would_be_too_many_tables(alloc, tables.as_slice())?
+        {
+            return Err(ChangeRefusal::TooManyTables);
+        }
+        Ok(())
+    }
+
+    // The checksum of the main rules once these rulesets were replaced. Where the main one isn't among them it stays, and no rule is
+    // looked at.
+    #[tactic(auto, using(crate::proofs::MainRules::stays))]
+    fn sum_after(&self, rulesets: &[Placed], after: &Config) -> Result<[u8; 16], AllocError>
+        requires { after.now ≡ with_rulesets self.now.config rulesets.now }
+        ensures { IfOk result (λ s. s ≡ sum_of after.now) }
+    {
+        if !replaces_main(rulesets) {
+            // looked at, so that what each value keeps of its checksum is known here
+            let _ = &self.config;
+            return Ok(self.sum);
+        }
+        Ok(ruleset_sum(after.rules_at(&Path::main())?.as_slice()))
+    }
+
+    // What is kept once these items were replaced.
+    fn commit(&self, alloc: Global, items: &[Item]) -> Result<Durable, ChangeRefusal>
+        ensures { OrMemory result (changed self.now (commits items.now)) }
+    {
+        self.check_commit(alloc, items)?;
+        let rulesets = rulesets_in(alloc, items)?;
+        let tables = tables_in(alloc, items)?;
+        let config = self.config.with_rulesets(alloc, rulesets.as_slice())?;
+        Ok(Durable {
+            epoch: self.epoch,
+            sum: self.sum_after(rulesets.as_slice(), &config)?,
+            config: shared(alloc, config.with_tables(alloc, tables.as_slice())?)?,
+            states: Arc::try_clone(&self.states)?,
+        })
+    }
+
+    // What is kept with this table in its place.
+    fn with_table(
+        &self,
+        alloc: Global,
+        path: &Path,
+        name: &TableName,
+        table: Table,
+    ) -> Result<Durable, AllocError>
+        ensures { IfOk result (λ d. d ≡ with_entries self.now path.now name.now table) }
+    {
+        let tables = [PlacedTable::new(alloc, (path.copied(), *name), table)?];
+        Ok(Durable {
+            epoch: self.epoch,
+            config: shared(alloc, self.config.with_tables(alloc, &tables)?)?,
+            states: Arc::try_clone(&self.states)?,
+            sum: self.sum,
+        })
+    }
+
+    /// The states after steps in turn, and what became of them. It is refused with `StatesFull` where a step would leave too many;
+    /// `Memory` may come before. What is kept stays as it is.
+    pub fn with_stepped(
+        &self,
+        alloc: Global,
+        steps: &[Step],
+    ) -> Result<(StateTable, Counts), ChangeRefusal>
+        ensures fits { Meets result (fits self.now (acts steps.now)) }
+        ensures states { IfOk result (λ r. r.0 ≡ after self.now.states steps.now) }
+        ensures counts { IfOk result (λ r. r.1 ≡ counts self.now.states steps.now) }
+    {
+        Ok(self.states.after_batch(alloc, steps)?)
+    }
+
+    // The states without the one of a name.
+    fn without_state(&self, alloc: Global, name: StateName) -> Result<StateTable, AllocError>
+        ensures { IfOk result (λ t. t ≡ without_state self.now.states name) }
+    {
+        let mut states = self.states.copied(alloc)?;
+        states.remove(name);
+        Ok(states)
+    }
+
+    // What is kept with these states in place of its own.
+    fn with_states(&self, alloc: Global, states: StateTable) -> Result<Durable, AllocError>
+        ensures { IfOk result (λ d. d ≡ with_states self.now states) }
+    {
+        Ok(Durable {
+            epoch: self.epoch,
+            config: Arc::try_clone(&self.config)?,
+            states: shared(alloc, states)?,
+            sum: self.sum,
+        })
+    }
+
+    /// What is kept after a change. Rulesets and tables that stay are shared, and no rule is copied; where a change isn't of states
+    /// they are shared too.
+    ///
+    /// It is refused for the first of these that holds: `Conflict`, where a list names a network with both signs; `TableFull`;
+    /// `TooManyRulesets`, `TooManyTables`; `StatesFull`. A change that a command wants of this state is never refused for these. Where memory
+    /// is refused nothing is made.
+    pub fn apply(&self, alloc: Global, change: &Change) -> Result<Durable, ChangeRefusal>
+        ensures { OrMemory result (changed self.now change.now) }
+    {
+        match &change.kind {
+            Kind::Commit(items) => self.commit(alloc, items.as_slice()),
+            Kind::Add {
+                path,
+                name,
+                entries,
+            } => {
+                let (table, _) = self.with_added(alloc, path, name, entries.as_slice())?;
+                Ok(self.with_table(alloc, path, name, table)?)
+            }
+            Kind::Delete {
+                path,
+                name,
+                entries,
+            } => {
+                let (table, _) = self.with_deleted(alloc, path, name, entries.as_slice())?;
+                Ok(self.with_table(alloc, path, name, table)?)
+            }
+            Kind::Set {
+                path,
+                name,
+                entries,
+            } => {
+                let table = self.with_set(alloc, path, name, entries.as_slice())?;
+                Ok(self.with_table(alloc, path, name, table)?)
+            }
+            Kind::States(steps) => {
+                let (states, _) = self.with_stepped(alloc, steps.as_slice())?;
+                Ok(self.with_states(alloc, states)?)
+            }
+            Kind::Remove(name) => {
+                let states = self.without_state(alloc, *name)?;
+                Ok(self.with_states(alloc, states)?)
+            }
+        }
+    }
+}

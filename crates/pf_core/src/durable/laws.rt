@@ -1,0 +1,25 @@
+//! What follows from the definitions that contracts cite: functions that do nothing, whose contracts are the laws.
+ghost use Rattle.pf_core.specs.Durable.Laws.{ReplacesExactly, EditsExactly, DeletesNothing, StepsExactly, KeepsWithin};
+
+/// After a commit's change the epoch stays, each path has the rules and tables that the change gives it or else its own, and what is
+/// empty isn't there. States stay.
+pub fn replaces_exactly()
+    ensures { ReplacesExactly }
+{}
+
+/// An edit of a table changes exactly the table at its path under its name: other names there, other paths, all rulesets, the
+/// states and the epoch stay. To delete from a table that isn't there makes none.
+pub fn edits_change_one_table()
+    ensures exactly { EditsExactly }
+    ensures nothing { DeletesNothing }
+{}
+
+/// A change of states leaves rulesets, tables and the epoch: no peer changes a rule.
+pub fn changes_of_states_change_states_alone()
+    ensures { StepsExactly }
+{}
+
+/// An edit of a table or a change of states that fits leaves what is kept within all limits.
+pub fn what_fits_keeps_the_limits()
+    ensures { KeepsWithin }
+{}

@@ -1,5 +1,0 @@
-pub mod MainRules
-pub mod TableCounts
-pub mod Checks
-pub mod Edited
-pub mod Within

@@ -1,7 +1,0 @@
-use Rattle.std.proofs.Common.{◌≡◌, take}
-use Rattle.std.specs.Prelude.{map}
-use Rattle.pf_durable.specs.Edits.{name_of}
-use Rattle.pf_durable.proofs.change.names_of.Given as goal
-
-abbrev pub invariant-loop-item : goal.invariant-loop-item
-invariant-loop-item l = l.names.items ≡ map name_of (take l.item-index l.items)

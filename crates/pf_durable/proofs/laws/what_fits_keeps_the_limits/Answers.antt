@@ -1,5 +1,0 @@
-use Rattle.pf_durable.proofs.Within.{keeps_within}
-use Rattle.pf_durable.proofs.laws.what_fits_keeps_the_limits.Goals as goal
-
-pub returns : goal.returns
-returns c = keeps_within
