@@ -21,10 +21,10 @@ use Rattle.pf_state.specs.declared.step.Step.TheVariants as step
 use Rattle.pf_state.specs.Flows.{flow_of}
 use Rattle.pf_state.specs.States.{Stated, held_at}
 use Rattle.pf_state.specs.Steps.{counts}
-use Rattle.pf_peer.specs.declared.message.Message.{Message}
-use Rattle.pf_peer.specs.Written.{message_bytes}
-use Rattle.pf_failover.specs.Incoming.{steps_of}
-use Rattle.pf_failover.specs.Outgoing.{exported_messages}
+use Rattle.pf_state.specs.declared.peer.message.Message.{Message}
+use Rattle.pf_state.specs.Peer.Written.{message_bytes}
+use Rattle.pf_state.specs.Failover.Incoming.{steps_of}
+use Rattle.pf_state.specs.Failover.Outgoing.{exported_messages}
 use Rattle.pf_ticket.specs.declared.entry.Entry.{Entry}
 use Rattle.pf_ticket.specs.declared.name.RulesetName.{RulesetName}
 use Rattle.pf_ticket.specs.declared.offered.Offered.{Offered}

@@ -4,9 +4,9 @@ use crate::durable::EntryList;
 use pf_addr::Addr;
 use pf_anchor::Path;
 use pf_path::TableName;
-use pf_peer::Message;
 use pf_rule::{Packet, Rule};
 use pf_state::StateName;
+use pf_state::peer::Message;
 use pf_ticket::{Entries, RulesetNames, Ticket};
 
 /// One step of a transaction (pf(4), DIOCXBEGIN, DIOCADDRULE, DIOCRINADEFINE, DIOCXCOMMIT, DIOCXROLLBACK).

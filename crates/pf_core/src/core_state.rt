@@ -21,7 +21,7 @@ use crate::state_command::change_states;
 use crate::step::Step;
 use crate::table_edit::edit;
 use pf_anchor::Placed;
-use pf_failover::export;
+use pf_state::failover::export;
 use pf_ticket::{Entry, Offered, RulesetName, Tickets};
 use std::alloc::{AllocError, Global};
 use std::marker::Model;

@@ -5,8 +5,8 @@ ghost use Rattle.pf_core.specs.Refusals.{refusal_of, change_refusal_of};
 
 use crate::durable::{ChangeRefusal, Verdict};
 use pf_anchor::{PlacedTable, RuleList, RuleVerdict};
-use pf_failover::Exported;
-use pf_peer::PeerFault;
+use pf_state::failover::Exported;
+use pf_state::peer::PeerFault;
 use pf_state::{Counts, State};
 use pf_table::Entry;
 use pf_ticket::{TicketRange, TicketRefusal};

@@ -10,9 +10,9 @@ use crate::durable::{Change, Durable, Verdict};
 use crate::reply::{Answer, Outcome, Refusal};
 use crate::step::Step;
 use pf_anchor::{Path, RuleVerdict};
-use pf_failover::steps_of;
-use pf_peer::Message;
 use pf_rule::{Action, Packet};
+use pf_state::failover::steps_of;
+use pf_state::peer::Message;
 use pf_state::{Bound, Flow, Held, State, StateName, Step as StateStep, StepList};
 use std::alloc::{AllocError, Global};
 

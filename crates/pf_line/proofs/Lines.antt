@@ -14,11 +14,11 @@ use Rattle.pf_form.specs.Readers as Readers
 use Rattle.pf_form.specs.FormLaws.{lawful}
 use Rattle.pf_form.specs.TextLaws.{found, only, refused}
 use Rattle.pf_rule.specs.declared.fault.Mistake.TheVariants as mistakes
-use Rattle.pf_peer.specs.declared.fault.OneFault.{OneFault}
-use Rattle.pf_peer.specs.declared.fault.OneFault.TheVariants.{Fault, Count}
-use Rattle.pf_peer.specs.declared.message.Message.{Message}
-use Rattle.pf_peer.specs.One.{IsOne}
-use Rattle.pf_peer.proofs.OneMessage.{one_answer}
+use Rattle.pf_state.specs.declared.peer.fault.OneFault.{OneFault}
+use Rattle.pf_state.specs.declared.peer.fault.OneFault.TheVariants.{Fault, Count}
+use Rattle.pf_state.specs.declared.peer.message.Message.{Message}
+use Rattle.pf_state.specs.Peer.One.{IsOne}
+use Rattle.pf_state.proofs.OneMessage.{one_answer}
 use Rattle.pf_core.specs.declared.command.Command.{Command}
 use Rattle.pf_core.specs.declared.reply.Refusal.{Refusal}
 use Rattle.pf_core.specs.declared.reply.Refusal.TheVariants as refusals

@@ -3,10 +3,10 @@ use Rattle.std.proofs.Common.{◌≡◌, ℕ, List, [], ◌∷◌, Ok, inl, refl
 use Rattle.std.specs.Prelude.{codes}
 use Rattle.hex.specs.Hex.{IsBytes, encode_lower, encode_upper}
 use Rattle.hex.proofs.HexLemmas.{decode_of-encode_lower, decode_of-encode_upper}
-use Rattle.pf_peer.specs.declared.message.Message.{Message}
-use Rattle.pf_peer.specs.Written.{message_bytes, CanBeWritten}
-use Rattle.pf_peer.proofs.OneMessage.{message_alone}
-use Rattle.pf_peer.proofs.RoundTrip.{message_again}
+use Rattle.pf_state.specs.declared.peer.message.Message.{Message}
+use Rattle.pf_state.specs.Peer.Written.{message_bytes, CanBeWritten}
+use Rattle.pf_state.proofs.OneMessage.{message_alone}
+use Rattle.pf_state.proofs.RoundTrip.{message_again}
 use Rattle.pf_core.specs.declared.command.Command.TheVariants.{States}
 use Rattle.pf_core.specs.declared.command.StateCommand.TheVariants.{Peer}
 use Rattle.pf_line.specs.States.{as_word, bytes_of}

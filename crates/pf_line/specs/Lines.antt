@@ -11,10 +11,10 @@ use Rattle.pf_form.specs.Words.{Word, words_of}
 use Rattle.pf_form.specs.Forms.{Spells, RefusedAt, read_all}
 use Rattle.pf_rule.specs.declared.fault.Mistake.{Mistake}
 use Rattle.pf_rule.specs.declared.fault.Mistake.TheVariants as mistakes
-use Rattle.pf_peer.specs.declared.fault.OneFault.{OneFault}
-use Rattle.pf_peer.specs.declared.fault.OneFault.TheVariants.{Fault, Count}
-use Rattle.pf_peer.specs.declared.message.Message.{Message}
-use Rattle.pf_peer.specs.One.{IsOne}
+use Rattle.pf_state.specs.declared.peer.fault.OneFault.{OneFault}
+use Rattle.pf_state.specs.declared.peer.fault.OneFault.TheVariants.{Fault, Count}
+use Rattle.pf_state.specs.declared.peer.message.Message.{Message}
+use Rattle.pf_state.specs.Peer.One.{IsOne}
 use Rattle.pf_core.specs.declared.command.Command.{Command}
 use Rattle.pf_core.specs.declared.command.Command.TheVariants.{States}
 use Rattle.pf_core.specs.declared.command.StateCommand.TheVariants.{Peer}

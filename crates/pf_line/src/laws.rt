@@ -2,8 +2,8 @@
 ghost use Rattle.std.specs.Prelude.{◌≡◌, [], ◌∷◌, codes, ℕ, ◌^◌, ◌<◌, List, Option, Result, length, Some, Ok, Err};
 ghost use Rattle.pf_form.specs.declared.fault.Kind.{Kind};
 ghost use Rattle.hex.specs.Hex.{IsBytes, encode_lower, encode_upper};
-ghost use Rattle.pf_peer.specs.declared.message.Message.{Message};
-ghost use Rattle.pf_peer.specs.Written.{message_bytes, CanBeWritten};
+ghost use Rattle.pf_state.specs.declared.peer.message.Message.{Message};
+ghost use Rattle.pf_state.specs.Peer.Written.{message_bytes, CanBeWritten};
 ghost use Rattle.pf_core.specs.declared.command.Command.TheVariants.{States};
 ghost use Rattle.pf_core.specs.declared.command.StateCommand.TheVariants.{Peer};
 ghost use Rattle.pf_form.specs.Words.{Word};

@@ -12,8 +12,8 @@ use crate::commands::command;
 use crate::state::read_bytes;
 use pf_core::{Command, Refusal, StateCommand};
 use pf_form::{Kind, Unread, Words, is_blank, takes, words};
-use pf_peer::{OneFault, read_one};
 use pf_rule::Mistake;
+use pf_state::peer::{OneFault, read_one};
 use std::alloc::Global;
 
 /// How many bytes a line may have, without its newline.

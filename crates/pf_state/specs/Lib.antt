@@ -1,3 +1,5 @@
+pub mod Peer
+pub mod Failover
 pub mod Flows
 pub mod States
 pub mod Steps

@@ -1,5 +1,5 @@
 //! A peer's stream in pieces, which no line has.
-use pf_peer::{FeedError, Group, Message, PeerFault, PeerReader};
+use pf_state::peer::{FeedError, Group, Message, PeerFault, PeerReader};
 use std::alloc::Global;
 use std::process::Abort;
 use std::test::*;

@@ -6,8 +6,8 @@ use Rattle.pf_addr.specs.Spelling.{addr_text}
 use Rattle.pf_value.specs.declared.direction.Direction.{Direction}
 use Rattle.pf_value.specs.declared.direction.Direction.TheVariants.{In, Out}
 use Rattle.pf_value.specs.Tests.{protocol_word}
-use Rattle.pf_peer.specs.declared.fault.PeerFault.{PeerFault}
-use Rattle.pf_peer.specs.declared.fault.PeerFault.TheVariants.{BadVersion, BadLength, BadAction, BadRecord, Ended}
+use Rattle.pf_state.specs.declared.peer.fault.PeerFault.{PeerFault}
+use Rattle.pf_state.specs.declared.peer.fault.PeerFault.TheVariants.{BadVersion, BadLength, BadAction, BadRecord, Ended}
 use Rattle.pf_state.specs.declared.counts.Counts.{Counts}
 use Rattle.pf_state.specs.declared.state.Bound.{Bound}
 use Rattle.pf_state.specs.declared.state.Bound.TheVariants.{Rule, Default}

@@ -9,7 +9,7 @@ ghost use Rattle.pf_line.specs.Reply.StateTexts.{name_text, way_text, end_text, 
 use crate::reply::entry::write_network;
 use crate::reply::part::{end_line, write_number, write_numbered, write_part};
 use pf_addr::{Addr, Net};
-use pf_peer::PeerFault;
+use pf_state::peer::PeerFault;
 use pf_state::{Bound, Counts, Flow, State, StateName};
 use pf_value::{Direction, Protocol};
 use std::io::{self, Write};

@@ -1,6 +1,0 @@
-pub mod Parts
-pub mod Asked
-pub mod Cut
-pub mod Told
-pub mod ReadBack
-pub mod TakenOver

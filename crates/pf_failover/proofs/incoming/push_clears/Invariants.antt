@@ -1,6 +1,0 @@
-use Rattle.std.proofs.Common.{◌≡◌, ◌++◌, map, take}
-use Rattle.pf_failover.specs.Incoming.{clear_step}
-use Rattle.pf_failover.proofs.incoming.push_clears.Given as goal
-
-abbrev pub invariant-loop-clear : goal.invariant-loop-clear
-invariant-loop-clear l = l.steps.items ≡ l.fn.steps.items ++ map clear_step (take l.clear-index l.clears)

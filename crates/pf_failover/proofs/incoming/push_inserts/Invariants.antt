@@ -1,6 +1,0 @@
-use Rattle.std.proofs.Common.{◌≡◌, ◌++◌, map, take}
-use Rattle.pf_failover.specs.Incoming.{insert_step}
-use Rattle.pf_failover.proofs.incoming.push_inserts.Given as goal
-
-abbrev pub invariant-loop-insert : goal.invariant-loop-insert
-invariant-loop-insert l = l.steps.items ≡ l.fn.steps.items ++ map (insert_step l.sum l.current l.rule_count) (take l.insert-index l.inserts)

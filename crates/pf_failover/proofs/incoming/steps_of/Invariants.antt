@@ -1,7 +1,0 @@
-use Rattle.std.proofs.Common.{◌≡◌, take}
-use Rattle.std.specs.List.{flat_map}
-use Rattle.pf_failover.specs.Incoming.{group_steps}
-use Rattle.pf_failover.proofs.incoming.steps_of.Given as goal
-
-abbrev pub invariant-loop-group : goal.invariant-loop-group
-invariant-loop-group l = l.steps.items ≡ flat_map (group_steps l.message.checksum l.current l.rule_count) (take l.group-index l.message.groups)

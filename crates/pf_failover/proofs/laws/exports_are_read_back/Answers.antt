@@ -1,5 +1,0 @@
-use Rattle.pf_failover.proofs.ReadBack.{read_back}
-use Rattle.pf_failover.proofs.laws.exports_are_read_back.Goals as goal
-
-pub returns : goal.returns
-returns c = read_back c.written_message_is_read.ensures

@@ -1,6 +1,0 @@
-use Rattle.std.proofs.Common.{◌≡◌, map, take}
-use Rattle.pf_failover.specs.Outgoing.{insert_of}
-use Rattle.pf_failover.proofs.outgoing.inserts_of.Given as goal
-
-abbrev pub invariant-loop-state : goal.invariant-loop-state
-invariant-loop-state l = l.inserts.items ≡ map (insert_of l.current) (take l.state-index l.states)

@@ -1,5 +1,0 @@
-use Rattle.pf_peer.proofs.RoundTrip.{message_again}
-use Rattle.pf_peer.proofs.laws.written_message_is_read.Goals as goal
-
-pub returns : goal.returns
-returns c = message_again

@@ -1,0 +1,69 @@
+-- What is written in turn stands there in order.
+use Rattle.std.proofs.Common.{◌≡◌, ◌+◌, ◌<◌, ◌≤◌, ℕ, zero, suc, List, [], ◌∷◌, ◌++◌, length, take, get_or, subst, ap, ◌∙◌, append_assoc, length-append, arith}
+use Rattle.std.specs.List.{All, flat_map}
+use Rattle.std.proofs.lemmas.List.{take_all}
+use Rattle.std.proofs.lemmas.List.Elements.{All-head, All-tail, All-more}
+use Rattle.pf_state.specs.declared.peer.message.Group.{Group}
+use Rattle.pf_state.specs.declared.peer.message.Group.TheVariants.{Inserts, Deletes, Clears}
+use Rattle.pf_state.specs.declared.peer.record.Delete.{Delete}
+use Rattle.pf_state.specs.declared.peer.record.Clear.{Clear}
+use Rattle.pf_state.specs.Peer.Records.{PlainInsert, insert_bytes, delete_bytes, clear_bytes}
+use Rattle.pf_state.specs.Peer.Written.{Each, group_bytes, group_with}
+
+pub two : (o a b p q : List ℕ) → p ≡ o ++ a → q ≡ p ++ b → q ≡ o ++ (a ++ b)
+two o a b p q e f = f ∙ ap (λ (l : List ℕ). l ++ b) e ∙ append_assoc o a b
+
+-- the parts of an insert's record
+pub ten : (o a b c d e f g h i j o1 o2 o3 o4 o5 o6 o7 o8 o9 o10 : List ℕ) → o1 ≡ o ++ a → o2 ≡ o1 ++ b → o3 ≡ o2 ++ c → o4 ≡ o3 ++ d → o5 ≡ o4 ++ e
+    → o6 ≡ o5 ++ f → o7 ≡ o6 ++ g → o8 ≡ o7 ++ h → o9 ≡ o8 ++ i → o10 ≡ o9 ++ j → o10 ≡ o ++ (a ++ (b ++ (c ++ (d ++ (e ++ (f ++ (g ++ (h ++ (i ++ j)))))))))
+ten o a b c d e f g h i j o1 o2 o3 o4 o5 o6 o7 o8 o9 o10 p1 p2 p3 p4 p5 p6 p7 p8 p9 p10 =
+    let q9 = two o8 i j o9 o10 p9 p10 in
+    let q8 = two o7 h (i ++ j) o8 o10 p8 q9 in
+    let q7 = two o6 g (h ++ (i ++ j)) o7 o10 p7 q8 in
+    let q6 = two o5 f (g ++ (h ++ (i ++ j))) o6 o10 p6 q7 in
+    let q5 = two o4 e (f ++ (g ++ (h ++ (i ++ j)))) o5 o10 p5 q6 in
+    let q4 = two o3 d (e ++ (f ++ (g ++ (h ++ (i ++ j))))) o4 o10 p4 q5 in
+    let q3 = two o2 c (d ++ (e ++ (f ++ (g ++ (h ++ (i ++ j)))))) o3 o10 p3 q4 in
+    let q2 = two o1 b (c ++ (d ++ (e ++ (f ++ (g ++ (h ++ (i ++ j))))))) o2 o10 p2 q3 in
+    two o a (b ++ (c ++ (d ++ (e ++ (f ++ (g ++ (h ++ (i ++ j)))))))) o1 o10 p1 q2
+
+-- there are at most as many items as bytes that they are written as
+pub count_fits : {A : Type 0} (writing : A → List ℕ) → ((x : A) → 0 < length (writing x)) → (xs : List A) → length xs ≤ length (flat_map writing xs)
+count_fits writing some [] = omega arith
+count_fits writing some (x ∷ xs) = omega (arith, some x, count_fits writing some xs, length-append (writing x) (flat_map writing xs))
+
+-- one of them takes no more bytes than all do
+pub one_fits : {A : Type 0} (writing : A → List ℕ) (xs : List A) (i : ℕ) (d : A) → i < length xs → length (writing (get_or xs i d)) ≤ length (flat_map writing xs)
+one_fits writing [] i d lt = absurd (omega (arith, lt))
+one_fits writing (x ∷ xs) zero d lt = omega (arith, length-append (writing x) (flat_map writing xs))
+one_fits writing (x ∷ xs) (suc i) d lt = omega (arith, one_fits writing xs i d (omega (arith, lt)), length-append (writing x) (flat_map writing xs))
+
+-- a group whose bytes a message can have has no more records than its count can say
+few_of : {A : Type 0} (a : ℕ) (writing : A → List ℕ) → ((x : A) → 0 < length (writing x)) → (xs : List A) → length (group_with a writing xs) < 65536 → length xs < 65536
+few_of a writing some xs lt = omega (arith, lt, count_fits writing some xs)
+
+pub few_inserts : (g : Group) (xs : List PlainInsert) → g ≡ Inserts xs → length (group_bytes g) < 65536 → length xs < 65536
+few_inserts g xs e lt = few_of 1 insert_bytes (λ x. omega arith) xs (subst (λ (h : Group). length (group_bytes h) < 65536) e lt)
+
+pub few_deletes : (g : Group) (xs : List Delete) → g ≡ Deletes xs → length (group_bytes g) < 65536 → length xs < 65536
+few_deletes g xs e lt = few_of 6 delete_bytes (λ x. omega arith) xs (subst (λ (h : Group). length (group_bytes h) < 65536) e lt)
+
+pub few_clears : (g : Group) (xs : List Clear) → g ≡ Clears xs → length (group_bytes g) < 65536 → length xs < 65536
+few_clears g xs e lt = few_of 0 clear_bytes (λ x. omega arith) xs (subst (λ (h : Group). length (group_bytes h) < 65536) e lt)
+
+pub group_fits : (gs : List Group) (i : ℕ) (g : Group) → g ≡ get_or gs i g → i < length gs → length (flat_map group_bytes gs) < 65536 → length (group_bytes g) < 65536
+group_fits gs i g e lt fits = omega (arith, one_fits group_bytes gs i g lt, ap (λ (h : Group). length (group_bytes h)) e, fits)
+
+-- ---- what holds of each that was written
+
+each : {A : Type 0} (P : A → Type 0) (xs : List A) → All P xs → Each P xs
+each P [] all = tt
+each P (x ∷ xs) all = (All-head P x xs all, each P xs (All-tail P x xs all))
+
+-- of all of them, once so many were written
+pub each_of : {A : Type 0} (P : A → Type 0) (n : ℕ) (xs : List A) → length xs ≤ n → All P (take n xs) → Each P xs
+each_of P n xs all so_far = each P xs (rw (take_all n xs all) at so_far)
+
+pub one_more : {A : Type 0} (P : A → Type 0) (xs : List A) (i : ℕ) (x : A) → i < length xs → x ≡ get_or xs i x → All P (take i xs)
+    → P x → All P (take (i + 1) xs)
+one_more P xs i x lt is so_far holds = All-more P xs i x lt so_far (subst P is holds)

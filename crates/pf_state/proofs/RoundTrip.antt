@@ -1,0 +1,229 @@
+-- What is written is read again.
+use Rattle.std.proofs.Common.{◌≡◌, ◌≢◌, ◌*◌, ◌<◌, ◌≤◌, ◌==◌, ◌&&◌, ◌||◌, ℕ, Bool, true, false, List, [], ◌∷◌, ◌++◌, length, Option, Some, Ok, refl, sym, ap, ◌∙◌, subst, append_assoc, length-append, arith}
+use Rattle.std.specs.Prelude.{nat_lt}
+use Rattle.std.specs.List.{flat_map}
+use Rattle.std.proofs.lemmas.List.{take_at, drop_at}
+use Rattle.std.proofs.lemmas.Bool.Decides.{nat_tests}
+use Rattle.byteorder.specs.Numbers.{big_number-reads_back}
+use Rattle.byteorder.specs.Endian.{big_bytes}
+use Rattle.pf_addr.specs.declared.addr.Addr.{Addr}
+use Rattle.pf_addr.specs.declared.addr.Addr.TheVariants.{V4, V6}
+use Rattle.pf_addr.specs.declared.addr.Family.TheVariants as family
+use Rattle.pf_value.specs.Values.{has_ports}
+use Rattle.pf_value.specs.declared.direction.Direction.{Direction}
+use Rattle.pf_value.specs.declared.direction.Direction.TheVariants.{In, Out}
+use Rattle.pf_state.specs.declared.peer.message.Group.{Group}
+use Rattle.pf_state.specs.declared.peer.message.Group.TheVariants.{Inserts, Deletes, Clears}
+use Rattle.pf_state.specs.declared.peer.message.Message.{Message}
+use Rattle.pf_state.specs.declared.peer.record.TheConstants.{RECORD}
+use Rattle.pf_state.specs.declared.peer.record.Delete.{Delete}
+use Rattle.pf_state.specs.declared.peer.record.Clear.{Clear}
+use Rattle.pf_state.specs.Peer.Records.{PlainInsert, IsInsert, number_at, allowed, fields_of, insert_of, delete_of, clear_of, address_bytes, insert_bytes, delete_bytes, clear_bytes}
+use Rattle.pf_state.specs.Peer.Groups.{records_of, content, is_action, group_at, AreGroups}
+use Rattle.pf_state.specs.Peer.Messages.{IsMessage}
+use Rattle.pf_state.proofs.Appended.{few_inserts, few_deletes, few_clears}
+use Rattle.pf_state.specs.Peer.Written.{Each, IsDelete, IsClear, IsGroup, group_bytes, groups_bytes, message_length, message_bytes, CanBeWritten}
+
+-- ---- records
+
+-- what a record is written as is read as that record, and is as long as a record is
+record Again {A : Type 0} (reading : List ℕ → Option A) (writing : A → List ℕ) (x : A) : Type 0 where
+  read : reading (writing x) ≡ Some x
+  long : length (writing x) ≡ RECORD
+
+delete_again : (d : Delete) → IsDelete d → Again delete_of delete_bytes d
+unfolding number_at
+delete_again d is = record { read = rw (big_number-reads_back 8 d.id _ is.0, big_number-reads_back 4 d.creator _ is.1) refl; long = refl }
+
+clear_again : (c : Clear) → IsClear c → Again clear_of clear_bytes c
+unfolding number_at
+clear_again c is = record { read = rw (big_number-reads_back 4 c.creator _ is) refl; long = refl }
+
+address_long : (a : Addr) → length (address_bytes a) ≡ 16
+address_long (V4 n) = refl
+address_long (V6 n) = refl
+
+insert_long : (i : PlainInsert) → length (insert_bytes i) ≡ RECORD
+insert_long i = omega (
+  arith,
+  length-append (address_bytes i.source) (address_bytes i.destination ++ (big_bytes 2 i.source_port ++ (big_bytes 2 i.destination_port ++ (big_bytes 4 i.rule ++ big_bytes 4 i.anchor)))),
+  length-append (address_bytes i.destination) (big_bytes 2 i.source_port ++ (big_bytes 2 i.destination_port ++ (big_bytes 4 i.rule ++ big_bytes 4 i.anchor))),
+  address_long i.source,
+  address_long i.destination,
+)
+
+-- an insert with these fields
+abbrev with_fields : ℕ → ℕ → ℕ → Direction → ℕ → Addr → Addr → ℕ → ℕ → ℕ → ℕ → PlainInsert
+with_fields id creator generation direction protocol source destination source_port destination_port rule anchor = record {
+  id = id;
+  creator = creator;
+  generation = generation;
+  direction = direction;
+  protocol = protocol;
+  source = source;
+  destination = destination;
+  source_port = source_port;
+  destination_port = destination_port;
+  rule = rule;
+  anchor = anchor;
+}
+
+not_zero : (n : ℕ) → 0 < n → (n == 0) ≡ false
+not_zero n lt = grind (arith, nat_tests)
+
+ports_again : (b : Bool) (m n : ℕ) → (b ≡ false → (m ≡ 0) × (n ≡ 0)) → (b || ((m == 0) && (n == 0))) ≡ true
+ports_again true m n none = refl
+ports_again false m n none = rw ((none refl).0, (none refl).1) refl
+
+-- it may stand in a record
+allowed_again : (id creator generation : ℕ) (direction : Direction) (protocol : ℕ) (source destination : Addr) (source_port destination_port rule anchor : ℕ)
+    → IsInsert (with_fields id creator generation direction protocol source destination source_port destination_port rule anchor)
+    → allowed (insert_bytes (with_fields id creator generation direction protocol source destination source_port destination_port rule anchor)) ≡ true
+unfolding allowed number_at
+allowed_again id creator generation In protocol (V4 s) (V4 d) source_port destination_port rule anchor is =
+    rw (not_zero protocol is.protocol.0, big_number-reads_back 2 source_port _ is.source_port, big_number-reads_back 2 destination_port _ is.destination_port) (ports_again (has_ports protocol) source_port destination_port is.no_ports)
+allowed_again id creator generation Out protocol (V4 s) (V4 d) source_port destination_port rule anchor is =
+    rw (not_zero protocol is.protocol.0, big_number-reads_back 2 source_port _ is.source_port, big_number-reads_back 2 destination_port _ is.destination_port) (ports_again (has_ports protocol) source_port destination_port is.no_ports)
+allowed_again id creator generation In protocol (V6 s) (V6 d) source_port destination_port rule anchor is =
+    rw (not_zero protocol is.protocol.0, big_number-reads_back 2 source_port _ is.source_port, big_number-reads_back 2 destination_port _ is.destination_port) (ports_again (has_ports protocol) source_port destination_port is.no_ports)
+allowed_again id creator generation Out protocol (V6 s) (V6 d) source_port destination_port rule anchor is =
+    rw (not_zero protocol is.protocol.0, big_number-reads_back 2 source_port _ is.source_port, big_number-reads_back 2 destination_port _ is.destination_port) (ports_again (has_ports protocol) source_port destination_port is.no_ports)
+allowed_again id creator generation direction protocol (V4 s) (V6 d) source_port destination_port rule anchor is = let e : family.V4 ≡ family.V6 = is.families in cc
+allowed_again id creator generation direction protocol (V6 s) (V4 d) source_port destination_port rule anchor is = let e : family.V6 ≡ family.V4 = is.families in cc
+
+fields_again : (id creator generation : ℕ) (direction : Direction) (protocol : ℕ) (source destination : Addr) (source_port destination_port rule anchor : ℕ)
+    → IsInsert (with_fields id creator generation direction protocol source destination source_port destination_port rule anchor)
+    → fields_of (insert_bytes (with_fields id creator generation direction protocol source destination source_port destination_port rule anchor))
+    ≡ with_fields id creator generation direction protocol source destination source_port destination_port rule anchor
+unfolding fields_of number_at
+fields_again id creator generation In protocol (V4 s) (V4 d) source_port destination_port rule anchor is =
+    rw (
+      big_number-reads_back 8 id _ is.id,
+      big_number-reads_back 4 creator _ is.creator,
+      big_number-reads_back 4 generation _ is.generation,
+      big_number-reads_back 4 s _ is.source,
+      big_number-reads_back 4 d _ is.destination,
+      big_number-reads_back 2 source_port _ is.source_port,
+      big_number-reads_back 2 destination_port _ is.destination_port,
+      big_number-reads_back 4 rule _ is.rule,
+      big_number-reads_back 4 anchor [] is.anchor,
+    ) refl
+fields_again id creator generation Out protocol (V4 s) (V4 d) source_port destination_port rule anchor is =
+    rw (
+      big_number-reads_back 8 id _ is.id,
+      big_number-reads_back 4 creator _ is.creator,
+      big_number-reads_back 4 generation _ is.generation,
+      big_number-reads_back 4 s _ is.source,
+      big_number-reads_back 4 d _ is.destination,
+      big_number-reads_back 2 source_port _ is.source_port,
+      big_number-reads_back 2 destination_port _ is.destination_port,
+      big_number-reads_back 4 rule _ is.rule,
+      big_number-reads_back 4 anchor [] is.anchor,
+    ) refl
+fields_again id creator generation In protocol (V6 s) (V6 d) source_port destination_port rule anchor is =
+    rw (
+      big_number-reads_back 8 id _ is.id,
+      big_number-reads_back 4 creator _ is.creator,
+      big_number-reads_back 4 generation _ is.generation,
+      big_number-reads_back 16 s _ is.source,
+      big_number-reads_back 16 d _ is.destination,
+      big_number-reads_back 2 source_port _ is.source_port,
+      big_number-reads_back 2 destination_port _ is.destination_port,
+      big_number-reads_back 4 rule _ is.rule,
+      big_number-reads_back 4 anchor [] is.anchor,
+    ) refl
+fields_again id creator generation Out protocol (V6 s) (V6 d) source_port destination_port rule anchor is =
+    rw (
+      big_number-reads_back 8 id _ is.id,
+      big_number-reads_back 4 creator _ is.creator,
+      big_number-reads_back 4 generation _ is.generation,
+      big_number-reads_back 16 s _ is.source,
+      big_number-reads_back 16 d _ is.destination,
+      big_number-reads_back 2 source_port _ is.source_port,
+      big_number-reads_back 2 destination_port _ is.destination_port,
+      big_number-reads_back 4 rule _ is.rule,
+      big_number-reads_back 4 anchor [] is.anchor,
+    ) refl
+fields_again id creator generation direction protocol (V4 s) (V6 d) source_port destination_port rule anchor is = let e : family.V4 ≡ family.V6 = is.families in cc
+fields_again id creator generation direction protocol (V6 s) (V4 d) source_port destination_port rule anchor is = let e : family.V6 ≡ family.V4 = is.families in cc
+
+insert_again : (i : PlainInsert) → IsInsert i → Again insert_of insert_bytes i
+insert_again i is = record {
+  read = rw (
+    allowed_again i.id i.creator i.generation i.direction i.protocol i.source i.destination i.source_port i.destination_port i.rule i.anchor is,
+    fields_again i.id i.creator i.generation i.direction i.protocol i.source i.destination i.source_port i.destination_port i.rule i.anchor is,
+  ) refl;
+  long = insert_long i;
+}
+
+records_again : {A : Type 0} (reading : List ℕ → Option A) (writing : A → List ℕ) (P : A → Type 0) → ((x : A) → P x → Again reading writing x) → (xs : List A) (rest : List ℕ)
+    → Each P xs → records_of reading (length xs) (flat_map writing xs ++ rest) ≡ Ok xs
+records_again reading writing P again [] rest each = refl
+records_again reading writing P again (x ∷ xs) rest each =
+    let one = again x each.0 in
+    let split = append_assoc (writing x) (flat_map writing xs) rest in
+    rw (split, take_at (writing x) (flat_map writing xs ++ rest) RECORD one.long, drop_at (writing x) (flat_map writing xs ++ rest) RECORD one.long, one.read, records_again reading writing P again xs rest each.1) refl
+
+-- they take so many bytes
+records_long : {A : Type 0} (reading : List ℕ → Option A) (writing : A → List ℕ) (P : A → Type 0) → ((x : A) → P x → Again reading writing x) → (xs : List A) → Each P xs
+    → length (flat_map writing xs) ≡ RECORD * length xs
+records_long reading writing P again [] each = refl
+records_long reading writing P again (x ∷ xs) each =
+    omega (arith, (again x each.0).long, records_long reading writing P again xs each.1, length-append (writing x) (flat_map writing xs))
+
+-- ---- groups
+
+not_below : (m n : ℕ) → n ≤ m → nat_lt m n ≡ false
+not_below m n le = grind (arith, nat_tests)
+
+count_again : (a n : ℕ) (rest : List ℕ) → n < 65536 → number_at 2 2 (a ∷ 0 ∷ (big_bytes 2 n ++ rest)) ≡ n
+unfolding number_at
+count_again a n rest lt = big_number-reads_back 2 n rest lt
+
+one_again : (a n : ℕ) (records rest : List ℕ) (g : Group) → n < 65536 → is_action a ≡ true → length records ≡ RECORD * n → content a n (records ++ rest) ≡ Ok g
+    → group_at (a ∷ 0 ∷ (big_bytes 2 n ++ (records ++ rest))) ≡ Ok (g, rest)
+unfolding group_at
+one_again a n records rest g lt action long says =
+    let enough : nat_lt (length (a ∷ 0 ∷ (big_bytes 2 n ++ (records ++ rest)))) 4 ≡ false = not_below (length (a ∷ 0 ∷ (big_bytes 2 n ++ (records ++ rest)))) 4 (omega arith) in
+    let all : nat_lt (length (records ++ rest)) (RECORD * n) ≡ false = not_below (length (records ++ rest)) (RECORD * n) (omega (arith, long, length-append records rest)) in
+    rw (enough, action, count_again a n (records ++ rest) lt, all, says, drop_at records rest (RECORD * n) long) refl
+
+group_again : (g : Group) (rest : List ℕ) → IsGroup g → length (group_bytes g) < 65536 → group_at (group_bytes g ++ rest) ≡ Ok (g, rest)
+unfolding content
+group_again (Inserts xs) rest is fits =
+    one_again 1 (length xs) (flat_map insert_bytes xs) rest (Inserts xs) (few_inserts (Inserts xs) xs refl fits) refl (records_long insert_of insert_bytes IsInsert insert_again xs is)
+    (rw (records_again insert_of insert_bytes IsInsert insert_again xs rest is) refl)
+group_again (Deletes xs) rest is fits =
+    one_again 6 (length xs) (flat_map delete_bytes xs) rest (Deletes xs) (few_deletes (Deletes xs) xs refl fits) refl (records_long delete_of delete_bytes IsDelete delete_again xs is)
+    (rw (records_again delete_of delete_bytes IsDelete delete_again xs rest is) refl)
+group_again (Clears xs) rest is fits =
+    one_again 0 (length xs) (flat_map clear_bytes xs) rest (Clears xs) (few_clears (Clears xs) xs refl fits) refl (records_long clear_of clear_bytes IsClear clear_again xs is)
+    (rw (records_again clear_of clear_bytes IsClear clear_again xs rest is) refl)
+
+some_bytes : (g : Group) (rest : List ℕ) → group_bytes g ++ rest ≢ []
+some_bytes (Inserts xs) rest e = absurd (omega (arith, ap (λ (l : List ℕ). length l) e))
+some_bytes (Deletes xs) rest e = absurd (omega (arith, ap (λ (l : List ℕ). length l) e))
+some_bytes (Clears xs) rest e = absurd (omega (arith, ap (λ (l : List ℕ). length l) e))
+
+groups_again : (gs : List Group) → Each IsGroup gs → length (groups_bytes gs) < 65536 → AreGroups (groups_bytes gs) gs
+groups_again [] each fits = refl
+groups_again (g ∷ gs) each fits =
+    let long = length-append (group_bytes g) (groups_bytes gs) in
+    (some_bytes g (groups_bytes gs), groups_bytes gs, group_again g (groups_bytes gs) each.0 (omega (arith, fits, long)), groups_again gs each.1 (omega (arith, fits, long)))
+
+-- ---- the message
+
+pub message_again : (m : Message) → CanBeWritten m → IsMessage (message_bytes m) m
+unfolding number_at
+message_again m can =
+    let body = length-append m.checksum (groups_bytes m.groups) in
+    record {
+      whole = record {
+        version = refl;
+        zero = refl;
+        measured = big_number-reads_back 2 (message_length m) (m.checksum ++ groups_bytes m.groups) can.fits ∙ omega (arith, body, can.checksum);
+        enough = omega (arith, body, can.checksum);
+      };
+      checksum = sym (take_at m.checksum (groups_bytes m.groups) 16 can.checksum);
+      groups = subst (λ (l : List ℕ). AreGroups l m.groups) (sym (drop_at m.checksum (groups_bytes m.groups) 16 can.checksum)) (groups_again m.groups can.groups (omega (arith, can.fits)));
+    }

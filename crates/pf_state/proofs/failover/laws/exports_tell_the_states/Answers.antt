@@ -1,0 +1,9 @@
+use Rattle.pf_state.proofs.Told.{tells_the_states}
+use Rattle.pf_state.proofs.TakenOver.{takes_over}
+use Rattle.pf_state.proofs.failover.laws.exports_tell_the_states.Goals as goal
+
+pub returns-clause-told : goal.returns-clause-told
+returns-clause-told c = tells_the_states
+
+pub returns-clause-taken : goal.returns-clause-taken
+returns-clause-taken c = takes_over

@@ -1,0 +1,15 @@
+use Rattle.std.proofs.Common.{◌++◌, List, length}
+use Rattle.pf_state.specs.declared.peer.message.Group.{Group}
+use Rattle.pf_state.specs.declared.peer.fault.PeerFault.{PeerFault}
+use Rattle.pf_state.specs.Peer.Groups.{AreGroups, BreakBehind}
+use Rattle.pf_state.proofs.peer.groups.groups_of.Given as goal
+
+-- what is left are groups, or has a fault, as the whole is or has
+abbrev pub invariant-loop-rest : goal.invariant-loop-rest
+invariant-loop-rest l = record {
+  good : (gs : List Group) → AreGroups l.rest gs → AreGroups l.fn.bytes (l.groups.items ++ gs);
+  bad : (gs : List Group) (f : PeerFault) → BreakBehind gs l.rest f → BreakBehind (l.groups.items ++ gs) l.fn.bytes f;
+}
+
+abbrev pub decreases-loop-rest : goal.decreases-loop-rest
+decreases-loop-rest l = length l.rest

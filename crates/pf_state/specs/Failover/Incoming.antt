@@ -1,0 +1,51 @@
+-- What a peer's message means for the states here: a step for each record. Own; the messages are pf_state::peer's, after pfsync(4).
+use Rattle.std.specs.Prelude.{ℕ, List, map}
+use Rattle.std.specs.List.{flat_map}
+use Rattle.pf_state.specs.declared.peer.message.Group.{Group}
+use Rattle.pf_state.specs.declared.peer.message.Group.TheVariants.{Inserts, Deletes, Clears}
+use Rattle.pf_state.specs.declared.peer.message.Message.{Message}
+use Rattle.pf_state.specs.declared.peer.record.Clear.{Clear as ClearRecord}
+use Rattle.pf_state.specs.declared.peer.record.Delete.{Delete as DeleteRecord}
+use Rattle.pf_state.specs.Peer.Records.{PlainInsert}
+use Rattle.pf_state.specs.declared.step.Step.{Step}
+use Rattle.pf_state.specs.declared.step.Step.TheVariants.{Insert, Delete, Clear}
+use Rattle.pf_state.specs.Bindings.{bound}
+use Rattle.pf_state.specs.Flows.{PlainFlow}
+use Rattle.pf_state.specs.States.{Stated}
+
+-- the flow of the state that an insert tells of
+abbrev pub flow_of : PlainInsert → PlainFlow
+flow_of i = record {
+  direction = i.direction;
+  protocol = i.protocol;
+  source = i.source;
+  source_port = i.source_port;
+  destination = i.destination;
+  destination_port = i.destination_port;
+}
+
+-- The state itself, in a message with this checksum: it is bound by the checksum of the main rules here and by their number.
+abbrev pub state_of : List ℕ → List ℕ → ℕ → PlainInsert → Stated
+state_of sum current count i = (
+  record { id = i.id; creator = i.creator },
+  record { generation = i.generation; flow = flow_of i; bound = bound sum i.rule i.anchor current count },
+)
+
+abbrev pub insert_step : List ℕ → List ℕ → ℕ → PlainInsert → Step
+insert_step sum current count i = Insert (state_of sum current count i)
+
+abbrev pub delete_step : DeleteRecord → Step
+delete_step d = Delete (record { id = d.id; creator = d.creator })
+
+abbrev pub clear_step : ClearRecord → Step
+clear_step c = Clear c.creator
+
+-- of a group a step for each record, in order
+abbrev pub group_steps : List ℕ → List ℕ → ℕ → Group → List Step
+group_steps sum current count (Inserts xs) = map (insert_step sum current count) xs
+group_steps sum current count (Deletes xs) = map delete_step xs
+group_steps sum current count (Clears xs) = map clear_step xs
+
+-- of a message those of its groups, in order
+abbrev pub steps_of : Message → List ℕ → ℕ → List Step
+steps_of m current count = flat_map (group_steps m.checksum current count) m.groups

@@ -1,0 +1,107 @@
+-- What follows from the definitions of what a message asks for and of an export, as law functions promise it. Own.
+use Rattle.std.specs.Prelude.{◌≡◌, ℕ, ◌<◌, ◌≤◌, ◌^◌, ◌&&◌, false, nat_lt, cond, List, [], ◌∷◌, length, map}
+use Rattle.std.specs.List.{concat, flat_map, sum_by}
+use Rattle.std.specs.Str.{bytes_eq}
+use Rattle.pf_state.specs.declared.peer.message.Group.{Group}
+use Rattle.pf_state.specs.declared.peer.message.Group.TheVariants.{Inserts, Deletes, Clears}
+use Rattle.pf_state.specs.declared.peer.message.Message.{Message}
+use Rattle.pf_state.specs.declared.peer.message.TheConstants.{MESSAGE_LIMIT}
+use Rattle.pf_state.specs.Peer.Records.{PlainInsert}
+use Rattle.pf_state.specs.Peer.Streams.{Reads, Unfinished}
+use Rattle.pf_state.specs.Peer.Written.{Each, message_length, message_bytes}
+use Rattle.pf_state.specs.declared.binding.TheConstants.{ALL_ONES}
+use Rattle.pf_state.specs.declared.state.Bound.{Bound}
+use Rattle.pf_state.specs.declared.state.Bound.TheVariants.{Rule, Default}
+use Rattle.pf_state.specs.declared.step.Step.{Step}
+use Rattle.pf_state.specs.declared.step.Step.TheVariants.{Insert}
+use Rattle.pf_state.specs.Flows.{IsFlow}
+use Rattle.pf_state.specs.States.{Stated, IsStates}
+use Rattle.pf_state.specs.Steps.{after, passes_limit}
+use Rattle.pf_state.specs.declared.failover.outgoing.TheConstants.{EXPORT_RECORDS}
+use Rattle.pf_state.specs.Failover.Incoming.{steps_of}
+use Rattle.pf_state.specs.Failover.Outgoing.{parts, exported_messages}
+
+-- ---- a step for each record
+
+abbrev pub record_count : Group → ℕ
+record_count (Inserts xs) = length xs
+record_count (Deletes xs) = length xs
+record_count (Clears xs) = length xs
+
+-- a message asks for as many steps as its groups have records
+abbrev pub OneStepForEach : Type 0
+OneStepForEach = (m : Message) (current : List ℕ) (count : ℕ) → length (steps_of m current count) ≡ sum_by record_count m.groups
+
+-- ---- what an export has
+
+-- each part but the last has 31 states, and the last one 1 to 31
+abbrev pub AreFullButLast : List (List Stated) → Type 0
+AreFullButLast [] = Unit {0}
+AreFullButLast (p ∷ []) = (1 ≤ length p) × (length p ≤ EXPORT_RECORDS)
+AreFullButLast (p ∷ q ∷ ps) = (length p ≡ EXPORT_RECORDS) × AreFullButLast (q ∷ ps)
+
+-- the parts of some states are these states, cut so
+pub record AreParts (es : List Stated) (ps : List (List Stated)) : Type 0 where
+  pub joined : flat_map (λ p. p) ps ≡ es
+  pub full : AreFullButLast ps
+
+abbrev pub CutsIntoParts : Type 0
+CutsIntoParts = (es : List Stated) → AreParts es (parts es)
+
+-- a message of an export: the checksum of the rules here, and one group of 1 to 31 inserts, in no more bytes than a message may have
+pub record IsExported (current : List ℕ) (m : Message) : Type 0 where
+  pub checksum : m.checksum ≡ current
+  pub inserts : List PlainInsert
+  pub one_group : m.groups ≡ Inserts inserts ∷ []
+  pub some : 1 ≤ length inserts
+  pub few : length inserts ≤ EXPORT_RECORDS
+  pub fits : message_length m ≤ MESSAGE_LIMIT
+
+abbrev pub ExportsMessages : Type 0
+ExportsMessages = (current : List ℕ) (es : List Stated) → Each (IsExported current) (exported_messages current es)
+
+-- ---- what a peer makes of it
+
+-- What a state is bound to at a peer: to its rule where that was one of the rules here, the peer has the same rules, and so many of
+-- them that it is one; else to the default rule.
+abbrev pub bound_there : List ℕ → List ℕ → ℕ → Bound → Bound
+bound_there ours theirs count (Rule number sum) = cond (bytes_eq sum ours && (bytes_eq ours theirs && nat_lt number count)) (Rule number sum) Default
+bound_there ours theirs count Default = Default
+
+-- the state at a peer: all of it but the rule that it is bound to
+abbrev pub state_there : List ℕ → List ℕ → ℕ → Stated → Stated
+state_there ours theirs count s = (s.0, record { generation = s.1.generation; flow = s.1.flow; bound = bound_there ours theirs count s.1.bound })
+
+-- an export asks a peer for an insert of each state, in order, and for nothing else
+abbrev pub TellsTheStates : Type 0
+TellsTheStates = (ours theirs : List ℕ) (count : ℕ) (es : List Stated) → count ≤ ALL_ONES
+    → flat_map (λ m. steps_of m theirs count) (exported_messages ours es) ≡ map (λ s. Insert (state_there ours theirs count s)) es
+
+-- these steps are taken where there are no states, at no step there are more states than there may be, and these are left
+pub record MakesStates (steps : List Step) (es : List Stated) : Type 0 where
+  pub left : after [] steps ≡ es
+  pub fits : passes_limit [] steps ≡ false
+
+-- a peer that has no states is never refused a table's states, and then has these and no other
+abbrev pub TakesOver : Type 0
+TakesOver = (ours theirs : List ℕ) (count : ℕ) (es : List Stated) → IsStates es → count ≤ ALL_ONES
+    → MakesStates (flat_map (λ m. steps_of m theirs count) (exported_messages ours es)) (map (state_there ours theirs count) es)
+
+-- ---- its bytes
+
+abbrev pub IsBound : Bound → Type 0
+IsBound (Rule number sum) = number < 2 ^ 32
+IsBound Default = Unit {0}
+
+-- each number of a state is within its width
+pub record IsState (s : Stated) : Type 0 where
+  pub id : s.0.id < 2 ^ 64
+  pub creator : s.0.creator < 2 ^ 32
+  pub generation : s.1.generation < 2 ^ 32
+  pub flow : IsFlow s.1.flow
+  pub bound : IsBound s.1.bound
+
+-- the bytes of an export, one message after the other, are read as these messages, and nothing is left
+abbrev pub IsReadBack : Type 0
+IsReadBack = (current : List ℕ) (es : List Stated) → length current ≡ 16 → Each IsState es
+    → Reads (concat (map message_bytes (exported_messages current es))) (exported_messages current es) (Unfinished [])

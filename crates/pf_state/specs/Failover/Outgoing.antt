@@ -1,0 +1,40 @@
+-- The messages that tell a peer of the states here. Own; the messages are pf_state::peer's, after pfsync(4).
+use Rattle.std.specs.Prelude.{ℕ, List, [], ◌∷◌, length, map}
+use Rattle.std.specs.Simd.{first_chunks}
+use Rattle.std.specs.Slice.Iter.{chunk_count}
+use Rattle.pf_state.specs.declared.peer.message.Group.TheVariants.{Inserts}
+use Rattle.pf_state.specs.declared.peer.message.Message.{Message}
+use Rattle.pf_state.specs.Peer.Records.{PlainInsert}
+use Rattle.pf_state.specs.declared.binding.TheConstants.{ALL_ONES}
+use Rattle.pf_state.specs.Bindings.{exported}
+use Rattle.pf_state.specs.States.{Stated}
+use Rattle.pf_state.specs.declared.failover.outgoing.TheConstants.{EXPORT_RECORDS}
+
+-- The insert that tells of a state where the main rules have this checksum: it names the state's main rule while they are the rules
+-- that it was bound by, and no anchor.
+abbrev pub insert_of : List ℕ → Stated → PlainInsert
+insert_of current s = record {
+  id = s.0.id;
+  creator = s.0.creator;
+  generation = s.1.generation;
+  direction = s.1.flow.direction;
+  protocol = s.1.flow.protocol;
+  source = s.1.flow.source;
+  destination = s.1.flow.destination;
+  source_port = s.1.flow.source_port;
+  destination_port = s.1.flow.destination_port;
+  rule = exported s.1.bound current;
+  anchor = ALL_ONES;
+}
+
+-- a message of one group, which tells of these states
+abbrev pub told : List ℕ → List Stated → Message
+told current es = record { checksum = current; groups = Inserts (map (insert_of current) es) ∷ [] }
+
+-- the states in parts of 31, the last of what is left
+abbrev pub parts : List Stated → List (List Stated)
+parts es = first_chunks EXPORT_RECORDS (chunk_count (length es) EXPORT_RECORDS) es
+
+-- a message for each part
+abbrev pub exported_messages : List ℕ → List Stated → List Message
+exported_messages current es = map (told current) (parts es)

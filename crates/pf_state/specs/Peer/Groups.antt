@@ -1,0 +1,63 @@
+-- A message's groups, in order, and the fault of the first that is none. A group is an action, a zero byte, a count in two bytes, and
+-- that many records of 64 bytes. Own.
+use Rattle.std.specs.Prelude.{◌≡◌, ◌≢◌, ◌*◌, ◌==◌, ◌&&◌, ◌||◌, nat_lt, ℕ, zero, suc, Bool, List, [], ◌∷◌, length, take, drop, Option, Some, None, Result, Ok, Err, if◌then◌else◌}
+use Rattle.pf_state.specs.declared.peer.fault.PeerFault.{PeerFault}
+use Rattle.pf_state.specs.declared.peer.fault.PeerFault.TheVariants.{BadLength, BadAction, BadRecord}
+use Rattle.pf_state.specs.declared.peer.message.Group.{Group}
+use Rattle.pf_state.specs.declared.peer.message.Group.TheVariants.{Inserts, Deletes, Clears}
+use Rattle.pf_state.specs.declared.peer.message.TheConstants.{INSERT, DELETE, CLEAR}
+use Rattle.pf_state.specs.declared.peer.record.TheConstants.{RECORD}
+use Rattle.pf_state.specs.Peer.Records.{byte_at, number_at, insert_of, delete_of, clear_of}
+
+infixl 10 ◌>>=◌
+abbrev pub ◌>>=◌ : {A B : Type 0} → Result A PeerFault → (A → Result B PeerFault) → Result B PeerFault
+(Ok x) >>= f = f x
+(Err e) >>= f = Err e
+
+-- ---- records
+
+-- a value, or the fault where there is none
+abbrev pub or_bad : {A : Type 0} → Option A → Result A PeerFault
+or_bad (Some x) = Ok x
+or_bad None = Err BadRecord
+
+-- what so many records say, one after the other, each as `reading` has it
+abbrev pub records_of : {A : Type 0} → (List ℕ → Option A) → ℕ → List ℕ → Result (List A) PeerFault
+records_of reading zero bytes = Ok []
+records_of reading (suc n) bytes = or_bad (reading (take RECORD bytes)) >>= λ x. records_of reading n (drop RECORD bytes) >>= λ xs. Ok (x ∷ xs)
+
+-- ---- a group
+
+abbrev pub is_action : ℕ → Bool
+is_action a = (a == INSERT) || ((a == DELETE) || (a == CLEAR))
+
+-- the records of a group of this action
+unfoldable pub content : ℕ → ℕ → List ℕ → Result Group PeerFault
+content a n bytes = if a == INSERT then (records_of insert_of n bytes >>= λ xs. Ok (Inserts xs))
+    else (if a == DELETE then (records_of delete_of n bytes >>= λ xs. Ok (Deletes xs)) else (records_of clear_of n bytes >>= λ xs. Ok (Clears xs)))
+
+-- how many bytes its records take
+abbrev pub size_at : List ℕ → ℕ
+size_at bytes = RECORD * number_at 2 2 bytes
+
+-- The group at the front of what is left of a message, and what follows it. The fault is the first in this order: fewer bytes than a
+-- group's header; an action that is none, or another byte than 0 behind it; records past the message's end; a record.
+unfoldable pub group_at : List ℕ → Result (Group × List ℕ) PeerFault
+group_at bytes =
+    if nat_lt (length bytes) 4 then Err BadLength
+    else (if is_action (byte_at 0 bytes) && (byte_at 1 bytes == 0)
+    then (if nat_lt (length (drop 4 bytes)) (size_at bytes) then Err BadLength
+    else (content (byte_at 0 bytes) (number_at 2 2 bytes) (drop 4 bytes) >>= λ g. Ok (g, drop (size_at bytes) (drop 4 bytes))))
+    else Err BadAction)
+
+-- ---- all of them
+
+-- the bytes are these groups and nothing else
+abbrev pub AreGroups : List ℕ → List Group → Type 0
+AreGroups bytes [] = bytes ≡ []
+AreGroups bytes (g ∷ gs) = (bytes ≢ []) × (behind : List ℕ) × (group_at bytes ≡ Ok (g, behind)) × AreGroups behind gs
+
+-- the bytes begin with these groups, and then have this fault
+abbrev pub BreakBehind : List Group → List ℕ → PeerFault → Type 0
+BreakBehind [] bytes f = (bytes ≢ []) × (group_at bytes ≡ Err f)
+BreakBehind (g ∷ gs) bytes f = (bytes ≢ []) × (behind : List ℕ) × (group_at bytes ≡ Ok (g, behind)) × BreakBehind gs behind f

@@ -1,0 +1,123 @@
+-- A record of 64 bytes: the places of its fields, and what they say. The form is own, after that of pfsync(4)'s states.
+--
+--   place width field          place width field
+--       0     8 id                19     1 zero
+--       8     4 creator           20    16 source, IPv4 in the first four
+--      12     4 generation        36    16 destination, as the source
+--      16     1 direction         52     2 source port
+--      17     1 family            54     2 destination port
+--      18     1 protocol          56     4 rule, 60 4 anchor
+use Rattle.std.specs.Prelude.{◌≡◌, ◌<◌, ◌+◌, ◌==◌, ◌^◌, ◌&&◌, ◌||◌, not, ℕ, Bool, false, List, ◌∷◌, ◌++◌, drop, slice_index, replicate, Option, Some, None, if◌then◌else◌}
+use Rattle.byteorder.specs.Endian.{big_number, big_bytes}
+use Rattle.pf_addr.specs.declared.addr.Addr.{Addr}
+use Rattle.pf_addr.specs.declared.addr.Addr.TheVariants.{V4, V6}
+use Rattle.pf_addr.specs.Address.{IsAddr, family_of}
+use Rattle.pf_value.specs.declared.direction.Direction.{Direction}
+use Rattle.pf_value.specs.declared.direction.Direction.TheVariants.{In, Out}
+use Rattle.pf_value.specs.Values.{IsProtocol, has_ports}
+use Rattle.pf_state.specs.declared.peer.fields.TheConstants.{IN, OUT, FAMILY_4, FAMILY_6}
+use Rattle.pf_state.specs.declared.peer.record.InsertFields.{InsertFields}
+use Rattle.pf_state.specs.declared.peer.record.Delete.{Delete}
+use Rattle.pf_state.specs.declared.peer.record.Clear.{Clear}
+
+-- an insert as contracts see it: its fields
+abbrev pub PlainInsert : Type 0
+PlainInsert = InsertFields
+
+-- what an insert keeps: each number within its width, addresses of one family, no ports but for a protocol that has them
+pub record IsInsert (i : PlainInsert) : Type 0 where
+  pub id : i.id < 2 ^ 64
+  pub creator : i.creator < 2 ^ 32
+  pub generation : i.generation < 2 ^ 32
+  pub protocol : IsProtocol i.protocol
+  pub source : IsAddr i.source
+  pub destination : IsAddr i.destination
+  pub families : family_of i.source ≡ family_of i.destination
+  pub source_port : i.source_port < 65536
+  pub destination_port : i.destination_port < 65536
+  pub no_ports : has_ports i.protocol ≡ false → (i.source_port ≡ 0) × (i.destination_port ≡ 0)
+  pub rule : i.rule < 2 ^ 32
+  pub anchor : i.anchor < 2 ^ 32
+
+-- ---- reading
+
+-- the number of so many bytes at a place
+unfoldable pub number_at : ℕ → ℕ → List ℕ → ℕ
+number_at place width r = big_number width (drop place r)
+
+abbrev pub byte_at : ℕ → List ℕ → ℕ
+byte_at place r = slice_index r place
+
+-- the address at a place, in a family, 4 or 6
+abbrev pub address_at : ℕ → ℕ → List ℕ → Addr
+address_at family place r = if family == FAMILY_4 then V4 (number_at place 4 r) else V6 (number_at place 16 r)
+
+-- an IPv4 address has twelve bytes of 0 behind it
+abbrev pub is_padded : ℕ → ℕ → List ℕ → Bool
+is_padded family place r = (family == FAMILY_6) || ((number_at (place + 4) 8 r == 0) && (number_at (place + 12) 4 r == 0))
+
+-- ports are 0 where the protocol has none
+abbrev pub are_ports : List ℕ → Bool
+are_ports r = has_ports (byte_at 18 r) || ((number_at 52 2 r == 0) && (number_at 54 2 r == 0))
+
+-- direction 1 or 2, family 4 or 6, a protocol, and the zero
+abbrev pub are_kinds : List ℕ → Bool
+are_kinds r = ((byte_at 16 r == IN) || (byte_at 16 r == OUT)) && (((byte_at 17 r == FAMILY_4) || (byte_at 17 r == FAMILY_6)) && (not (byte_at 18 r == 0) && (byte_at 19 r == 0)))
+
+-- what an insert's record may say
+unfoldable pub allowed : List ℕ → Bool
+allowed r = are_kinds r && (is_padded (byte_at 17 r) 20 r && (is_padded (byte_at 17 r) 36 r && are_ports r))
+
+abbrev pub direction_of : ℕ → Direction
+direction_of b = if b == IN then In else Out
+
+-- what its fields say
+unfoldable pub fields_of : List ℕ → PlainInsert
+fields_of r = record {
+  id = number_at 0 8 r;
+  creator = number_at 8 4 r;
+  generation = number_at 12 4 r;
+  direction = direction_of (byte_at 16 r);
+  protocol = byte_at 18 r;
+  source = address_at (byte_at 17 r) 20 r;
+  destination = address_at (byte_at 17 r) 36 r;
+  source_port = number_at 52 2 r;
+  destination_port = number_at 54 2 r;
+  rule = number_at 56 4 r;
+  anchor = number_at 60 4 r;
+}
+
+abbrev pub insert_of : List ℕ → Option PlainInsert
+insert_of r = if allowed r then Some (fields_of r) else None
+
+-- Of a delete the id and the creator count, of a clear the creator. Their other bytes may be anything.
+abbrev pub delete_of : List ℕ → Option Delete
+delete_of r = Some (record { id = number_at 0 8 r; creator = number_at 8 4 r })
+
+abbrev pub clear_of : List ℕ → Option Clear
+clear_of r = Some (record { creator = number_at 8 4 r })
+
+-- ---- writing
+
+abbrev pub direction_byte : Direction → ℕ
+direction_byte In = IN
+direction_byte Out = OUT
+
+abbrev pub family_byte : Addr → ℕ
+family_byte (V4 n) = FAMILY_4
+family_byte (V6 n) = FAMILY_6
+
+abbrev pub address_bytes : Addr → List ℕ
+address_bytes (V4 n) = big_bytes 4 n ++ replicate 12 0
+address_bytes (V6 n) = big_bytes 16 n
+
+abbrev pub insert_bytes : PlainInsert → List ℕ
+insert_bytes i = big_bytes 8 i.id ++ (big_bytes 4 i.creator ++ (big_bytes 4 i.generation
+    ++ (direction_byte i.direction ∷ family_byte i.source ∷ i.protocol ∷ 0 ∷ (address_bytes i.source ++ (address_bytes i.destination
+    ++ (big_bytes 2 i.source_port ++ (big_bytes 2 i.destination_port ++ (big_bytes 4 i.rule ++ big_bytes 4 i.anchor))))))))
+
+abbrev pub delete_bytes : Delete → List ℕ
+delete_bytes d = big_bytes 8 d.id ++ (big_bytes 4 d.creator ++ replicate 52 0)
+
+abbrev pub clear_bytes : Clear → List ℕ
+clear_bytes c = replicate 8 0 ++ (big_bytes 4 c.creator ++ replicate 52 0)

@@ -1,0 +1,115 @@
+//! What a peer's message means for the states here.
+ghost use Rattle.std.specs.Prelude.{◌≡◌, ◌++◌, map, IfOk, OnOk};
+ghost use Rattle.pf_state.specs.Failover.Incoming.{flow_of, state_of, insert_step, delete_step, clear_step, group_steps, steps_of};
+
+use crate::peer::{Clear, Delete, Group, Insert, Message};
+use crate::{Flow, Held, State, StateName, Step, StepList, bind};
+use std::alloc::{AllocError, Global};
+
+/// The steps that a message asks for: one for each record, in the order of the groups and of the records in each. An insert binds
+/// its state to the main rule that it names where the message's checksum, 16 bytes, is that of the main rules here and they have
+/// such a rule, else to the default rule. `current` is the checksum of the main rules here, `rule_count` their number.
+/// `AllocError`: no list is made.
+pub fn steps_of(
+    alloc: Global,
+    message: &Message,
+    current: &[u8; 16],
+    rule_count: usize,
+) -> Result<StepList, AllocError>
+    ensures { IfOk result (λ l. l ≡ steps_of message.now current.now rule_count) }
+{
+    let mut steps = Vec::new(alloc);
+    for group in message.groups.as_slice() {
+        push_group(&mut steps, group, &message.checksum, current, rule_count)?;
+    }
+    Ok(StepList::new(steps))
+}
+
+fn push_group(
+    steps: &mut Vec<Step>,
+    group: &Group,
+    sum: &[u8; 16],
+    current: &[u8; 16],
+    rule_count: usize,
+) -> Result<(), AllocError>
+    ensures { OnOk result (steps.new.items ≡ steps.old.items ++ group_steps sum.now current.now rule_count group.now) }
+{
+    match group {
+        Group::Inserts(inserts) => {
+            push_inserts(steps, inserts.as_slice(), sum, current, rule_count)
+        }
+        Group::Deletes(deletes) => push_deletes(steps, deletes.as_slice()),
+        Group::Clears(clears) => push_clears(steps, clears.as_slice()),
+    }
+}
+
+fn push_inserts(
+    steps: &mut Vec<Step>,
+    inserts: &[Insert],
+    sum: &[u8; 16],
+    current: &[u8; 16],
+    rule_count: usize,
+) -> Result<(), AllocError>
+    ensures { OnOk result (steps.new.items ≡ steps.old.items ++ map (insert_step sum.now current.now rule_count) inserts.now) }
+{
+    for insert in inserts {
+        steps.push(Step::Insert(state_of(insert, sum, current, rule_count)))?;
+    }
+    Ok(())
+}
+
+fn push_deletes(steps: &mut Vec<Step>, deletes: &[Delete]) -> Result<(), AllocError>
+    ensures { OnOk result (steps.new.items ≡ steps.old.items ++ map delete_step deletes.now) }
+{
+    for delete in deletes {
+        steps.push(Step::Delete(StateName {
+            id: delete.id,
+            creator: delete.creator,
+        }))?;
+    }
+    Ok(())
+}
+
+fn push_clears(steps: &mut Vec<Step>, clears: &[Clear]) -> Result<(), AllocError>
+    ensures { OnOk result (steps.new.items ≡ steps.old.items ++ map clear_step clears.now) }
+{
+    for clear in clears {
+        steps.push(Step::Clear {
+            creator: clear.creator,
+        })?;
+    }
+    Ok(())
+}
+
+// The state that an insert tells of, bound by the rules here.
+fn state_of(insert: &Insert, sum: &[u8; 16], current: &[u8; 16], rule_count: usize) -> State
+    ensures { result ≡ state_of sum.now current.now rule_count insert.now }
+{
+    let fields = insert.fields();
+    let name = StateName {
+        id: fields.id,
+        creator: fields.creator,
+    };
+    let held = Held {
+        generation: fields.generation,
+        flow: flow_of(insert),
+        bound: bind(sum, fields.rule, fields.anchor, current, rule_count),
+    };
+    State::new(name, held)
+}
+
+// The flow of the state that an insert tells of.
+fn flow_of(insert: &Insert) -> Flow
+    ensures { result ≡ flow_of insert.now }
+{
+    let fields = insert.fields();
+    Flow::new(
+        fields.direction,
+        fields.protocol,
+        fields.source,
+        fields.source_port,
+        fields.destination,
+        fields.destination_port,
+    )
+    .unwrap()
+}

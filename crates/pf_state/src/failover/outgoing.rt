@@ -1,0 +1,124 @@
+//! Messages that tell a peer of the states here.
+ghost use Rattle.std.specs.Prelude.{◌≡◌, ◌≤◌, ◌==◌, ℕ, [], length, map, IfOk};
+ghost use Rattle.std.specs.List.{concat};
+ghost use Rattle.pf_state.specs.Peer.Messages.{IsMessage};
+ghost use Rattle.pf_state.specs.Peer.Streams.{Reads, Unfinished};
+ghost use Rattle.pf_state.specs.Peer.Written.{message_bytes};
+ghost use Rattle.pf_state.specs.Failover.Outgoing.{insert_of, told, exported_messages};
+
+use crate::peer::{Group, Insert, InsertFields, Message, Records, write_peer};
+use crate::{ALL_ONES, State, StateTable, exported};
+use std::alloc::{AllocError, Global};
+use std::marker::Model;
+
+/// How many states a message of an export tells of; the last one tells of what is left. Definitions cite this constant.
+pub const EXPORT_RECORDS: usize = 31;
+
+/// Messages in bytes, in their order. Contracts see the list of the bytes of each.
+#[derive(Drop)]
+pub struct Exported {
+    messages: Vec<Vec<u8>>,
+}
+
+impl Model for Exported {
+    ghost use Rattle.std.specs.Prelude.{ℕ, List, map};
+
+    ghost Value = { List (List ℕ) };
+
+    ghost view = { λ e. map (λ m. m.items) e.messages.items };
+}
+
+impl Exported {
+    /// The bytes of each message, in order.
+    pub fn messages(&self) -> &[Vec<u8>]
+        ensures { map (λ m. m.items) result.now ≡ self.now }
+    {
+        &self.messages
+    }
+
+    /// How many messages there are.
+    pub fn len(&self) -> usize
+        ensures { result ≡ length self.now }
+    {
+        self.messages.len()
+    }
+
+    /// Whether there are none.
+    pub fn is_empty(&self) -> bool
+        ensures { result ≡ (length self.now == 0) }
+    {
+        self.messages.is_empty()
+    }
+}
+
+/// The messages, in bytes, that tell a peer of all states, in the table's order. Each has the checksum of the main rules here,
+/// which is `current`, 16 bytes, and one group of [`EXPORT_RECORDS`] inserts, the last message one of what is left; without states
+/// there is no message. An insert names the number of its state's main rule where the state was bound by these very rules, else
+/// all ones; its anchor is all ones. One after the other they are read as these messages, and nothing is left. `AllocError`: nothing
+/// is made.
+pub fn export(
+    alloc: Global,
+    states: &StateTable,
+    current: &[u8; 16],
+) -> Result<Exported, AllocError>
+    ensures told { IfOk result (λ e. e ≡ map message_bytes (exported_messages current.now states.now)) }
+    ensures read { IfOk result (λ e. Reads (concat e) (exported_messages current.now states.now) (Unfinished [])) }
+{
+    let mut messages = Vec::new(alloc);
+    for part in states.states().chunks(EXPORT_RECORDS) {
+        messages.push(written(alloc, part, current)?)?;
+    }
+    Ok(Exported { messages })
+}
+
+// The message that tells of these states, in bytes.
+fn written(alloc: Global, states: &[State], current: &[u8; 16]) -> Result<Vec<u8>, AllocError>
+    requires { length states.now ≤ EXPORT_RECORDS }
+    ensures written { IfOk result (λ bytes. bytes.items ≡ message_bytes (told current.now states.now)) }
+    ensures read { IfOk result (λ bytes. IsMessage bytes.items (told current.now states.now)) }
+{
+    let mut groups = Vec::new(alloc);
+    groups.push(Group::Inserts(inserts_of(alloc, states, current)?))?;
+    let message = Message {
+        checksum: *current,
+        groups: Records::new(groups),
+    };
+    write_peer(alloc, &message)
+}
+
+// The inserts that tell of these states.
+fn inserts_of(
+    alloc: Global,
+    states: &[State],
+    current: &[u8; 16],
+) -> Result<Records<Insert>, AllocError>
+    ensures { IfOk result (λ r. r ≡ map (insert_of current.now) states.now) }
+{
+    let mut inserts = Vec::with_capacity(alloc, states.len())?;
+    for state in states {
+        inserts.push(insert_of(state, current))?;
+    }
+    Ok(Records::new(inserts))
+}
+
+// The insert that tells of a state.
+fn insert_of(state: &State, current: &[u8; 16]) -> Insert
+    ensures { result ≡ insert_of current.now state.now }
+{
+    let name = state.name();
+    let held = state.held();
+    let flow = held.flow;
+    Insert::new(InsertFields {
+        id: name.id,
+        creator: name.creator,
+        generation: held.generation,
+        direction: flow.direction(),
+        protocol: flow.protocol(),
+        source: flow.source(),
+        destination: flow.destination(),
+        source_port: flow.source_port(),
+        destination_port: flow.destination_port(),
+        rule: exported(&held.bound, current),
+        anchor: ALL_ONES,
+    })
+}

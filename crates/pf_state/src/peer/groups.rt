@@ -1,0 +1,109 @@
+//! Reading a message that is whole: its groups and their records.
+ghost use Rattle.std.specs.Prelude.{◌≡◌, ◌*◌, ◌<◌, ◌≤◌, length, List, IfOk, IfErr};
+ghost use Rattle.pf_state.specs.Peer.Groups.{records_of, group_at, content, AreGroups, BreakBehind, is_action};
+ghost use Rattle.pf_state.specs.Peer.Messages.{IsWhole, IsJudged};
+ghost use Rattle.pf_state.specs.Peer.Outcomes.{Gives, IfFault};
+ghost use Rattle.pf_state.specs.declared.peer.message.Group.{Group};
+
+use crate::peer::fault::{PeerFault, ReadError};
+use crate::peer::fields::u16_at;
+use crate::peer::message::{CLEAR, DELETE, Group, INSERT, Message, Records};
+use crate::peer::record::{RECORD, Record};
+use crate::peer::stream::HEADER;
+use std::alloc::{AllocError, Global};
+
+/// How many bytes the header of a group has.
+pub(crate) const GROUP_HEADER: usize = 4;
+
+/// The message that these bytes are, whose header has been looked at, or the fault of the first group that is none.
+pub(crate) fn message_of(
+    alloc: Global,
+    bytes: &[u8],
+) -> Result<Result<Message, PeerFault>, AllocError>
+    requires { IsWhole bytes.now }
+    ensures { IfOk result (IsJudged bytes.now) }
+{
+    let mut checksum = [0; 16];
+    checksum.copy_from_slice(&bytes[4..HEADER]);
+    match groups_of(alloc, &bytes[HEADER..]) {
+        Ok(groups) => Ok(Ok(Message { checksum, groups })),
+        Err(ReadError::Memory) => Err(AllocError),
+        Err(ReadError::Fault(fault)) => Ok(Err(fault)),
+    }
+}
+
+// The groups that these bytes are.
+fn groups_of(alloc: Global, bytes: &[u8]) -> Result<Records<Group>, ReadError>
+    ensures found { IfOk result (λ gs. AreGroups bytes.now gs) }
+    ensures fault { IfErr result (λ e. IfFault e (λ f. (before : List Group) × BreakBehind before bytes.now f)) }
+{
+    let mut groups = Vec::new(alloc);
+    let mut rest = bytes;
+    while !rest.is_empty() {
+        let (group, behind) = group_of(alloc, rest)?;
+        groups.push(group)?;
+        rest = behind;
+    }
+    Ok(Records::new(groups))
+}
+
+// The group at the front, and the bytes behind it.
+#[tactic(auto, unfolding(crate::specs::Peer::Groups::group_at))]
+fn group_of(alloc: Global, bytes: &[u8]) -> Result<(Group, &[u8]), ReadError>
+    ensures given { Gives (λ x. (x.0, x.1.now)) result (group_at bytes.now) }
+    ensures shorter { IfOk result (λ x. length x.1.now < length bytes.now) }
+{
+    if bytes.len() < GROUP_HEADER {
+        return Err(ReadError::Fault(PeerFault::BadLength));
+    }
+    let action = bytes[0];
+    if !(is_action(action) && bytes[1] == 0) {
+        return Err(ReadError::Fault(PeerFault::BadAction));
+    }
+    let count = u16_at(2, bytes) as usize;
+    let behind = &bytes[GROUP_HEADER..];
+    if behind.len() < RECORD * count {
+        return Err(ReadError::Fault(PeerFault::BadLength));
+    }
+    let group = content_of(alloc, action, count, behind)?;
+    Ok((group, &behind[RECORD * count..]))
+}
+
+fn is_action(action: u8) -> bool
+    ensures { result ≡ is_action action }
+{
+    action == INSERT || action == DELETE || action == CLEAR
+}
+
+// What so many records of an action say.
+#[tactic(auto, unfolding(crate::specs::Peer::Groups::content))]
+fn content_of(alloc: Global, action: u8, count: usize, bytes: &[u8]) -> Result<Group, ReadError>
+    requires { RECORD * count ≤ length bytes.now }
+    ensures { Gives (λ g. g) result (content action count bytes.now) }
+{
+    if action == INSERT {
+        return Ok(Group::Inserts(records_of(alloc, count, bytes)?));
+    }
+    if action == DELETE {
+        return Ok(Group::Deletes(records_of(alloc, count, bytes)?));
+    }
+    Ok(Group::Clears(records_of(alloc, count, bytes)?))
+}
+
+// What so many records at the front say.
+fn records_of<T: Record>(alloc: Global, count: usize, bytes: &[u8]) -> Result<Records<T>, ReadError>
+    requires { RECORD * count ≤ length bytes.now }
+    ensures { Gives (λ r. r) result (records_of T.reading count bytes.now) }
+{
+    let mut records = Vec::new(alloc);
+    let mut rest = bytes;
+    for _ in 0..count {
+        let (record, behind) = rest.split_at(RECORD);
+        let Some(read) = T::read(record) else {
+            return Err(ReadError::Fault(PeerFault::BadRecord));
+        };
+        records.push(read)?;
+        rest = behind;
+    }
+    Ok(Records::new(records))
+}

@@ -1,0 +1,45 @@
+//! Laws of streams. Each function does nothing; its clauses are what is proved.
+ghost use Rattle.std.specs.Prelude.{◌≡◌, ◌++◌, ◌↔◌, [], ℕ, List, Result, Ok};
+ghost use Rattle.std.specs.List.{concat};
+ghost use Rattle.pf_state.specs.declared.peer.fault.OneFault.{OneFault};
+ghost use Rattle.pf_state.specs.declared.peer.fault.PeerFault.{PeerFault};
+ghost use Rattle.pf_state.specs.declared.peer.message.Message.{Message};
+ghost use Rattle.pf_state.specs.Peer.Messages.{IsMessage};
+ghost use Rattle.pf_state.specs.Peer.One.{IsOne};
+ghost use Rattle.pf_state.specs.Peer.Streams.{Ending, Faulty, Reads, Feeds};
+ghost use Rattle.pf_state.specs.Peer.Written.{message_bytes, CanBeWritten};
+
+/// The bytes so far are one list of messages, and end in one way.
+#[tactic(auto, using(crate::proofs::OneReading::one_reading))]
+pub fn stream_has_one_reading()
+    ensures { (bytes : List ℕ) (ms ns : List Message) (d e : Ending) → Reads bytes ms d → Reads bytes ns e → (ms ≡ ns) × (d ≡ e) }
+{}
+
+/// Whatever the bytes so far are, they are some list of messages and end in some way.
+pub fn stream_has_a_reading()
+    ensures { (bytes : List ℕ) → (ms : List Message) × (e : Ending) × Reads bytes ms e }
+{}
+
+/// A fault is there with the first bytes that show it, and no further ones change it or the messages before it.
+#[tactic(auto, using(crate::proofs::Pieces::fault_stays))]
+pub fn fault_stays_the_same()
+    ensures { (bytes more : List ℕ) (ms : List Message) (f : PeerFault) → Reads bytes ms (Faulty f) → Reads (bytes ++ more) ms (Faulty f) }
+{}
+
+/// What a stream gives in pieces is what it gives at once, however it is cut.
+#[tactic(auto, using(crate::proofs::Pieces::pieces_join))]
+pub fn pieces_make_one_stream()
+    ensures { (pieces : List (List ℕ)) (ms : List Message) (e : Ending) → Feeds [] pieces ms e → Reads (concat pieces) ms e }
+{}
+
+/// What a message is written as is that message.
+pub fn written_message_is_read()
+    ensures { (m : Message) → CanBeWritten m → IsMessage (message_bytes m) m }
+{}
+
+/// Bytes that have to be one message have one answer, and it is a message exactly where they are that message.
+pub fn one_message_has_one_answer()
+    ensures some { (bytes : List ℕ) → (r : Result Message OneFault) × IsOne bytes r }
+    ensures one { (bytes : List ℕ) (r s : Result Message OneFault) → IsOne bytes r → IsOne bytes s → r ≡ s }
+    ensures message { (bytes : List ℕ) (m : Message) → IsOne bytes (Ok m) ↔ IsMessage bytes m }
+{}

@@ -1,0 +1,194 @@
+//! Records: what a group of one action has, and how each is read and written.
+ghost use Rattle.std.specs.Prelude.{◌≡◌, ◌++◌, length, Option, List, ℕ, OnOk};
+ghost use Rattle.pf_state.specs.Peer.Records.{IsInsert};
+
+use crate::peer::fields::{fields_of, is_allowed, u32_at, u64_at};
+use crate::peer::writing::{push_address, push_kinds, push_u16, push_u32, push_u64};
+use pf_addr::Addr;
+use pf_value::{Direction, Protocol};
+use std::alloc::AllocError;
+use std::marker::Model;
+
+/// How many bytes each record has, of any action.
+pub const RECORD: usize = 64;
+
+/// What an insert tells of a state. Contracts see an [`Insert`] as these fields.
+#[derive(Clone, Copy)]
+pub struct InsertFields {
+    /// The state's number, which is its creator's own: any.
+    pub id: u64,
+    /// The number of the host that made it: any.
+    pub creator: u32,
+    /// Which of the tellings of this state is the later one: the greater generation.
+    pub generation: u32,
+    /// Which way its first packet went.
+    pub direction: Direction,
+    /// Its protocol, as the number, 1 to 255.
+    pub protocol: Protocol,
+    /// The address that its first packet came from.
+    pub source: Addr,
+    /// The address that its first packet went to, of the source's family.
+    pub destination: Addr,
+    /// The port that its first packet came from, 0 to 65535; 0 where the protocol has no ports.
+    pub source_port: u16,
+    /// The port that its first packet went to, with the limits of `source_port`.
+    pub destination_port: u16,
+    /// The number of the rule that made it, from 0 in its ruleset; all ones (4,294,967,295) for none.
+    pub rule: u32,
+    /// The number of the anchor that the rule stands in, all ones for none, which is a rule of the main ruleset.
+    pub anchor: u32,
+}
+
+/// An insert of a state. Its addresses are of one family, and its ports are 0 unless its protocol has ports.
+#[derive(Clone, Copy)]
+pub struct Insert(InsertFields);
+
+impl Model for Insert {
+    ghost use Rattle.pf_state.specs.Peer.Records.{PlainInsert, IsInsert};
+
+    ghost Value = { PlainInsert };
+
+    ghost view = { λ i. i.0 };
+
+    ghost invariant = { λ i. IsInsert i.0 };
+
+    ghost inverse = { λ i. record { 0 = i } };
+}
+
+impl Insert {
+    /// The insert with these fields. That the addresses are of one family, and the ports 0 unless the protocol is TCP or UDP, is
+    /// the caller's condition.
+    pub fn new(fields: InsertFields) -> Insert
+        requires { IsInsert fields }
+        ensures { result ≡ fields }
+    {
+        Insert(fields)
+    }
+
+    /// Its fields.
+    pub fn fields(&self) -> &InsertFields
+        ensures value { result.now ≡ self.now }
+        // what each insert keeps
+        ensures kept { IsInsert self.now }
+    {
+        &self.0
+    }
+}
+
+/// The removal of one state, whatever its generation. Of the record's bytes no others than these fields' are looked at; they are written
+/// as 0.
+#[derive(Clone, Copy)]
+pub struct Delete {
+    /// The state's number, which is its creator's own.
+    pub id: u64,
+    /// The number of the host that made it.
+    pub creator: u32,
+}
+
+/// The removal of all states that one host made. Of the record's bytes no others than this field's are looked at; they are written as 0.
+#[derive(Clone, Copy)]
+pub struct Clear {
+    /// The number of the host.
+    pub creator: u32,
+}
+
+/// What stands in records of [`RECORD`] bytes.
+pub trait Record: Drop + Sized {
+    /// What so many bytes say, if they may say anything.
+    ghost reading: { List ℕ → Option Self };
+
+    /// The bytes that it is written as.
+    ghost writing: { Self → List ℕ };
+
+    /// What each of them keeps.
+    ghost keeps: { Self → Type 0 };
+
+    /// What the bytes say, or `None` where a field has what it can't have.
+    fn read(row: &[u8]) -> Option<Self>
+        requires { length row.now ≡ RECORD }
+        ensures { result ≡ reading row.now };
+
+    /// Writes the record behind these bytes. Where memory is refused, how much of it stands there isn't said.
+    fn write(&self, out: &mut Vec<u8>) -> Result<(), AllocError>
+        ensures written { OnOk result (out.new.items ≡ out.old.items ++ writing self.now) }
+        ensures kept { OnOk result (keeps self.now) };
+}
+
+impl Record for Insert {
+    ghost use Rattle.pf_state.specs.Peer.Records.{IsInsert, insert_of, insert_bytes};
+
+    ghost reading = { insert_of };
+
+    ghost writing = { insert_bytes };
+
+    ghost keeps = { IsInsert };
+
+    fn read(row: &[u8]) -> Option<Insert> {
+        if !is_allowed(row) {
+            return None;
+        }
+        Some(Insert(fields_of(row)))
+    }
+
+    fn write(&self, out: &mut Vec<u8>) -> Result<(), AllocError> {
+        let fields = self.0;
+        push_u64(out, fields.id)?;
+        push_u32(out, fields.creator)?;
+        push_u32(out, fields.generation)?;
+        push_kinds(out, &fields)?;
+        push_address(out, fields.source)?;
+        push_address(out, fields.destination)?;
+        push_u16(out, fields.source_port)?;
+        push_u16(out, fields.destination_port)?;
+        push_u32(out, fields.rule)?;
+        push_u32(out, fields.anchor)?;
+        Ok(())
+    }
+}
+
+impl Record for Delete {
+    ghost use Rattle.pf_state.specs.Peer.Records.{delete_of, delete_bytes};
+    ghost use Rattle.pf_state.specs.Peer.Written.{IsDelete};
+
+    ghost reading = { delete_of };
+
+    ghost writing = { delete_bytes };
+
+    ghost keeps = { IsDelete };
+
+    fn read(row: &[u8]) -> Option<Delete> {
+        Some(Delete {
+            id: u64_at(0, row),
+            creator: u32_at(8, row),
+        })
+    }
+
+    fn write(&self, out: &mut Vec<u8>) -> Result<(), AllocError> {
+        push_u64(out, self.id)?;
+        push_u32(out, self.creator)?;
+        out.extend_from_slice(&[0; 52])
+    }
+}
+
+impl Record for Clear {
+    ghost use Rattle.pf_state.specs.Peer.Records.{clear_of, clear_bytes};
+    ghost use Rattle.pf_state.specs.Peer.Written.{IsClear};
+
+    ghost reading = { clear_of };
+
+    ghost writing = { clear_bytes };
+
+    ghost keeps = { IsClear };
+
+    fn read(row: &[u8]) -> Option<Clear> {
+        Some(Clear {
+            creator: u32_at(8, row),
+        })
+    }
+
+    fn write(&self, out: &mut Vec<u8>) -> Result<(), AllocError> {
+        out.extend_from_slice(&[0; 8])?;
+        push_u32(out, self.creator)?;
+        out.extend_from_slice(&[0; 52])
+    }
+}

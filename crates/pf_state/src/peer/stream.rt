@@ -1,0 +1,93 @@
+//! Reading the messages of a stream so far.
+ghost use Rattle.std.specs.Prelude.{◌≡◌, IfOk};
+ghost use Rattle.pf_state.specs.Peer.Outcomes.{ending};
+ghost use Rattle.pf_state.specs.Peer.Streams.{Reads, IsFront};
+
+use crate::peer::fault::PeerFault;
+use crate::peer::groups::message_of;
+use crate::peer::message::{Message, VERSION};
+use std::alloc::{AllocError, Global};
+
+/// How many bytes the header of a message has.
+pub const HEADER: usize = 20;
+
+/// What stands where a message begins.
+#[derive(Clone, Copy)]
+pub(crate) enum Front {
+    /// Less than a message, as yet without fault.
+    Partial,
+    /// A header with which a message has so many bytes, all of which are there.
+    Whole(usize),
+    /// A header that no message has.
+    Bad(PeerFault),
+}
+
+/// What has come of a stream.
+#[derive(Drop)]
+pub(crate) struct Read<'a> {
+    /// Its messages, in order.
+    pub messages: Vec<Message>,
+    /// What is wrong behind them, if anything.
+    pub fault: Option<PeerFault>,
+    /// The bytes behind them, where nothing is wrong.
+    pub rest: &'a [u8],
+}
+
+impl<'a> Read<'a> {
+    fn new(messages: Vec<Message>, fault: Option<PeerFault>, rest: &'a [u8]) -> Read<'a>
+        ensures messages { result.messages ≡ messages }
+        ensures fault { result.fault ≡ fault }
+        ensures rest { result.rest.now ≡ rest.now }
+    {
+        Read {
+            messages,
+            fault,
+            rest,
+        }
+    }
+}
+
+/// Reads the messages that these bytes begin with.
+pub(crate) fn read_stream(alloc: Global, bytes: &[u8]) -> Result<Read<'_>, AllocError>
+    ensures { IfOk result (λ r. Reads bytes.now r.messages.items (ending r.fault r.rest.now)) }
+{
+    let mut messages = Vec::new(alloc);
+    let mut rest = bytes;
+    loop {
+        let size = match front_of(rest) {
+            Front::Whole(size) => size,
+            Front::Partial => return Ok(Read::new(messages, None, rest)),
+            Front::Bad(fault) => return Ok(Read::new(messages, Some(fault), rest)),
+        };
+        let (front, behind) = rest.split_at(size);
+        match message_of(alloc, front)? {
+            Ok(message) => messages.push(message)?,
+            Err(fault) => return Ok(Read::new(messages, Some(fault), rest)),
+        }
+        rest = behind;
+    }
+}
+
+// What stands at the front.
+#[tactic(auto, unfolding(crate::specs::Peer::Records::number_at))]
+fn front_of(bytes: &[u8]) -> Front
+    ensures { IsFront bytes.now result }
+{
+    if bytes.is_empty() {
+        return Front::Partial;
+    }
+    if bytes[0] != VERSION || (bytes.len() > 1 && bytes[1] != 0) {
+        return Front::Bad(PeerFault::BadVersion);
+    }
+    if bytes.len() < 4 {
+        return Front::Partial;
+    }
+    let size = bytes[2] as usize * 256 + bytes[3] as usize;
+    if size < HEADER {
+        return Front::Bad(PeerFault::BadLength);
+    }
+    if bytes.len() < size {
+        return Front::Partial;
+    }
+    Front::Whole(size)
+}

@@ -1,0 +1,132 @@
+//! Writing messages.
+ghost use Rattle.std.specs.Prelude.{◌≡◌, ◌++◌, ◌<◌, ◌∷◌, [], length, IfOk, OnOk, List};
+ghost use Rattle.byteorder.specs.Endian.{big_bytes};
+ghost use Rattle.pf_state.specs.Peer.Records.{address_bytes, direction_byte, family_byte};
+ghost use Rattle.pf_state.specs.Peer.Messages.{IsMessage};
+ghost use Rattle.pf_state.specs.Peer.Written.{message_bytes, message_length, groups_bytes, group_bytes, group_with, Each, IsGroup};
+
+use crate::peer::fields::{FAMILY_4, FAMILY_6, IN, OUT};
+use crate::peer::message::{CLEAR, DELETE, Group, INSERT, Message, VERSION};
+use crate::peer::record::{InsertFields, Record};
+use crate::peer::stream::HEADER;
+use byteorder::{BigEndian, ByteOrder};
+use pf_addr::{Addr, Family};
+use pf_value::Direction;
+use std::alloc::{AllocError, Global};
+
+/// The bytes of a message, which are read back as that message. Its groups have at most as many records as let the whole fit in
+/// [`MESSAGE_LIMIT`](crate::peer::MESSAGE_LIMIT) bytes, which is the caller's condition: its header, 4 bytes for each group and
+/// [`RECORD`](crate::peer::RECORD) for each record. The only error is that memory is refused.
+pub fn write_peer(alloc: Global, message: &Message) -> Result<Vec<u8>, AllocError>
+    requires { message_length message.now < 65536 }
+    ensures written { IfOk result (λ bytes. bytes.items ≡ message_bytes message.now) }
+    ensures read { IfOk result (λ bytes. IsMessage bytes.items message.now) }
+{
+    let mut groups = Vec::new(alloc);
+    push_groups(&mut groups, message.groups.as_slice())?;
+    let mut out = Vec::new(alloc);
+    out.extend_from_slice(&[VERSION, 0])?;
+    push_u16(&mut out, (HEADER + groups.len()) as u16)?;
+    out.extend_from_slice(&message.checksum)?;
+    out.extend_from_slice(&groups)?;
+    Ok(out)
+}
+
+fn push_groups(out: &mut Vec<u8>, groups: &[Group]) -> Result<(), AllocError>
+    requires { length (groups_bytes groups.now) < 65536 }
+    ensures written { OnOk result (out.new.items ≡ out.old.items ++ groups_bytes groups.now) }
+    ensures kept { OnOk result (Each IsGroup groups.now) }
+{
+    for group in groups {
+        push_group(out, group)?;
+    }
+    Ok(())
+}
+
+fn push_group(out: &mut Vec<u8>, group: &Group) -> Result<(), AllocError>
+    requires { length (group_bytes group.now) < 65536 }
+    ensures written { OnOk result (out.new.items ≡ out.old.items ++ group_bytes group.now) }
+    ensures kept { OnOk result (IsGroup group.now) }
+{
+    match group {
+        Group::Inserts(inserts) => push_records(out, INSERT, inserts.as_slice()),
+        Group::Deletes(deletes) => push_records(out, DELETE, deletes.as_slice()),
+        Group::Clears(clears) => push_records(out, CLEAR, clears.as_slice()),
+    }
+}
+
+fn push_records<T: Record>(out: &mut Vec<u8>, action: u8, records: &[T]) -> Result<(), AllocError>
+    requires { length records.now < 65536 }
+    ensures written { OnOk result (out.new.items ≡ out.old.items ++ group_with action T.writing records.now) }
+    ensures kept { OnOk result (Each T.keeps records.now) }
+{
+    out.extend_from_slice(&[action, 0])?;
+    push_u16(out, records.len() as u16)?;
+    for record in records {
+        record.write(out)?;
+    }
+    Ok(())
+}
+
+/// Writes the direction's, the family's and the protocol's byte, and a zero.
+pub(crate) fn push_kinds(out: &mut Vec<u8>, fields: &InsertFields) -> Result<(), AllocError>
+    ensures { OnOk result (out.new.items ≡ out.old.items ++ (direction_byte fields.now.direction ∷ family_byte fields.now.source ∷ fields.now.protocol ∷ 0 ∷ [])) }
+{
+    let direction = match fields.direction {
+        Direction::In => IN,
+        Direction::Out => OUT,
+    };
+    let family = match fields.source {
+        Addr::V4(_) => FAMILY_4,
+        Addr::V6(_) => FAMILY_6,
+    };
+    out.extend_from_slice(&[direction, family, fields.protocol.number(), 0])
+}
+
+/// Writes an address in 16 bytes, one of IPv4 in the first four.
+pub(crate) fn push_address(out: &mut Vec<u8>, address: Addr) -> Result<(), AllocError>
+    ensures { OnOk result (out.new.items ≡ out.old.items ++ address_bytes address) }
+{
+    match address {
+        Addr::V4(number) => {
+            push_u32(out, number)?;
+            out.extend_from_slice(&[0; 12])
+        }
+        Addr::V6(number) => push_u128(out, number),
+    }
+}
+
+/// Writes a number in two bytes.
+pub(crate) fn push_u16(out: &mut Vec<u8>, number: u16) -> Result<(), AllocError>
+    ensures { OnOk result (out.new.items ≡ out.old.items ++ big_bytes 2 number) }
+{
+    let mut bytes = [0; 2];
+    BigEndian::write_u16(&mut bytes, number);
+    out.extend_from_slice(&bytes)
+}
+
+/// Writes a number in four bytes.
+pub(crate) fn push_u32(out: &mut Vec<u8>, number: u32) -> Result<(), AllocError>
+    ensures { OnOk result (out.new.items ≡ out.old.items ++ big_bytes 4 number) }
+{
+    let mut bytes = [0; 4];
+    BigEndian::write_u32(&mut bytes, number);
+    out.extend_from_slice(&bytes)
+}
+
+/// Writes a number in eight bytes.
+pub(crate) fn push_u64(out: &mut Vec<u8>, number: u64) -> Result<(), AllocError>
+    ensures { OnOk result (out.new.items ≡ out.old.items ++ big_bytes 8 number) }
+{
+    let mut bytes = [0; 8];
+    BigEndian::write_u64(&mut bytes, number);
+    out.extend_from_slice(&bytes)
+}
+
+fn push_u128(out: &mut Vec<u8>, number: u128) -> Result<(), AllocError>
+    ensures { OnOk result (out.new.items ≡ out.old.items ++ big_bytes 16 number) }
+{
+    let mut bytes = [0; 16];
+    BigEndian::write_u128(&mut bytes, number);
+    out.extend_from_slice(&bytes)
+}
