@@ -12,7 +12,7 @@ use Rattle.pf_rule.specs.Rules.{PlainRule}
 use Rattle.pf_anchor.specs.Laws.{ReplacesInTurn, StaysMap, OneMap, in_order, ChildrenHaveRules}
 use Rattle.pf_path.specs.Paths.{path_order, same_path}
 use Rattle.pf_anchor.specs.Rulesets.{Ruled, ruled, rules_in}
-use Rattle.pf_map.proofs.ListMaps.{lists_replaced, list_maps_stay, one_list_map}
+use Rattle.pf_table.proofs.ListMaps.{lists_replaced, list_maps_stay, one_list_map}
 use Rattle.std.specs.Option.{option_map, MatchOption}
 
 -- ---- replaced

@@ -9,10 +9,10 @@ use Rattle.std.specs.Option.{option_map_or, option_or}
 use Rattle.std.specs.Ordering.{eq_by_cmp}
 use Rattle.std.proofs.lemmas.Cmp.{eq_by_cmp_equiv, nat_list_cmp_total, on_total, then_total}
 use Rattle.pf_addr.specs.declared.addr.Addr.{Addr}
-use Rattle.pf_map.specs.ListMaps.{list_in, unless_empty}
-use Rattle.pf_map.specs.Pairs.{pairs_alike}
-use Rattle.pf_map.proofs.Maps.{replaces_the_key}
-use Rattle.pf_map.proofs.ListMaps.{lists_replaced, list_maps_stay, one_list_map, lists_grow}
+use Rattle.pf_table.specs.Map.ListMaps.{list_in, unless_empty}
+use Rattle.pf_table.specs.Map.Pairs.{pairs_alike}
+use Rattle.pf_table.proofs.Maps.{replaces_the_key}
+use Rattle.pf_table.proofs.ListMaps.{lists_replaced, list_maps_stay, one_list_map, lists_grow}
 use Rattle.pf_path.specs.Names.{name_order}
 use Rattle.pf_path.specs.Paths.{main, path_order}
 use Rattle.pf_host.specs.declared.host.Host.TheVariants.{Table}

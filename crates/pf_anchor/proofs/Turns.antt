@@ -17,7 +17,7 @@ use Rattle.pf_path.proofs.Nesting.{path_few, has_one_more}
 use Rattle.pf_rule.specs.Rules.{PlainRule}
 use Rattle.pf_anchor.specs.declared.evaluated.Evaluated.{Evaluated}
 use Rattle.pf_anchor.specs.declared.evaluated.Evaluated.TheVariants.{Open}
-use Rattle.pf_map.specs.Pages.{joined}
+use Rattle.pf_table.specs.Map.Pages.{joined}
 use Rattle.pf_anchor.specs.Rulesets.{Ruled, ruled, rules_in, rules_at, leads_from, targets, children}
 use Rattle.pf_anchor.specs.Evaluation.{and_then, settled, rules_give, in_turn}
 use Rattle.pf_anchor.proofs.Evaluations.{none_and_then, and_then_none, and_then_assoc}

@@ -13,7 +13,7 @@ use Rattle.pf_rule.specs.declared.rule.Effect.{Effect}
 use Rattle.pf_rule.specs.declared.rule.Effect.TheVariants.{Decide, Evaluate}
 use Rattle.pf_anchor.specs.declared.evaluated.Evaluated.{Evaluated}
 use Rattle.pf_anchor.specs.declared.evaluated.Evaluated.TheVariants.{Open}
-use Rattle.pf_map.specs.Maps.{without}
+use Rattle.pf_table.specs.Map.Maps.{without}
 use Rattle.pf_anchor.specs.Matches.{PlainMatch}
 use Rattle.pf_anchor.specs.Rulesets.{Ruled, ruled, rules_in, rules_at, with_rules, leads_to, targets}
 use Rattle.pf_anchor.specs.Evaluation.{Tests, in_turn, effected, evaluate_with, levels, evaluation, matching, verdict_by, last_of, rules_at_path}

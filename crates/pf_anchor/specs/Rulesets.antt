@@ -5,7 +5,7 @@ use Rattle.pf_path.specs.Paths.{path_order, same_path}
 use Rattle.pf_path.specs.Nested.{path_within, is_child}
 use Rattle.pf_path.specs.References.{PlainReference}
 use Rattle.pf_rule.specs.Rules.{PlainRule}
-use Rattle.pf_map.specs.ListMaps.{list_in, list_at, with_list, IsListMap}
+use Rattle.pf_table.specs.Map.ListMaps.{list_in, list_at, with_list, IsListMap}
 
 -- a path and the rules there
 abbrev pub Ruled : Type 0

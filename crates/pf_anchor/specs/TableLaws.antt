@@ -2,7 +2,7 @@
 use Rattle.std.specs.Prelude.{◌≡◌, ◌≢◌, ◌⊎◌, ℕ, T, Bool, false, List, [], Some, None, fold, map}
 use Rattle.std.specs.FinMap.{find, is_sorted}
 use Rattle.pf_addr.specs.declared.addr.Addr.{Addr}
-use Rattle.pf_map.specs.ListMaps.{list_by}
+use Rattle.pf_table.specs.Map.ListMaps.{list_by}
 use Rattle.pf_path.specs.Names.{name_order}
 use Rattle.pf_path.specs.Paths.{main}
 use Rattle.pf_host.specs.declared.host.Host.TheVariants.{Table}

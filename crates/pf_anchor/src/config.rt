@@ -2,7 +2,7 @@
 ghost use Rattle.std.specs.Prelude.{◌≡◌, [], ◌∷◌, length, IfOk, nat_lt};
 ghost use Rattle.std.specs.Option.{MatchOption, option_map};
 ghost use Rattle.pf_anchor.specs.Tables.{tabled, table_found, tables_at, named_table, IsTableMap};
-ghost use Rattle.pf_map.specs.Pages.{joined};
+ghost use Rattle.pf_table.specs.Map.Pages.{joined};
 ghost use Rattle.pf_anchor.specs.Rulesets.{ruled, rules_at, children, IsMap};
 ghost use Rattle.pf_anchor.specs.Configurations.{nothing, with_rulesets, with_tables};
 ghost use Rattle.pf_anchor.specs.Limits.{ruleset_refusal, table_refusal, Refuses};
@@ -15,10 +15,10 @@ use crate::rule_list::RuleList;
 use crate::rulesets::{Placed, PlacedPage, Rulesets, push_children};
 use crate::tables::{Place, PlacedTable, Tables, push_tables_at};
 use crate::verdict::RuleVerdict;
-use pf_map::PagedMap;
 use pf_path::{Path, TableName};
 use pf_rule::Packet;
 use pf_table::Table;
+use pf_table::map::PagedMap;
 use std::alloc::{AllocError, Global};
 use std::marker::Model;
 

@@ -3,8 +3,8 @@ ghost use Rattle.std.specs.Prelude.{◌≡◌, ◌++◌, OnOk};
 ghost use Rattle.pf_anchor.specs.Rulesets.{children};
 
 use crate::rule_list::RuleList;
-use pf_map::{Entry, Page, PagedMap};
 use pf_path::Path;
+use pf_table::map::{Entry, Page, PagedMap};
 use std::alloc::AllocError;
 
 /// A ruleset at its path, shared by all that hold it: path and rules stand once. Contracts see it as a `Ruled`.

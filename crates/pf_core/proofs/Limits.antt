@@ -3,7 +3,7 @@ use Rattle.std.proofs.Common.{◌≡◌, ℕ, ◌+◌, ◌≤◌, Bool, true, fa
 use Rattle.std.specs.Prelude.{nat_lt, fold, is_some, if◌then◌else◌}
 use Rattle.std.specs.List.{AllByRecursion}
 use Rattle.std.specs.Ordering.{eq_by_cmp}
-use Rattle.pf_map.specs.ListMaps.{list_by}
+use Rattle.pf_table.specs.Map.ListMaps.{list_by}
 use Rattle.pf_table.specs.Edits.{additions, deletions}
 use Rattle.pf_table.specs.Entries.{Row}
 use Rattle.std.proofs.lemmas.Bool.Decides.{nat_tests}

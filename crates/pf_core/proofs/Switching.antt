@@ -16,7 +16,7 @@ use Rattle.pf_path.specs.Names.{name_order}
 use Rattle.pf_path.specs.Paths.{same_path}
 use Rattle.pf_table.specs.Entries.{Row}
 use Rattle.pf_anchor.specs.Laws.{rules_by}
-use Rattle.pf_map.specs.ListMaps.{list_by}
+use Rattle.pf_table.specs.Map.ListMaps.{list_by}
 use Rattle.pf_anchor.specs.Rulesets.{Ruled, rules_at, with_rules}
 use Rattle.pf_anchor.specs.Tables.{TableKey, Tabled, table_order, with_table}
 use Rattle.pf_anchor.proofs.RulesetMaps.{replaced_in_turn}

@@ -8,8 +8,8 @@ use Rattle.std.specs.FinMap.Entries.{by_order}
 use Rattle.std.specs.Ordering.{eq_by_cmp}
 use Rattle.std.proofs.lemmas.Bool.Decides.{nat_tests}
 use Rattle.std.proofs.lemmas.List.Sums.{length-filter, count_by-le-length}
-use Rattle.pf_map.specs.Maps.{without}
-use Rattle.pf_map.specs.ListMaps.{list_in, list_at, with_list}
+use Rattle.pf_table.specs.Map.Maps.{without}
+use Rattle.pf_table.specs.Map.ListMaps.{list_in, list_at, with_list}
 use Rattle.pf_table.specs.Edits.{deleted}
 use Rattle.pf_table.specs.Entries.{Row}
 use Rattle.pf_anchor.specs.Tables.{Tabled, tabled, table_order, table_at, with_table}

@@ -5,8 +5,8 @@ use Rattle.std.proofs.lemmas.Bool.Decides.{nat_tests}
 use Rattle.std.specs.FinMap.Entries.{length-put, length_without}
 use Rattle.std.specs.List.{count_by}
 use Rattle.std.proofs.lemmas.List.Sums.{sum_by-cons}
-use Rattle.pf_map.specs.Maps.{with_value}
-use Rattle.pf_map.proofs.Maps.{stays_sorted}
+use Rattle.pf_table.specs.Map.Maps.{with_value}
+use Rattle.pf_table.proofs.Maps.{stays_sorted}
 use Rattle.pf_state.specs.declared.counts.Counts.{Counts}
 use Rattle.pf_state.specs.declared.state.Held.{Held}
 use Rattle.pf_state.specs.declared.state.StateName.{StateName}

@@ -3,8 +3,8 @@ use Rattle.std.proofs.Common.{◌≡◌, ℕ, Bool, true, false, not, ◌&&◌, 
 use Rattle.std.specs.Prelude.{◌==◌}
 use Rattle.std.specs.FinMap.Entries.{find-where_key}
 use Rattle.std.specs.Ordering.{eq_by_cmp}
-use Rattle.pf_map.specs.Maps.{with_value}
-use Rattle.pf_map.proofs.Maps.{replaces_the_key}
+use Rattle.pf_table.specs.Map.Maps.{with_value}
+use Rattle.pf_table.proofs.Maps.{replaces_the_key}
 use Rattle.pf_state.specs.declared.state.Held.{Held}
 use Rattle.pf_state.specs.declared.state.StateName.{StateName}
 use Rattle.pf_state.specs.declared.step.Step.{Step}

@@ -6,7 +6,7 @@ use Rattle.std.specs.FinMap.{IsAntisymmetric, nat_cmp-IsAntisymmetric}
 use Rattle.std.specs.Ordering.{is_eq, eq_by_cmp}
 use Rattle.std.specs.declared.cmp.Ordering.{Ordering}
 use Rattle.std.specs.declared.cmp.Ordering.TheVariants.{Less, Equal, Greater}
-use Rattle.pf_map.specs.Pairs.{pairs_alike}
+use Rattle.pf_table.specs.Map.Pairs.{pairs_alike}
 use Rattle.pf_state.specs.declared.state.StateName.{StateName}
 use Rattle.pf_state.specs.States.{name_order}
 

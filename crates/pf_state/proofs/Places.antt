@@ -11,7 +11,7 @@ use Rattle.std.specs.List.{HoldsAt, insert, remove}
 use Rattle.std.specs.List.Sorted.{IsBinarySearchResult, IsNonDecreasingBy, IsPartitionPoint}
 use Rattle.std.specs.Prelude.{Result, Ok, Err, IfOk, IfErr}
 use Rattle.std.specs.Ordering.{is_eq, is_lt, ordering_index, ordering_reverse}
-use Rattle.pf_map.specs.Maps.{with_value}
+use Rattle.pf_table.specs.Map.Maps.{with_value}
 use Rattle.pf_state.specs.declared.state.Held.{Held}
 use Rattle.pf_state.specs.declared.state.StateName.{StateName}
 use Rattle.pf_state.specs.States.{Stated, name_order, held_at}

@@ -8,8 +8,8 @@ use Rattle.std.specs.FinMap.{is_sorted}
 use Rattle.std.specs.FinMap.Entries.{is_sorted-where_key, below_all}
 use Rattle.std.specs.Option.{unwrap_or}
 use Rattle.std.specs.Ordering.{eq_by_cmp, is_eq, is_lt}
-use Rattle.pf_map.specs.Maps.{with_value}
-use Rattle.pf_map.proofs.Maps.{stays_sorted}
+use Rattle.pf_table.specs.Map.Maps.{with_value}
+use Rattle.pf_table.proofs.Maps.{stays_sorted}
 use Rattle.pf_state.specs.declared.limits.TheConstants.{STATE_LIMIT}
 use Rattle.pf_state.specs.declared.state.Held.{Held}
 use Rattle.pf_state.specs.declared.state.StateName.{StateName}

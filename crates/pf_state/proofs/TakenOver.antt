@@ -6,7 +6,7 @@ use Rattle.std.specs.declared.cmp.Ordering.TheVariants.{Less, Equal, Greater}
 use Rattle.std.specs.FinMap.{is_sorted, put}
 use Rattle.std.specs.FinMap.Entries.{below_all}
 use Rattle.std.specs.Ordering.{is_eq, is_lt, ordering_reverse}
-use Rattle.pf_map.specs.Maps.{without, with_value}
+use Rattle.pf_table.specs.Map.Maps.{without, with_value}
 use Rattle.pf_state.specs.Peer.Written.{Each}
 use Rattle.pf_state.specs.declared.limits.TheConstants.{STATE_LIMIT}
 use Rattle.pf_state.specs.declared.step.Insertion.{Insertion}

@@ -4,7 +4,7 @@ use Rattle.std.specs.FinMap.Entries.{where_key}
 use Rattle.std.specs.List.{list_any, count_by}
 use Rattle.std.specs.Option.{option_map_or}
 use Rattle.std.specs.Ordering.{eq_by_cmp}
-use Rattle.pf_map.specs.Maps.{with_value}
+use Rattle.pf_table.specs.Map.Maps.{with_value}
 use Rattle.pf_state.specs.declared.counts.Counts.{Counts}
 use Rattle.pf_state.specs.declared.limits.TheConstants.{STATE_LIMIT}
 use Rattle.pf_state.specs.declared.refusal.StatesRefusal.{StatesRefusal}

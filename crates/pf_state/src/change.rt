@@ -6,7 +6,7 @@ ghost use Rattle.pf_state.specs.Candidates.{AreNamed};
 ghost use Rattle.pf_state.specs.States.{NamesFlows, name_order};
 ghost use Rattle.pf_state.specs.Steps.{insertion, stepped, counted, without_state, without_creator, named_count, creator_count, has_effect, is_over};
 ghost use Rattle.pf_state.specs.declared.step.Step.TheVariants as step_kind;
-ghost use Rattle.pf_map.specs.Maps.{with_value};
+ghost use Rattle.pf_table.specs.Map.Maps.{with_value};
 
 use crate::candidates::is_clash;
 use crate::counts::Counts;

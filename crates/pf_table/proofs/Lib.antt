@@ -1,3 +1,6 @@
+pub mod Maps
+pub mod Pages
+pub mod ListMaps
 pub mod Sorted
 pub mod Merging
 pub mod Batches

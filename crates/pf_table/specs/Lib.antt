@@ -1,3 +1,4 @@
+pub mod Map
 pub mod Entries
 pub mod OrderLaws
 pub mod Tables

@@ -7,6 +7,7 @@ mod content;
 mod entry;
 pub mod laws;
 mod limits;
+pub mod map;
 mod merge;
 mod order;
 mod refusal;

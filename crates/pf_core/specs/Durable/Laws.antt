@@ -6,7 +6,7 @@ use Rattle.pf_table.specs.Entries.{Row}
 use Rattle.pf_anchor.specs.declared.limits.TheConstants.{RULE_LIMIT, RULESET_LIMIT, TABLE_COUNT_LIMIT}
 use Rattle.pf_anchor.specs.Configurations.{IsConfiguration}
 use Rattle.pf_anchor.specs.Laws.{rules_by}
-use Rattle.pf_map.specs.ListMaps.{list_by}
+use Rattle.pf_table.specs.Map.ListMaps.{list_by}
 use Rattle.pf_anchor.specs.Rulesets.{rules_at}
 use Rattle.pf_anchor.specs.Tables.{table_order, IsTableMap}
 use Rattle.pf_state.specs.declared.state.StateName.{StateName}

@@ -7,7 +7,7 @@ use Rattle.pf_rule.specs.Rules.{PlainRule}
 use Rattle.pf_anchor.specs.declared.evaluated.Evaluated.{Evaluated}
 use Rattle.pf_anchor.specs.declared.evaluated.Evaluated.TheVariants.{Open, Ended}
 use Rattle.pf_anchor.specs.Matches.{PlainMatch}
-use Rattle.pf_map.specs.Pages.{joined}
+use Rattle.pf_table.specs.Map.Pages.{joined}
 use Rattle.pf_anchor.specs.Rulesets.{Ruled, ruled}
 use Rattle.pf_anchor.specs.Evaluation.{and_then, settled, rules_give, effected, in_turn, evaluation, evaluate_with, matching}
 use Rattle.pf_anchor.proofs.Evaluations.{unrolled, none_and_then, no_rules}

@@ -1,5 +1,5 @@
 use Rattle.std.proofs.Common.{◌≡◌, take}
-use Rattle.pf_map.specs.Pages.{joined}
+use Rattle.pf_table.specs.Map.Pages.{joined}
 use Rattle.pf_anchor.specs.Rulesets.{children}
 use Rattle.pf_anchor.proofs.config.Config.children.Given as goal
 

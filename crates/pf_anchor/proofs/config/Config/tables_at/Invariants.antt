@@ -1,5 +1,5 @@
 use Rattle.std.proofs.Common.{◌≡◌, take}
-use Rattle.pf_map.specs.Pages.{joined}
+use Rattle.pf_table.specs.Map.Pages.{joined}
 use Rattle.pf_anchor.specs.Tables.{tables_at}
 use Rattle.pf_anchor.proofs.config.Config.tables_at.Given as goal
 

@@ -1,0 +1,69 @@
+//! Keys, and what is looked for by them.
+ghost use Rattle.std.specs.Prelude.{◌≡◌};
+ghost use Rattle.std.specs.Cmp.{IsTotalOrder, then_total, on_total};
+ghost use Rattle.std.specs.FinMap.{IsAntisymmetric};
+ghost use Rattle.std.specs.Ordering.{eq_by_cmp};
+ghost use Rattle.std.specs.declared.cmp.Ordering.{Ordering};
+ghost use Rattle.pf_table.specs.Map.Pairs.{pair_order, pairs_alike};
+
+use std::cmp::Ordering;
+
+/// What a map is ordered by.
+pub trait Key: Drop {
+    /// Which of two comes first: a total order, in which only equal keys tie.
+    ghost order: { Self → Self → Ordering };
+
+    /// Which of two keys comes first.
+    fn order(&self, other: &Self) -> Ordering
+        ensures { result ≡ order self.now other.now };
+
+    /// Whether both are one key.
+    fn same(&self, other: &Self) -> bool
+        ensures { result ≡ eq_by_cmp order self.now other.now };
+
+    ghost total: { IsTotalOrder order };
+
+    ghost alike: { IsAntisymmetric order };
+}
+
+/// What is looked for in a map: it stands for a key, of which it needs no copy.
+pub trait Probe<K: Key> {
+    /// The key that it stands for.
+    ghost key: { Self → K };
+
+    /// Whether it comes before a key.
+    fn order(&self, other: &K) -> Ordering
+        ensures { result ≡ K.order (key self.now) other.now };
+
+    /// Whether it stands for this key.
+    fn same(&self, other: &K) -> bool
+        ensures { result ≡ eq_by_cmp K.order (key self.now) other.now };
+}
+
+impl<K: Key> Probe<K> for K {
+    ghost key = { λ k. k };
+
+    fn order(&self, other: &K) -> Ordering {
+        Key::order(self, other)
+    }
+
+    fn same(&self, other: &K) -> bool {
+        Key::same(self, other)
+    }
+}
+
+impl<A: Key, B: Key> Key for (A, B) {
+    ghost order = { pair_order A.order B.order };
+
+    fn order(&self, other: &Self) -> Ordering {
+        self.0.order(&other.0).then(self.1.order(&other.1))
+    }
+
+    fn same(&self, other: &Self) -> bool {
+        self.0.same(&other.0) && self.1.same(&other.1)
+    }
+
+    ghost total = { then_total (on_total (λ t. t.0) A.total) (on_total (λ t. t.1) B.total) };
+
+    ghost alike = { pairs_alike A.alike B.alike };
+}
