@@ -15,8 +15,8 @@ use Rattle.pf_table.proofs.Maps.{replaces_the_key}
 use Rattle.pf_table.proofs.ListMaps.{lists_replaced, list_maps_stay, one_list_map, lists_grow}
 use Rattle.pf_path.specs.Names.{name_order}
 use Rattle.pf_path.specs.Paths.{main, path_order}
-use Rattle.pf_host.specs.declared.host.Host.TheVariants.{Table}
-use Rattle.pf_host.specs.Hosts.{host_holds}
+use Rattle.pf_rule.specs.declared.host.host.Host.TheVariants.{Table}
+use Rattle.pf_rule.specs.Host.Hosts.{host_holds}
 use Rattle.pf_table.specs.Entries.{Row}
 use Rattle.pf_table.specs.Tables.{table_holds}
 use Rattle.pf_anchor.specs.Tables.{TableKey, Tabled, tabled, table_order, table_found, table_at, with_table, tables_say}

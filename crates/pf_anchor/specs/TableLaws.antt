@@ -5,8 +5,8 @@ use Rattle.pf_addr.specs.declared.addr.Addr.{Addr}
 use Rattle.pf_table.specs.Map.ListMaps.{list_by}
 use Rattle.pf_path.specs.Names.{name_order}
 use Rattle.pf_path.specs.Paths.{main}
-use Rattle.pf_host.specs.declared.host.Host.TheVariants.{Table}
-use Rattle.pf_host.specs.Hosts.{host_holds}
+use Rattle.pf_rule.specs.declared.host.host.Host.TheVariants.{Table}
+use Rattle.pf_rule.specs.Host.Hosts.{host_holds}
 use Rattle.pf_table.specs.Entries.{Row}
 use Rattle.pf_table.specs.Tables.{deciding, table_holds}
 use Rattle.pf_anchor.specs.Rulesets.{Ruled}

@@ -9,16 +9,16 @@ use Rattle.pf_addr.specs.Address.{IsAddr}
 use Rattle.pf_path.specs.References.{PlainReference, reference_of}
 use Rattle.pf_path.specs.ReferenceGrammar.{IsReference}
 use Rattle.pf_path.proofs.ReferencesRead.{read_is_spelled}
-use Rattle.pf_value.specs.Values.{IsInterfaceName, IsProtocol, has_ports}
-use Rattle.pf_value.specs.Ports.{ports_fit}
-use Rattle.pf_value.proofs.Kept.{interface_kept, protocol_kept, address_kept, port_kept, interface_is, protocol_is}
+use Rattle.pf_rule.specs.Value.Values.{IsInterfaceName, IsProtocol, has_ports}
+use Rattle.pf_rule.specs.Value.Ports.{ports_fit}
+use Rattle.pf_rule.proofs.ValueKept.{interface_kept, protocol_kept, address_kept, port_kept, interface_is, protocol_is}
 use Rattle.pf_rule.specs.declared.rule.Opening.{Opening}
 use Rattle.pf_rule.specs.declared.rule.Opening.TheVariants as openings
-use Rattle.pf_host.specs.declared.host.Host.{Host}
+use Rattle.pf_rule.specs.declared.host.host.Host.{Host}
 use Rattle.pf_rule.specs.declared.fault.Mistake.{Mistake}
-use Rattle.pf_host.specs.Hosts.{IsHost}
-use Rattle.pf_host.specs.Ends.{IsEnd}
-use Rattle.pf_host.proofs.Kept.{ends_are}
+use Rattle.pf_rule.specs.Host.Hosts.{IsHost}
+use Rattle.pf_rule.specs.Host.Ends.{IsEnd}
+use Rattle.pf_rule.proofs.HostKept.{ends_are}
 use Rattle.pf_rule.specs.Packets.{PlainPacket, IsPacket}
 use Rattle.pf_rule.specs.Rules.{PlainRule, IsEffect, IsRule, HostFits}
 use Rattle.pf_rule.specs.PacketGrammar.{packet_with, of_one_family, packet}

@@ -1,8 +1,8 @@
 -- A rule's text, part by part.
 use Rattle.std.proofs.Common.{◌≡◌, ℕ, List, ◌++◌, ap, ◌∙◌}
-use Rattle.pf_value.specs.Spacing.{spaced, first_spaced, spaced-append}
-use Rattle.pf_value.specs.Tests.{direction_words, interface_words, family_words, protocol_words}
-use Rattle.pf_host.specs.Ends.{ends_words}
+use Rattle.pf_rule.specs.Value.Spacing.{spaced, first_spaced, spaced-append}
+use Rattle.pf_rule.specs.Value.Tests.{direction_words, interface_words, family_words, protocol_words}
+use Rattle.pf_rule.specs.Host.Ends.{ends_words}
 use Rattle.pf_rule.specs.Rules.{PlainRule}
 use Rattle.pf_rule.specs.RuleText.{effect_word, reference_words, quick_words, state_words, rule_text}
 

@@ -1,3 +1,6 @@
+pub mod Value
+pub mod Host
+pub mod Sum
 pub mod Packets
 pub mod PacketGrammar
 pub mod Rules

@@ -3,12 +3,12 @@ use Rattle.std.proofs.Common.{◌≡◌, true, false, refl, arith}
 use Rattle.std.specs.Prelude.{Bool, ◌&&◌}
 use Rattle.pf_addr.specs.declared.addr.Addr.{Addr}
 use Rattle.pf_addr.specs.Address.{contains}
-use Rattle.pf_host.specs.declared.host.Host.{Host}
-use Rattle.pf_host.specs.declared.host.Host.TheVariants.{Any, Net, Table}
-use Rattle.pf_host.specs.Hosts.{TableTest, inverted, host_holds, network_holds, table_holds}
+use Rattle.pf_rule.specs.declared.host.host.Host.{Host}
+use Rattle.pf_rule.specs.declared.host.host.Host.TheVariants.{Any, Net, Table}
+use Rattle.pf_rule.specs.Host.Hosts.{TableTest, inverted, host_holds, network_holds, table_holds}
 use Rattle.pf_rule.specs.Packets.{PlainPacket}
-use Rattle.pf_value.specs.Tests.{holds}
-use Rattle.pf_value.specs.Ports.{port_holds}
+use Rattle.pf_rule.specs.Value.Tests.{holds}
+use Rattle.pf_rule.specs.Value.Ports.{port_holds}
 use Rattle.pf_rule.specs.Rules.{PlainRule, ends_hold}
 
 abbrev pub ports_hold : PlainRule → PlainPacket → Bool

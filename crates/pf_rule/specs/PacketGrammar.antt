@@ -4,11 +4,11 @@ use Rattle.std.proofs.Common.{refl}
 use Rattle.pf_form.specs.Forms.{Form, nothing, key, or, pair, pair_by, making, is_decided}
 use Rattle.pf_addr.specs.declared.addr.Addr.{Addr}
 use Rattle.pf_addr.specs.Address.{family_of, same_family}
-use Rattle.pf_value.specs.declared.direction.Direction.{Direction}
-use Rattle.pf_value.specs.declared.direction.Direction.TheVariants.{In, Out}
+use Rattle.pf_rule.specs.declared.value.direction.Direction.{Direction}
+use Rattle.pf_rule.specs.declared.value.direction.Direction.TheVariants.{In, Out}
 use Rattle.pf_rule.specs.declared.fault.Mistake.{Mistake}
 use Rattle.pf_rule.specs.declared.fault.Mistake.TheVariants.{MixedFamily}
-use Rattle.pf_value.specs.Values.{has_ports, an_interface, a_protocol, an_address, a_port}
+use Rattle.pf_rule.specs.Value.Values.{has_ports, an_interface, a_protocol, an_address, a_port}
 use Rattle.pf_rule.specs.Packets.{PlainPacket}
 
 -- "in" | "out"

@@ -2,7 +2,7 @@
 use Rattle.std.specs.Prelude.{◌≡◌, ◌<◌, false}
 use Rattle.pf_addr.specs.Address.{family_of, IsAddr}
 use Rattle.pf_rule.specs.declared.packet.PacketParts.{PacketParts}
-use Rattle.pf_value.specs.Values.{IsInterfaceName, IsProtocol, has_ports}
+use Rattle.pf_rule.specs.Value.Values.{IsInterfaceName, IsProtocol, has_ports}
 
 -- a packet as contracts see it: its fields
 abbrev pub PlainPacket : Type 0

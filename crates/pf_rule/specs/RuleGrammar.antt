@@ -13,14 +13,14 @@ use Rattle.pf_rule.specs.declared.rule.Effect.{Effect}
 use Rattle.pf_rule.specs.declared.rule.Effect.TheVariants.{Decide, Evaluate}
 use Rattle.pf_rule.specs.declared.rule.Opening.{Opening}
 use Rattle.pf_rule.specs.declared.rule.Opening.TheVariants as openings
-use Rattle.pf_value.specs.declared.direction.Direction.{Direction}
-use Rattle.pf_host.specs.declared.host.Host.{Host}
+use Rattle.pf_rule.specs.declared.value.direction.Direction.{Direction}
+use Rattle.pf_rule.specs.declared.host.host.Host.{Host}
 use Rattle.pf_rule.specs.declared.fault.Mistake.{Mistake}
 use Rattle.pf_rule.specs.declared.fault.Mistake.TheVariants.{MixedFamily, PortNeedsProto}
-use Rattle.pf_value.specs.Tests.{direction, interface, family, protocol}
-use Rattle.pf_value.specs.Ports.{port, port_test, order_or_range, compared, ranged, range_end, ports_fit}
-use Rattle.pf_host.specs.Hosts.{a_negated_host, a_host, host, host_family}
-use Rattle.pf_host.specs.Ends.{End, end, destination, ends}
+use Rattle.pf_rule.specs.Value.Tests.{direction, interface, family, protocol}
+use Rattle.pf_rule.specs.Value.Ports.{port, port_test, order_or_range, compared, ranged, range_end, ports_fit}
+use Rattle.pf_rule.specs.Host.Hosts.{a_negated_host, a_host, host, host_family}
+use Rattle.pf_rule.specs.Host.Ends.{End, end, destination, ends}
 use Rattle.pf_rule.specs.Rules.{PlainRule}
 
 -- what an anchor rule names

@@ -7,8 +7,8 @@ use Rattle.pf_rule.specs.declared.rule.Effect.{Effect}
 use Rattle.pf_rule.specs.declared.rule.Effect.TheVariants.{Decide, Evaluate}
 use Rattle.pf_rule.specs.declared.rule.Action.TheVariants.{Pass, Block}
 use Rattle.pf_form.specs.Words.{Word}
-use Rattle.pf_value.specs.Tests.{direction_words, interface_words, family_words, protocol_words}
-use Rattle.pf_host.specs.Ends.{ends_words}
+use Rattle.pf_rule.specs.Value.Tests.{direction_words, interface_words, family_words, protocol_words}
+use Rattle.pf_rule.specs.Host.Ends.{ends_words}
 use Rattle.pf_rule.specs.Rules.{PlainRule}
 
 abbrev pub effect_word : Effect → Word

@@ -17,17 +17,17 @@ use Rattle.pf_rule.specs.declared.rule.Effect.TheVariants.{Decide, Evaluate}
 use Rattle.pf_rule.specs.declared.rule.Opening.{Opening}
 use Rattle.pf_rule.specs.declared.rule.Opening.TheVariants as openings
 use Rattle.pf_rule.specs.declared.rule.Action.TheVariants.{Pass, Block}
-use Rattle.pf_host.specs.declared.host.Host.{Host}
-use Rattle.pf_host.specs.declared.host.Host.TheVariants.{Any, Net, Table}
+use Rattle.pf_rule.specs.declared.host.host.Host.{Host}
+use Rattle.pf_rule.specs.declared.host.host.Host.TheVariants.{Any, Net, Table}
 use Rattle.pf_rule.specs.declared.fault.Mistake.{Mistake}
-use Rattle.pf_host.specs.Hosts.{IsHost, host_family}
-use Rattle.pf_host.specs.EndLaws.{ends_written}
+use Rattle.pf_rule.specs.Host.Hosts.{IsHost, host_family}
+use Rattle.pf_rule.specs.Host.EndLaws.{ends_written}
 use Rattle.pf_rule.specs.Rules.{PlainRule, IsEffect, IsRule, HostFits}
 use Rattle.pf_rule.specs.RuleGrammar.{opening, state, passes, effect_of, agreed, agreeing, rule, rule_decided}
 use Rattle.pf_rule.specs.RuleText.{effect_word, reference_words, quick_words, state_words, canonical, rule_text}
-use Rattle.pf_value.specs.Spacing.{is_word, words_of-join, join_bytes}
-use Rattle.pf_value.specs.Written.{Written, all_words, both}
-use Rattle.pf_value.specs.TestLaws.{direction_written, interface_written, family_written, protocol_written}
+use Rattle.pf_rule.specs.Value.Spacing.{is_word, words_of-join, join_bytes}
+use Rattle.pf_rule.specs.Value.Written.{Written, all_words, both}
+use Rattle.pf_rule.specs.Value.TestLaws.{direction_written, interface_written, family_written, protocol_written}
 
 -- ---- keywords
 

@@ -7,14 +7,14 @@ use Rattle.pf_path.specs.Names.{IsTableName}
 use Rattle.pf_path.specs.ReferenceGrammar.{IsReference}
 use Rattle.pf_rule.specs.declared.rule.Effect.{Effect}
 use Rattle.pf_rule.specs.declared.rule.Effect.TheVariants.{Decide, Evaluate}
-use Rattle.pf_host.specs.declared.host.Host.{Host}
+use Rattle.pf_rule.specs.declared.host.host.Host.{Host}
 use Rattle.pf_rule.specs.declared.rule.RuleParts.{RuleParts}
-use Rattle.pf_host.specs.declared.host.Host.TheVariants.{Any, Net, Table}
-use Rattle.pf_value.specs.Values.{IsInterfaceName, IsProtocol}
-use Rattle.pf_value.specs.Tests.{holds, same_direction}
-use Rattle.pf_host.specs.Hosts.{TableTest, host_holds}
+use Rattle.pf_rule.specs.declared.host.host.Host.TheVariants.{Any, Net, Table}
+use Rattle.pf_rule.specs.Value.Values.{IsInterfaceName, IsProtocol}
+use Rattle.pf_rule.specs.Value.Tests.{holds, same_direction}
+use Rattle.pf_rule.specs.Host.Hosts.{TableTest, host_holds}
 use Rattle.pf_rule.specs.Packets.{PlainPacket}
-use Rattle.pf_value.specs.Ports.{IsPortTest, port_holds, ports_fit}
+use Rattle.pf_rule.specs.Value.Ports.{IsPortTest, port_holds, ports_fit}
 
 -- a rule as contracts see it: its fields
 abbrev pub PlainRule : Type 0

@@ -2,21 +2,22 @@
 #![tactic(auto)]
 
 mod fault;
+pub mod host;
 mod laws;
 mod packet;
 mod rule;
 mod rule_text;
 mod rule_words;
+pub mod sum;
+pub mod value;
 
 pub use fault::{Mistake, TextFault};
+pub use host::{Host, TableAnswers};
 pub use laws::{
     a_refusal_is_one, different_rules_have_different_texts, hosts_without_tables_ask_none,
     what_is_spelled_is_kept, what_is_written_is_read_again,
 };
 pub use packet::Packet;
-pub use pf_host::{Host, TableAnswers};
 pub use pf_path::{Reference, TableName};
-pub use pf_value::{
-    Comparison, Direction, INTERFACE_LIMIT, Interface, PortRange, PortTest, Protocol,
-};
 pub use rule::{Action, Effect, Rule};
+pub use value::{Comparison, Direction, INTERFACE_LIMIT, Interface, PortRange, PortTest, Protocol};

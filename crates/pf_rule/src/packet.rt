@@ -7,11 +7,11 @@ ghost use Rattle.pf_rule.specs.Refusals.{IsAnswer, reading};
 ghost use Rattle.pf_rule.specs.Packets.{PlainPacket, IsPacket};
 
 use crate::fault::{Mistake, TextFault, tell};
-use pf_addr::Addr;
-use pf_form::{Stop, Words, expect, takes, words};
-use pf_value::{
+use crate::value::{
     Direction, Interface, Protocol, address_word, interface_word, port_word, protocol_word,
 };
+use pf_addr::Addr;
+use pf_form::{Stop, Words, expect, takes, words};
 use std::alloc::Global;
 use std::marker::Model;
 

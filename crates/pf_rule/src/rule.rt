@@ -8,16 +8,16 @@ ghost use Rattle.pf_rule.specs.Rules.{PlainRule, IsRule, ends_hold, matches};
 ghost use Rattle.pf_rule.specs.Matching.{ports_hold, networks_hold, tables_hold};
 
 use crate::fault::{Mistake, TextFault, tell};
+use crate::host::{Host, TableAnswers, read_ends};
 use crate::packet::Packet;
 use crate::rule_words::{read_opening, read_state};
-use pf_addr::Family;
-use pf_form::{Stop, Words, takes, words};
-use pf_host::{Host, TableAnswers, read_ends};
-use pf_path::Reference;
-use pf_value::{
+use crate::value::{
     Direction, Interface, PortTest, Protocol, is_wanted, ports_fit, read_direction, read_family,
     read_interface, read_protocol, takes_port,
 };
+use pf_addr::Family;
+use pf_form::{Stop, Words, takes, words};
+use pf_path::Reference;
 use std::alloc::Global;
 use std::marker::Model;
 

@@ -2,13 +2,13 @@
 ghost use Rattle.std.specs.Prelude.{◌≡◌, ◌≢◌, IfErr};
 ghost use Rattle.std.specs.IoError.{error_kind};
 ghost use Rattle.pf_addr.specs.Writing.{Writes, Continues};
-ghost use Rattle.pf_value.specs.Spacing.{spaced};
+ghost use Rattle.pf_rule.specs.Value.Spacing.{spaced};
 ghost use Rattle.pf_rule.specs.RuleText.{effect_word, reference_words, quick_words, state_words, rule_text};
 
+use crate::host::write_ends;
 use crate::rule::{Action, Effect, Rule};
+use crate::value::{direction_text, family_text, write_interface, write_protocol};
 use pf_addr::{write_more, write_text};
-use pf_host::write_ends;
-use pf_value::{direction_text, family_text, write_interface, write_protocol};
 use std::io::{self, ErrorKind, Write};
 
 impl Rule {
@@ -64,7 +64,7 @@ fn state_text(effect: Effect) -> &'static [u8]
 }
 
 /// Writes what an anchor rule names, in quotes.
-#[tactic(auto, using(pf_value::specs::Spacing::continuing))]
+#[tactic(auto, using(crate::specs::Value::Spacing::continuing))]
 fn write_reference<W: Write>(out: &mut W, so_far: io::Result<()>, effect: Effect) -> io::Result<()>
     ensures { Continues so_far (W.contents out.old) result (W.contents out.new) (spaced (reference_words effect)) }
 {

@@ -3,9 +3,9 @@ ghost use Rattle.pf_form.specs.Readers.{Moves};
 ghost use Rattle.pf_rule.specs.RuleGrammar.{a_reference, opening, state};
 
 use crate::rule::Opening;
+use crate::take_word;
 use pf_form::{Stop, Words, expect, takes};
 use pf_path::Reference;
-use pf_value::take_word;
 
 fn reference_word<'a>(words: &mut Words<'a>) -> Result<Reference, Stop>
     ensures { Moves a_reference result words.old.now words.new.now }

@@ -9,9 +9,9 @@ use Rattle.byteorder.specs.Endian.{big_bytes}
 use Rattle.pf_addr.specs.declared.addr.Addr.{Addr}
 use Rattle.pf_addr.specs.declared.addr.Addr.TheVariants.{V4, V6}
 use Rattle.pf_addr.specs.declared.addr.Family.TheVariants as family
-use Rattle.pf_value.specs.Values.{has_ports}
-use Rattle.pf_value.specs.declared.direction.Direction.{Direction}
-use Rattle.pf_value.specs.declared.direction.Direction.TheVariants.{In, Out}
+use Rattle.pf_rule.specs.Value.Values.{has_ports}
+use Rattle.pf_rule.specs.declared.value.direction.Direction.{Direction}
+use Rattle.pf_rule.specs.declared.value.direction.Direction.TheVariants.{In, Out}
 use Rattle.pf_state.specs.declared.peer.message.Group.{Group}
 use Rattle.pf_state.specs.declared.peer.message.Group.TheVariants.{Inserts, Deletes, Clears}
 use Rattle.pf_state.specs.declared.peer.message.Message.{Message}

@@ -3,10 +3,10 @@ use Rattle.std.specs.Prelude.{◌≡◌, ◌<◌, ◌==◌, ◌&&◌, ◌||◌, 
 use Rattle.pf_addr.specs.declared.addr.Addr.{Addr}
 use Rattle.pf_addr.specs.declared.addr.Addr.TheVariants.{V4, V6}
 use Rattle.pf_addr.specs.Address.{family_of, same_family, IsAddr}
-use Rattle.pf_value.specs.declared.direction.Direction.{Direction}
-use Rattle.pf_value.specs.declared.direction.Direction.TheVariants.{In, Out}
-use Rattle.pf_value.specs.Values.{IsProtocol, has_ports}
-use Rattle.pf_value.specs.Tests.{same_direction}
+use Rattle.pf_rule.specs.declared.value.direction.Direction.{Direction}
+use Rattle.pf_rule.specs.declared.value.direction.Direction.TheVariants.{In, Out}
+use Rattle.pf_rule.specs.Value.Values.{IsProtocol, has_ports}
+use Rattle.pf_rule.specs.Value.Tests.{same_direction}
 use Rattle.pf_rule.specs.Packets.{PlainPacket}
 use Rattle.pf_state.specs.declared.flow.FlowParts.{FlowParts}
 

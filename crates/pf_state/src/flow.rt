@@ -1,12 +1,12 @@
 //! Flows.
 ghost use Rattle.std.specs.Prelude.{◌≡◌, ◌<◌, ◌^◌, ◌==◌, ◌&&◌, cond, Some, None};
-ghost use Rattle.pf_value.specs.Tests.{same_direction};
+ghost use Rattle.pf_rule.specs.Value.Tests.{same_direction};
 ghost use Rattle.pf_state.specs.Candidates.{key_of, low_bits};
 ghost use Rattle.pf_state.specs.Flows.{PlainFlow, IsFlow, flow_of, is_flow, same_addr, is_equal, turned, same_flow, other_way};
 
 use pf_addr::Addr;
 use pf_rule::Packet;
-use pf_value::{Direction, Protocol};
+use pf_rule::value::{Direction, Protocol};
 use std::marker::Model;
 
 /// What the packets of one flow have in common, as the first of them has it (pf.conf(5)). Contracts see a

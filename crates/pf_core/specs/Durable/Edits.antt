@@ -17,7 +17,7 @@ use Rattle.pf_state.specs.declared.step.Step.{Step}
 use Rattle.pf_state.specs.Flows.{flow_of}
 use Rattle.pf_state.specs.States.{Stated, state_of}
 use Rattle.pf_state.specs.Steps.{after as stepped_on, passes_limit, without_state}
-use Rattle.pf_sum.specs.Forms.{ruleset_sum}
+use Rattle.pf_rule.specs.Sum.Forms.{ruleset_sum}
 use Rattle.pf_ticket.specs.declared.name.RulesetName.{RulesetName}
 use Rattle.pf_ticket.specs.Names.{filter_at, table_ruleset_at}
 use Rattle.pf_ticket.specs.NamedTables.{Named}

@@ -3,9 +3,9 @@ use Rattle.std.specs.Prelude.{ℕ, List, ◌∷◌, ◌++◌, codes, decimal, ma
 use Rattle.hex.specs.Hex.{encode_lower}
 use Rattle.pf_addr.specs.declared.addr.Addr.{Addr}
 use Rattle.pf_addr.specs.Spelling.{addr_text}
-use Rattle.pf_value.specs.declared.direction.Direction.{Direction}
-use Rattle.pf_value.specs.declared.direction.Direction.TheVariants.{In, Out}
-use Rattle.pf_value.specs.Tests.{protocol_word}
+use Rattle.pf_rule.specs.declared.value.direction.Direction.{Direction}
+use Rattle.pf_rule.specs.declared.value.direction.Direction.TheVariants.{In, Out}
+use Rattle.pf_rule.specs.Value.Tests.{protocol_word}
 use Rattle.pf_state.specs.declared.peer.fault.PeerFault.{PeerFault}
 use Rattle.pf_state.specs.declared.peer.fault.PeerFault.TheVariants.{BadVersion, BadLength, BadAction, BadRecord, Ended}
 use Rattle.pf_state.specs.declared.counts.Counts.{Counts}

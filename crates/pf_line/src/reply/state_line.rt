@@ -2,16 +2,16 @@
 ghost use Rattle.std.specs.Prelude.{◌≡◌, ◌∷◌, ◌++◌, [], codes, decimal, map};
 ghost use Rattle.hex.specs.Hex.{encode_lower};
 ghost use Rattle.pf_addr.specs.Spelling.{addr_text};
-ghost use Rattle.pf_value.specs.Tests.{protocol_word};
+ghost use Rattle.pf_rule.specs.Value.Tests.{protocol_word};
 ghost use Rattle.pf_line.specs.Reply.Parts.{newlines, GoesOn, WroteLines};
 ghost use Rattle.pf_line.specs.Reply.StateTexts.{name_text, way_text, end_text, flow_text, bound_text, state_line, state_lines, message_line, message_lines, counts_text, fault_text};
 
 use crate::reply::entry::write_network;
 use crate::reply::part::{end_line, write_number, write_numbered, write_part};
 use pf_addr::{Addr, Net};
+use pf_rule::value::{Direction, Protocol};
 use pf_state::peer::PeerFault;
 use pf_state::{Bound, Counts, Flow, State, StateName};
-use pf_value::{Direction, Protocol};
 use std::io::{self, Write};
 
 /// Writes a line for each state.

@@ -12,9 +12,9 @@ use Rattle.byteorder.specs.Endian.{big_number, big_bytes}
 use Rattle.pf_addr.specs.declared.addr.Addr.{Addr}
 use Rattle.pf_addr.specs.declared.addr.Addr.TheVariants.{V4, V6}
 use Rattle.pf_addr.specs.Address.{IsAddr, family_of}
-use Rattle.pf_value.specs.declared.direction.Direction.{Direction}
-use Rattle.pf_value.specs.declared.direction.Direction.TheVariants.{In, Out}
-use Rattle.pf_value.specs.Values.{IsProtocol, has_ports}
+use Rattle.pf_rule.specs.declared.value.direction.Direction.{Direction}
+use Rattle.pf_rule.specs.declared.value.direction.Direction.TheVariants.{In, Out}
+use Rattle.pf_rule.specs.Value.Values.{IsProtocol, has_ports}
 use Rattle.pf_state.specs.declared.peer.fields.TheConstants.{IN, OUT, FAMILY_4, FAMILY_6}
 use Rattle.pf_state.specs.declared.peer.record.InsertFields.{InsertFields}
 use Rattle.pf_state.specs.declared.peer.record.Delete.{Delete}

@@ -5,7 +5,7 @@ ghost use Rattle.pf_state.specs.Peer.Records.{IsInsert, allowed, fields_of, is_p
 use crate::peer::record::{InsertFields, RECORD};
 use byteorder::{BigEndian, ByteOrder};
 use pf_addr::Addr;
-use pf_value::{Direction, Protocol};
+use pf_rule::value::{Direction, Protocol};
 
 /// The direction's byte of a state whose first packet came in.
 pub(crate) const IN: u8 = 1;

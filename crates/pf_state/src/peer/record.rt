@@ -5,7 +5,7 @@ ghost use Rattle.pf_state.specs.Peer.Records.{IsInsert};
 use crate::peer::fields::{fields_of, is_allowed, u32_at, u64_at};
 use crate::peer::writing::{push_address, push_kinds, push_u16, push_u32, push_u64};
 use pf_addr::Addr;
-use pf_value::{Direction, Protocol};
+use pf_rule::value::{Direction, Protocol};
 use std::alloc::AllocError;
 use std::marker::Model;
 

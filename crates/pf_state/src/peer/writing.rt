@@ -11,7 +11,7 @@ use crate::peer::record::{InsertFields, Record};
 use crate::peer::stream::HEADER;
 use byteorder::{BigEndian, ByteOrder};
 use pf_addr::{Addr, Family};
-use pf_value::Direction;
+use pf_rule::value::Direction;
 use std::alloc::{AllocError, Global};
 
 /// The bytes of a message, which are read back as that message. Its groups have at most as many records as let the whole fit in

@@ -1,6 +1,6 @@
 use Rattle.std.proofs.Common.{◌≡◌, ap, sym, ◌∙◌}
 use Rattle.pf_anchor.specs.Configurations.{Configuration}
-use Rattle.pf_sum.specs.Forms.{ruleset_sum}
+use Rattle.pf_rule.specs.Sum.Forms.{ruleset_sum}
 use Rattle.pf_core.specs.Durable.Edits.{Kept, sum_of}
 use Rattle.pf_core.proofs.MainRules.{stays}
 use Rattle.pf_core.proofs.durable.durable.Durable.sum_after.Goals as goal

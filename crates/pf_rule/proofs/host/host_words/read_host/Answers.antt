@@ -1,0 +1,13 @@
+use Rattle.std.proofs.Common.{Ok, refl}
+use Rattle.std.specs.Prelude.{codes}
+use Rattle.pf_form.specs.Forms.{nothing, or}
+use Rattle.pf_form.specs.StepLaws.{taken}
+use Rattle.pf_rule.specs.declared.host.host.Host.{Host}
+use Rattle.pf_rule.specs.declared.host.host.Host.TheVariants.{Any}
+use Rattle.pf_rule.specs.Host.Hosts.{a_negated_host, a_host}
+use Rattle.pf_rule.specs.Host.Hosts.{host}
+use Rattle.pf_rule.proofs.host.host_words.read_host.Goals as goal
+
+pub returns-then-takes : goal.returns-then-takes
+unfolding host
+returns-then-takes c = taken {A = Host} (codes "any") (nothing Any) (or (codes "!") a_negated_host a_host) (Ok Any) c.takes.result c.args.words.now.now c.takes.new.words.now c.takes.new.words.now c.takes.ensures c.if-takes.true refl

@@ -1,0 +1,5 @@
+use Rattle.pf_rule.proofs.ReadAgain.{same_form}
+use Rattle.pf_rule.proofs.sum.laws.different_rules_have_different_forms.Goals as goal
+
+pub returns : goal.returns
+returns c = same_form

@@ -1,0 +1,89 @@
+-- Rules with their texts and forms, and rulesets with their checksums, to be compared with what other programs make of the same bytes
+-- (as md5sum(1) does).
+use Rattle.std.specs.Prelude.{List, [], ◌∷◌, ◌++◌, ℕ, false, true, None, Some, codes, replicate}
+use Rattle.pf_addr.specs.declared.addr.Family.TheVariants.{V4}
+use Rattle.pf_path.specs.References.{refers}
+use Rattle.pf_rule.specs.declared.value.direction.Direction.TheVariants.{In, Out}
+use Rattle.pf_rule.specs.declared.value.ports.Comparison.TheVariants.{Equal}
+use Rattle.pf_rule.specs.declared.value.ports.PortRange.TheVariants.{Including}
+use Rattle.pf_rule.specs.declared.value.ports.PortTest.TheVariants.{Compared, Ranged}
+use Rattle.pf_rule.specs.declared.host.host.Host.TheVariants.{Any, Net, Table}
+use Rattle.pf_rule.specs.declared.rule.Action.TheVariants.{Pass, Block}
+use Rattle.pf_rule.specs.declared.rule.Effect.{Effect}
+use Rattle.pf_rule.specs.declared.rule.Effect.TheVariants.{Decide, Evaluate}
+use Rattle.pf_rule.specs.Rules.{PlainRule}
+
+-- ---- rules
+
+-- a rule without tests
+abbrev pub untested : Effect → PlainRule
+untested effect = record {
+  effect = effect;
+  direction = None;
+  quick = false;
+  interface = None;
+  family = None;
+  protocol = None;
+  source = Any;
+  source_port = None;
+  destination = Any;
+  destination_port = None;
+}
+
+abbrev pub block : PlainRule
+block = record (untested (Decide Block)) { direction = Some In }
+
+abbrev pub pass : PlainRule
+pass = record (untested (Decide (Pass true))) { direction = Some In }
+
+abbrev pub anchor : PlainRule
+anchor = untested (Evaluate (refers (codes "a") true))
+
+-- one with all tests
+abbrev pub tested : PlainRule
+tested = record {
+  effect = Decide (Pass false);
+  direction = Some Out;
+  quick = true;
+  interface = Some (codes "em0");
+  family = Some V4;
+  protocol = Some 6;
+  source = Net (record { family = V4; len = 8; front = 10 }) true;
+  source_port = Some (Ranged Including 1024 2048);
+  destination = Table (codes "web") false;
+  destination_port = Some (Compared Equal 80);
+}
+
+-- their forms
+abbrev pub block_form : List ℕ
+block_form = 0 ∷ 1 ∷ replicate 202 0
+
+abbrev pub pass_form : List ℕ
+pass_form = 1 ∷ 1 ∷ 0 ∷ 1 ∷ replicate 200 0
+
+abbrev pub anchor_form : List ℕ
+anchor_form = 2 ∷ replicate 135 0 ++ codes "a" ++ replicate 63 0 ++ 1 ∷ 0 ∷ 0 ∷ 0 ∷ []
+
+abbrev pub tested_form : List ℕ
+tested_form =
+    1 ∷ 2 ∷ 1 ∷ 0 ∷ 4 ∷ 6 ∷ 0 ∷ 0 ∷ codes "em0" ++ replicate 13 0
+    ++ 1 ∷ 1 ∷ 8 ∷ 7 ∷ 4 ∷ 0 ∷ 8 ∷ 0 ∷ 10 ∷ replicate 15 0 ++ replicate 32 0
+    ++ 2 ∷ 0 ∷ 0 ∷ 1 ∷ 0 ∷ 80 ∷ 0 ∷ 0 ∷ replicate 16 0 ++ codes "web" ++ replicate 29 0
+    ++ replicate 68 0
+
+-- ---- checksums
+
+-- of no rules: MD5 of no bytes, d41d8cd98f00b204e9800998ecf8427e (RFC 1321, A.5)
+abbrev pub sum_of_none : List ℕ
+sum_of_none = 0xd4 ∷ 0x1d ∷ 0x8c ∷ 0xd9 ∷ 0x8f ∷ 0x00 ∷ 0xb2 ∷ 0x04 ∷ 0xe9 ∷ 0x80 ∷ 0x09 ∷ 0x98 ∷ 0xec ∷ 0xf8 ∷ 0x42 ∷ 0x7e ∷ []
+
+-- of the first rule alone, 4827fb64e081067431cdbb8713c4eeee
+abbrev pub sum_of_block : List ℕ
+sum_of_block = 0x48 ∷ 0x27 ∷ 0xfb ∷ 0x64 ∷ 0xe0 ∷ 0x81 ∷ 0x06 ∷ 0x74 ∷ 0x31 ∷ 0xcd ∷ 0xbb ∷ 0x87 ∷ 0x13 ∷ 0xc4 ∷ 0xee ∷ 0xee ∷ []
+
+-- block, pass, the one with all tests, and then the anchor, f636cce203b7240a4f6dbaa8be15cc7a
+abbrev pub all_four : List PlainRule
+all_four = block ∷ pass ∷ tested ∷ anchor ∷ []
+
+abbrev pub sum_of_four : List ℕ
+sum_of_four = 0xf6 ∷ 0x36 ∷ 0xcc ∷ 0xe2 ∷ 0x03 ∷ 0xb7 ∷ 0x24 ∷ 0x0a ∷ 0x4f ∷ 0x6d ∷ 0xba ∷ 0xa8 ∷ 0xbe ∷ 0x15 ∷ 0xcc ∷ 0x7a ∷ []

@@ -1,0 +1,13 @@
+//! Hosts: which addresses the ends of a packet's way may have, as networks and as tables say, and how their words are read and
+//! written.
+
+mod ends;
+mod ends_text;
+mod host;
+mod host_words;
+mod laws;
+
+pub use ends::{End, read_ends};
+pub use ends_text::write_ends;
+pub use host::{Host, TableAnswers};
+pub use laws::host_words_are_read_as_spelled;

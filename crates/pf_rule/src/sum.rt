@@ -1,0 +1,13 @@
+//! The checksum of a ruleset: MD5 (RFC 1321) of its rules' forms in bytes, by which a peer knows whether its rules are the same.
+
+mod form;
+mod host_form;
+mod laws;
+mod sum;
+
+pub use form::{RULE_FORM, rule_bytes};
+pub use laws::{
+    different_rules_have_different_forms, forms_are_of_one_length, four_rules_have_these_forms,
+    four_rules_have_these_texts, rule_is_read_from_its_form, three_rulesets_have_these_sums,
+};
+pub use sum::{RULESET_SUM, ruleset_sum};

@@ -1,0 +1,53 @@
+//! Laws of forms. Each function does nothing; its clauses are what is proved.
+ghost use Rattle.std.specs.Prelude.{◌≡◌, [], ◌∷◌, codes, length, Ok};
+ghost use Rattle.pf_rule.specs.Rules.{PlainRule, IsRule};
+ghost use Rattle.pf_form.specs.Words.{words_of};
+ghost use Rattle.pf_form.specs.Forms.{read_all};
+ghost use Rattle.pf_rule.specs.RuleGrammar.{rule};
+ghost use Rattle.pf_rule.specs.declared.sum.form.TheConstants.{RULE_FORM};
+ghost use Rattle.pf_rule.specs.Sum.Forms.{rule_form, ruleset_sum};
+ghost use Rattle.pf_rule.specs.Sum.Examples as example;
+ghost use Rattle.pf_rule.specs.Sum.Reading.{read_form};
+
+/// The form of each rule has [`RULE_FORM`](crate::sum::RULE_FORM) bytes.
+#[tactic(auto, using(crate::proofs::ReadAgain::form_long))]
+pub fn forms_are_of_one_length()
+    ensures { (r : PlainRule) → IsRule r → length (rule_form r) ≡ RULE_FORM }
+{}
+
+/// A form says the whole rule: what is read from it is the rule.
+#[tactic(auto, using(crate::proofs::ReadAgain::form_again))]
+pub fn rule_is_read_from_its_form()
+    ensures { (r : PlainRule) → IsRule r → read_form (rule_form r) ≡ r }
+{}
+
+/// Two different rules have different forms.
+pub fn different_rules_have_different_forms()
+    ensures { (r s : PlainRule) → IsRule r → IsRule s → rule_form r ≡ rule_form s → r ≡ s }
+{}
+
+/// Four rules are read from these texts.
+#[tactic(auto, using(crate::proofs::Computed::block_text, crate::proofs::Computed::pass_text, crate::proofs::Computed::anchor_text, crate::proofs::Computed::tested_text))]
+pub fn four_rules_have_these_texts()
+    ensures block { read_all rule (words_of (codes "block in all")) ≡ Ok (Ok example.block) }
+    ensures pass { read_all rule (words_of (codes "pass in all")) ≡ Ok (Ok example.pass) }
+    ensures anchor { read_all rule (words_of (codes "anchor \"a/*\" all")) ≡ Ok (Ok example.anchor) }
+    ensures tested { read_all rule (words_of (codes "pass out quick on em0 proto tcp from !10/8 port 1024:2048 to <web> port 80 no state")) ≡ Ok (Ok example.tested) }
+{}
+
+/// The forms of these rules.
+#[tactic(auto, using(crate::proofs::Computed::block_form, crate::proofs::Computed::pass_form, crate::proofs::Computed::anchor_form, crate::proofs::Computed::tested_form))]
+pub fn four_rules_have_these_forms()
+    ensures block { rule_form example.block ≡ example.block_form }
+    ensures pass { rule_form example.pass ≡ example.pass_form }
+    ensures anchor { rule_form example.anchor ≡ example.anchor_form }
+    ensures tested { rule_form example.tested ≡ example.tested_form }
+{}
+
+/// The checksums of no rules, of the first of them, and of all four.
+#[tactic(auto, using(crate::proofs::Computed::none_sum, crate::proofs::Computed::block_sum, crate::proofs::Computed::four_sum))]
+pub fn three_rulesets_have_these_sums()
+    ensures none { ruleset_sum [] ≡ example.sum_of_none }
+    ensures block { ruleset_sum (example.block ∷ []) ≡ example.sum_of_block }
+    ensures four { ruleset_sum example.all_four ≡ example.sum_of_four }
+{}

@@ -1,0 +1,24 @@
+//! The checksum of a ruleset.
+ghost use Rattle.std.specs.Prelude.{◌≡◌};
+ghost use Rattle.pf_rule.specs.Sum.Forms.{ruleset_sum};
+
+use crate::Rule;
+use crate::sum::form::rule_bytes;
+use md5::{Digest, Md5};
+
+/// How many bytes a ruleset's checksum has, as each digest of MD5.
+pub const RULESET_SUM: usize = 16;
+
+/// The checksum of a ruleset: the MD5 (RFC 1321) of the forms of its rules, which [`rule_bytes`] gives, one after the other in the
+/// rules' order. It takes no memory. Rulesets with different checksums are different; against someone who looks for two with one
+/// checksum it is no help.
+#[tactic(auto, unfolding(crate::specs::Sum::Forms::ruleset_sum))]
+pub fn ruleset_sum(rules: &[Rule]) -> [u8; RULESET_SUM]
+    ensures { result ≡ ruleset_sum rules.now }
+{
+    let mut hasher = Md5::new();
+    for rule in rules {
+        hasher.update(&rule_bytes(rule));
+    }
+    hasher.finalize()
+}

@@ -1,0 +1,25 @@
+//! The values that rules and packets are made of: protocols, ports and tests of ports, interfaces and directions. How the words of
+//! each are read and written, and what a test of one says.
+
+mod direction;
+mod interface;
+mod laws;
+mod port_words;
+mod ports;
+mod protocol;
+mod test_text;
+mod test_words;
+mod value_words;
+mod values;
+mod wanted;
+
+pub use direction::Direction;
+pub use interface::{INTERFACE_LIMIT, Interface};
+pub use laws::{port_words_are_read_as_spelled, protocol_words_are_read_as_spelled};
+pub use port_words::read_port;
+pub use ports::{Comparison, PortRange, PortTest, ports_fit, takes_port};
+pub use protocol::Protocol;
+pub use test_text::{direction_text, family_text, write_interface, write_port, write_protocol};
+pub use test_words::{read_direction, read_family, read_interface, read_protocol};
+pub use value_words::{address_word, interface_word, port_word, protocol_word};
+pub use wanted::is_wanted;

@@ -1,2 +1,0 @@
-pub mod ReadAgain
-pub mod Computed
