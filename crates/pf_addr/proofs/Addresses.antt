@@ -5,7 +5,7 @@ use Rattle.std.specs.Int.{from_be_bytes, w32}
 use Rattle.std.proofs.lemmas.Bool.Decides.{nat_tests}
 use Rattle.std.proofs.lemmas.List.{take_at, take-take, take-replicate}
 use Rattle.std.proofs.Math.Seq.{take-append-add}
-use Rattle.pf_form.specs.Forms.{◌>>=◌}
+use Rattle.pf_addr.specs.Form.Forms.{◌>>=◌}
 use Rattle.pf_addr.specs.declared.fault.AddrFault.{AddrFault}
 use Rattle.pf_addr.specs.declared.fault.AddrFault.TheVariants.{BadGroups}
 use Rattle.pf_addr.specs.declared.groups.Groups.{Groups}

@@ -1,3 +1,10 @@
+pub mod Collecting
+pub mod Cutting
+mod PathTexts
+pub mod NamesRead
+pub mod PathsRead
+pub mod ReferencesRead
+pub mod Nesting
 pub mod Numbers
 pub mod Fronts
 pub mod Writers

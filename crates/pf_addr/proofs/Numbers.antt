@@ -3,7 +3,7 @@ use Rattle.std.proofs.Common.{◌≡◌, ℕ, ◌+◌, ◌-◌, ◌<◌, ◌≤�
 use Rattle.std.specs.List.{slice_split, position}
 use Rattle.std.proofs.lemmas.List.{length-take-le, length-drop, length-append, take_rest}
 use Rattle.std.proofs.lemmas.List.Splits.{length-slice_split}
-use Rattle.pf_form.specs.Forms.{◌>>=◌}
+use Rattle.pf_addr.specs.Form.Forms.{◌>>=◌}
 use Rattle.pf_addr.specs.declared.fault.AddrFault.{AddrFault}
 use Rattle.pf_addr.specs.declared.groups.Groups.{Groups}
 use Rattle.pf_addr.specs.declared.reading.Parts.{Parts}

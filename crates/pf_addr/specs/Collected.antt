@@ -1,6 +1,6 @@
 -- What the readers keep of the numbers that they read: the first ones, and how many they are.
 use Rattle.std.specs.Prelude.{ℕ, Bool, List, ◌++◌, length, take, replicate, Result, Ok}
-use Rattle.pf_form.specs.Forms.{◌>>=◌}
+use Rattle.pf_addr.specs.Form.Forms.{◌>>=◌}
 use Rattle.pf_addr.specs.declared.fault.AddrFault.{AddrFault}
 use Rattle.pf_addr.specs.declared.reading.Parts.{Parts}
 use Rattle.pf_addr.specs.declared.groups.Groups.{Groups}

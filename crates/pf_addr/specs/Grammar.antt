@@ -5,7 +5,7 @@ use Rattle.std.specs.List.{AllZip, slice_split}
 use Rattle.std.specs.Int.{from_be_bytes, w32}
 use Rattle.std.specs.Int.Digits.{number_from_digits}
 use Rattle.std.specs.Str.Parse.{IsNumeral, digits_value}
-use Rattle.pf_form.specs.Numbers as digits
+use Rattle.pf_addr.specs.Form.Numbers as digits
 use Rattle.pf_addr.specs.declared.addr.Addr.{Addr}
 use Rattle.pf_addr.specs.declared.addr.Addr.TheVariants as addr
 use Rattle.pf_addr.specs.declared.reading.TheConstants.{NUMBER_DIGITS}

@@ -1,3 +1,5 @@
+pub mod Form
+pub mod Path
 pub mod Address
 pub mod Nets
 pub mod BitLaws

@@ -4,8 +4,8 @@ use Rattle.std.specs.List.{All, AllZip, position}
 use Rattle.std.proofs.lemmas.List.{get_or_at, length-append}
 use Rattle.std.proofs.lemmas.List.Elements.{All-nil, All-cons}
 use Rattle.std.proofs.lemmas.Bool.Decides.{nat_tests}
-use Rattle.pf_form.specs.Forms.{◌>>=◌}
-use Rattle.pf_form.specs.Laws.{bind_ok}
+use Rattle.pf_addr.specs.Form.Forms.{◌>>=◌}
+use Rattle.pf_addr.specs.Form.Laws.{bind_ok}
 use Rattle.pf_addr.specs.Grammar.{pieces}
 use Rattle.pf_addr.specs.PlaceLaws.{first_none, split_none}
 use Rattle.pf_addr.specs.Reading.{One, Last, single, pieces_at, has}

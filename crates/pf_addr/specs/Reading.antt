@@ -6,8 +6,8 @@ use Rattle.std.specs.Char.{digit_value}
 use Rattle.std.specs.List.{position}
 use Rattle.std.specs.Option.{ok_or}
 use Rattle.std.specs.Str.Parse.{digits_value}
-use Rattle.pf_form.specs.Forms.{◌>>=◌}
-use Rattle.pf_form.specs.Numbers.{is_digit, number_of}
+use Rattle.pf_addr.specs.Form.Forms.{◌>>=◌}
+use Rattle.pf_addr.specs.Form.Numbers.{is_digit, number_of}
 use Rattle.pf_addr.specs.declared.addr.Addr.{Addr}
 use Rattle.pf_addr.specs.declared.addr.Addr.TheVariants as addr
 use Rattle.pf_addr.specs.declared.fault.AddrFault.{AddrFault}

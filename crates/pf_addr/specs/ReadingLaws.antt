@@ -10,10 +10,10 @@ use Rattle.std.proofs.lemmas.Bool.Decides.{leb_tells, eqb_tells, nat_tests}
 use Rattle.std.proofs.lemmas.List.{length-append, length-replicate, take_at, drop_at}
 use Rattle.std.proofs.lemmas.List.Elements.{All-nil, All-cons, All-append, All-head, All-tail}
 use Rattle.std.proofs.lemmas.List.Splits.{join_with_byte-slice_split}
-use Rattle.pf_form.specs.Forms.{◌>>=◌}
-use Rattle.pf_form.specs.Laws.{bind_ok}
-use Rattle.pf_form.specs.Numbers.{number_of}
-use Rattle.pf_form.specs.NumberLaws.{number_only, number_found}
+use Rattle.pf_addr.specs.Form.Forms.{◌>>=◌}
+use Rattle.pf_addr.specs.Form.Laws.{bind_ok}
+use Rattle.pf_addr.specs.Form.Numbers.{number_of}
+use Rattle.pf_addr.specs.Form.NumberLaws.{number_only, number_found}
 use Rattle.pf_addr.specs.declared.addr.Addr.{Addr}
 use Rattle.pf_addr.specs.declared.addr.Addr.TheVariants as addr
 use Rattle.pf_addr.specs.declared.fault.AddrFault.{AddrFault}

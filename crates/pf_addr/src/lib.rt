@@ -3,9 +3,11 @@
 
 mod addr;
 mod fault;
+pub mod form;
 mod groups;
 mod laws;
 mod net;
+pub mod path;
 mod reading;
 mod write;
 

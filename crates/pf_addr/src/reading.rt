@@ -1,14 +1,14 @@
 //! Addresses as text, and the numbers between the dots of an IPv4 address.
 ghost use Rattle.std.specs.Prelude.{◌≡◌, ◌+◌, ◌^◌, ◌<◌, ◌==◌, ◌-◌, length, set, not, IfSome};
 ghost use Rattle.std.specs.List.{position};
-ghost use Rattle.pf_form.specs.Numbers.{is_digit};
+ghost use Rattle.pf_addr.specs.Form.Numbers.{is_digit};
 ghost use Rattle.pf_addr.specs.Collected.{parts_kept};
 ghost use Rattle.pf_addr.specs.Reading.{small_number, part_at, part_fault, v4_at, address_at, length_at};
 
 use crate::addr::Addr;
 use crate::fault::AddrFault;
+use crate::form::read_number;
 use crate::groups::read_v6;
-use pf_form::read_number;
 
 /// How many digits a part or a prefix length may have, leading zeros among them.
 pub(crate) const NUMBER_DIGITS: usize = 3;

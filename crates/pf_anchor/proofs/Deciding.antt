@@ -1,8 +1,8 @@
 -- What is found is a rule that decides, and a verdict tells which.
 use Rattle.std.proofs.Common.{◌≡◌, ℕ, T, zero, suc, ◌+◌, inl, inr, Bool, true, false, cond, List, [], ◌∷◌, Option, Some, None, refl, sym, ap, ◌∙◌, subst, arith}
 use Rattle.std.specs.FinMap.{find, is_sorted}
-use Rattle.pf_path.specs.Paths.{main, path_order}
-use Rattle.pf_path.specs.References.{PlainReference}
+use Rattle.pf_addr.specs.Path.Paths.{main, path_order}
+use Rattle.pf_addr.specs.Path.References.{PlainReference}
 use Rattle.pf_rule.specs.Rules.{PlainRule}
 use Rattle.pf_rule.specs.declared.rule.Action.{Action}
 use Rattle.pf_rule.specs.declared.rule.Effect.{Effect}

@@ -3,8 +3,8 @@ use Rattle.std.proofs.Common.{◌≡◌, ℕ, T, inl, inr, Bool, true, false, co
 use Rattle.std.specs.Prelude.{filter}
 use Rattle.std.specs.FinMap.{find, is_sorted}
 use Rattle.std.proofs.lemmas.Cmp.{eq_by_cmp_equiv, nat_list_cmp_total}
-use Rattle.pf_path.specs.Paths.{path_order, same_path}
-use Rattle.pf_path.proofs.PathsRead.{same_path_is}
+use Rattle.pf_addr.specs.Path.Paths.{path_order, same_path}
+use Rattle.pf_addr.proofs.PathsRead.{same_path_is}
 use Rattle.pf_rule.specs.Rules.{PlainRule}
 use Rattle.pf_anchor.specs.Rulesets.{Ruled, ruled, rules_in, rules_at}
 use Rattle.pf_anchor.specs.EvaluationLaws.{IsIn}

@@ -1,12 +1,12 @@
 -- The equation of evaluation has one solution.
 use Rattle.std.proofs.Common.{◌≡◌, ℕ, zero, suc, ◌+◌, ◌-◌, ◌<◌, ◌≤◌, Bool, true, false, cond, List, [], ◌∷◌, Option, Some, None, refl, sym, ap, ◌∙◌, arith}
 use Rattle.std.specs.Option.{option_map_or}
-use Rattle.pf_path.specs.declared.limits.TheConstants.{DEPTH_LIMIT}
-use Rattle.pf_path.specs.Paths.{main}
-use Rattle.pf_path.specs.Nested.{depth, path_within}
-use Rattle.pf_path.specs.References.{PlainReference}
-use Rattle.pf_path.proofs.PathsRead.{same_path_is}
-use Rattle.pf_path.proofs.Nesting.{leads_deeper, has_one_more}
+use Rattle.pf_addr.specs.declared.path.limits.TheConstants.{DEPTH_LIMIT}
+use Rattle.pf_addr.specs.Path.Paths.{main}
+use Rattle.pf_addr.specs.Path.Nested.{depth, path_within}
+use Rattle.pf_addr.specs.Path.References.{PlainReference}
+use Rattle.pf_addr.proofs.PathsRead.{same_path_is}
+use Rattle.pf_addr.proofs.Nesting.{leads_deeper, has_one_more}
 use Rattle.pf_rule.specs.Packets.{PlainPacket}
 use Rattle.pf_rule.specs.Rules.{PlainRule}
 use Rattle.pf_rule.specs.declared.rule.Effect.{Effect}

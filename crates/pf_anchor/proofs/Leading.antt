@@ -3,9 +3,9 @@ use Rattle.std.proofs.Common.{◌≡◌, ◌==◌, ◌≢◌, ℕ, inl, inr, tru
 use Rattle.std.proofs.lemmas.Bool.Decides.{nat_tests}
 use Rattle.std.specs.Prelude.{filter, map}
 use Rattle.std.specs.FinMap.{find}
-use Rattle.pf_path.specs.Paths.{path_order}
-use Rattle.pf_path.specs.Nested.{path_within, is_child}
-use Rattle.pf_path.specs.References.{PlainReference}
+use Rattle.pf_addr.specs.Path.Paths.{path_order}
+use Rattle.pf_addr.specs.Path.Nested.{path_within, is_child}
+use Rattle.pf_addr.specs.Path.References.{PlainReference}
 use Rattle.pf_rule.specs.Rules.{PlainRule}
 use Rattle.pf_anchor.specs.Rulesets.{Ruled, ruled, rules_in, rules_at, children, targets, IsMap}
 use Rattle.pf_anchor.specs.EvaluationLaws.{IsIn, InTurn, rulesets_at, LeadsToTheseAlone}

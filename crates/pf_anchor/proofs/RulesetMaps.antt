@@ -6,11 +6,11 @@ use Rattle.std.specs.FinMap.Entries.{below_all, is_some-find, is_sorted-where_ke
 use Rattle.std.proofs.lemmas.Bool.Decides.{nat_tests}
 use Rattle.std.proofs.lemmas.Map.Views.{any-filter_same}
 use Rattle.std.proofs.lemmas.Cmp.{nat_list_cmp_total}
-use Rattle.pf_path.proofs.PathsRead.{same_path_is}
-use Rattle.pf_path.specs.Nested.{is_child}
+use Rattle.pf_addr.proofs.PathsRead.{same_path_is}
+use Rattle.pf_addr.specs.Path.Nested.{is_child}
 use Rattle.pf_rule.specs.Rules.{PlainRule}
 use Rattle.pf_anchor.specs.Laws.{ReplacesInTurn, StaysMap, OneMap, in_order, ChildrenHaveRules}
-use Rattle.pf_path.specs.Paths.{path_order, same_path}
+use Rattle.pf_addr.specs.Path.Paths.{path_order, same_path}
 use Rattle.pf_anchor.specs.Rulesets.{Ruled, ruled, rules_in}
 use Rattle.pf_table.proofs.ListMaps.{lists_replaced, list_maps_stay, one_list_map}
 use Rattle.std.specs.Option.{option_map, MatchOption}

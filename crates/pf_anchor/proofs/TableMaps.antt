@@ -13,8 +13,8 @@ use Rattle.pf_table.specs.Map.ListMaps.{list_in, unless_empty}
 use Rattle.pf_table.specs.Map.Pairs.{pairs_alike}
 use Rattle.pf_table.proofs.Maps.{replaces_the_key}
 use Rattle.pf_table.proofs.ListMaps.{lists_replaced, list_maps_stay, one_list_map, lists_grow}
-use Rattle.pf_path.specs.Names.{name_order}
-use Rattle.pf_path.specs.Paths.{main, path_order}
+use Rattle.pf_addr.specs.Path.Names.{name_order}
+use Rattle.pf_addr.specs.Path.Paths.{main, path_order}
 use Rattle.pf_rule.specs.declared.host.host.Host.TheVariants.{Table}
 use Rattle.pf_rule.specs.Host.Hosts.{host_holds}
 use Rattle.pf_table.specs.Entries.{Row}

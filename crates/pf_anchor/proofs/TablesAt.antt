@@ -5,9 +5,9 @@ use Rattle.std.specs.declared.cmp.Ordering.TheVariants.{Less, Equal, Greater}
 use Rattle.std.specs.FinMap.{find, is_sorted}
 use Rattle.std.specs.FinMap.Entries.{below_all}
 use Rattle.std.specs.Ordering.{ordering_then, eq_by_cmp, is_eq, is_lt}
-use Rattle.pf_path.specs.Names.{name_order}
-use Rattle.pf_path.specs.Paths.{path_order, same_path}
-use Rattle.pf_path.proofs.PathsRead.{same_path_is}
+use Rattle.pf_addr.specs.Path.Names.{name_order}
+use Rattle.pf_addr.specs.Path.Paths.{path_order, same_path}
+use Rattle.pf_addr.proofs.PathsRead.{same_path_is}
 use Rattle.pf_table.specs.Entries.{Row}
 use Rattle.pf_anchor.specs.Tables.{Tabled, table_order, table_found, tables_at}
 use Rattle.pf_anchor.specs.TableLaws.{by_name, TablesAtPath}

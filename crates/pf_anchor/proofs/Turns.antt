@@ -8,12 +8,12 @@ use Rattle.std.specs.Ordering.{is_eq}
 use Rattle.std.proofs.lemmas.Cmp.{alike_right, eq_by_cmp_equiv, nat_list_cmp_total}
 use Rattle.std.proofs.lemmas.List.{map-append}
 use Rattle.std.proofs.lemmas.List.Elements.{filter-append}
-use Rattle.pf_path.specs.declared.limits.TheConstants.{DEPTH_LIMIT}
-use Rattle.pf_path.specs.Paths.{path_order, same_path, is_path}
-use Rattle.pf_path.specs.Nested.{depth, path_within, is_child}
-use Rattle.pf_path.specs.References.{PlainReference}
-use Rattle.pf_path.proofs.PathsRead.{same_path_is}
-use Rattle.pf_path.proofs.Nesting.{path_few, has_one_more}
+use Rattle.pf_addr.specs.declared.path.limits.TheConstants.{DEPTH_LIMIT}
+use Rattle.pf_addr.specs.Path.Paths.{path_order, same_path, is_path}
+use Rattle.pf_addr.specs.Path.Nested.{depth, path_within, is_child}
+use Rattle.pf_addr.specs.Path.References.{PlainReference}
+use Rattle.pf_addr.proofs.PathsRead.{same_path_is}
+use Rattle.pf_addr.proofs.Nesting.{path_few, has_one_more}
 use Rattle.pf_rule.specs.Rules.{PlainRule}
 use Rattle.pf_anchor.specs.declared.evaluated.Evaluated.{Evaluated}
 use Rattle.pf_anchor.specs.declared.evaluated.Evaluated.TheVariants.{Open}

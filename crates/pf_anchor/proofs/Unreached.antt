@@ -5,9 +5,9 @@ use Rattle.std.specs.declared.cmp.Ordering.{Ordering}
 use Rattle.std.specs.declared.cmp.Ordering.TheVariants.{Less, Equal, Greater}
 use Rattle.std.specs.FinMap.{find, put, slice_cmp-IsAntisymmetric, nat_cmp-IsAntisymmetric}
 use Rattle.std.specs.FinMap.Entries.{by_order}
-use Rattle.pf_path.specs.Paths.{main, path_order, same_path}
-use Rattle.pf_path.specs.References.{PlainReference}
-use Rattle.pf_path.proofs.PathsRead.{same_path_is}
+use Rattle.pf_addr.specs.Path.Paths.{main, path_order, same_path}
+use Rattle.pf_addr.specs.Path.References.{PlainReference}
+use Rattle.pf_addr.proofs.PathsRead.{same_path_is}
 use Rattle.pf_rule.specs.Rules.{PlainRule}
 use Rattle.pf_rule.specs.declared.rule.Effect.{Effect}
 use Rattle.pf_rule.specs.declared.rule.Effect.TheVariants.{Decide, Evaluate}

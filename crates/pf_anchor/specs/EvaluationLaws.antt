@@ -1,10 +1,10 @@
 -- What follows from the definition of evaluation (pf.conf(5), PACKET FILTERING and ANCHORS): laws that say it without the levels, or without the recursion.
 use Rattle.std.specs.Prelude.{◌≡◌, ◌⊎◌, ℕ, zero, suc, ◌+◌, ◌≤◌, Bool, true, false, not, cond, ◌&&◌, List, [], ◌∷◌, ◌++◌, length, ◌==◌, map, Option, Some, None}
 use Rattle.std.specs.List.{list_all, list_any}
-use Rattle.pf_path.specs.declared.limits.TheConstants.{DEPTH_LIMIT}
-use Rattle.pf_path.specs.Paths.{main, same_path}
-use Rattle.pf_path.specs.Nested.{path_within}
-use Rattle.pf_path.specs.References.{PlainReference}
+use Rattle.pf_addr.specs.declared.path.limits.TheConstants.{DEPTH_LIMIT}
+use Rattle.pf_addr.specs.Path.Paths.{main, same_path}
+use Rattle.pf_addr.specs.Path.Nested.{path_within}
+use Rattle.pf_addr.specs.Path.References.{PlainReference}
 use Rattle.pf_rule.specs.Packets.{PlainPacket}
 use Rattle.pf_rule.specs.Rules.{PlainRule}
 use Rattle.pf_rule.specs.declared.rule.Action.{Action}

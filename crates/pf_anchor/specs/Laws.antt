@@ -4,9 +4,9 @@ use Rattle.std.specs.List.{list_any}
 use Rattle.std.specs.FinMap.{is_sorted}
 use Rattle.pf_rule.specs.Rules.{PlainRule}
 use Rattle.pf_table.specs.Map.ListMaps.{list_by}
-use Rattle.pf_path.specs.Paths.{path_order, same_path}
+use Rattle.pf_addr.specs.Path.Paths.{path_order, same_path}
 use Rattle.pf_anchor.specs.Rulesets.{Ruled, ruled, rules_at, with_rules, children, IsMap}
-use Rattle.pf_path.specs.Nested.{is_child}
+use Rattle.pf_addr.specs.Path.Nested.{is_child}
 
 -- ---- the map of rulesets
 

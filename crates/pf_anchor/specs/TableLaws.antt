@@ -3,8 +3,8 @@ use Rattle.std.specs.Prelude.{◌≡◌, ◌≢◌, ◌⊎◌, ℕ, T, Bool, fal
 use Rattle.std.specs.FinMap.{find, is_sorted}
 use Rattle.pf_addr.specs.declared.addr.Addr.{Addr}
 use Rattle.pf_table.specs.Map.ListMaps.{list_by}
-use Rattle.pf_path.specs.Names.{name_order}
-use Rattle.pf_path.specs.Paths.{main}
+use Rattle.pf_addr.specs.Path.Names.{name_order}
+use Rattle.pf_addr.specs.Path.Paths.{main}
 use Rattle.pf_rule.specs.declared.host.host.Host.TheVariants.{Table}
 use Rattle.pf_rule.specs.Host.Hosts.{host_holds}
 use Rattle.pf_table.specs.Entries.{Row}

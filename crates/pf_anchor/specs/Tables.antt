@@ -6,8 +6,8 @@ use Rattle.std.specs.Option.{option_map_or, option_or}
 use Rattle.pf_addr.specs.declared.addr.Addr.{Addr}
 use Rattle.pf_table.specs.Map.Pairs.{pair_order}
 use Rattle.pf_table.specs.Map.ListMaps.{list_at, with_list, IsListMap}
-use Rattle.pf_path.specs.Names.{name_order}
-use Rattle.pf_path.specs.Paths.{main, path_order, same_path}
+use Rattle.pf_addr.specs.Path.Names.{name_order}
+use Rattle.pf_addr.specs.Path.Paths.{main, path_order, same_path}
 use Rattle.pf_table.specs.Entries.{Row}
 use Rattle.pf_table.specs.Tables.{table_holds}
 

@@ -15,7 +15,7 @@ use crate::rule_list::RuleList;
 use crate::rulesets::{Placed, PlacedPage, Rulesets, push_children};
 use crate::tables::{Place, PlacedTable, Tables, push_tables_at};
 use crate::verdict::RuleVerdict;
-use pf_path::{Path, TableName};
+use pf_addr::path::{Path, TableName};
 use pf_rule::Packet;
 use pf_table::Table;
 use pf_table::map::PagedMap;

@@ -1,6 +1,6 @@
 //! Evaluation of rulesets that lead to one another, with tables as their rules name them.
 ghost use Rattle.std.specs.Prelude.{◌≡◌, filter};
-ghost use Rattle.pf_path.specs.Nested.{is_child};
+ghost use Rattle.pf_addr.specs.Path.Nested.{is_child};
 ghost use Rattle.pf_anchor.specs.Rulesets.{targets};
 ghost use Rattle.pf_anchor.specs.Evaluation.{evaluation, effected, in_turn, matching};
 
@@ -8,7 +8,7 @@ use crate::config::Config;
 use crate::evaluated::{Evaluated, Match};
 use crate::named_tables::NamedTables;
 use crate::rulesets::Placed;
-use pf_path::{Path, Reference};
+use pf_addr::path::{Path, Reference};
 use pf_rule::{Effect, Packet, Rule};
 
 /// What a ruleset gives for a packet: its rules in order, and at each place where an anchor rule matches what it leads to

@@ -3,7 +3,7 @@ ghost use Rattle.pf_anchor.specs.Tables.{tables_say};
 
 use crate::config::Config;
 use pf_addr::Addr;
-use pf_path::{Path, TableName};
+use pf_addr::path::{Path, TableName};
 use pf_rule::TableAnswers;
 
 /// The tables as the rules of the ruleset at a path name them.

@@ -3,7 +3,7 @@ ghost use Rattle.std.specs.Prelude.{◌≡◌, ◌++◌, OnOk};
 ghost use Rattle.pf_anchor.specs.Rulesets.{children};
 
 use crate::rule_list::RuleList;
-use pf_path::Path;
+use pf_addr::path::Path;
 use pf_table::map::{Entry, Page, PagedMap};
 use std::alloc::AllocError;
 

@@ -2,7 +2,7 @@
 ghost use Rattle.std.specs.Prelude.{◌≡◌, ◌++◌, OnOk};
 ghost use Rattle.pf_anchor.specs.Tables.{tables_at};
 
-use pf_path::{Path, TableName};
+use pf_addr::path::{Path, TableName};
 use pf_table::Table;
 use pf_table::map::{Entry, PagedMap, Probe};
 use std::alloc::AllocError;

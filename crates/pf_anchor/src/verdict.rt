@@ -1,5 +1,5 @@
 //! What the rules say of a packet.
-use pf_path::Path;
+use pf_addr::path::Path;
 use pf_rule::Action;
 
 /// What the rules say of a packet.

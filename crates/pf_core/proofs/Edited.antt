@@ -5,9 +5,9 @@ use Rattle.std.specs.declared.cmp.Ordering.TheVariants.{Less, Equal, Greater}
 use Rattle.std.specs.FinMap.{slice_cmp-IsAntisymmetric, nat_cmp-IsAntisymmetric}
 use Rattle.std.specs.Ordering.{is_eq, eq_by_cmp, ordering_then}
 use Rattle.std.proofs.lemmas.Cmp.{eq_by_cmp_equiv}
-use Rattle.pf_path.proofs.PathsRead.{same_path_is}
-use Rattle.pf_path.specs.Names.{name_order}
-use Rattle.pf_path.specs.Paths.{path_order, same_path}
+use Rattle.pf_addr.proofs.PathsRead.{same_path_is}
+use Rattle.pf_addr.specs.Path.Names.{name_order}
+use Rattle.pf_addr.specs.Path.Paths.{path_order, same_path}
 use Rattle.pf_table.specs.Edits.{added, deleted, replaced}
 use Rattle.pf_table.specs.Entries.{Row}
 use Rattle.pf_anchor.specs.Tables.{tabled, table_order}

@@ -1,7 +1,7 @@
 -- The main rules, where others are replaced.
 use Rattle.std.proofs.Common.{◌≡◌, ℕ, Bool, true, false, cond, List, [], ◌∷◌, refl, ap, ◌∙◌, subst}
 use Rattle.std.specs.List.{list_any}
-use Rattle.pf_path.specs.Paths.{same_path}
+use Rattle.pf_addr.specs.Path.Paths.{same_path}
 use Rattle.pf_rule.specs.Rules.{PlainRule}
 use Rattle.pf_anchor.specs.Configurations.{Configuration, with_rulesets}
 use Rattle.pf_anchor.specs.Laws.{rules_by}

@@ -12,8 +12,8 @@ use Rattle.std.proofs.lemmas.Cmp.{eq_by_cmp_equiv, nat_list_cmp_total}
 use Rattle.std.proofs.lemmas.List.{map-id}
 use Rattle.std.proofs.lemmas.Simd.{map-map}
 use Rattle.pf_rule.specs.Rules.{PlainRule}
-use Rattle.pf_path.specs.Names.{name_order}
-use Rattle.pf_path.specs.Paths.{same_path}
+use Rattle.pf_addr.specs.Path.Names.{name_order}
+use Rattle.pf_addr.specs.Path.Paths.{same_path}
 use Rattle.pf_table.specs.Entries.{Row}
 use Rattle.pf_anchor.specs.Laws.{rules_by}
 use Rattle.pf_table.specs.Map.ListMaps.{list_by}

@@ -2,7 +2,7 @@
 use Rattle.std.specs.Prelude.{◌≡◌, ℕ, T, true, false, List, [], ◌∷◌, map, unwrap_or, None, Ok}
 use Rattle.std.specs.FinMap.{find, is_sorted}
 use Rattle.std.specs.List.{list_all}
-use Rattle.pf_path.specs.Names.{name_order}
+use Rattle.pf_addr.specs.Path.Names.{name_order}
 use Rattle.pf_anchor.specs.Rulesets.{rules_at}
 use Rattle.pf_ticket.specs.declared.entry.Entry.{Entry}
 use Rattle.pf_ticket.specs.declared.name.RulesetKind.TheVariants.{Filter, Table}

@@ -2,8 +2,8 @@
 
 use crate::durable::EntryList;
 use pf_addr::Addr;
+use pf_addr::path::TableName;
 use pf_anchor::Path;
-use pf_path::TableName;
 use pf_rule::{Packet, Rule};
 use pf_state::StateName;
 use pf_state::peer::Message;

@@ -5,14 +5,14 @@ use Rattle.std.specs.List.{slice_split, onto_first, find}
 use denote.Ref.{Bor}
 use Rattle.std.proofs.lemmas.List.{length-map}
 use Rattle.std.proofs.lemmas.Bool.Decides.{nat_tests}
-use Rattle.pf_form.specs.declared.fault.Kind.{Kind}
-use Rattle.pf_form.specs.declared.fault.Kind.TheVariants as kinds
-use Rattle.pf_form.specs.Words.{Word, is_blank, words_of, texts}
-use Rattle.pf_form.specs.Forms.{Form, making, Spells, RefusedAt, empties, begins, Read, reads, ended, ◌>>=◌, read_all}
-use Rattle.pf_form.specs.declared.fault.Stop.{Stop}
-use Rattle.pf_form.specs.Readers as Readers
-use Rattle.pf_form.specs.FormLaws.{lawful}
-use Rattle.pf_form.specs.TextLaws.{found, only, refused}
+use Rattle.pf_addr.specs.declared.form.fault.Kind.{Kind}
+use Rattle.pf_addr.specs.declared.form.fault.Kind.TheVariants as kinds
+use Rattle.pf_addr.specs.Form.Words.{Word, is_blank, words_of, texts}
+use Rattle.pf_addr.specs.Form.Forms.{Form, making, Spells, RefusedAt, empties, begins, Read, reads, ended, ◌>>=◌, read_all}
+use Rattle.pf_addr.specs.declared.form.fault.Stop.{Stop}
+use Rattle.pf_addr.specs.Form.Readers as Readers
+use Rattle.pf_addr.specs.Form.FormLaws.{lawful}
+use Rattle.pf_addr.specs.Form.TextLaws.{found, only, refused}
 use Rattle.pf_rule.specs.declared.fault.Mistake.TheVariants as mistakes
 use Rattle.pf_state.specs.declared.peer.fault.OneFault.{OneFault}
 use Rattle.pf_state.specs.declared.peer.fault.OneFault.TheVariants.{Fault, Count}

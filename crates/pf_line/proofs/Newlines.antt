@@ -9,13 +9,13 @@ use Rattle.std.proofs.lemmas.Bool.Decides.{nat_tests}
 use Rattle.std.proofs.lemmas.Fmt.{decimal_is_IsNumeral}
 use Rattle.std.proofs.lemmas.List.Elements.{All-head, All-tail}
 use Rattle.std.proofs.lemmas.List.Sums.{AllPass-from_list_all}
-use Rattle.pf_path.specs.Names.{is_name_byte}
+use Rattle.pf_addr.specs.Path.Names.{is_name_byte}
 use Rattle.pf_rule.specs.Rules.{PlainRule, IsRule}
 use Rattle.pf_rule.specs.RuleText.{rule_text}
 use Rattle.pf_rule.specs.RuleTextLaws.{rule_text_bytes}
-use Rattle.pf_path.specs.Paths.{is_path}
-use Rattle.pf_path.specs.PathGrammar.{IsComponent, IsNames}
-use Rattle.pf_path.specs.PathLaws.{ReadsWhatIsSpelled, ReadsWhatIsWritten}
+use Rattle.pf_addr.specs.Path.Paths.{is_path}
+use Rattle.pf_addr.specs.Path.PathGrammar.{IsComponent, IsNames}
+use Rattle.pf_addr.specs.Path.PathLaws.{ReadsWhatIsSpelled, ReadsWhatIsWritten}
 use Rattle.pf_addr.specs.SpellingLaws.{IsNetWord, IsNetByte}
 use Rattle.pf_line.specs.Reply.Parts.{newlines}
 

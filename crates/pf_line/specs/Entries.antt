@@ -1,9 +1,9 @@
 -- Words that stand for a table's entries, and for addresses (pf.conf(5), TABLES).
 use Rattle.std.specs.Prelude.{◌≡◌, ◌==◌, Bool, true, false, [], ◌∷◌, codes, Result, Ok, Err, if◌then◌else◌}
 use Rattle.std.proofs.Common.{refl}
-use Rattle.pf_form.specs.declared.fault.Kind.{Kind}
-use Rattle.pf_form.specs.declared.fault.Kind.TheVariants.{BadWord}
-use Rattle.pf_form.specs.Words.{Word}
+use Rattle.pf_addr.specs.declared.form.fault.Kind.{Kind}
+use Rattle.pf_addr.specs.declared.form.fault.Kind.TheVariants.{BadWord}
+use Rattle.pf_addr.specs.Form.Words.{Word}
 use Rattle.pf_addr.specs.declared.addr.Addr.{Addr}
 use Rattle.pf_addr.specs.declared.addr.Addr.TheVariants as addr
 use Rattle.pf_addr.specs.declared.fault.AddrFault.{AddrFault}

@@ -1,10 +1,10 @@
 -- The grammar of lines. Own, with pf(4)'s names of what a client may ask.
 use Rattle.std.specs.Prelude.{◌≡◌, ℕ, true, false, List, [], ◌∷◌, codes, Option, Some, None, Result, Ok, Err}
 use Rattle.std.proofs.Common.{refl}
-use Rattle.pf_form.specs.declared.fault.Kind.{Kind}
-use Rattle.pf_form.specs.declared.fault.Kind.TheVariants.{BadWord}
-use Rattle.pf_form.specs.Words.{Word}
-use Rattle.pf_form.specs.Forms.{Form, nothing, word, key, or, pair, making, any_number, one_or_more, is_decided}
+use Rattle.pf_addr.specs.declared.form.fault.Kind.{Kind}
+use Rattle.pf_addr.specs.declared.form.fault.Kind.TheVariants.{BadWord}
+use Rattle.pf_addr.specs.Form.Words.{Word}
+use Rattle.pf_addr.specs.Form.Forms.{Form, nothing, word, key, or, pair, making, any_number, one_or_more, is_decided}
 use Rattle.pf_addr.specs.declared.addr.Addr.{Addr}
 use Rattle.pf_addr.specs.declared.addr.Addr.TheVariants as addr
 use Rattle.pf_addr.specs.Address.{network_of}
@@ -27,8 +27,8 @@ use Rattle.pf_ticket.specs.declared.name.RulesetName.{RulesetName}
 use Rattle.pf_ticket.specs.declared.ticket.Ticket.{Ticket}
 use Rattle.pf_ticket.specs.Names.{ticket}
 use Rattle.pf_state.specs.declared.state.StateName.{StateName}
-use Rattle.pf_path.specs.Names.{table_name_of}
-use Rattle.pf_path.specs.Paths.{path_of, main}
+use Rattle.pf_addr.specs.Path.Names.{table_name_of}
+use Rattle.pf_addr.specs.Path.Paths.{path_of, main}
 use Rattle.pf_line.specs.Tickets.{part_of, ticket_of}
 use Rattle.pf_line.specs.States.{id_of, bytes_of, a_byte}
 use Rattle.pf_line.specs.Entries.{entry_of, entry_taken, address_of, address_taken}

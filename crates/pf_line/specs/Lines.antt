@@ -3,12 +3,12 @@ use Rattle.std.specs.Prelude.{◌≡◌, ℕ, ◌-◌, ◌<◌, ◌==◌, ◌||�
 use Rattle.std.specs.List.{list_all}
 use Rattle.std.proofs.Common.{refl}
 use Rattle.std.proofs.lemmas.Bool.{lt-ltb}
-use Rattle.pf_form.specs.declared.fault.Kind.{Kind}
-use Rattle.pf_form.specs.declared.fault.Kind.TheVariants as kinds
-use Rattle.pf_form.specs.declared.fault.Unread.{Unread}
-use Rattle.pf_form.specs.declared.fault.Unread.TheVariants as unread
-use Rattle.pf_form.specs.Words.{Word, words_of}
-use Rattle.pf_form.specs.Forms.{Spells, RefusedAt, read_all}
+use Rattle.pf_addr.specs.declared.form.fault.Kind.{Kind}
+use Rattle.pf_addr.specs.declared.form.fault.Kind.TheVariants as kinds
+use Rattle.pf_addr.specs.declared.form.fault.Unread.{Unread}
+use Rattle.pf_addr.specs.declared.form.fault.Unread.TheVariants as unread
+use Rattle.pf_addr.specs.Form.Words.{Word, words_of}
+use Rattle.pf_addr.specs.Form.Forms.{Spells, RefusedAt, read_all}
 use Rattle.pf_rule.specs.declared.fault.Mistake.{Mistake}
 use Rattle.pf_rule.specs.declared.fault.Mistake.TheVariants as mistakes
 use Rattle.pf_state.specs.declared.peer.fault.OneFault.{OneFault}

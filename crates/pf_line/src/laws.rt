@@ -1,13 +1,13 @@
 //! Laws of the texts. Each function does nothing; its contract is the law.
 ghost use Rattle.std.specs.Prelude.{◌≡◌, [], ◌∷◌, codes, ℕ, ◌^◌, ◌<◌, List, Option, Result, length, Some, Ok, Err};
-ghost use Rattle.pf_form.specs.declared.fault.Kind.{Kind};
+ghost use Rattle.pf_addr.specs.declared.form.fault.Kind.{Kind};
 ghost use Rattle.hex.specs.Hex.{IsBytes, encode_lower, encode_upper};
 ghost use Rattle.pf_state.specs.declared.peer.message.Message.{Message};
 ghost use Rattle.pf_state.specs.Peer.Written.{message_bytes, CanBeWritten};
 ghost use Rattle.pf_core.specs.declared.command.Command.TheVariants.{States};
 ghost use Rattle.pf_core.specs.declared.command.StateCommand.TheVariants.{Peer};
-ghost use Rattle.pf_form.specs.Words.{Word};
-ghost use Rattle.pf_form.specs.Forms.{RefusedAt};
+ghost use Rattle.pf_addr.specs.Form.Words.{Word};
+ghost use Rattle.pf_addr.specs.Form.Forms.{RefusedAt};
 ghost use Rattle.pf_ticket.specs.declared.ticket.Ticket.{Ticket};
 ghost use Rattle.pf_core.specs.declared.command.Command.{Command};
 ghost use Rattle.pf_core.specs.declared.reply.Refusal.{Refusal};

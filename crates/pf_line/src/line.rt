@@ -1,8 +1,8 @@
 //! Lines.
 ghost use Rattle.std.specs.Prelude.{◌≡◌, ◌-◌, ℕ, not, true, false, Some, None, Ok, Err, IfOk, IfErr, IfSome, length};
 ghost use Rattle.std.specs.List.{list_all, find};
-ghost use Rattle.pf_form.specs.Forms.{making, read_all};
-ghost use Rattle.pf_form.specs.Words.{is_blank, words_of, texts};
+ghost use Rattle.pf_addr.specs.Form.Forms.{making, read_all};
+ghost use Rattle.pf_addr.specs.Form.Words.{is_blank, words_of, texts};
 ghost use Rattle.pf_core.specs.declared.command.Command.{Command};
 ghost use Rattle.pf_core.specs.declared.reply.Refusal.TheVariants.{BadLine};
 ghost use Rattle.pf_line.specs.Grammar.{Says, Tells, hex, command, line as the_grammar};
@@ -10,8 +10,8 @@ ghost use Rattle.pf_line.specs.Lines.{is_line_byte, is_bad_line, is_silent, line
 
 use crate::commands::command;
 use crate::state::read_bytes;
+use pf_addr::form::{Kind, Unread, Words, is_blank, takes, words};
 use pf_core::{Command, Refusal, StateCommand};
-use pf_form::{Kind, Unread, Words, is_blank, takes, words};
 use pf_rule::Mistake;
 use pf_state::peer::{OneFault, read_one};
 use std::alloc::Global;

@@ -4,7 +4,7 @@ ghost use Rattle.std.specs.List.{position};
 ghost use Rattle.pf_line.specs.Grammar.{ticket_word};
 ghost use Rattle.pf_line.specs.Tickets.{is_dot, part_of, ticket_of};
 
-use pf_form::{Kind, read_number};
+use pf_addr::form::{Kind, read_number};
 use pf_ticket::Ticket;
 
 /// How many digits an epoch or a count may have, leading zeros among them.

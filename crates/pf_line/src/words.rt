@@ -1,14 +1,14 @@
 //! Reading the words that stand for values, each from the front of those that are left.
-ghost use Rattle.pf_form.specs.Readers.{Moves};
+ghost use Rattle.pf_addr.specs.Form.Readers.{Moves};
 ghost use Rattle.pf_line.specs.Grammar.{kind, path, ticket_text, table_name, row, address, name, entry, table, offered_table, id, creator, state};
 
 use crate::entries::{address_of, entry_of};
 use crate::state::{read_creator, read_id};
 use crate::ticket::read_ticket;
 use pf_addr::Addr;
+use pf_addr::form::{Stop, Words, bad_word, expect, stop, takes};
+use pf_addr::path::TableName;
 use pf_anchor::Path;
-use pf_form::{Stop, Words, bad_word, expect, stop, takes};
-use pf_path::TableName;
 use pf_state::StateName;
 use pf_ticket::{Entry, RulesetKind, RulesetName, Ticket};
 

@@ -1,11 +1,11 @@
 -- What reading a whole text answers.
 use Rattle.std.proofs.Common.{◌≡◌, ◌⊎◌, true, List, length, Result, Ok, refl, arith, Err}
 use Rattle.std.specs.Prelude.{IfErr}
-use Rattle.pf_form.specs.declared.fault.Kind.{Kind}
-use Rattle.pf_form.specs.declared.fault.Kind.TheVariants as kinds
-use Rattle.pf_form.specs.Words.{Word}
-use Rattle.pf_form.specs.Forms.{Form, read_all, is_decided}
-use Rattle.pf_form.specs.TextLaws.{found, only, refused}
+use Rattle.pf_addr.specs.declared.form.fault.Kind.{Kind}
+use Rattle.pf_addr.specs.declared.form.fault.Kind.TheVariants as kinds
+use Rattle.pf_addr.specs.Form.Words.{Word}
+use Rattle.pf_addr.specs.Form.Forms.{Form, read_all, is_decided}
+use Rattle.pf_addr.specs.Form.TextLaws.{found, only, refused}
 use Rattle.pf_rule.specs.declared.fault.Mistake.{Mistake}
 use Rattle.pf_rule.specs.declared.fault.Mistake.TheVariants as mistakes
 use Rattle.pf_rule.specs.declared.fault.TextFault.{TextFault}

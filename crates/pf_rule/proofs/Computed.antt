@@ -2,8 +2,8 @@
 use Rattle.std.proofs.Common.{◌≡◌, [], ◌∷◌, Ok, refl}
 use Rattle.std.specs.Prelude.{codes}
 use Rattle.md5.specs.Md5.{md5, hash_after, digest_bytes, compress, rounds, block_words}
-use Rattle.pf_form.specs.Words.{words_of}
-use Rattle.pf_form.specs.Forms.{read_all}
+use Rattle.pf_addr.specs.Form.Words.{words_of}
+use Rattle.pf_addr.specs.Form.Forms.{read_all}
 use Rattle.pf_addr.specs.Reading.{part_at, pieces_at, v4_at, address_at}
 use Rattle.pf_rule.specs.Value.Tests.{direction, interface, family, protocol}
 use Rattle.pf_rule.specs.Value.Ports.{port, port_test, order_or_range, compared, ranged, range_end, ports_fit}

@@ -1,8 +1,8 @@
 -- What words spell is what a host and an end keep.
 use Rattle.std.proofs.Common.{◌≡◌, Bool, true, false, List, Ok, arith}
 use Rattle.std.specs.Prelude.{drop, codes, if◌then◌else◌}
-use Rattle.pf_form.specs.Words.{Word}
-use Rattle.pf_form.specs.Forms.{Spells}
+use Rattle.pf_addr.specs.Form.Words.{Word}
+use Rattle.pf_addr.specs.Form.Forms.{Spells}
 use Rattle.pf_addr.specs.SpellingLaws.{IsNetwork-spelled}
 use Rattle.pf_rule.specs.Value.Values.{begins_with}
 use Rattle.pf_rule.proofs.ValueKept.{port_is}

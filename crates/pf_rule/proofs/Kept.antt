@@ -1,14 +1,14 @@
 -- What words spell is what a rule or a packet keeps.
 use Rattle.std.proofs.Common.{◌≡◌, ◌<◌, Bool, true, false, List, Option, Some, None, Result, Ok, refl, sym, subst, ap, ◌∙◌, arith}
 use Rattle.std.specs.Prelude.{IfSome, IfOk}
-use Rattle.pf_form.specs.Words.{Word}
-use Rattle.pf_form.specs.Forms.{Spells, reads}
-use Rattle.pf_form.specs.FormLaws.{lawful}
+use Rattle.pf_addr.specs.Form.Words.{Word}
+use Rattle.pf_addr.specs.Form.Forms.{Spells, reads}
+use Rattle.pf_addr.specs.Form.FormLaws.{lawful}
 use Rattle.pf_addr.specs.declared.addr.Family.{Family}
 use Rattle.pf_addr.specs.Address.{IsAddr}
-use Rattle.pf_path.specs.References.{PlainReference, reference_of}
-use Rattle.pf_path.specs.ReferenceGrammar.{IsReference}
-use Rattle.pf_path.proofs.ReferencesRead.{read_is_spelled}
+use Rattle.pf_addr.specs.Path.References.{PlainReference, reference_of}
+use Rattle.pf_addr.specs.Path.ReferenceGrammar.{IsReference}
+use Rattle.pf_addr.proofs.ReferencesRead.{read_is_spelled}
 use Rattle.pf_rule.specs.Value.Values.{IsInterfaceName, IsProtocol, has_ports}
 use Rattle.pf_rule.specs.Value.Ports.{ports_fit}
 use Rattle.pf_rule.proofs.ValueKept.{interface_kept, protocol_kept, address_kept, port_kept, interface_is, protocol_is}

@@ -14,9 +14,9 @@ use Rattle.pf_addr.specs.declared.addr.Family.{Family}
 use Rattle.pf_addr.specs.declared.addr.Family.TheVariants.{V4, V6}
 use Rattle.pf_addr.specs.Address.{Network, IsNetwork}
 use Rattle.pf_addr.specs.Spelling.{first_addr}
-use Rattle.pf_path.specs.Names.{is_name_byte}
-use Rattle.pf_path.specs.Paths.{is_slash}
-use Rattle.pf_path.proofs.ReferencesRead.{names_bytes}
+use Rattle.pf_addr.specs.Path.Names.{is_name_byte}
+use Rattle.pf_addr.specs.Path.Paths.{is_slash}
+use Rattle.pf_addr.proofs.ReferencesRead.{names_bytes}
 use Rattle.pf_rule.specs.declared.value.direction.Direction.{Direction}
 use Rattle.pf_rule.specs.declared.value.direction.Direction.TheVariants.{In, Out}
 use Rattle.pf_rule.specs.declared.value.ports.Comparison.TheVariants.{Equal, NotEqual, Less, AtMost, Greater, AtLeast}

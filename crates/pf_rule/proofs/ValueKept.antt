@@ -3,15 +3,15 @@ use Rattle.std.proofs.Common.{◌≡◌, ℕ, ◌<◌, Bool, true, false, List, 
 use Rattle.std.specs.Prelude.{◌+◌, take, drop, IfSome, IfOk}
 use Rattle.std.specs.List.{position}
 use Rattle.std.proofs.lemmas.Bool.Decides.{nat_tests}
-use Rattle.pf_form.specs.declared.fault.Kind.{Kind}
-use Rattle.pf_form.specs.Words.{Word}
-use Rattle.pf_form.specs.Forms.{Spells, ◌>>=◌}
+use Rattle.pf_addr.specs.declared.form.fault.Kind.{Kind}
+use Rattle.pf_addr.specs.Form.Words.{Word}
+use Rattle.pf_addr.specs.Form.Forms.{Spells, ◌>>=◌}
 use Rattle.pf_addr.specs.declared.addr.Addr.{Addr}
 use Rattle.pf_addr.specs.Address.{IsAddr}
 use Rattle.pf_addr.specs.SpellingLaws.{IsAddr-spelled}
 use Rattle.pf_addr.specs.Reading.{addr_at}
 use Rattle.pf_addr.specs.ReadingLaws.{addr_found}
-use Rattle.pf_path.proofs.NamesRead.{name_found}
+use Rattle.pf_addr.proofs.NamesRead.{name_found}
 use Rattle.pf_rule.specs.declared.value.interface.TheConstants.{INTERFACE_LIMIT}
 use Rattle.pf_rule.specs.declared.value.ports.Comparison.{Comparison}
 use Rattle.pf_rule.specs.declared.value.ports.PortRange.{PortRange}

@@ -1,7 +1,7 @@
 -- The grammar of a packet. Own.
 use Rattle.std.specs.Prelude.{◌≡◌, ℕ, true, List, codes, Result, Ok, Err, if◌then◌else◌}
 use Rattle.std.proofs.Common.{refl}
-use Rattle.pf_form.specs.Forms.{Form, nothing, key, or, pair, pair_by, making, is_decided}
+use Rattle.pf_addr.specs.Form.Forms.{Form, nothing, key, or, pair, pair_by, making, is_decided}
 use Rattle.pf_addr.specs.declared.addr.Addr.{Addr}
 use Rattle.pf_addr.specs.Address.{family_of, same_family}
 use Rattle.pf_rule.specs.declared.value.direction.Direction.{Direction}

@@ -2,9 +2,9 @@
 use Rattle.std.specs.Prelude.{◌≡◌, ℕ, Bool, true, false, List, codes, Option, Some, None, Result, Ok, Err, if◌then◌else◌}
 use Rattle.std.specs.Option.{option_and_then}
 use Rattle.std.proofs.Common.{refl}
-use Rattle.pf_form.specs.Readers.{if_there}
-use Rattle.pf_path.specs.References.{PlainReference, refers, reference_of}
-use Rattle.pf_form.specs.Forms.{Form, word, nothing, key, or, pair, pair_by, making, is_decided}
+use Rattle.pf_addr.specs.Form.Readers.{if_there}
+use Rattle.pf_addr.specs.Path.References.{PlainReference, refers, reference_of}
+use Rattle.pf_addr.specs.Form.Forms.{Form, word, nothing, key, or, pair, pair_by, making, is_decided}
 use Rattle.pf_addr.specs.declared.addr.Family.{Family}
 use Rattle.pf_addr.specs.Address.{same_family}
 use Rattle.pf_addr.specs.Reading.{part_at, pieces_at, v4_at, address_at}

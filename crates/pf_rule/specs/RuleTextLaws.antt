@@ -3,15 +3,15 @@ use Rattle.std.proofs.Common.{◌≡◌, ℕ, Bool, true, false, List, [], ◌�
 use Rattle.std.specs.Prelude.{codes, nat_lt}
 use Rattle.std.specs.List.{list_all}
 use Rattle.std.proofs.lemmas.Bool.{lt-ltb}
-use Rattle.pf_form.specs.declared.fault.Kind.{Kind}
-use Rattle.pf_form.specs.Words.{Word, words_of}
-use Rattle.pf_form.specs.Forms.{Spells, read_all}
-use Rattle.pf_form.specs.Readers.{if_there}
-use Rattle.pf_form.specs.TextLaws.{only}
+use Rattle.pf_addr.specs.declared.form.fault.Kind.{Kind}
+use Rattle.pf_addr.specs.Form.Words.{Word, words_of}
+use Rattle.pf_addr.specs.Form.Forms.{Spells, read_all}
+use Rattle.pf_addr.specs.Form.Readers.{if_there}
+use Rattle.pf_addr.specs.Form.TextLaws.{only}
 use Rattle.pf_addr.specs.declared.addr.Family.{Family}
-use Rattle.pf_path.specs.References.{PlainReference, reference_of, reference_text, quoted}
-use Rattle.pf_path.specs.ReferenceGrammar.{IsReference}
-use Rattle.pf_path.proofs.ReferencesRead.{spelled_is_read, quoted_bytes}
+use Rattle.pf_addr.specs.Path.References.{PlainReference, reference_of, reference_text, quoted}
+use Rattle.pf_addr.specs.Path.ReferenceGrammar.{IsReference}
+use Rattle.pf_addr.proofs.ReferencesRead.{spelled_is_read, quoted_bytes}
 use Rattle.pf_rule.specs.declared.rule.Effect.{Effect}
 use Rattle.pf_rule.specs.declared.rule.Effect.TheVariants.{Decide, Evaluate}
 use Rattle.pf_rule.specs.declared.rule.Opening.{Opening}

@@ -3,8 +3,8 @@ use Rattle.std.specs.Prelude.{true, ◌≡◌, ◌==◌, ◌&&◌, Bool, Option,
 use Rattle.std.specs.Str.{bytes_eq}
 use Rattle.pf_addr.specs.declared.addr.Family.{Family}
 use Rattle.pf_addr.specs.Address.{family_of, same_family, IsNetwork}
-use Rattle.pf_path.specs.Names.{IsTableName}
-use Rattle.pf_path.specs.ReferenceGrammar.{IsReference}
+use Rattle.pf_addr.specs.Path.Names.{IsTableName}
+use Rattle.pf_addr.specs.Path.ReferenceGrammar.{IsReference}
 use Rattle.pf_rule.specs.declared.rule.Effect.{Effect}
 use Rattle.pf_rule.specs.declared.rule.Effect.TheVariants.{Decide, Evaluate}
 use Rattle.pf_rule.specs.declared.host.host.Host.{Host}

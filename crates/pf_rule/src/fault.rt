@@ -1,14 +1,14 @@
 //! Why a text could not be read.
 ghost use Rattle.std.specs.Prelude.{◌≡◌, ◌-◌, List, Result};
 ghost use denote.Ref.{Bor};
-ghost use Rattle.pf_form.specs.Forms.{Reader};
-ghost use Rattle.pf_form.specs.Readers.{MovesBy};
-ghost use Rattle.pf_form.specs.Words.{Word, texts};
+ghost use Rattle.pf_addr.specs.Form.Forms.{Reader};
+ghost use Rattle.pf_addr.specs.Form.Readers.{MovesBy};
+ghost use Rattle.pf_addr.specs.Form.Words.{Word, texts};
 ghost use Rattle.pf_rule.specs.Refusals.{fault_at, fault_for, told_by};
 ghost use Rattle.pf_rule.specs.declared.fault.Mistake.{Mistake};
 ghost use Rattle.pf_rule.specs.declared.fault.TextFault.TheVariants.{Memory};
 
-use pf_form::{Kind, Stop, Words, end};
+use pf_addr::form::{Kind, Stop, Words, end};
 use std::alloc::AllocError;
 use thiserror::Error;
 

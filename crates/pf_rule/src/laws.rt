@@ -1,8 +1,8 @@
 //! Laws of texts and of matches. Each function does nothing; its clauses are what is proved.
 ghost use Rattle.std.specs.Prelude.{◌≡◌, ◌↔◌, ℕ, List, Result, Ok};
-ghost use Rattle.pf_form.specs.declared.fault.Kind.{Kind};
-ghost use Rattle.pf_form.specs.Forms.{Spells, RefusedAt, read_all};
-ghost use Rattle.pf_form.specs.Words.{Word, words_of};
+ghost use Rattle.pf_addr.specs.declared.form.fault.Kind.{Kind};
+ghost use Rattle.pf_addr.specs.Form.Forms.{Spells, RefusedAt, read_all};
+ghost use Rattle.pf_addr.specs.Form.Words.{Word, words_of};
 ghost use Rattle.pf_rule.specs.declared.fault.Mistake.{Mistake};
 ghost use Rattle.pf_rule.specs.Rules.{PlainRule, IsRule};
 ghost use Rattle.pf_rule.specs.Packets.{PlainPacket, IsPacket};

@@ -18,6 +18,6 @@ pub use laws::{
     what_is_spelled_is_kept, what_is_written_is_read_again,
 };
 pub use packet::Packet;
-pub use pf_path::{Reference, TableName};
+pub use pf_addr::path::{Reference, TableName};
 pub use rule::{Action, Effect, Rule};
 pub use value::{Comparison, Direction, INTERFACE_LIMIT, Interface, PortRange, PortTest, Protocol};

@@ -1,7 +1,7 @@
 //! Packets.
 ghost use Rattle.std.specs.Prelude.{◌≡◌};
-ghost use Rattle.pf_form.specs.Readers.{Moves};
-ghost use Rattle.pf_form.specs.Words.{words_of, texts};
+ghost use Rattle.pf_addr.specs.Form.Readers.{Moves};
+ghost use Rattle.pf_addr.specs.Form.Words.{words_of, texts};
 ghost use Rattle.pf_rule.specs.PacketGrammar.{packet, way};
 ghost use Rattle.pf_rule.specs.Refusals.{IsAnswer, reading};
 ghost use Rattle.pf_rule.specs.Packets.{PlainPacket, IsPacket};
@@ -11,7 +11,7 @@ use crate::value::{
     Direction, Interface, Protocol, address_word, interface_word, port_word, protocol_word,
 };
 use pf_addr::Addr;
-use pf_form::{Stop, Words, expect, takes, words};
+use pf_addr::form::{Stop, Words, expect, takes, words};
 use std::alloc::Global;
 use std::marker::Model;
 

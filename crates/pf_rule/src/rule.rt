@@ -1,7 +1,7 @@
 //! Filter rules.
 ghost use Rattle.std.specs.Prelude.{◌≡◌};
-ghost use Rattle.pf_form.specs.Readers.{Moves};
-ghost use Rattle.pf_form.specs.Words.{words_of, texts};
+ghost use Rattle.pf_addr.specs.Form.Readers.{Moves};
+ghost use Rattle.pf_addr.specs.Form.Words.{words_of, texts};
 ghost use Rattle.pf_rule.specs.RuleGrammar.{rule, agreed, one_family, agreeing, passes, effect_of};
 ghost use Rattle.pf_rule.specs.Refusals.{IsAnswer, reading};
 ghost use Rattle.pf_rule.specs.Rules.{PlainRule, IsRule, ends_hold, matches};
@@ -16,8 +16,8 @@ use crate::value::{
     read_interface, read_protocol, takes_port,
 };
 use pf_addr::Family;
-use pf_form::{Stop, Words, takes, words};
-use pf_path::Reference;
+use pf_addr::form::{Stop, Words, takes, words};
+use pf_addr::path::Reference;
 use std::alloc::Global;
 use std::marker::Model;
 

@@ -1,11 +1,11 @@
 //! Reading the parts of a rule, each from the front of the words that are left.
-ghost use Rattle.pf_form.specs.Readers.{Moves};
+ghost use Rattle.pf_addr.specs.Form.Readers.{Moves};
 ghost use Rattle.pf_rule.specs.RuleGrammar.{a_reference, opening, state};
 
 use crate::rule::Opening;
 use crate::take_word;
-use pf_form::{Stop, Words, expect, takes};
-use pf_path::Reference;
+use pf_addr::form::{Stop, Words, expect, takes};
+use pf_addr::path::Reference;
 
 fn reference_word<'a>(words: &mut Words<'a>) -> Result<Reference, Stop>
     ensures { Moves a_reference result words.old.now words.new.now }

@@ -5,7 +5,7 @@ use Rattle.std.specs.declared.cmp.Ordering.TheVariants.{Less, Equal, Greater}
 use Rattle.std.specs.List.{AllByRecursion, slice_get}
 use Rattle.std.specs.FinMap.{put as put_entry}
 use Rattle.std.specs.FinMap.Entries.{by_order}
-use Rattle.pf_path.specs.Names.{name_order}
+use Rattle.pf_addr.specs.Path.Names.{name_order}
 use Rattle.pf_table.specs.declared.limits.TheConstants.{TABLE_LIMIT}
 use Rattle.pf_table.specs.Edits.{conflict_in, replaced}
 use Rattle.pf_table.specs.Entries.{Row}

@@ -5,7 +5,7 @@ use Rattle.std.specs.declared.cmp.Ordering.TheVariants.{Less, Equal, Greater}
 use Rattle.std.specs.FinMap.{put, slice_cmp-IsAntisymmetric, nat_cmp-IsAntisymmetric}
 use Rattle.std.specs.FinMap.Entries.{by_order}
 use Rattle.std.specs.List.{insert}
-use Rattle.pf_path.specs.Names.{name_order}
+use Rattle.pf_addr.specs.Path.Names.{name_order}
 use Rattle.pf_table.specs.Entries.{Row}
 use Rattle.pf_ticket.specs.NamedTables.{Named}
 

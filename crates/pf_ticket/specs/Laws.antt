@@ -2,7 +2,7 @@
 use Rattle.std.specs.Prelude.{◌≡◌, T, ℕ, ◌+◌, ◌≤◌, ◌&&◌, Bool, true, false, cond, List, [], ◌∷◌, ◌++◌, length, map, flat_map, is_some, Some, None, Ok}
 use Rattle.std.specs.FinMap.{find, is_sorted}
 use Rattle.std.specs.List.{AllByRecursion, list_any, slice_get, last_or}
-use Rattle.pf_path.specs.Names.{name_order, same_name as same_table}
+use Rattle.pf_addr.specs.Path.Names.{name_order, same_name as same_table}
 use Rattle.pf_table.specs.declared.limits.TheConstants.{TABLE_LIMIT}
 use Rattle.pf_table.specs.Edits.{replaced}
 use Rattle.pf_table.specs.Entries.{Row}

@@ -8,8 +8,8 @@ use Rattle.pf_ticket.specs.declared.name.RulesetKind.{RulesetKind}
 use Rattle.pf_ticket.specs.declared.name.RulesetKind.TheVariants.{Filter, Table}
 use Rattle.pf_ticket.specs.declared.name.RulesetName.{RulesetName}
 use Rattle.pf_ticket.specs.Names.{filter_at, table_ruleset_at, same_kind, same_name}
-use Rattle.pf_path.specs.Paths.{same_path}
-use Rattle.pf_path.proofs.PathsRead.{same_path_is}
+use Rattle.pf_addr.specs.Path.Paths.{same_path}
+use Rattle.pf_addr.proofs.PathsRead.{same_path_is}
 
 pub paths_alike : IsEquivalence same_path
 paths_alike = eq_by_cmp_equiv nat_list_cmp_total

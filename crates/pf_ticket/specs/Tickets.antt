@@ -3,7 +3,7 @@
 use Rattle.std.specs.Prelude.{◌≡◌, ℕ, Bool, not, cond, List, [], ◌∷◌, ◌++◌, map, set, filter, Option, Some, None}
 use Rattle.std.specs.FinMap.{put as put_entry}
 use Rattle.std.specs.List.{find}
-use Rattle.pf_path.specs.Names.{name_order}
+use Rattle.pf_addr.specs.Path.Names.{name_order}
 use Rattle.pf_rule.specs.Rules.{PlainRule}
 use Rattle.pf_table.specs.Entries.{Row}
 use Rattle.pf_ticket.specs.declared.name.RulesetKind.{RulesetKind}

@@ -2,12 +2,12 @@
 ghost use Rattle.std.specs.Prelude.{◌≡◌, ◌<◌, ◌≤◌, [], length, set, nat_lt, List, IfOk, IfErr, OnOk, OnErr};
 ghost use Rattle.std.specs.FinMap.{put};
 ghost use Rattle.std.specs.List.{insert};
-ghost use Rattle.pf_path.specs.Names.{name_order};
+ghost use Rattle.pf_addr.specs.Path.Names.{name_order};
 ghost use Rattle.pf_table.specs.Entries.{Row};
 ghost use Rattle.pf_ticket.specs.declared.limits.TheConstants.{OFFERED_TABLE_LIMIT};
 
 use crate::limits::OFFERED_TABLE_LIMIT;
-use pf_path::TableName;
+use pf_addr::path::TableName;
 use pf_table::Table;
 use std::alloc::{AllocError, Global};
 use std::cmp::Ordering;

@@ -1,9 +1,9 @@
 //! Commands on tables that no line can carry: lists without entries, and lists longer than a line.
+use pf_addr::path::TableName;
 use pf_addr::{Addr, Net};
 use pf_anchor::Path;
 use pf_core::{Command, EntryList, TableEdit, Transaction};
 use pf_line::reply::write_reply;
-use pf_path::TableName;
 use pf_table::{Entry, TABLE_LIMIT};
 use pf_ticket::{RulesetName, RulesetNames, Ticket};
 use pfd::{Book, HISTORY_LIMIT};

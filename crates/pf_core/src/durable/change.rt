@@ -3,8 +3,8 @@ ghost use Rattle.std.specs.Prelude.{◌≡◌, map, IfOk};
 ghost use Rattle.pf_core.specs.Durable.Edits.{commits, adds, deletes, sets, acts, removes, name_of, voided_by};
 
 use crate::durable::entry_list::EntryList;
+use pf_addr::path::TableName;
 use pf_anchor::{Path, Placed};
-use pf_path::TableName;
 use pf_state::{StateName, StepList};
 use pf_ticket::{Defined, RulesetName};
 use std::alloc::{AllocError, Global};

@@ -6,8 +6,8 @@ ghost use Rattle.pf_line.specs.Reply.Replies.{rule_line, rule_lines, table_line,
 
 use crate::reply::entry::write_entries;
 use crate::reply::part::{end_line, write_numbered, write_part};
+use pf_addr::path::TableName;
 use pf_anchor::PlacedTable;
-use pf_path::TableName;
 use pf_rule::Rule;
 use std::io::{self, Write};
 

@@ -1,8 +1,8 @@
 -- The two ends of a packet's way, the source and the destination: how they are spelled (pf.conf(5), GRAMMAR), and the words that
 -- they are written as.
 use Rattle.std.specs.Prelude.{List, [], ◌∷◌, ◌++◌, Option, None, IfSome, codes}
-use Rattle.pf_form.specs.Words.{Word}
-use Rattle.pf_form.specs.Forms.{Form, nothing, or, pair, making}
+use Rattle.pf_addr.specs.Form.Words.{Word}
+use Rattle.pf_addr.specs.Form.Forms.{Form, nothing, or, pair, making}
 use Rattle.pf_rule.specs.declared.value.ports.PortTest.{PortTest}
 use Rattle.pf_rule.specs.Value.Ports.{IsPortTest, port, port_words}
 use Rattle.pf_rule.specs.declared.host.host.Host.{Host}

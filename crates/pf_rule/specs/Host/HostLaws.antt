@@ -7,8 +7,8 @@ use Rattle.std.proofs.lemmas.Bool.{lt-ltb}
 use Rattle.std.proofs.lemmas.List.Elements.{All-head}
 use Rattle.std.proofs.lemmas.List.Folds.{list_all-append}
 use Rattle.std.proofs.lemmas.List.Sums.{list_all-from_AllPass}
-use Rattle.pf_form.specs.Words.{Word}
-use Rattle.pf_form.specs.Laws.{bind_ok}
+use Rattle.pf_addr.specs.Form.Words.{Word}
+use Rattle.pf_addr.specs.Form.Laws.{bind_ok}
 use Rattle.pf_addr.specs.declared.fault.AddrFault.{AddrFault}
 use Rattle.pf_addr.specs.Address.{Network, IsNetwork}
 use Rattle.pf_addr.specs.Grammar.{SpellsNet}
@@ -17,11 +17,11 @@ use Rattle.pf_addr.specs.ReadingLaws.{net_found, net_only, net_without}
 use Rattle.pf_addr.specs.PlaceLaws.{without}
 use Rattle.pf_addr.specs.Spelling.{net_text}
 use Rattle.pf_addr.specs.SpellingLaws.{IsNetByte, net_text_spells, net_text_is_word}
-use Rattle.pf_path.specs.declared.limits.TheConstants.{TABLE_NAME_LIMIT}
-use Rattle.pf_path.specs.Names.{IsTableName, table_name_of}
-use Rattle.pf_path.specs.References.{behind, before}
-use Rattle.pf_path.proofs.NamesRead.{name_found, name_only, name_bytes}
-use Rattle.pf_path.proofs.ReferencesRead.{behind_is, before_is, before_end}
+use Rattle.pf_addr.specs.declared.path.limits.TheConstants.{TABLE_NAME_LIMIT}
+use Rattle.pf_addr.specs.Path.Names.{IsTableName, table_name_of}
+use Rattle.pf_addr.specs.Path.References.{behind, before}
+use Rattle.pf_addr.proofs.NamesRead.{name_found, name_only, name_bytes}
+use Rattle.pf_addr.proofs.ReferencesRead.{behind_is, before_is, before_end}
 use Rattle.pf_rule.specs.Value.Values.{begins_with}
 use Rattle.pf_rule.specs.Value.ReadingLaws.{front_is}
 use Rattle.pf_rule.specs.Value.Spacing.{is_word}

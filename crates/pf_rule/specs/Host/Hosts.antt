@@ -2,10 +2,10 @@
 use Rattle.std.specs.Prelude.{ℕ, ◌++◌, not, Bool, true, false, List, [], ◌∷◌, drop, codes, Option, Some, None, Result, Ok, Err, if◌then◌else◌}
 use Rattle.std.specs.Option.{option_and_then, option_map_or}
 use Rattle.std.proofs.Common.{◌≡◌, refl}
-use Rattle.pf_form.specs.declared.fault.Kind.{Kind}
-use Rattle.pf_form.specs.declared.fault.Kind.TheVariants.{BadWord}
-use Rattle.pf_form.specs.Words.{Word}
-use Rattle.pf_form.specs.Forms.{Form, nothing, word, or, ◌>>=◌}
+use Rattle.pf_addr.specs.declared.form.fault.Kind.{Kind}
+use Rattle.pf_addr.specs.declared.form.fault.Kind.TheVariants.{BadWord}
+use Rattle.pf_addr.specs.Form.Words.{Word}
+use Rattle.pf_addr.specs.Form.Forms.{Form, nothing, word, or, ◌>>=◌}
 use Rattle.pf_addr.specs.declared.addr.Addr.{Addr}
 use Rattle.pf_addr.specs.declared.addr.Addr.TheVariants as addr
 use Rattle.pf_addr.specs.declared.fault.AddrFault.{AddrFault}
@@ -14,8 +14,8 @@ use Rattle.pf_addr.specs.Spelling.{net_text}
 use Rattle.pf_addr.specs.declared.addr.Family.{Family}
 use Rattle.pf_addr.specs.Grammar.{SpellsNet}
 use Rattle.pf_addr.specs.Reading.{part_at, pieces_at, v4_at, address_at, net_at}
-use Rattle.pf_path.specs.Names.{IsTableName, table_name_of}
-use Rattle.pf_path.specs.References.{behind, before}
+use Rattle.pf_addr.specs.Path.Names.{IsTableName, table_name_of}
+use Rattle.pf_addr.specs.Path.References.{behind, before}
 use Rattle.pf_rule.specs.Value.Values.{begins_with}
 use Rattle.pf_rule.specs.declared.host.host.Host.{Host}
 use Rattle.pf_rule.specs.declared.host.host.Host.TheVariants.{Any, Net, Table}

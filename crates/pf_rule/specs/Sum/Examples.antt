@@ -2,7 +2,7 @@
 -- (as md5sum(1) does).
 use Rattle.std.specs.Prelude.{List, [], ◌∷◌, ◌++◌, ℕ, false, true, None, Some, codes, replicate}
 use Rattle.pf_addr.specs.declared.addr.Family.TheVariants.{V4}
-use Rattle.pf_path.specs.References.{refers}
+use Rattle.pf_addr.specs.Path.References.{refers}
 use Rattle.pf_rule.specs.declared.value.direction.Direction.TheVariants.{In, Out}
 use Rattle.pf_rule.specs.declared.value.ports.Comparison.TheVariants.{Equal}
 use Rattle.pf_rule.specs.declared.value.ports.PortRange.TheVariants.{Including}

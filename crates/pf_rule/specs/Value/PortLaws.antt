@@ -6,9 +6,9 @@ use Rattle.std.proofs.lemmas.Bool.{and_parts, lt-ltb}
 use Rattle.std.proofs.lemmas.Fmt.{decimal_is_IsNumeral, length-decimal-le}
 use Rattle.std.proofs.lemmas.List.{length-append}
 use Rattle.std.proofs.lemmas.List.Folds.{list_all-append}
-use Rattle.pf_form.specs.Words.{Word}
-use Rattle.pf_form.specs.Forms.{Spells}
-use Rattle.pf_form.specs.NumberLaws.{number_only}
+use Rattle.pf_addr.specs.Form.Words.{Word}
+use Rattle.pf_addr.specs.Form.Forms.{Spells}
+use Rattle.pf_addr.specs.Form.NumberLaws.{number_only}
 use Rattle.pf_rule.specs.declared.value.ports.Comparison.{Comparison}
 use Rattle.pf_rule.specs.declared.value.ports.Comparison.TheVariants.{Equal, NotEqual, Less, AtMost, Greater, AtLeast}
 use Rattle.pf_rule.specs.declared.value.ports.PortRange.TheVariants.{Including, Excluding, Except}

@@ -8,13 +8,13 @@ use Rattle.std.proofs.lemmas.List.{take_at, drop_at, length-append, take-append-
 use Rattle.std.proofs.lemmas.List.Elements.{All-append, All-from_get_or}
 use Rattle.std.proofs.lemmas.Str.Parse.{digit_at}
 use Rattle.pf_addr.specs.PlaceLaws.{without, no_place, place_after, cut_there}
-use Rattle.pf_form.specs.declared.fault.Kind.{Kind}
-use Rattle.pf_form.specs.declared.fault.Kind.TheVariants.{BadWord, BadProto}
-use Rattle.pf_form.specs.Words.{Word}
-use Rattle.pf_form.specs.Forms.{◌>>=◌}
-use Rattle.pf_form.specs.Laws.{bind_ok, word_is}
-use Rattle.pf_form.specs.Numbers.{IsNumber, is_digit, number_of}
-use Rattle.pf_form.specs.NumberLaws.{number_only, number_found}
+use Rattle.pf_addr.specs.declared.form.fault.Kind.{Kind}
+use Rattle.pf_addr.specs.declared.form.fault.Kind.TheVariants.{BadWord, BadProto}
+use Rattle.pf_addr.specs.Form.Words.{Word}
+use Rattle.pf_addr.specs.Form.Forms.{◌>>=◌}
+use Rattle.pf_addr.specs.Form.Laws.{bind_ok, word_is}
+use Rattle.pf_addr.specs.Form.Numbers.{IsNumber, is_digit, number_of}
+use Rattle.pf_addr.specs.Form.NumberLaws.{number_only, number_found}
 use Rattle.pf_rule.specs.declared.value.protocol.TheConstants.Protocol as protocols
 use Rattle.pf_rule.specs.declared.value.ports.Comparison.{Comparison}
 use Rattle.pf_rule.specs.declared.value.ports.Comparison.TheVariants.{Equal, NotEqual, Less, AtMost, Greater, AtLeast}

@@ -7,7 +7,7 @@ use Rattle.std.proofs.lemmas.Bool.Decides.{nat_tests}
 use Rattle.std.proofs.lemmas.List.Splits.{slice_split_none, slice_split_at}
 use Rattle.std.proofs.lemmas.List.Sums.{AllPass-from_list_all, list_all-from_AllPass}
 use Rattle.std.proofs.lemmas.List.Folds.{list_all-append}
-use Rattle.pf_form.specs.Words.{Word, is_blank, words_of}
+use Rattle.pf_addr.specs.Form.Words.{Word, is_blank, words_of}
 use Rattle.pf_addr.specs.Writing.{Continues-then}
 
 -- words with a space before each

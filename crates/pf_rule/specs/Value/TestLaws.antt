@@ -5,12 +5,12 @@ use Rattle.std.specs.Str.{bytes_eq}
 use Rattle.std.proofs.lemmas.Bool.{lt-ltb}
 use Rattle.std.proofs.lemmas.Bool.Decides.{nat_tests}
 use Rattle.std.proofs.lemmas.Slice.Eq.{bytes_eq-Decides}
-use Rattle.pf_form.specs.Numbers.{number_of}
-use Rattle.pf_form.specs.NumberLaws.{number_only}
-use Rattle.pf_form.specs.Words.{Word}
+use Rattle.pf_addr.specs.Form.Numbers.{number_of}
+use Rattle.pf_addr.specs.Form.NumberLaws.{number_only}
+use Rattle.pf_addr.specs.Form.Words.{Word}
 use Rattle.pf_addr.specs.declared.addr.Family.{Family}
 use Rattle.pf_addr.specs.SpellingLaws.{IsNumber-decimal}
-use Rattle.pf_path.proofs.NamesRead.{name_only, name_bytes}
+use Rattle.pf_addr.proofs.NamesRead.{name_only, name_bytes}
 use Rattle.pf_rule.specs.declared.value.direction.Direction.{Direction}
 use Rattle.pf_rule.specs.declared.value.interface.TheConstants.{INTERFACE_LIMIT}
 use Rattle.pf_rule.specs.Value.Values.{IsInterfaceName, IsProtocol, protocol_names, number_named, protocol_of}

@@ -6,9 +6,9 @@ use Rattle.std.proofs.lemmas.Bool.{and_parts}
 use Rattle.std.proofs.lemmas.Bool.Decides.{nat_tests}
 use Rattle.std.proofs.lemmas.List.Folds.{list_all-append}
 use Rattle.std.proofs.lemmas.List.Sums.{AllPass-from_list_all, list_all-from_AllPass}
-use Rattle.pf_form.specs.Numbers.{is_digit, number_of}
-use Rattle.pf_form.specs.Words.{Word}
-use Rattle.pf_form.specs.Forms.{Form, pair, Spells}
+use Rattle.pf_addr.specs.Form.Numbers.{is_digit, number_of}
+use Rattle.pf_addr.specs.Form.Words.{Word}
+use Rattle.pf_addr.specs.Form.Forms.{Form, pair, Spells}
 use Rattle.pf_rule.specs.Value.Spacing.{is_word}
 
 -- words that spell a value, each of which is a word of a line

@@ -3,8 +3,8 @@ ghost use Rattle.std.specs.Prelude.{◌≡◌, ℕ, Bool, List};
 ghost use Rattle.pf_addr.specs.declared.addr.Addr.{Addr as PlainAddr};
 ghost use Rattle.pf_rule.specs.Host.Hosts.{network_holds, table_holds, host_family};
 
+use pf_addr::path::TableName;
 use pf_addr::{Addr, Family, Net};
-use pf_path::TableName;
 
 /// Which addresses a rule's source or destination takes.
 #[derive(Clone, Copy)]

@@ -1,8 +1,8 @@
 //! Laws of forms. Each function does nothing; its clauses are what is proved.
 ghost use Rattle.std.specs.Prelude.{◌≡◌, [], ◌∷◌, codes, length, Ok};
 ghost use Rattle.pf_rule.specs.Rules.{PlainRule, IsRule};
-ghost use Rattle.pf_form.specs.Words.{words_of};
-ghost use Rattle.pf_form.specs.Forms.{read_all};
+ghost use Rattle.pf_addr.specs.Form.Words.{words_of};
+ghost use Rattle.pf_addr.specs.Form.Forms.{read_all};
 ghost use Rattle.pf_rule.specs.RuleGrammar.{rule};
 ghost use Rattle.pf_rule.specs.declared.sum.form.TheConstants.{RULE_FORM};
 ghost use Rattle.pf_rule.specs.Sum.Forms.{rule_form, ruleset_sum};

@@ -1,6 +1,6 @@
 //! Names of network interfaces.
 
-use pf_path::Name;
+use pf_addr::path::Name;
 
 /// How many bytes an interface's name may have (pf(4)'s `ifname` with its closing zero).
 pub const INTERFACE_LIMIT: usize = 15;

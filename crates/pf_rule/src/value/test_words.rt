@@ -1,8 +1,8 @@
 //! Reading a rule's tests of the direction, the interface, the family and the protocol.
 ghost use Rattle.std.specs.Prelude.{◌≡◌, Ok};
-ghost use Rattle.pf_form.specs.Forms.{reads};
-ghost use Rattle.pf_form.specs.Readers.{Moves};
-ghost use Rattle.pf_form.specs.Words.{texts};
+ghost use Rattle.pf_addr.specs.Form.Forms.{reads};
+ghost use Rattle.pf_addr.specs.Form.Readers.{Moves};
+ghost use Rattle.pf_addr.specs.Form.Words.{texts};
 ghost use Rattle.pf_rule.specs.Value.Tests.{direction, interface, family, protocol};
 
 use crate::value::direction::Direction;
@@ -10,7 +10,7 @@ use crate::value::interface::Interface;
 use crate::value::protocol::Protocol;
 use crate::value::value_words::{interface_word, protocol_word};
 use pf_addr::Family;
-use pf_form::{Stop, Words, takes};
+use pf_addr::form::{Stop, Words, takes};
 
 /// The test of the direction, where there is one.
 #[tactic(auto, unfolding(crate::specs::Value::Tests::direction))]

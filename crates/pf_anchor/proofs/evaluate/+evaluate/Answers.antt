@@ -1,8 +1,8 @@
 use Rattle.std.proofs.Common.{◌≡◌, ℕ, ◌+◌, List, ◌∷◌, Bool, Option, drop, ap, true, false, sym, ◌∙◌, arith}
 use Rattle.std.specs.Prelude.{filter}
 use Rattle.std.proofs.lemmas.Grind.{common_steps}
-use Rattle.pf_path.specs.Nested.{depth, path_within, is_child}
-use Rattle.pf_path.proofs.Nesting.{leads_deeper}
+use Rattle.pf_addr.specs.Path.Nested.{depth, path_within, is_child}
+use Rattle.pf_addr.proofs.Nesting.{leads_deeper}
 use Rattle.pf_rule.specs.Rules.{PlainRule}
 use Rattle.pf_anchor.specs.declared.evaluated.Evaluated.{Evaluated}
 use Rattle.pf_anchor.specs.declared.evaluated.Evaluated.TheVariants.{Open, Ended}

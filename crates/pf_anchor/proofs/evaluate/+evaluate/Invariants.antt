@@ -1,7 +1,7 @@
 use Rattle.std.proofs.Common.{◌≡◌, ◌+◌, ◌-◌, ◌*◌, drop}
 use Rattle.std.specs.Prelude.{filter}
-use Rattle.pf_path.specs.declared.limits.TheConstants.{DEPTH_LIMIT}
-use Rattle.pf_path.specs.Nested.{depth, is_child}
+use Rattle.pf_addr.specs.declared.path.limits.TheConstants.{DEPTH_LIMIT}
+use Rattle.pf_addr.specs.Path.Nested.{depth, is_child}
 use Rattle.pf_anchor.specs.declared.evaluated.Evaluated.TheVariants.{Open}
 use Rattle.pf_table.specs.Map.Pages.{joined}
 use Rattle.pf_anchor.specs.Evaluation.{and_then, in_turn, effected, rules_give, evaluation, matching}

@@ -1,5 +1,5 @@
 use Rattle.std.proofs.Common.{◌≡◌, length, arith}
-use Rattle.pf_form.specs.Words.{words_of}
+use Rattle.pf_addr.specs.Form.Words.{words_of}
 use Rattle.pf_line.proofs.Lines.{said_words}
 use Rattle.pf_line.proofs.line.read.Goals as goal
 

@@ -1,6 +1,6 @@
 use Rattle.std.proofs.Common.{arith, sym, ap, ◌∙◌}
 use Rattle.std.proofs.lemmas.Grind.{common_steps}
-use Rattle.pf_path.specs.Names.{name_order}
+use Rattle.pf_addr.specs.Path.Names.{name_order}
 use Rattle.pf_ticket.specs.NamedTables.{Named}
 use Rattle.pf_ticket.proofs.NamedTables.{put-at, put-between, put-last}
 use Rattle.pf_ticket.proofs.defined.spot_of.Goals as goal

@@ -1,7 +1,7 @@
 use Rattle.std.proofs.Common.{◌≡◌, subst}
 use Rattle.std.specs.Option.{option_map}
 use Rattle.std.specs.FinMap.{find}
-use Rattle.pf_path.specs.Paths.{path_order}
+use Rattle.pf_addr.specs.Path.Paths.{path_order}
 use Rattle.pf_table.specs.Map.Maps.{entry_at}
 use Rattle.pf_table.proofs.ListMaps.{list_map_is}
 use Rattle.pf_anchor.specs.Rulesets.{IsMap}

@@ -1,0 +1,12 @@
+-- What follows from the definitions of names, as law functions promise it.
+use Rattle.std.specs.Prelude.{◌≡◌, ℕ, List, Ok}
+use Rattle.pf_addr.specs.Form.Words.{Word}
+use Rattle.pf_addr.specs.Path.Names.{IsName, name_of}
+
+-- what is read is the word, and is a name
+abbrev pub ReadsANameAlone : Type 0
+ReadsANameAlone = (limit : ℕ) (w : Word) (n : List ℕ) → name_of limit w ≡ Ok n → IsName limit n × (n ≡ w)
+
+-- and each name is read
+abbrev pub ReadsEachName : Type 0
+ReadsEachName = (limit : ℕ) (n : List ℕ) → IsName limit n → name_of limit n ≡ Ok n

@@ -1,0 +1,19 @@
+//! Grammars as data.
+//!
+//! A grammar of words is written once, as a value of the type `Form` of `specs/Form/Forms.antt`. Which words spell a value, how
+//! words are read, where a text is refused and with which kind, and whether one word of look-ahead decides, are each a
+//! function of the form. One law holds of all forms whose words decide, and that is a test which computes. This crate has
+//! the forms with their laws, how a line is cut into words, numbers in decimal digits, and what the functions that read
+//! words by a form share.
+
+mod fault;
+mod laws;
+mod number;
+mod reading;
+mod splitting;
+
+pub use fault::{Kind, Stop, Unread};
+pub use laws::{numbers_are_read_as_written, words_stand_between_blanks};
+pub use number::read_number;
+pub use reading::{Words, bad_word, each, end, expect, stop, takes};
+pub use splitting::{is_blank, words};

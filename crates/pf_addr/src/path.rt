@@ -1,0 +1,16 @@
+//! Names, paths of rulesets, and references to them.
+
+pub mod laws;
+mod limits;
+mod name;
+mod names;
+mod nested;
+mod path;
+mod path_text;
+mod reference;
+
+pub use limits::{COMPONENT_LIMIT, DEPTH_LIMIT, PATH_LIMIT, REFERENCE_LIMIT, TABLE_NAME_LIMIT};
+pub use name::{Name, TableName};
+pub use names::has_name_bytes;
+pub use path::Path;
+pub use reference::Reference;

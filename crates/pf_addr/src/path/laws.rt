@@ -1,0 +1,48 @@
+//! What follows from the definitions that contracts cite: functions that do nothing, whose contracts are the laws.
+ghost use Rattle.pf_addr.specs.Path.NameLaws.{ReadsANameAlone, ReadsEachName};
+ghost use Rattle.pf_addr.specs.Path.PathLaws.{ReadsWhatIsSpelled, ReadsAllThatIsSpelled, WritesWhatWasRead, ReadsWhatIsWritten, SamePathIsEqual};
+ghost use Rattle.pf_addr.specs.Path.ReferenceLaws.{ReferenceIsSpelled, SpelledReferenceIsRead};
+ghost use Rattle.pf_addr.specs.Path.NestedLaws.{NoDeeper, LeadsDeeper, ChildHasOneMore, EachIsAChild};
+
+/// A word is read as a name exactly where it is one.
+#[tactic(auto, using(crate::proofs::NamesRead::name_found, crate::proofs::NamesRead::name_only))]
+pub fn names_are_read_as_spelled()
+    ensures read { ReadsANameAlone }
+    ensures spelled { ReadsEachName }
+{}
+
+/// A path is read from a word exactly where the word spells it.
+#[tactic(auto, using(crate::proofs::PathsRead::read_is_spelled, crate::proofs::PathsRead::spelled_is_read))]
+pub fn paths_are_read_as_spelled()
+    ensures read { ReadsWhatIsSpelled }
+    ensures spelled { ReadsAllThatIsSpelled }
+{}
+
+/// A path that was read is written as the word that it was read from, and each path is read again from what it is
+/// written as.
+#[tactic(auto, using(crate::proofs::PathsRead::read_again))]
+pub fn paths_are_read_again()
+    ensures written { WritesWhatWasRead }
+    ensures read { ReadsWhatIsWritten }
+{}
+
+/// Paths that are the same are equal.
+#[tactic(auto, using(crate::proofs::PathsRead::same_path_is))]
+pub fn same_paths_are_equal()
+    ensures { SamePathIsEqual }
+{}
+
+/// A reference is read from a word exactly where the word spells it.
+pub fn references_are_read_as_spelled()
+    ensures read { ReferenceIsSpelled }
+    ensures spelled { SpelledReferenceIsRead }
+{}
+
+/// No path has more than 16 components, and names lead to a deeper path. The children of a path are the paths that have one
+/// component more.
+pub fn paths_stand_within_one_another()
+    ensures limit { NoDeeper }
+    ensures deeper { LeadsDeeper }
+    ensures one_more { ChildHasOneMore }
+    ensures each { EachIsAChild }
+{}

@@ -1,0 +1,107 @@
+//! Names that are kept in place.
+ghost use Rattle.std.specs.Prelude.{◌≡◌, ◌≤◌, length};
+ghost use Rattle.std.specs.Str.{bytes_eq};
+ghost use Rattle.std.proofs.Common.{rules};
+ghost use Rattle.std.specs.Cmp.Lexicographic.{lists_per};
+ghost use Rattle.pf_addr.specs.Path.Names.{IsName, name_of, name_order, same_name};
+
+use crate::form::Kind;
+use crate::path::limits::TABLE_NAME_LIMIT;
+use crate::path::names::has_name_bytes;
+use std::cmp::Ordering;
+use std::marker::Model;
+
+/// A name of 1 to `LIMIT` bytes, each a letter, a digit, `_`, `.` or `-`. It is kept in place, and contracts see it as the list of
+/// its bytes.
+#[derive(Clone, Copy)]
+pub struct Name<const LIMIT: usize> {
+    bytes: [u8; LIMIT],
+    len: u8,
+}
+
+/// The name of a table (pf.conf(5), Tables), of at most [`TABLE_NAME_LIMIT`] bytes.
+pub type TableName = Name<TABLE_NAME_LIMIT>;
+
+impl<const LIMIT: usize> Model for Name<LIMIT> {
+    ghost use Rattle.std.specs.Prelude.{List, ℕ};
+    ghost use Rattle.pf_addr.specs.Path.KeptNames.{name_kept, IsKept, inside_of, inside_of-kept};
+
+    ghost Value = { List ℕ };
+
+    ghost view = { name_kept LIMIT };
+
+    ghost invariant = { IsKept LIMIT };
+
+    ghost inverse = { inside_of LIMIT };
+
+    ghost inverse_ok = { inside_of-kept LIMIT };
+}
+
+impl<const LIMIT: usize> Name<LIMIT> {
+    /// The name that a word is.
+    ///
+    /// A word past the limit is `NameTooLong`, whatever its bytes; one that is empty or has another byte is `BadWord`. It takes no
+    /// memory.
+    pub fn from_ascii(word: &[u8]) -> Result<Name<LIMIT>, Kind>
+        requires fits { LIMIT ≤ 255 }
+        ensures { result ≡ name_of LIMIT word.now }
+    {
+        if word.len() > LIMIT {
+            return Err(Kind::NameTooLong);
+        }
+        if !word.is_empty() && has_name_bytes(word) {
+            Ok(Name::holding(word))
+        } else {
+            Err(Kind::BadWord)
+        }
+    }
+
+    // The name of these bytes.
+    fn holding(name: &[u8]) -> Name<LIMIT>
+        requires fits { LIMIT ≤ 255 }
+        requires name { IsName LIMIT name.now }
+        ensures { result ≡ name.now }
+    {
+        let mut bytes = [0; LIMIT];
+        bytes[..name.len()].copy_from_slice(name);
+        Name {
+            bytes,
+            len: name.len() as u8,
+        }
+    }
+
+    /// The name's bytes.
+    pub fn as_bytes(&self) -> &[u8]
+        ensures value { result.now ≡ self.now }
+        // what each name keeps
+        ensures kept { IsName LIMIT self.now }
+    {
+        &self.bytes[..self.len as usize]
+    }
+
+    /// Which of two names comes first, by their bytes.
+    pub fn order(&self, other: &Name<LIMIT>) -> Ordering
+        ensures { result ≡ name_order self.now other.now }
+    {
+        self.as_bytes().cmp(other.as_bytes())
+    }
+
+    /// Whether both are one name.
+    #[tactic(auto, using(crate::proofs::PathTexts::same_bytes))]
+    pub fn same(&self, other: &Name<LIMIT>) -> bool
+        ensures { result ≡ same_name self.now other.now }
+    {
+        // other than their order this asks for their lengths first
+        self == other
+    }
+}
+
+impl<const LIMIT: usize> PartialEq for Name<LIMIT> {
+    ghost eq = { bytes_eq };
+
+    ghost laws = { Prim.search (rules, lists_per) };
+
+    fn eq(&self, other: &Name<LIMIT>) -> bool {
+        self.as_bytes() == other.as_bytes()
+    }
+}

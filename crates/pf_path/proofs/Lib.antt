@@ -1,5 +1,0 @@
-mod PathTexts
-pub mod NamesRead
-pub mod PathsRead
-pub mod ReferencesRead
-pub mod Nesting

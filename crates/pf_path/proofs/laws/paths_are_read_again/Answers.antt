@@ -1,5 +1,0 @@
-use Rattle.pf_path.proofs.PathsRead.{written_is_read}
-use Rattle.pf_path.proofs.laws.paths_are_read_again.Goals as goal
-
-pub returns-clause-written : goal.returns-clause-written
-returns-clause-written c = written_is_read
