@@ -10,7 +10,7 @@ use pf_disk::{Disk, OPEN_GATE};
 use std::alloc::Global;
 
 /// What a region holds. Own.
-#[derive(Debug, Drop)]
+#[derive(Drop)]
 pub struct Found {
     /// The payloads of the records behind open gates, the first of them first.
     pub payloads: Vec<Vec<u8>>,
