@@ -1,5 +1,5 @@
 -- What an image is, where nothing or one range is unsynced.
-use Rattle.std.proofs.Common.{◌≡◌, inl, inr, ℕ, ◌+◌, ◌<◌, ◌≤◌, Bool, false, true, ◌||◌, cond, List, ◌++◌, length, get_or, take, drop, refl, sym, ◌∙◌, ap, arith, rules, append_assoc}
+use Rattle.std.proofs.Common.{◌≡◌, inl, inr, ℕ, ◌+◌, ◌<◌, ◌≤◌, Bool, false, true, ◌||◌, List, ◌++◌, length, take, drop, refl, sym, ◌∙◌, ap, arith, rules, append_assoc}
 use Rattle.std.proofs.lemmas.List.{ext_get_or, places, length-take, length-drop, get_or-take, get_or-drop, drop_at}
 use Rattle.std.proofs.lemmas.Bool.{cases_lt}
 use Rattle.std.proofs.lemmas.Bool.Decides.{nat_tests}
@@ -57,14 +57,3 @@ pub written_there : (at : ℕ) (old bytes : List ℕ) → at ≤ length old → 
 written_there at old bytes within =
     let len : length (take at old) ≡ at = omega (arith, length-take at old) in
     ap (drop at) (append_assoc (take at old) bytes (drop (at + length bytes) old)) ∙ drop_at (take at old) (bytes ++ drop (at + length bytes) old) at len
-
--- an image stands there where its own bytes fill the unsynced places
-pub own_bytes : (seen bytes image : List ℕ) (set : ℕ → Bool) → length image ≡ length seen
-    → ((i : ℕ) → i < length seen → get_or image i 0 ≡ cond (set i) (get_or bytes i 0) (get_or seen i 0)) → IsImage seen set bytes → image ≡ bytes
-own_bytes seen bytes image set same_length each is = ext_get_or 0 image bytes (same_length ∙ sym is.same_length) (λ i lt.
-    let here : i < length seen = omega (arith, lt, same_length) in
-    by_case (set i) i refl (each i here))
-  where
-    by_case : (b : Bool) (i : ℕ) → set i ≡ b → get_or image i 0 ≡ cond (set i) (get_or bytes i 0) (get_or seen i 0) → get_or image i 0 ≡ get_or bytes i 0
-    by_case true i is_set one = one ∙ ap (λ (b : Bool). cond b (get_or bytes i 0) (get_or seen i 0)) is_set
-    by_case false i is_set one = one ∙ ap (λ (b : Bool). cond b (get_or bytes i 0) (get_or seen i 0)) is_set ∙ sym (is.agrees i is_set)

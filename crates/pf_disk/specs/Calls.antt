@@ -21,7 +21,8 @@ at_rest bytes = record { seen = bytes; kept = bytes; unsynced = λ _. false }
 
 abbrev pub after_event : State → Event → State
 after_event s reading = s
-after_event s (writing at bytes) = record { seen = overwritten s.seen at bytes; kept = s.kept; unsynced = with_range at (length bytes) s.unsynced }
+after_event s (writing at bytes) =
+    record { seen = overwritten s.seen at bytes; kept = s.kept; unsynced = with_range at (length bytes) s.unsynced }
 after_event s syncing = record { seen = s.seen; kept = s.seen; unsynced = λ _. false }
 
 abbrev pub after : State → List Event → State
@@ -84,4 +85,5 @@ event_from_numbers-event_to_numbers (writing at bytes) = refl
 event_from_numbers-event_to_numbers syncing = refl
 
 abbrev pub events_code : Coded (List Event)
-events_code = coded_list (code_by (ℕ × (ℕ × List ℕ)) (coded× coded_ℕ (coded× coded_ℕ (coded_list coded_ℕ))) event_to_numbers event_from_numbers event_from_numbers-event_to_numbers)
+events_code = coded_list (code_by (ℕ × (ℕ × List ℕ)) (coded× coded_ℕ (coded× coded_ℕ (coded_list coded_ℕ)))
+    event_to_numbers event_from_numbers event_from_numbers-event_to_numbers)

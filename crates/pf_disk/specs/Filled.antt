@@ -26,7 +26,8 @@ FillsAll Inverted size = Unit {0}
 
 pub record IsFilled (fill : Fill) (s : State) (image : List ℕ) : Type 0 where
   pub same_length : length image ≡ length s.seen
-  pub each : (i : ℕ) → i < length s.seen → slice_index image i ≡ (if s.unsynced i then fill_byte fill i (slice_index s.kept i) (slice_index s.seen i) else slice_index s.seen i)
+  pub each : (i : ℕ) → i < length s.seen → slice_index image i
+      ≡ (if s.unsynced i then fill_byte fill i (slice_index s.kept i) (slice_index s.seen i) else slice_index s.seen i)
 
 -- where the fill's bytes are an image they are the one that is made
 abbrev pub GivesItsBytes : Fill → (List ℕ → Type 0) → List ℕ → Type 0

@@ -3,7 +3,7 @@ ghost use Rattle.std.specs.Prelude.{◌≡◌, ◌⊎◌, ◌+◌, ◌^◌, ◌<
 ghost use Rattle.pf_disk.specs.Disk.{IsImage, IsSynced, AreIn, is_within, with_range, overwritten, Elapses, CountsFault};
 
 /// A call of the device failed. Own.
-#[derive(Clone, Copy, Debug, PartialEq, Eq)]
+#[derive(Clone, Copy, Debug)]
 pub struct DiskFault;
 
 /// A device of fixed size. A place is a byte's number from the device's start, from 0.
@@ -48,7 +48,8 @@ pub trait Disk {
         ensures seen { seen self.new ≡ seen self.old }
         ensures unsynced { AreIn (unsynced self.new) (unsynced self.old) }
         ensures still { AreIn (unsynced self.old) (unsynced self.new) }
-        ensures time { Elapses (moment self.old) (moment self.new) (left_since self.old) (left_since self.new) (seen self.new) (unsynced self.new) }
+        ensures time { Elapses (moment self.old) (moment self.new) (left_since self.old) (left_since self.new)
+            (seen self.new) (unsynced self.new) }
         ensures faults { CountsFault result (fault_count self.old) (fault_count self.new) };
 
     /// Writes these bytes from place `at` on. After an `Err` a read gives what it gave, or the range is unsynced and a read of it
@@ -62,7 +63,8 @@ pub trait Disk {
         ensures still { AreIn (unsynced self.old) (unsynced self.new) }
         ensures marked { OnOk result (AreIn (is_within at (length bytes.now)) (unsynced self.new)) }
         ensures failed { OnErr result ((seen self.new ≡ seen self.old) ⊎ AreIn (is_within at (length bytes.now)) (unsynced self.new)) }
-        ensures time { Elapses (moment self.old) (moment self.new) (left_since self.old) (left_since self.new) (seen self.new) (unsynced self.new) }
+        ensures time { Elapses (moment self.old) (moment self.new) (left_since self.old) (left_since self.new)
+            (seen self.new) (unsynced self.new) }
         ensures faults { CountsFault result (fault_count self.old) (fault_count self.new) };
 
     /// Brings all that was written to where a crash keeps it. After an `Err` what was unsynced still is.
@@ -72,11 +74,13 @@ pub trait Disk {
         ensures seen { seen self.new ≡ seen self.old }
         ensures unsynced { AreIn (unsynced self.new) (unsynced self.old) }
         ensures still { OnErr result (AreIn (unsynced self.old) (unsynced self.new)) }
-        ensures time { Elapses (moment self.old) (moment self.new) (left_since self.old) (left_since self.new) (seen self.new) (unsynced self.new) }
+        ensures time { Elapses (moment self.old) (moment self.new) (left_since self.old) (left_since self.new)
+            (seen self.new) (unsynced self.new) }
         ensures faults { CountsFault result (fault_count self.old) (fault_count self.new) };
 
     /// This moment is one of those since an earlier one.
-    ghost counts_now: { (disk : Self) (t : ℕ) (c : List ℕ) → t ≤ moment disk → IsImage (seen disk) (unsynced disk) c → left_since disk t c };
+    ghost counts_now: { (disk : Self) (t : ℕ) (c : List ℕ) → t ≤ moment disk
+        → IsImage (seen disk) (unsynced disk) c → left_since disk t c };
 
     /// Since this moment there is no other.
     ghost only_now: { (disk : Self) (c : List ℕ) → left_since disk (moment disk) c → IsImage (seen disk) (unsynced disk) c };

@@ -13,7 +13,7 @@ use std::fs::File;
 use std::os::unix::fs::FileExt;
 
 /// Why a file isn't taken as a device. Nothing was written to it. Own.
-#[derive(Clone, Copy, Debug, PartialEq, Eq)]
+#[derive(Clone, Copy, Debug)]
 pub enum FileFault {
     /// The file hasn't the length that it has to have.
     WrongLength,
@@ -48,8 +48,8 @@ pub struct FileDisk {
 }
 
 impl FileDisk {
-    /// The file as a device. It is read and synced, so that nothing of it is unsynced. It has to be open for reading and
-    /// writing, and to have `size` bytes; nobody else writes it. Own.
+    /// The file as a device. It is read, and synced as by [`Disk::sync`], so that nothing of it is unsynced. It has to be open
+    /// for reading and writing, and to have `size` bytes; nobody else writes it. Own.
     pub fn of(alloc: Global, file: File, size: usize) -> Result<FileDisk, FileFault>
         ensures size { IfOk result (λ disk. length (⟦<FileDisk as Disk>⟧.seen disk) ≡ size) }
         ensures synced { IfOk result (λ disk. IsSynced (⟦<FileDisk as Disk>⟧.unsynced disk)) }
@@ -61,38 +61,32 @@ impl FileDisk {
         if metadata.len() != size as u64 {
             return Err(FileFault::WrongLength);
         }
-        let bytes = file_bytes(alloc, &file, size)?;
-        let history = started(&bytes);
-        Ok(FileDisk {
+        let mut bytes = vec![in alloc; 0u8; size]?;
+        if file.read_exact_at(bytes.as_mut_slice(), 0).is_err() {
+            return Err(FileFault::Fault);
+        }
+        let history = found(&bytes);
+        let mut disk = FileDisk {
             file,
             size,
             bytes,
             fault_count: 0,
             history,
-        })
+        };
+        if disk.sync().is_err() {
+            return Err(FileFault::Fault);
+        }
+        Ok(disk)
     }
 }
 
-// The file's bytes, once they are synced.
-fn file_bytes(alloc: Global, file: &File, size: usize) -> Result<Vec<u8>, FileFault>
-    ensures { IfOk result (λ bytes. length bytes.items ≡ size) }
-{
-    let mut bytes = vec![in alloc; 0u8; size]?;
-    if file.sync_all().is_err() || file.read_exact_at(bytes.as_mut_slice(), 0).is_err() {
-        return Err(FileFault::Fault);
-    }
-    Ok(bytes)
-}
-
-// The history of a file that was found with these bytes: as if they had been written and synced.
-fn started(bytes: &[u8]) -> History
+// The history of a file that was found with these bytes: as if they had been written, and not yet synced.
+fn found(bytes: &[u8]) -> History
     ensures seen { (after (at_rest (replicate (length bytes.now) 0)) result.events).seen ≡ bytes.now }
-    ensures synced { IsSynced (after (at_rest (replicate (length bytes.now) 0)) result.events).unsynced }
     ensures fit { all_fit (length bytes.now) result.events ≡ true }
 {
     let mut history = History::new();
     history.note(&[0], bytes);
-    history.note(&[], &[]);
     history
 }
 
@@ -140,7 +134,9 @@ impl Disk for FileDisk {
         ensures unsynced { AreIn (unsynced_of self.new) (with_range at (length bytes.now) (unsynced_of self.old)) }
         ensures still { AreIn (unsynced_of self.old) (unsynced_of self.new) }
         ensures marked { AreIn (is_within at (length bytes.now)) (unsynced_of self.new) }
-        ensures time { Elapses (length (events_of self.old)) (length (events_of self.new)) (LeftSince (replicate self.old.size 0) (events_of self.old)) (LeftSince (replicate self.new.size 0) (events_of self.new)) (seen_of self.new) (unsynced_of self.new) }
+        ensures time { Elapses (length (events_of self.old)) (length (events_of self.new))
+            (LeftSince (replicate self.old.size 0) (events_of self.old)) (LeftSince (replicate self.new.size 0) (events_of self.new))
+            (seen_of self.new) (unsynced_of self.new) }
         ensures faults { CountsFault result self.old.fault_count self.new.fault_count }
     {
         if self.file.write_all_at(bytes, at as u64).is_err() {

@@ -5,14 +5,11 @@ ghost use Rattle.pf_disk.specs.Burning.{blows, burnt, counted};
 
 use crate::{Disk, DiskFault};
 
-/// Which calls fail. A call is a read, a write or a sync. Own.
-#[derive(Clone, Copy, Debug, PartialEq, Eq)]
-pub enum Fuse {
-    /// None.
+// Which calls fail: none, all behind so many that pass, or the one behind so many that pass.
+#[derive(Drop)]
+enum Fuse {
     Whole,
-    /// All calls behind so many that pass.
     After(u64),
-    /// The one call behind so many that pass.
     Once(u64),
 }
 
@@ -128,8 +125,10 @@ impl<D: Disk> Disk for FuseDisk<D> {
         ensures seen { D.seen self.new.inner ≡ D.seen self.old.inner }
         ensures unsynced { AreIn (D.unsynced self.new.inner) (D.unsynced self.old.inner) }
         ensures still { AreIn (D.unsynced self.old.inner) (D.unsynced self.new.inner) }
-        ensures time { Elapses (D.moment self.old.inner) (D.moment self.new.inner) (D.left_since self.old.inner) (D.left_since self.new.inner) (D.seen self.new.inner) (D.unsynced self.new.inner) }
-        ensures faults { CountsFault result (D.fault_count self.old.inner + self.old.refused) (D.fault_count self.new.inner + self.new.refused) }
+        ensures time { Elapses (D.moment self.old.inner) (D.moment self.new.inner) (D.left_since self.old.inner)
+            (D.left_since self.new.inner) (D.seen self.new.inner) (D.unsynced self.new.inner) }
+        ensures faults { CountsFault result (D.fault_count self.old.inner + self.old.refused)
+            (D.fault_count self.new.inner + self.new.refused) }
     {
         burn(&mut self.fuse, &mut self.refused)?;
         self.inner.read_at(at, buf)
@@ -147,9 +146,12 @@ impl<D: Disk> Disk for FuseDisk<D> {
         ensures unsynced { AreIn (D.unsynced self.new.inner) (with_range at (length bytes.now) (D.unsynced self.old.inner)) }
         ensures still { AreIn (D.unsynced self.old.inner) (D.unsynced self.new.inner) }
         ensures marked { OnOk result (AreIn (is_within at (length bytes.now)) (D.unsynced self.new.inner)) }
-        ensures failed { OnErr result ((D.seen self.new.inner ≡ D.seen self.old.inner) ⊎ AreIn (is_within at (length bytes.now)) (D.unsynced self.new.inner)) }
-        ensures time { Elapses (D.moment self.old.inner) (D.moment self.new.inner) (D.left_since self.old.inner) (D.left_since self.new.inner) (D.seen self.new.inner) (D.unsynced self.new.inner) }
-        ensures faults { CountsFault result (D.fault_count self.old.inner + self.old.refused) (D.fault_count self.new.inner + self.new.refused) }
+        ensures failed { OnErr result ((D.seen self.new.inner ≡ D.seen self.old.inner)
+            ⊎ AreIn (is_within at (length bytes.now)) (D.unsynced self.new.inner)) }
+        ensures time { Elapses (D.moment self.old.inner) (D.moment self.new.inner) (D.left_since self.old.inner)
+            (D.left_since self.new.inner) (D.seen self.new.inner) (D.unsynced self.new.inner) }
+        ensures faults { CountsFault result (D.fault_count self.old.inner + self.old.refused)
+            (D.fault_count self.new.inner + self.new.refused) }
     {
         burn(&mut self.fuse, &mut self.refused)?;
         self.inner.write_at(at, bytes)
@@ -165,8 +167,10 @@ impl<D: Disk> Disk for FuseDisk<D> {
         ensures seen { D.seen self.new.inner ≡ D.seen self.old.inner }
         ensures unsynced { AreIn (D.unsynced self.new.inner) (D.unsynced self.old.inner) }
         ensures still { OnErr result (AreIn (D.unsynced self.old.inner) (D.unsynced self.new.inner)) }
-        ensures time { Elapses (D.moment self.old.inner) (D.moment self.new.inner) (D.left_since self.old.inner) (D.left_since self.new.inner) (D.seen self.new.inner) (D.unsynced self.new.inner) }
-        ensures faults { CountsFault result (D.fault_count self.old.inner + self.old.refused) (D.fault_count self.new.inner + self.new.refused) }
+        ensures time { Elapses (D.moment self.old.inner) (D.moment self.new.inner) (D.left_since self.old.inner)
+            (D.left_since self.new.inner) (D.seen self.new.inner) (D.unsynced self.new.inner) }
+        ensures faults { CountsFault result (D.fault_count self.old.inner + self.old.refused)
+            (D.fault_count self.new.inner + self.new.refused) }
     {
         burn(&mut self.fuse, &mut self.refused)?;
         self.inner.sync()

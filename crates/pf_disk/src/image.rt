@@ -12,7 +12,7 @@ use std::alloc::{AllocError, Global};
 pub const OPEN_GATE: u8 = 0xA5;
 
 /// What a crash leaves at the unsynced places. Own.
-#[derive(Clone, Copy, Debug)]
+#[derive(Clone, Copy)]
 pub enum Fill<'a> {
     /// The bytes of the last sync.
     Old,
@@ -49,7 +49,8 @@ impl Replay {
 
     fn apply(&mut self, call: &Call)
         requires { (s : State) × Shows self.old s × (fits_in (length s.seen) (event_of call.now) ≡ true) }
-        ensures { (s : State) → Shows self.old s → fits_in (length s.seen) (event_of call.now) ≡ true → Shows self.new (after_event s (event_of call.now)) }
+        ensures { (s : State) → Shows self.old s → fits_in (length s.seen) (event_of call.now) ≡ true
+            → Shows self.new (after_event s (event_of call.now)) }
     {
         match call {
             Call::Read => {}
@@ -68,7 +69,8 @@ impl Replay {
 fn mark(marks: &mut Vec<bool>, at: usize, n: usize)
     requires { at + n ≤ length marks.old.items }
     ensures len { length marks.new.items ≡ length marks.old.items }
-    ensures each { (i : ℕ) → i < length marks.old.items → slice_index_or marks.new.items i false ≡ (slice_index_or marks.old.items i false || is_within at n i) }
+    ensures each { (i : ℕ) → i < length marks.old.items
+        → slice_index_or marks.new.items i false ≡ (slice_index_or marks.old.items i false || is_within at n i) }
 {
     for i in at..at + n {
         marks[i] = true;

@@ -59,7 +59,8 @@ impl MemDisk {
         requires { FillsAll fill (length (⟦<MemDisk as Disk>⟧.seen self.now)) }
         ensures filled { IfOk result (λ image. IsFilled fill.entry (state_at (first_of self.now) (events_of self.now) moment) image.items) }
         ensures image { IfOk result (λ image. IsImageAt (first_of self.now) (events_of self.now) moment image.items) }
-        ensures each_image { IfOk result (λ image. GivesItsBytes fill.entry (IsImageAt (first_of self.now) (events_of self.now) moment) image.items) }
+        ensures each_image { IfOk result (λ image. GivesItsBytes fill.entry
+            (IsImageAt (first_of self.now) (events_of self.now) moment) image.items) }
         ensures left { IfOk result (λ image. (t : ℕ) → t < moment → ⟦<MemDisk as Disk>⟧.left_since self.now t image.items) }
     {
         let replay = self.replay(alloc, moment)?;
@@ -162,7 +163,9 @@ impl Disk for MemDisk {
         ensures seen { seen_of self.new ≡ seen_of self.old }
         ensures unsynced { AreIn (unsynced_of self.new) (unsynced_of self.old) }
         ensures still { AreIn (unsynced_of self.old) (unsynced_of self.new) }
-        ensures time { Elapses (length (events_of self.old)) (length (events_of self.new)) (LeftSince (first_of self.old) (events_of self.old)) (LeftSince (first_of self.new) (events_of self.new)) (seen_of self.new) (unsynced_of self.new) }
+        ensures time { Elapses (length (events_of self.old)) (length (events_of self.new))
+            (LeftSince (first_of self.old) (events_of self.old)) (LeftSince (first_of self.new) (events_of self.new))
+            (seen_of self.new) (unsynced_of self.new) }
         ensures faults { CountsFault result self.old.fault_count self.new.fault_count }
     {
         match keep(&mut self.calls, &mut self.fault_count, Call::Read) {
@@ -186,7 +189,9 @@ impl Disk for MemDisk {
         ensures still { AreIn (unsynced_of self.old) (unsynced_of self.new) }
         ensures marked { OnOk result (AreIn (is_within at (length bytes.now)) (unsynced_of self.new)) }
         ensures unwritten { OnErr result (seen_of self.new ≡ seen_of self.old) }
-        ensures time { Elapses (length (events_of self.old)) (length (events_of self.new)) (LeftSince (first_of self.old) (events_of self.old)) (LeftSince (first_of self.new) (events_of self.new)) (seen_of self.new) (unsynced_of self.new) }
+        ensures time { Elapses (length (events_of self.old)) (length (events_of self.new))
+            (LeftSince (first_of self.old) (events_of self.old)) (LeftSince (first_of self.new) (events_of self.new))
+            (seen_of self.new) (unsynced_of self.new) }
         ensures faults { CountsFault result self.old.fault_count self.new.fault_count }
     {
         let Ok(call) = write_call(self.alloc, at, bytes) else {
@@ -211,7 +216,9 @@ impl Disk for MemDisk {
         ensures seen { seen_of self.new ≡ seen_of self.old }
         ensures unsynced { AreIn (unsynced_of self.new) (unsynced_of self.old) }
         ensures still { OnErr result (AreIn (unsynced_of self.old) (unsynced_of self.new)) }
-        ensures time { Elapses (length (events_of self.old)) (length (events_of self.new)) (LeftSince (first_of self.old) (events_of self.old)) (LeftSince (first_of self.new) (events_of self.new)) (seen_of self.new) (unsynced_of self.new) }
+        ensures time { Elapses (length (events_of self.old)) (length (events_of self.new))
+            (LeftSince (first_of self.old) (events_of self.old)) (LeftSince (first_of self.new) (events_of self.new))
+            (seen_of self.new) (unsynced_of self.new) }
         ensures faults { CountsFault result self.old.fault_count self.new.fault_count }
     {
         match keep(&mut self.calls, &mut self.fault_count, Call::Sync) {

@@ -4,8 +4,8 @@ ghost use Rattle.pf_disk.specs.Disk.{IsImage, IsSynced, is_within, overwritten, 
 
 use crate::{Disk, DiskFault};
 
-/// Writes these bytes from place `at` on and syncs, on a device with nothing unsynced. At each moment of the call an image is
-/// as the read before, but for the range. After an `Err` the range may read as any bytes, and may be unsynced. Own.
+/// Writes these bytes from place `at` on and syncs, on a device with nothing unsynced, in two moments at most. At each of them
+/// an image is as the read before, but for the range. After an `Err` the range may read as any bytes, and may be unsynced. Own.
 pub fn write_synced<D: Disk>(disk: &mut D, at: usize, bytes: &[u8]) -> Result<(), DiskFault>
     requires within { at + length bytes.now ≤ length (D.seen disk.old) }
     requires synced { IsSynced (D.unsynced disk.old) }
@@ -14,33 +14,9 @@ pub fn write_synced<D: Disk>(disk: &mut D, at: usize, bytes: &[u8]) -> Result<()
     ensures synced { OnOk result (IsSynced (D.unsynced disk.new)) }
     ensures elsewhere { IsImage (D.seen disk.old) (is_within at (length bytes.now)) (D.seen disk.new) }
     ensures any_moment { EachMoment D.moment D.left_since disk.old disk.new (IsImage (D.seen disk.old) (is_within at (length bytes.now))) }
-    ensures calls { D.moment disk.new ≤ D.moment disk.old + 2 }
+    ensures moments { D.moment disk.new ≤ D.moment disk.old + 2 }
     ensures faults { CountsFault result (D.fault_count disk.old) (D.fault_count disk.new) }
 {
     disk.write_at(at, bytes)?;
     disk.sync()
-}
-
-/// The same where it is wanted, and else nothing: then no call is made, and each image is the read. Own.
-pub fn write_synced_if<D: Disk>(
-    disk: &mut D,
-    wanted: bool,
-    at: usize,
-    bytes: &[u8],
-) -> Result<(), DiskFault>
-    requires within { at + length bytes.now ≤ length (D.seen disk.old) }
-    requires synced { IsSynced (D.unsynced disk.old) }
-    requires few { D.fault_count disk.old < 2 ^ 63 }
-    ensures written { wanted ≡ true → OnOk result (D.seen disk.new ≡ overwritten (D.seen disk.old) at bytes.now) }
-    ensures left_out { wanted ≡ false → disk.new ≡ disk.old }
-    ensures synced { OnOk result (IsSynced (D.unsynced disk.new)) }
-    ensures elsewhere { IsImage (D.seen disk.old) (λ i. wanted && is_within at (length bytes.now) i) (D.seen disk.new) }
-    ensures any_moment { EachMoment D.moment D.left_since disk.old disk.new (IsImage (D.seen disk.old) (λ i. wanted && is_within at (length bytes.now) i)) }
-    ensures calls { D.moment disk.new ≤ D.moment disk.old + 2 }
-    ensures faults { CountsFault result (D.fault_count disk.old) (D.fault_count disk.new) }
-{
-    if wanted {
-        write_synced(disk, at, bytes)?;
-    }
-    Ok(())
 }

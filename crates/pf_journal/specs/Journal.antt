@@ -19,4 +19,5 @@ pub record Keeps {D : Type 0} (seen : D → List ℕ) (journal : Journal D) (pay
 -- An image while these bytes are written behind a gate and synced, and the gate after them: the bytes are torn and the gate is
 -- as it was, or the bytes are there and the gate is torn.
 abbrev pub IsBetween : ℕ → List ℕ → List ℕ → List ℕ → Type 0
-IsBetween gate behind old image = IsImage old (is_within (gate + 1) (length behind)) image ⊎ IsImage (overwritten old (gate + 1) behind) (is_within gate 1) image
+IsBetween gate behind old image =
+    IsImage old (is_within (gate + 1) (length behind)) image ⊎ IsImage (overwritten old (gate + 1) behind) (is_within gate 1) image

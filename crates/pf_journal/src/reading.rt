@@ -10,7 +10,7 @@ use pf_disk::{Disk, OPEN_GATE};
 use std::alloc::Global;
 
 /// What a region holds. Own.
-#[derive(Debug, Drop)]
+#[derive(Drop)]
 pub struct Found {
     /// The payloads of the records behind open gates, the first of them first.
     pub payloads: Vec<Vec<u8>>,
@@ -18,7 +18,7 @@ pub struct Found {
     pub gate: usize,
 }
 
-/// Reads the records between two places of a device, the last not counted, by one call of the device. Own.
+/// Reads the records between two places of a device, the last not counted, in one moment of the device at most. Own.
 pub fn read_all<D: Disk>(
     alloc: Global,
     disk: &mut D,
@@ -32,14 +32,15 @@ pub fn read_all<D: Disk>(
     // What it gives stands there, and it refuses as corrupt only where nothing does.
     ensures found { IfOk result (λ found. StandsFor start end (D.seen disk.old) (contents found.payloads.items)) }
     ensures gate { IfOk result (λ found. found.gate ≡ start + length (records (contents found.payloads.items))) }
-    ensures corrupt { IfErr result (λ e. IsCorrupt e → (payloads : List (List ℕ)) → ¬ StandsFor start end (D.seen disk.old) payloads) }
+    ensures corrupt { IfErr result (λ e. IsCorrupt e → (payloads : List (List ℕ))
+        → ¬ StandsFor start end (D.seen disk.old) payloads) }
     ensures breaks { IfErr result (λ e. IfCorrupt e (BreaksAt start end (D.seen disk.old))) }
 
     ensures seen { D.seen disk.new ≡ D.seen disk.old }
     ensures unsynced { AreIn (D.unsynced disk.new) (D.unsynced disk.old) }
     ensures still { AreIn (D.unsynced disk.old) (D.unsynced disk.new) }
     ensures any_moment { EachMoment D.moment D.left_since disk.old disk.new (IsImage (D.seen disk.old) (D.unsynced disk.old)) }
-    ensures call { D.moment disk.new ≤ D.moment disk.old + 1 }
+    ensures moment { D.moment disk.new ≤ D.moment disk.old + 1 }
     ensures faults { D.fault_count disk.new ≡ D.fault_count disk.old + (if is_read_fault result then 1 else 0) }
 {
     let bytes = read_region(alloc, disk, start, end)?;
@@ -63,7 +64,7 @@ fn read_region<D: Disk>(
     ensures unsynced { AreIn (D.unsynced disk.new) (D.unsynced disk.old) }
     ensures still { AreIn (D.unsynced disk.old) (D.unsynced disk.new) }
     ensures any_moment { EachMoment D.moment D.left_since disk.old disk.new (IsImage (D.seen disk.old) (D.unsynced disk.old)) }
-    ensures call { D.moment disk.new ≤ D.moment disk.old + 1 }
+    ensures moment { D.moment disk.new ≤ D.moment disk.old + 1 }
     ensures not_corrupt { IfErr result (λ e. ¬ IsCorrupt e) }
     ensures faults { D.fault_count disk.new ≡ D.fault_count disk.old + (if is_read_fault result then 1 else 0) }
 {
@@ -100,7 +101,8 @@ fn payloads_of(alloc: Global, bytes: &[u8], start: usize) -> Result<Found, ReadF
 fn record_of(bytes: &[u8]) -> Option<(&[u8], &[u8])>
     requires some { 0 < length bytes.now }
     requires open { slice_index bytes.now 0 ≡ OPEN_GATE }
-    ensures { MatchOption result ((payload after : List ℕ) → ¬ IsRecord bytes.now payload after) (λ r. IsRecord bytes.now r.0.now r.1.now) }
+    ensures { MatchOption result ((payload after : List ℕ) → ¬ IsRecord bytes.now payload after)
+        (λ r. IsRecord bytes.now r.0.now r.1.now) }
 {
     if bytes.len() < HEADER {
         return None;

@@ -3,7 +3,7 @@ ghost use Rattle.std.specs.Prelude.{◌≡◌, ◌≤◌, length};
 ghost use Rattle.pf_disk.specs.Disk.{IsSynced};
 ghost use Rattle.pf_disk.specs.Filled.{FillsAll};
 
-use crate::records::{END, FIRST, SECOND, empty, open_gates, read_back, with_two};
+use crate::records::{END, FIRST, empty, open_gates, read_back, with_two};
 use pf_disk::{Disk, Fill, FuseDisk, MemDisk};
 use pf_journal::{Found, ReadFault};
 use std::alloc::Global;
@@ -21,7 +21,7 @@ pub fn play(alloc: Global, told: &mut String) -> Result<(), ReadFault> {
 
 /// A crash at each moment of the second of two appends, calls 5 to 8, and behind it: how many records each fill leaves.
 fn tell_crashes(alloc: Global, told: &mut String) -> Result<(), ReadFault> {
-    let Ok(journal) = with_two(alloc, open_gates(alloc)?, END, FIRST, SECOND) else {
+    let Ok(journal) = with_two(alloc, open_gates(alloc)?, END) else {
         return Err(ReadFault::Fault);
     };
     let disk = journal.disk;

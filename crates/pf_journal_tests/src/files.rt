@@ -16,8 +16,10 @@ pub fn play(rt: &HostRuntime, told: &mut String) -> Result<(), ReadFault> {
     tell_script(rt, told)?;
     tell_journal(rt, told)?;
     for size in [0, SIZE - 1, SIZE + 1] {
-        tell_length(rt, told, size)?;
+        tell_taken(rt, told, "script", size)?;
     }
+    // Its length is 0, and 0 bytes are read from it, but no system syncs it: so an opening syncs, as later syncs do.
+    tell_taken(rt, told, "/dev/null", 0)?;
     tell_other_bytes(rt, told)?;
     tell_read_only(rt, told)
 }
@@ -98,7 +100,7 @@ fn tell_script(rt: &HostRuntime, told: &mut String) -> Result<(), ReadFault> {
 fn tell_journal(rt: &HostRuntime, told: &mut String) -> Result<(), ReadFault> {
     let alloc = rt.alloc();
     let disk = device(alloc, open(rt, "journal")?)?;
-    let Ok(journal) = with_two(alloc, disk, SIZE, b"one", b"two") else {
+    let Ok(journal) = with_two(alloc, disk, SIZE) else {
         return Err(ReadFault::Fault);
     };
     let mut again = device(alloc, open(rt, "journal")?)?;
@@ -112,10 +114,15 @@ fn tell_journal(rt: &HostRuntime, told: &mut String) -> Result<(), ReadFault> {
 }
 
 /// What a file is taken as where it should have so many bytes.
-fn tell_length(rt: &HostRuntime, told: &mut String, size: usize) -> Result<(), ReadFault> {
-    match FileDisk::of(rt.alloc(), open(rt, "script")?, size) {
-        Ok(_) => write!(told, "a file of {size} bytes\n")?,
-        Err(fault) => write!(told, "no file of {size} bytes: {fault:?}\n")?,
+fn tell_taken(
+    rt: &HostRuntime,
+    told: &mut String,
+    name: &str,
+    size: usize,
+) -> Result<(), ReadFault> {
+    match FileDisk::of(rt.alloc(), open(rt, name)?, size) {
+        Ok(_) => write!(told, "{name} is a device of {size} bytes\n")?,
+        Err(fault) => write!(told, "{name} is none of {size} bytes: {fault:?}\n")?,
     }
     Ok(())
 }

@@ -1,8 +1,8 @@
-// Records in memory: their bytes, their room, and what is no record.
+// Records in memory, and what is no record.
 ghost use Rattle.std.specs.Prelude.{◌≡◌, ◌+◌, ◌^◌, ◌<◌, ◌≤◌, length, IfOk};
 ghost use Rattle.pf_disk.specs.Disk.{IsSynced};
 
-use pf_disk::{Disk, Fill, MemDisk, OPEN_GATE};
+use pf_disk::{Disk, MemDisk, OPEN_GATE};
 use pf_journal::{AppendFault, CLOSED_GATE, Found, Journal, ReadFault, read_all};
 use std::alloc::{AllocError, Global};
 
@@ -17,7 +17,7 @@ const SIZE: usize = 300;
 
 pub const FIRST: &[u8] = &[1, 7, 0, 0, 0, 1];
 
-pub const SECOND: &[u8] = &[
+const SECOND: &[u8] = &[
     1, 4, 0, 1, 0x74, 0, 0, 0, 1, 4, 8, 0, 0, 10, 0, 0, 0, 0, 0, 0, 0, 0, 0, 0, 0, 0, 0, 0, 0,
 ];
 
@@ -45,13 +45,11 @@ pub fn empty<D: Disk>(disk: D, end: usize) -> Journal<D>
     }
 }
 
-/// A journal of these two records up to a place.
+/// A journal of two records up to a place.
 pub fn with_two<D: Disk + Drop>(
     alloc: Global,
     disk: D,
     end: usize,
-    first: &[u8],
-    second: &[u8],
 ) -> Result<Journal<D>, AppendFault>
     requires begins { START < end }
     requires ends { end ≤ length (D.seen disk) }
@@ -60,8 +58,8 @@ pub fn with_two<D: Disk + Drop>(
     requires few { D.fault_count disk < 2 ^ 63 }
 {
     let mut journal = empty(disk, end);
-    journal.append(alloc, first)?;
-    journal.append(alloc, second)?;
+    journal.append(alloc, FIRST)?;
+    journal.append(alloc, SECOND)?;
     Ok(journal)
 }
 
@@ -75,46 +73,9 @@ pub fn read_back(alloc: Global, bytes: Vec<u8>) -> Result<Found, ReadFault> {
 }
 
 pub fn play(alloc: Global, told: &mut String) -> Result<(), ReadFault> {
-    tell_bytes(alloc, told)?;
-    for len in [0u8, 1, 64] {
-        let payload = vec![in alloc; 7u8; len as usize]?;
-        tell_room(alloc, told, &payload, 46 + len as usize)?;
-        tell_room(alloc, told, &payload, 45 + len as usize)?;
-    }
-    for len in [104u8, 105, 255] {
+    for len in [104u8, 105] {
         tell_open_gate(alloc, told, len)?;
     }
-    Ok(())
-}
-
-/// The bytes of two records, from the region's start to the closed gate behind them.
-fn tell_bytes(alloc: Global, told: &mut String) -> Result<(), ReadFault> {
-    let Ok(journal) = with_two(alloc, open_gates(alloc)?, END, FIRST, SECOND) else {
-        return Err(ReadFault::Fault);
-    };
-    let bytes = journal.disk.image(alloc, journal.disk.calls(), Fill::New)?;
-    let gate = journal.gate;
-    let Some(records) = bytes.get(START..86) else {
-        return Err(ReadFault::Fault);
-    };
-    write!(told, "gate {gate}, places {START} to 85: {records:?}\n")?;
-    Ok(())
-}
-
-/// What an append of this payload to a region up to this place answers.
-fn tell_room(alloc: Global, told: &mut String, payload: &[u8], end: usize) -> Result<(), ReadFault>
-    requires begins { START < end }
-    requires ends { end ≤ SIZE }
-{
-    let mut journal = empty(open_gates(alloc)?, end);
-    let answer = journal.append(alloc, payload);
-    let len = payload.len();
-    let calls = journal.disk.calls();
-    let gate = journal.gate;
-    write!(
-        told,
-        "{len} bytes up to place {end}: {answer:?}, {calls} calls, gate {gate}\n"
-    )?;
     Ok(())
 }
 

@@ -1,31 +1,12 @@
-use Rattle.std.proofs.Common.{inl, [], ◌∷◌, ◌++◌, List, ℕ, ◌∙◌, arith, ap, length, length-append, ◌≡◌, ◌+◌}
+use Rattle.std.proofs.Common.{[], ◌∷◌, ◌++◌, List, ℕ, ◌∙◌, arith, ap, length, length-append, ◌≡◌, ◌+◌}
 use Rattle.pf_disk.proofs.Images.{only_read}
 use Rattle.pf_disk.proofs.Moments.{weakened}
 use Rattle.pf_journal.specs.Records.{counted}
-use Rattle.pf_journal.proofs.Appending.{none_made, own_image}
 use Rattle.pf_journal.proofs.Gates as Gates
 use Rattle.pf_journal.proofs.journal.Journal.append.Goals as goal
 
-width : (payload behind : List ℕ) → behind ≡ counted payload ++ 0 ∷ [] → 5 + length payload + 1 ≡ 1 + length behind
+width : (payload behind : List ℕ) → behind ≡ counted payload ++ 0 ∷ [] → 6 + length payload ≡ 1 + length behind
 width payload behind is = omega (arith, ap length is, length-append (counted payload) (0 ∷ []), Gates.length-counted payload)
-
-pub returns-then-saturating_sub-payload-clause-any_moment : goal.returns-then-saturating_sub-payload-clause-any_moment
-returns-then-saturating_sub-payload-clause-any_moment g c ps k = none_made g.D.Disk.moment g.D.Disk.left_since g.D.Disk.seen g.D.Disk.unsynced g.met.D.Disk.only_now c.args.self.now.disk _ c.requires.ready.synced (inl k.stands)
-
-pub returns-then-saturating_sub-payload-clause-elsewhere : goal.returns-then-saturating_sub-payload-clause-elsewhere
-returns-then-saturating_sub-payload-clause-elsewhere g c = none_made g.D.Disk.moment g.D.Disk.left_since g.D.Disk.seen g.D.Disk.unsynced g.met.D.Disk.only_now c.args.self.now.disk _ c.requires.ready.synced (own_image _ (g.D.Disk.seen c.args.self.now.disk))
-
-pub returns-then-saturating_sub-payload-clause-seen_elsewhere : goal.returns-then-saturating_sub-payload-clause-seen_elsewhere
-returns-then-saturating_sub-payload-clause-seen_elsewhere g c = own_image _ (g.D.Disk.seen c.args.self.now.disk)
-
-pub returns-in_err-behind-clause-any_moment : goal.returns-in_err-behind-clause-any_moment
-returns-in_err-behind-clause-any_moment g c ps k = none_made g.D.Disk.moment g.D.Disk.left_since g.D.Disk.seen g.D.Disk.unsynced g.met.D.Disk.only_now c.args.self.now.disk _ c.requires.ready.synced (inl k.stands)
-
-pub returns-in_err-behind-clause-elsewhere : goal.returns-in_err-behind-clause-elsewhere
-returns-in_err-behind-clause-elsewhere g c = none_made g.D.Disk.moment g.D.Disk.left_since g.D.Disk.seen g.D.Disk.unsynced g.met.D.Disk.only_now c.args.self.now.disk _ c.requires.ready.synced (own_image _ (g.D.Disk.seen c.args.self.now.disk))
-
-pub returns-in_err-behind-clause-seen_elsewhere : goal.returns-in_err-behind-clause-seen_elsewhere
-returns-in_err-behind-clause-seen_elsewhere g c = own_image _ (g.D.Disk.seen c.args.self.now.disk)
 
 pub returns-in_err-write_record-clause-any_moment : goal.returns-in_err-write_record-clause-any_moment
 returns-in_err-write_record-clause-any_moment g c ps k =
@@ -35,11 +16,11 @@ returns-in_err-write_record-clause-any_moment g c ps k =
 pub returns-in_err-write_record-clause-elsewhere : goal.returns-in_err-write_record-clause-elsewhere
 returns-in_err-write_record-clause-elsewhere g c =
     weakened g.D.Disk.moment g.D.Disk.left_since c.args.self.now.disk c.write_record.new.disk _ _ c.write_record.ensures.any_moment
-    (λ it. Gates.between_elsewhere c.args.self.now.gate (5 + length c.args.payload.now + 1) c.deref.result.now (g.D.Disk.seen c.args.self.now.disk) it (width _ _ (c.deref.ensures.value ∙ c.in_ok-behind.ensures)) (omega arith))
+    (λ it. Gates.between_elsewhere c.args.self.now.gate (6 + length c.args.payload.now) c.deref.result.now (g.D.Disk.seen c.args.self.now.disk) it (width _ _ (c.deref.ensures.value ∙ c.in_ok-behind.ensures)) (omega arith))
 
 pub returns-in_err-write_record-clause-seen_elsewhere : goal.returns-in_err-write_record-clause-seen_elsewhere
 returns-in_err-write_record-clause-seen_elsewhere g c =
-    Gates.between_elsewhere c.args.self.now.gate (5 + length c.args.payload.now + 1) c.deref.result.now (g.D.Disk.seen c.args.self.now.disk) (g.D.Disk.seen c.write_record.new.disk) (width _ _ (c.deref.ensures.value ∙ c.in_ok-behind.ensures)) (omega arith) c.write_record.ensures.between
+    Gates.between_elsewhere c.args.self.now.gate (6 + length c.args.payload.now) c.deref.result.now (g.D.Disk.seen c.args.self.now.disk) (g.D.Disk.seen c.write_record.new.disk) (width _ _ (c.deref.ensures.value ∙ c.in_ok-behind.ensures)) (omega arith) c.write_record.ensures.between
 
 pub returns-clause-any_moment : goal.returns-clause-any_moment
 returns-clause-any_moment g c ps k =
@@ -49,11 +30,11 @@ returns-clause-any_moment g c ps k =
 pub returns-clause-elsewhere : goal.returns-clause-elsewhere
 returns-clause-elsewhere g c =
     weakened g.D.Disk.moment g.D.Disk.left_since c.args.self.now.disk c.write_record.new.disk _ _ c.write_record.ensures.any_moment
-    (λ it. Gates.between_elsewhere c.args.self.now.gate (5 + length c.args.payload.now + 1) c.deref.result.now (g.D.Disk.seen c.args.self.now.disk) it (width _ _ (c.deref.ensures.value ∙ c.in_ok-behind.ensures)) (omega arith))
+    (λ it. Gates.between_elsewhere c.args.self.now.gate (6 + length c.args.payload.now) c.deref.result.now (g.D.Disk.seen c.args.self.now.disk) it (width _ _ (c.deref.ensures.value ∙ c.in_ok-behind.ensures)) (omega arith))
 
 pub returns-clause-seen_elsewhere : goal.returns-clause-seen_elsewhere
 returns-clause-seen_elsewhere g c =
-    Gates.between_elsewhere c.args.self.now.gate (5 + length c.args.payload.now + 1) c.deref.result.now (g.D.Disk.seen c.args.self.now.disk) (g.D.Disk.seen c.write_record.new.disk) (width _ _ (c.deref.ensures.value ∙ c.in_ok-behind.ensures)) (omega arith) c.write_record.ensures.between
+    Gates.between_elsewhere c.args.self.now.gate (6 + length c.args.payload.now) c.deref.result.now (g.D.Disk.seen c.args.self.now.disk) (g.D.Disk.seen c.write_record.new.disk) (width _ _ (c.deref.ensures.value ∙ c.in_ok-behind.ensures)) (omega arith) c.write_record.ensures.between
 
 pub returns-clause-images : goal.returns-clause-images
 returns-clause-images g c ps k image is =
