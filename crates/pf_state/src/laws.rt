@@ -1,5 +1,22 @@
 //! What follows from the definitions that contracts cite: functions that do nothing, whose contracts are the laws.
+ghost use Rattle.std.specs.Prelude.{◌≡◌};
 ghost use Rattle.pf_state.specs.Laws.{OneFlowOrAnother, InterfaceIsNoPart, OneStateAFlow, KeepsWhatIsThere, StaleByGeneration, ReadsWhatStepsLeave, NamesAlike, LastStepStands, StaysStates, RefusedByAnyStep, CountsAddUp, BindsExactly, TellsTheNumber};
+
+use crate::binding::ALL_ONES;
+use crate::failover::EXPORT_RECORDS;
+use crate::limits::STATE_LIMIT;
+use crate::peer::{HEADER, MESSAGE_LIMIT, RECORD};
+
+/// The numbers that definitions and code cite by name: how many states there may be, what stands for no rule, how many bytes a message,
+/// its header and each record have, and how many states a message of an export tells of.
+pub fn numbers_are_these()
+    ensures states { STATE_LIMIT ≡ 65_536 }
+    ensures no_rule { ALL_ONES ≡ 4_294_967_295 }
+    ensures message { MESSAGE_LIMIT ≡ 65_535 }
+    ensures header { HEADER ≡ 20 }
+    ensures record { RECORD ≡ 64 }
+    ensures exported { EXPORT_RECORDS ≡ 31 }
+{}
 
 /// Two flows are one where they are equal, or one is the other turned, which is so of each with itself, of both if of one, and of
 /// the first and the third if of the first and the second and of the second and the third. The interface of a packet is no part of

@@ -4,6 +4,7 @@ ghost use Rattle.std.specs.List.{concat};
 ghost use Rattle.pf_state.specs.declared.peer.fault.OneFault.{OneFault};
 ghost use Rattle.pf_state.specs.declared.peer.fault.PeerFault.{PeerFault};
 ghost use Rattle.pf_state.specs.declared.peer.message.Message.{Message};
+ghost use Rattle.pf_state.specs.Peer.Example as example;
 ghost use Rattle.pf_state.specs.Peer.Messages.{IsMessage};
 ghost use Rattle.pf_state.specs.Peer.One.{IsOne};
 ghost use Rattle.pf_state.specs.Peer.Streams.{Ending, Faulty, Reads, Feeds};
@@ -42,4 +43,11 @@ pub fn one_message_has_one_answer()
     ensures some { (bytes : List ℕ) → (r : Result Message OneFault) × IsOne bytes r }
     ensures one { (bytes : List ℕ) (r s : Result Message OneFault) → IsOne bytes r → IsOne bytes s → r ≡ s }
     ensures message { (bytes : List ℕ) (m : Message) → IsOne bytes (Ok m) ↔ IsMessage bytes m }
+{}
+
+/// A message with an insert each way, one of each family, a delete and a clear has these bytes, and they are that message.
+#[tactic(auto, using(crate::proofs::Computed::example_written, crate::proofs::Computed::example_read))]
+pub fn one_message_has_these_bytes()
+    ensures written { message_bytes example.message ≡ example.bytes }
+    ensures read { IsMessage example.bytes example.message }
 {}
