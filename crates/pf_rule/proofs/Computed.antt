@@ -1,10 +1,11 @@
 -- The texts, the forms and the checksums of the examples, computed.
 use Rattle.std.proofs.Common.{◌≡◌, [], ◌∷◌, Ok, refl}
-use Rattle.std.specs.Prelude.{codes}
+use Rattle.std.specs.Prelude.{codes, map}
 use Rattle.md5.specs.Md5.{md5, hash_after, digest_bytes, compress, rounds, block_words}
 use Rattle.pf_addr.specs.Form.Words.{words_of}
 use Rattle.pf_addr.specs.Form.Forms.{read_all}
 use Rattle.pf_addr.specs.Reading.{part_at, pieces_at, v4_at, address_at}
+use Rattle.pf_rule.specs.declared.host.host.Host.TheVariants.{Any}
 use Rattle.pf_rule.specs.Value.Tests.{direction, interface, family, protocol}
 use Rattle.pf_rule.specs.Value.Ports.{port, port_test, order_or_range, compared, ranged, range_end, ports_fit}
 use Rattle.pf_rule.specs.Host.Hosts.{a_negated_host, a_host, host}
@@ -44,6 +45,14 @@ anchor_form = refl
 pub tested_form : rule_form example.tested ≡ example.tested_form
 unfolding rule_form host_form filled
 tested_form = refl
+
+pub v6_form : rule_form example.v6 ≡ example.v6_form
+unfolding rule_form host_form filled
+v6_form = refl
+
+pub ports_form : map (host_form Any) example.port_tests ≡ example.tested_hosts
+unfolding host_form filled
+ports_form = refl
 
 pub none_sum : ruleset_sum [] ≡ example.sum_of_none
 unfolding ruleset_sum md5 hash_after digest_bytes compress rounds block_words

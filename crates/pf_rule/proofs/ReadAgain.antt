@@ -8,8 +8,6 @@ use Rattle.std.proofs.lemmas.List.{drop_at, drop-drop, get_or-drop, length-appen
 use Rattle.std.proofs.lemmas.List.Sums.{take_while-cons}
 use Rattle.std.proofs.lemmas.Nat.{shl_below, shl-shr}
 use Rattle.byteorder.specs.Numbers.{big_number-reads_back}
-use Rattle.pf_addr.specs.declared.addr.Addr.{Addr}
-use Rattle.pf_addr.specs.declared.addr.Addr.TheVariants as addr
 use Rattle.pf_addr.specs.declared.addr.Family.{Family}
 use Rattle.pf_addr.specs.declared.addr.Family.TheVariants.{V4, V6}
 use Rattle.pf_addr.specs.Address.{Network, IsNetwork}
@@ -31,8 +29,9 @@ use Rattle.pf_rule.specs.declared.rule.Effect.{Effect}
 use Rattle.pf_rule.specs.declared.rule.Effect.TheVariants.{Decide, Evaluate}
 use Rattle.pf_rule.specs.declared.rule.Action.TheVariants.{Pass, Block}
 use Rattle.pf_rule.specs.Rules.{PlainRule, HostFits, IsEffect, IsRule}
-use Rattle.pf_rule.specs.Sum.Forms.{flag, filled, host_form, addr_bytes, address_bytes, table_name, effect_byte, keeps_state, direction_byte, family_byte, names, wildcard, rule_form}
-use Rattle.pf_rule.specs.Sum.Reading.{byte_at, is_set, number_at, name_at, read_host, read_port, effect_of, direction_of, family_of_byte, protocol_of_byte, interface_named, read_form}
+use Rattle.pf_rule.specs.Sum.Forms.{flag, filled, host_form, address_bytes, table_name, effect_byte, keeps_state, direction_byte, family_byte, names, wildcard, rule_form}
+use Rattle.pf_rule.specs.Bytes.{byte_at, number_at, addr_bytes-length}
+use Rattle.pf_rule.specs.Sum.Reading.{is_set, name_at, read_host, read_port, effect_of, direction_of, family_of_byte, protocol_of_byte, interface_named, read_form}
 
 -- ---- names in their fields
 
@@ -61,13 +60,9 @@ flag_again false = refl
 
 -- ---- a host and the test of its port
 
-addr_long : (a : Addr) → length (addr_bytes a) ≡ 16
-addr_long (addr.V4 n) = refl
-addr_long (addr.V6 n) = refl
-
 address_long : (h : Host) → length (address_bytes h) ≡ 16
 address_long Any = refl
-address_long (Net n negated) = addr_long (first_addr n)
+address_long (Net n negated) = addr_bytes-length (first_addr n)
 address_long (Table name negated) = refl
 
 table_short : (f : Option Family) (h : Host) → HostFits f h → length (table_name h) ≤ 32

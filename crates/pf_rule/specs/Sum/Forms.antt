@@ -30,13 +30,11 @@ use Rattle.std.specs.Prelude.{ℕ, ◌-◌, Bool, true, false, List, [], ◌∷�
 use Rattle.std.specs.List.{flat_map}
 use Rattle.byteorder.specs.Endian.{big_bytes}
 use Rattle.md5.specs.Md5.{md5}
-use Rattle.pf_addr.specs.declared.addr.Addr.{Addr}
-use Rattle.pf_addr.specs.declared.addr.Addr.TheVariants as addr
 use Rattle.pf_addr.specs.declared.addr.Family.{Family}
-use Rattle.pf_addr.specs.declared.addr.Family.TheVariants.{V4, V6}
 use Rattle.pf_addr.specs.Spelling.{first_addr}
 use Rattle.pf_rule.specs.declared.value.direction.Direction.{Direction}
-use Rattle.pf_rule.specs.declared.value.direction.Direction.TheVariants.{In, Out}
+use Rattle.pf_rule.specs.Bytes as bytes
+use Rattle.pf_rule.specs.Bytes.{addr_bytes}
 use Rattle.pf_rule.specs.declared.value.ports.Comparison.{Comparison}
 use Rattle.pf_rule.specs.declared.value.ports.Comparison.TheVariants.{Equal, NotEqual, Less, AtMost, Greater, AtLeast}
 use Rattle.pf_rule.specs.declared.value.ports.PortRange.{PortRange}
@@ -99,10 +97,6 @@ second_port None = 0
 second_port (Some (Compared operator n)) = 0
 second_port (Some (Ranged range a b)) = b
 
-abbrev pub addr_bytes : Addr → List ℕ
-addr_bytes (addr.V4 n) = big_bytes 4 n ++ replicate 12 0
-addr_bytes (addr.V6 n) = big_bytes 16 n
-
 abbrev pub address_bytes : Host → List ℕ
 address_bytes Any = replicate 16 0
 address_bytes (Net n negated) = addr_bytes (first_addr n)
@@ -135,13 +129,11 @@ keeps_state (Evaluate r) = false
 
 abbrev pub direction_byte : Option Direction → ℕ
 direction_byte None = 0
-direction_byte (Some In) = 1
-direction_byte (Some Out) = 2
+direction_byte (Some way) = bytes.direction_byte way
 
 abbrev pub family_byte : Option Family → ℕ
 family_byte None = 0
-family_byte (Some V4) = 4
-family_byte (Some V6) = 6
+family_byte (Some family) = bytes.family_byte family
 
 abbrev pub names : Effect → List ℕ
 names (Decide a) = []

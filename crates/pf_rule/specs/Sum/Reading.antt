@@ -1,6 +1,5 @@
 -- What a rule's form says, by the places of `Forms`. Own. Of bytes that are no rule's form nothing is said.
-use Rattle.std.specs.Prelude.{ℕ, ◌==◌, nat_lt, Bool, List, [], ◌∷◌, drop, slice_index, take_while, Option, Some, None, if◌then◌else◌}
-use Rattle.byteorder.specs.Endian.{big_number}
+use Rattle.std.specs.Prelude.{ℕ, ◌==◌, nat_lt, Bool, List, [], ◌∷◌, drop, take_while, Option, Some, None, if◌then◌else◌}
 use Rattle.pf_addr.specs.declared.addr.Addr.{Addr}
 use Rattle.pf_addr.specs.declared.addr.Addr.TheVariants as addr
 use Rattle.pf_addr.specs.declared.addr.Family.{Family}
@@ -18,18 +17,12 @@ use Rattle.pf_rule.specs.declared.host.host.Host.TheVariants.{Any, Net, Table}
 use Rattle.pf_rule.specs.declared.rule.Effect.{Effect}
 use Rattle.pf_rule.specs.declared.rule.Effect.TheVariants.{Decide, Evaluate}
 use Rattle.pf_rule.specs.declared.rule.Action.TheVariants.{Pass, Block}
+use Rattle.pf_rule.specs.Bytes.{byte_at, number_at}
 use Rattle.pf_rule.specs.Rules.{PlainRule}
-
-abbrev pub byte_at : ℕ → List ℕ → ℕ
-byte_at place bytes = slice_index bytes place
 
 -- a 1
 abbrev pub is_set : ℕ → Bool
 is_set b = b == 1
-
--- the number of so many bytes at a place
-unfoldable pub number_at : ℕ → ℕ → List ℕ → ℕ
-number_at place width bytes = big_number width (drop place bytes)
 
 -- the bytes at a place, up to the first 0
 unfoldable pub name_at : ℕ → List ℕ → List ℕ
