@@ -1,6 +1,7 @@
 -- The bytes of the example message, computed, and what is read of them.
 use Rattle.std.proofs.Common.{◌≡◌, lit≤, refl}
-use Rattle.pf_state.specs.Peer.Records.{number_at, allowed, fields_of}
+use Rattle.pf_rule.specs.Bytes.{number_at}
+use Rattle.pf_state.specs.Peer.Records.{allowed, fields_of}
 use Rattle.pf_state.specs.Peer.Groups.{content, group_at}
 use Rattle.pf_state.specs.Peer.Messages.{IsMessage}
 use Rattle.pf_state.specs.Peer.Written.{message_bytes}

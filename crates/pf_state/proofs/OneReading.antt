@@ -4,7 +4,7 @@ use Rattle.std.proofs.lemmas.List.{take_at, drop_at}
 use Rattle.pf_state.specs.declared.peer.fault.PeerFault.{PeerFault}
 use Rattle.pf_state.specs.declared.peer.message.Group.{Group}
 use Rattle.pf_state.specs.declared.peer.message.Message.{Message}
-use Rattle.pf_state.specs.Peer.Records.{number_at}
+use Rattle.pf_rule.specs.Bytes.{number_at}
 use Rattle.pf_state.specs.Peer.Groups.{group_at, AreGroups, BreakBehind}
 use Rattle.pf_state.specs.Peer.Messages.{IsWhole, IsMessage, IsBroken}
 use Rattle.pf_state.specs.Peer.Streams.{Ending, Unfinished, Faulty, Reads, Ends, IsUnfinished, IsFaulty, IsBadHeader, HasBadVersion, HasShortLength}

@@ -3,24 +3,16 @@ use Rattle.std.proofs.Common.{◌≡◌, ◌+◌, ◌-◌, ◌*◌, ◌<◌, ◌
 use Rattle.std.proofs.lemmas.List.{append-nil, length-drop, length-map, take_all, drop_all, take_at, drop_at}
 use Rattle.std.specs.List.{concat, flat_map}
 use Rattle.std.specs.Slice.Iter.{chunk_count}
-use Rattle.pf_addr.specs.declared.addr.Addr.{Addr}
-use Rattle.pf_addr.specs.declared.addr.Addr.TheVariants.{V4, V6}
-use Rattle.pf_state.specs.Peer.Records.{PlainInsert, address_bytes, insert_bytes}
+use Rattle.pf_state.specs.Peer.Records.{PlainInsert, insert_bytes}
 use Rattle.pf_state.specs.Peer.Messages.{IsMessage}
 use Rattle.pf_state.specs.Peer.Streams.{Reads, Unfinished}
 use Rattle.pf_state.specs.Peer.Written.{Each, message_length, message_bytes}
 use Rattle.pf_state.specs.States.{Stated}
 use Rattle.pf_state.specs.declared.failover.outgoing.TheConstants.{EXPORT_RECORDS}
 use Rattle.pf_state.specs.Failover.Outgoing.{insert_of, told, parts, exported_messages}
+use Rattle.pf_state.proofs.RoundTrip.{insert_long}
 
 -- ---- lengths
-
-address_long : (a : Addr) → length (address_bytes a) ≡ 16
-address_long (V4 n) = refl
-address_long (V6 n) = refl
-
-insert_long : (i : PlainInsert) → length (insert_bytes i) ≡ 64
-insert_long i = omega (arith, address_long i.source, address_long i.destination, length-append {A = ℕ})
 
 inserts_long : (xs : List PlainInsert) → length (flat_map insert_bytes xs) ≡ 64 * length xs
 inserts_long [] = refl

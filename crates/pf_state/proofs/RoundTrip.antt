@@ -9,6 +9,7 @@ use Rattle.byteorder.specs.Endian.{big_bytes}
 use Rattle.pf_addr.specs.declared.addr.Addr.{Addr}
 use Rattle.pf_addr.specs.declared.addr.Addr.TheVariants.{V4, V6}
 use Rattle.pf_addr.specs.declared.addr.Family.TheVariants as family
+use Rattle.pf_rule.specs.Bytes.{number_at, addr_bytes, addr_bytes-length}
 use Rattle.pf_rule.specs.Value.Values.{has_ports}
 use Rattle.pf_rule.specs.declared.value.direction.Direction.{Direction}
 use Rattle.pf_rule.specs.declared.value.direction.Direction.TheVariants.{In, Out}
@@ -18,7 +19,7 @@ use Rattle.pf_state.specs.declared.peer.message.Message.{Message}
 use Rattle.pf_state.specs.declared.peer.record.TheConstants.{RECORD}
 use Rattle.pf_state.specs.declared.peer.record.Delete.{Delete}
 use Rattle.pf_state.specs.declared.peer.record.Clear.{Clear}
-use Rattle.pf_state.specs.Peer.Records.{PlainInsert, IsInsert, number_at, allowed, fields_of, insert_of, delete_of, clear_of, address_bytes, insert_bytes, delete_bytes, clear_bytes}
+use Rattle.pf_state.specs.Peer.Records.{PlainInsert, IsInsert, allowed, fields_of, insert_of, delete_of, clear_of, insert_bytes, delete_bytes, clear_bytes}
 use Rattle.pf_state.specs.Peer.Groups.{records_of, content, is_action, group_at, AreGroups}
 use Rattle.pf_state.specs.Peer.Messages.{IsMessage}
 use Rattle.pf_state.proofs.Appended.{few_inserts, few_deletes, few_clears}
@@ -39,18 +40,8 @@ clear_again : (c : Clear) → IsClear c → Again clear_of clear_bytes c
 unfolding number_at
 clear_again c is = record { read = rw (big_number-reads_back 4 c.creator _ is) refl; long = refl }
 
-address_long : (a : Addr) → length (address_bytes a) ≡ 16
-address_long (V4 n) = refl
-address_long (V6 n) = refl
-
-insert_long : (i : PlainInsert) → length (insert_bytes i) ≡ RECORD
-insert_long i = omega (
-  arith,
-  length-append (address_bytes i.source) (address_bytes i.destination ++ (big_bytes 2 i.source_port ++ (big_bytes 2 i.destination_port ++ (big_bytes 4 i.rule ++ big_bytes 4 i.anchor)))),
-  length-append (address_bytes i.destination) (big_bytes 2 i.source_port ++ (big_bytes 2 i.destination_port ++ (big_bytes 4 i.rule ++ big_bytes 4 i.anchor))),
-  address_long i.source,
-  address_long i.destination,
-)
+pub insert_long : (i : PlainInsert) → length (insert_bytes i) ≡ 64
+insert_long i = omega (arith, addr_bytes-length i.source, addr_bytes-length i.destination, length-append {A = ℕ})
 
 -- an insert with these fields
 abbrev with_fields : ℕ → ℕ → ℕ → Direction → ℕ → Addr → Addr → ℕ → ℕ → ℕ → ℕ → PlainInsert

@@ -13,7 +13,7 @@ use Rattle.pf_state.specs.declared.peer.message.TheConstants.{VERSION}
 use Rattle.pf_state.specs.declared.peer.stream.TheConstants.{HEADER}
 use Rattle.pf_state.specs.declared.peer.stream.Front.{Front}
 use Rattle.pf_state.specs.declared.peer.stream.Front.TheVariants.{Partial, Whole, Bad}
-use Rattle.pf_state.specs.Peer.Records.{number_at, byte_at}
+use Rattle.pf_rule.specs.Bytes.{number_at, byte_at}
 use Rattle.pf_state.specs.Peer.Groups.{group_at, content, is_action, size_at, ◌>>=◌, AreGroups, BreakBehind}
 use Rattle.pf_state.specs.Peer.Messages.{IsWhole, IsJudged}
 use Rattle.pf_state.specs.Peer.Streams.{Ending, Unfinished, Faulty, Reads, IsFront}

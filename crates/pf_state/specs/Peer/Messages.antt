@@ -11,7 +11,7 @@ use Rattle.pf_state.specs.declared.peer.message.Group.{Group}
 use Rattle.pf_state.specs.declared.peer.message.Message.{Message}
 use Rattle.pf_state.specs.declared.peer.message.TheConstants.{VERSION}
 use Rattle.pf_state.specs.declared.peer.stream.TheConstants.{HEADER}
-use Rattle.pf_state.specs.Peer.Records.{byte_at, number_at}
+use Rattle.pf_rule.specs.Bytes.{byte_at, number_at}
 use Rattle.pf_state.specs.Peer.Groups.{AreGroups, BreakBehind}
 
 -- the bytes have the header of a message that is as long as they are

@@ -1,7 +1,8 @@
 //! Writing messages.
-ghost use Rattle.std.specs.Prelude.{◌≡◌, ◌++◌, ◌<◌, ◌∷◌, [], length, IfOk, OnOk, List};
+ghost use Rattle.std.specs.Prelude.{◌≡◌, ◌++◌, ◌<◌, ◌∷◌, [], length, IfOk, OnOk, List, ℕ};
 ghost use Rattle.byteorder.specs.Endian.{big_bytes};
-ghost use Rattle.pf_state.specs.Peer.Records.{address_bytes, direction_byte, family_byte};
+ghost use Rattle.pf_addr.specs.Address.{family_of};
+ghost use Rattle.pf_rule.specs.Bytes.{addr_bytes, direction_byte, family_byte};
 ghost use Rattle.pf_state.specs.Peer.Messages.{IsMessage};
 ghost use Rattle.pf_state.specs.Peer.Written.{message_bytes, message_length, groups_bytes, group_bytes, group_with, Each, IsGroup};
 
@@ -70,7 +71,8 @@ fn push_records<T: Record>(out: &mut Vec<u8>, action: u8, records: &[T]) -> Resu
 
 /// Writes the direction's, the family's and the protocol's byte, and a zero.
 pub(crate) fn push_kinds(out: &mut Vec<u8>, fields: &InsertFields) -> Result<(), AllocError>
-    ensures { OnOk result (out.new.items ≡ out.old.items ++ (direction_byte fields.now.direction ∷ family_byte fields.now.source ∷ fields.now.protocol ∷ 0 ∷ [])) }
+    ensures { let kinds : List ℕ = direction_byte fields.now.direction ∷ family_byte (family_of fields.now.source) ∷ fields.now.protocol ∷ 0 ∷ [] in
+        OnOk result (out.new.items ≡ out.old.items ++ kinds) }
 {
     let direction = match fields.direction {
         Direction::In => IN,
@@ -85,7 +87,7 @@ pub(crate) fn push_kinds(out: &mut Vec<u8>, fields: &InsertFields) -> Result<(),
 
 /// Writes an address in 16 bytes, one of IPv4 in the first four.
 pub(crate) fn push_address(out: &mut Vec<u8>, address: Addr) -> Result<(), AllocError>
-    ensures { OnOk result (out.new.items ≡ out.old.items ++ address_bytes address) }
+    ensures { OnOk result (out.new.items ≡ out.old.items ++ addr_bytes address) }
 {
     match address {
         Addr::V4(number) => {
