@@ -24,7 +24,8 @@ pub record IsFlow (f : PlainFlow) : Type 0 where
 
 -- the same as a test, of fields that are each of their type
 abbrev pub is_flow : PlainFlow → Bool
-is_flow f = same_family (family_of f.source) (family_of f.destination) && (has_ports f.protocol || (f.source_port == 0) && (f.destination_port == 0))
+is_flow f = same_family (family_of f.source) (family_of f.destination)
+    && (has_ports f.protocol || (f.source_port == 0) && (f.destination_port == 0))
 
 -- a packet's flow: all of the packet but its interface
 abbrev pub flow_of : PlainPacket → PlainFlow

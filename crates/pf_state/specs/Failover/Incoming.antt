@@ -14,8 +14,8 @@ use Rattle.pf_state.specs.Flows.{PlainFlow}
 use Rattle.pf_state.specs.States.{Stated}
 
 -- the flow of the state that an insert tells of
-abbrev pub flow_of : PlainInsert → PlainFlow
-flow_of i = record {
+abbrev pub told_flow : PlainInsert → PlainFlow
+told_flow i = record {
   direction = i.direction;
   protocol = i.protocol;
   source = i.source;
@@ -25,14 +25,14 @@ flow_of i = record {
 }
 
 -- The state itself, in a message with this checksum: it is bound by the checksum of the main rules here and by their number.
-abbrev pub state_of : List ℕ → List ℕ → ℕ → PlainInsert → Stated
-state_of sum current count i = (
+abbrev pub told_state : List ℕ → List ℕ → ℕ → PlainInsert → Stated
+told_state sum current count i = (
   record { id = i.id; creator = i.creator },
-  record { generation = i.generation; flow = flow_of i; bound = bound sum i.rule i.anchor current count },
+  record { generation = i.generation; flow = told_flow i; bound = bound sum i.rule i.anchor current count },
 )
 
 abbrev pub insert_step : List ℕ → List ℕ → ℕ → PlainInsert → Step
-insert_step sum current count i = Insert (state_of sum current count i)
+insert_step sum current count i = Insert (told_state sum current count i)
 
 abbrev pub delete_step : DeleteRecord → Step
 delete_step d = Delete (record { id = d.id; creator = d.creator })

@@ -65,12 +65,16 @@ ExportsMessages = (current : List ℕ) (es : List Stated) → Each (IsExported c
 -- What a state is bound to at a peer: to its rule where that was one of the rules here, the peer has the same rules, and so many of
 -- them that it is one; else to the default rule.
 abbrev pub bound_there : List ℕ → List ℕ → ℕ → Bound → Bound
-bound_there ours theirs count (Rule number sum) = cond (bytes_eq sum ours && (bytes_eq ours theirs && nat_lt number count)) (Rule number sum) Default
+bound_there ours theirs count (Rule number sum) =
+    cond (bytes_eq sum ours && (bytes_eq ours theirs && nat_lt number count)) (Rule number sum) Default
 bound_there ours theirs count Default = Default
 
 -- the state at a peer: all of it but the rule that it is bound to
 abbrev pub state_there : List ℕ → List ℕ → ℕ → Stated → Stated
-state_there ours theirs count s = (s.0, record { generation = s.1.generation; flow = s.1.flow; bound = bound_there ours theirs count s.1.bound })
+state_there ours theirs count s = (
+  s.0,
+  record { generation = s.1.generation; flow = s.1.flow; bound = bound_there ours theirs count s.1.bound },
+)
 
 -- an export asks a peer for an insert of each state, in order, and for nothing else
 abbrev pub TellsTheStates : Type 0

@@ -12,8 +12,8 @@ use Rattle.pf_state.specs.declared.failover.outgoing.TheConstants.{EXPORT_RECORD
 
 -- The insert that tells of a state where the main rules have this checksum: it names the state's main rule while they are the rules
 -- that it was bound by, and no anchor.
-abbrev pub insert_of : List ℕ → Stated → PlainInsert
-insert_of current s = record {
+abbrev pub exported_insert : List ℕ → Stated → PlainInsert
+exported_insert current s = record {
   id = s.0.id;
   creator = s.0.creator;
   generation = s.1.generation;
@@ -28,8 +28,8 @@ insert_of current s = record {
 }
 
 -- a message of one group, which tells of these states
-abbrev pub told : List ℕ → List Stated → Message
-told current es = record { checksum = current; groups = Inserts (map (insert_of current) es) ∷ [] }
+abbrev pub exported_message : List ℕ → List Stated → Message
+exported_message current es = record { checksum = current; groups = Inserts (map (exported_insert current) es) ∷ [] }
 
 -- the states in parts of 31, the last of what is left
 abbrev pub parts : List Stated → List (List Stated)
@@ -37,4 +37,4 @@ parts es = first_chunks EXPORT_RECORDS (chunk_count (length es) EXPORT_RECORDS) 
 
 -- a message for each part
 abbrev pub exported_messages : List ℕ → List Stated → List Message
-exported_messages current es = map (told current) (parts es)
+exported_messages current es = map (exported_message current) (parts es)

@@ -69,4 +69,5 @@ Reads bytes (m ∷ ms) e = (front behind : List ℕ) × (bytes ≡ front ++ behi
 abbrev pub Feeds : List ℕ → List (List ℕ) → List Message → Ending → Type 0
 Feeds rest [] ms e = (ms ≡ []) × (e ≡ Unfinished rest)
 Feeds rest (p ∷ ps) ms e = ((f : PeerFault) × (e ≡ Faulty f) × Reads (rest ++ p) ms e)
-    ⊎ ((first others : List Message) × (left : List ℕ) × (ms ≡ first ++ others) × Reads (rest ++ p) first (Unfinished left) × Feeds left ps others e)
+    ⊎ ((first others : List Message) × (left : List ℕ) × (ms ≡ first ++ others)
+    × Reads (rest ++ p) first (Unfinished left) × Feeds left ps others e)

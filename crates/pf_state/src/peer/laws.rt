@@ -21,7 +21,7 @@ pub fn stream_has_a_reading()
     ensures { (bytes : List ℕ) → (ms : List Message) × (e : Ending) × Reads bytes ms e }
 {}
 
-/// A fault is there with the first bytes that show it, and no further ones change it or the messages before it.
+/// A fault stays: no further bytes change it or the messages before it.
 #[tactic(auto, using(crate::proofs::Pieces::fault_stays))]
 pub fn fault_stays_the_same()
     ensures { (bytes more : List ℕ) (ms : List Message) (f : PeerFault) → Reads bytes ms (Faulty f) → Reads (bytes ++ more) ms (Faulty f) }
