@@ -14,37 +14,18 @@ use Rattle.pf_rule.specs.RuleGrammar.{rule, opening, state}
 use Rattle.pf_rule.specs.Sum.Forms.{filled, host_form, rule_form, ruleset_sum}
 use Rattle.pf_rule.specs.Sum.Examples as example
 
-pub block_text : read_all rule (words_of (codes "block in all")) ≡ Ok (Ok example.block)
+-- the four texts and the four forms
+pub texts : (read_all rule (words_of (codes "block in all")) ≡ Ok (Ok example.block))
+    × (read_all rule (words_of (codes "pass in all")) ≡ Ok (Ok example.pass))
+    × (read_all rule (words_of (codes "anchor \"a/*\" all")) ≡ Ok (Ok example.anchor))
+    × (read_all rule (words_of (codes "pass out quick on em0 proto tcp from !10/8 port 1024:2048 to <web> port 80 no state")) ≡ Ok (Ok example.tested))
 unfolding rule opening state direction interface family protocol a_negated_host a_host host port port_test order_or_range compared ranged range_end end destination ends part_at pieces_at v4_at address_at ports_fit
-block_text = refl
+texts = (refl, refl, refl, refl)
 
-pub pass_text : read_all rule (words_of (codes "pass in all")) ≡ Ok (Ok example.pass)
-unfolding rule opening state direction interface family protocol a_negated_host a_host host port port_test order_or_range compared ranged range_end end destination ends part_at pieces_at v4_at address_at ports_fit
-pass_text = refl
-
-pub anchor_text : read_all rule (words_of (codes "anchor \"a/*\" all")) ≡ Ok (Ok example.anchor)
-unfolding rule opening state direction interface family protocol a_negated_host a_host host port port_test order_or_range compared ranged range_end end destination ends part_at pieces_at v4_at address_at ports_fit
-anchor_text = refl
-
-pub tested_text : read_all rule (words_of (codes "pass out quick on em0 proto tcp from !10/8 port 1024:2048 to <web> port 80 no state")) ≡ Ok (Ok example.tested)
-unfolding rule opening state direction interface family protocol a_negated_host a_host host port port_test order_or_range compared ranged range_end end destination ends part_at pieces_at v4_at address_at ports_fit
-tested_text = refl
-
-pub block_form : rule_form example.block ≡ example.block_form
+pub forms : (rule_form example.block ≡ example.block_form) × (rule_form example.pass ≡ example.pass_form)
+    × (rule_form example.anchor ≡ example.anchor_form) × (rule_form example.tested ≡ example.tested_form)
 unfolding rule_form host_form filled
-block_form = refl
-
-pub pass_form : rule_form example.pass ≡ example.pass_form
-unfolding rule_form host_form filled
-pass_form = refl
-
-pub anchor_form : rule_form example.anchor ≡ example.anchor_form
-unfolding rule_form host_form filled
-anchor_form = refl
-
-pub tested_form : rule_form example.tested ≡ example.tested_form
-unfolding rule_form host_form filled
-tested_form = refl
+forms = (refl, refl, refl, refl)
 
 pub v6_form : rule_form example.v6 ≡ example.v6_form
 unfolding rule_form host_form filled

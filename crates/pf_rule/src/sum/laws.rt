@@ -28,16 +28,17 @@ pub fn different_rules_have_different_forms()
 {}
 
 /// Four rules are read from these texts.
-#[tactic(auto, using(crate::proofs::Computed::block_text, crate::proofs::Computed::pass_text, crate::proofs::Computed::anchor_text, crate::proofs::Computed::tested_text))]
+#[tactic(auto, using(crate::proofs::Computed::texts))]
 pub fn four_rules_have_these_texts()
     ensures block { read_all rule (words_of (codes "block in all")) ≡ Ok (Ok example.block) }
     ensures pass { read_all rule (words_of (codes "pass in all")) ≡ Ok (Ok example.pass) }
     ensures anchor { read_all rule (words_of (codes "anchor \"a/*\" all")) ≡ Ok (Ok example.anchor) }
-    ensures tested { read_all rule (words_of (codes "pass out quick on em0 proto tcp from !10/8 port 1024:2048 to <web> port 80 no state")) ≡ Ok (Ok example.tested) }
+    ensures tested { let text = codes "pass out quick on em0 proto tcp from !10/8 port 1024:2048 to <web> port 80 no state" in
+        read_all rule (words_of text) ≡ Ok (Ok example.tested) }
 {}
 
 /// The forms of these rules.
-#[tactic(auto, using(crate::proofs::Computed::block_form, crate::proofs::Computed::pass_form, crate::proofs::Computed::anchor_form, crate::proofs::Computed::tested_form))]
+#[tactic(auto, using(crate::proofs::Computed::forms))]
 pub fn four_rules_have_these_forms()
     ensures block { rule_form example.block ≡ example.block_form }
     ensures pass { rule_form example.pass ≡ example.pass_form }
