@@ -36,6 +36,11 @@ shrinks_clear (e ∷ es) creator = by (e.0.creator == creator) (shrinks_clear es
   by true rest more = omega (arith, rest, more)
   by false rest more = omega (arith, rest, more)
 
+-- both
+pub shrinks : ((es : List Stated) (n : StateName) → NamesFlows es → length (without_state es n) + named_count es n ≡ length es)
+    × ((es : List Stated) (creator : ℕ) → length (without_creator es creator) + creator_count es creator ≡ length es)
+shrinks = (shrinks_delete, shrinks_clear)
+
 -- a state that is put is one more where its name is new
 pub grows_put : (es : List Stated) (s : Stated) → NamesFlows es → length (with_value name_order es s.0 (Some s.1)) + named_count es s.0 ≡ length es + 1
 grows_put es s is =

@@ -101,7 +101,7 @@ pub(crate) fn is_over(states: &[State]) -> bool
 }
 
 /// Acts on one step, where the candidates name all states whose flow it inserts. `AllocError`: what the states are then isn't said.
-#[tactic(auto, using(crate::proofs::Counting::shrinks_delete, crate::proofs::Counting::shrinks_clear), unfolding(crate::specs::Steps::stepped, crate::specs::Steps::counted))]
+#[tactic(auto, using(crate::proofs::Counting::shrinks), unfolding(crate::specs::Steps::stepped, crate::specs::Steps::counted))]
 pub(crate) fn act(
     states: &mut Vec<State>,
     candidates: &[StateName],

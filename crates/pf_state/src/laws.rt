@@ -27,12 +27,14 @@ pub fn flows_are_one_or_another()
 {}
 
 /// In a table at most one state has a flow, and it is the one that is found.
+#[tactic(auto, using(crate::proofs::Tables::one_state_a_flow))]
 pub fn one_state_a_flow()
     ensures { OneStateAFlow }
 {}
 
 /// A stale insert, and one that clashes, changes nothing. A delete takes out what is there whatever its generation, and a clear
 /// exactly one creator's states. Whether an insert of a known name is stale its generation alone says.
+#[tactic(auto, using(crate::proofs::Leaves::keeps_what_is_there, crate::proofs::Leaves::steps_read))]
 pub fn steps_change_what_they_name()
     ensures keeps { KeepsWhatIsThere }
     ensures stale { StaleByGeneration }
@@ -49,6 +51,7 @@ pub fn batches_leave_states()
 {}
 
 /// Each insert is counted once, and the states grow and shrink by what is counted.
+#[tactic(auto, using(crate::proofs::Counting::counts_add_up))]
 pub fn counts_add_up()
     ensures { CountsAddUp }
 {}

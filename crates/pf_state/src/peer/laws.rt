@@ -17,6 +17,7 @@ pub fn stream_has_one_reading()
 {}
 
 /// Whatever the bytes so far are, they are some list of messages and end in some way.
+#[tactic(auto, using(crate::proofs::SomeReading::some_reading))]
 pub fn stream_has_a_reading()
     ensures { (bytes : List ℕ) → (ms : List Message) × (e : Ending) × Reads bytes ms e }
 {}
