@@ -24,7 +24,7 @@ told_long current es =
     let xs = map (exported_insert current) es in
     omega (arith, inserts_long xs, length-map es (exported_insert current), length-append (flat_map insert_bytes xs) [], ap (λ (l : List ℕ). length l) (append-nil (flat_map insert_bytes xs)))
 
-pub told_fits : (current : List ℕ) (es : List Stated) → length es ≤ EXPORT_RECORDS → message_length (exported_message current es) < 65536
+pub told_fits : (current : List ℕ) (es : List Stated) → length es ≤ EXPORT_RECORDS → message_length (exported_message current es) ≤ 65535
 told_fits current es few = omega (arith, told_long current es)
 
 -- ---- one part after the other

@@ -57,7 +57,7 @@ can_be_written : (current : List ℕ) (es : List Stated) → length current ≡ 
 can_be_written current es long each = record {
   checksum = long;
   groups = (are_inserts current (take 31 es) (each_take 31 es each), tt);
-  fits = told_fits current (take 31 es) (omega (arith, length-take 31 es));
+  fits = omega (arith, told_fits current (take 31 es) (omega (arith, length-take 31 es)));
 }
 
 pub read_back : ((m : Message) → CanBeWritten m → IsMessage (message_bytes m) m) → IsReadBack

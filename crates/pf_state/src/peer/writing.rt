@@ -1,5 +1,5 @@
 //! Writing messages.
-ghost use Rattle.std.specs.Prelude.{◌≡◌, ◌++◌, ◌<◌, ◌∷◌, [], length, IfOk, OnOk, List, ℕ};
+ghost use Rattle.std.specs.Prelude.{◌≡◌, ◌++◌, ◌<◌, ◌≤◌, ◌∷◌, [], length, IfOk, OnOk, List};
 ghost use Rattle.byteorder.specs.Endian.{big_bytes};
 ghost use Rattle.pf_addr.specs.Address.{family_of};
 ghost use Rattle.pf_rule.specs.Bytes.{addr_bytes, direction_byte, family_byte};
@@ -7,7 +7,7 @@ ghost use Rattle.pf_state.specs.Peer.Messages.{IsMessage};
 ghost use Rattle.pf_state.specs.Peer.Written.{message_bytes, message_length, groups_bytes, group_bytes, group_with, Each, IsGroup};
 
 use crate::peer::fields::{FAMILY_4, FAMILY_6, IN, OUT};
-use crate::peer::message::{CLEAR, DELETE, Group, INSERT, Message, VERSION};
+use crate::peer::message::{CLEAR, DELETE, Group, INSERT, MESSAGE_LIMIT, Message, VERSION};
 use crate::peer::record::{InsertFields, Record};
 use crate::peer::stream::HEADER;
 use byteorder::{BigEndian, ByteOrder};
@@ -19,7 +19,7 @@ use std::alloc::{AllocError, Global};
 /// [`MESSAGE_LIMIT`](crate::peer::MESSAGE_LIMIT) bytes, which is the caller's condition: its header, 4 bytes for each group and
 /// [`RECORD`](crate::peer::RECORD) for each record. The only error is that memory is refused.
 pub fn write_peer(alloc: Global, message: &Message) -> Result<Vec<u8>, AllocError>
-    requires { message_length message.now < 65536 }
+    requires { message_length message.now ≤ MESSAGE_LIMIT }
     ensures written { IfOk result (λ bytes. bytes.items ≡ message_bytes message.now) }
     ensures read { IfOk result (λ bytes. IsMessage bytes.items message.now) }
 {
@@ -71,8 +71,8 @@ fn push_records<T: Record>(out: &mut Vec<u8>, action: u8, records: &[T]) -> Resu
 
 /// Writes the direction's, the family's and the protocol's byte, and a zero.
 pub(crate) fn push_kinds(out: &mut Vec<u8>, fields: &InsertFields) -> Result<(), AllocError>
-    ensures { let kinds : List ℕ = direction_byte fields.now.direction ∷ family_byte (family_of fields.now.source) ∷ fields.now.protocol ∷ 0 ∷ [] in
-        OnOk result (out.new.items ≡ out.old.items ++ kinds) }
+    ensures { OnOk result (out.new.items ≡ out.old.items
+        ++ (direction_byte fields.now.direction ∷ family_byte (family_of fields.now.source) ∷ fields.now.protocol ∷ 0 ∷ [])) }
 {
     let direction = match fields.direction {
         Direction::In => IN,
