@@ -9,7 +9,7 @@ use Rattle.byteorder.specs.Endian.{big_bytes}
 use Rattle.pf_addr.specs.declared.addr.Addr.{Addr}
 use Rattle.pf_addr.specs.declared.addr.Addr.TheVariants.{V4, V6}
 use Rattle.pf_addr.specs.declared.addr.Family.TheVariants as family
-use Rattle.pf_rule.specs.Bytes.{number_at, addr_bytes, addr_bytes-length}
+use Rattle.pf_rule.specs.Bytes.{number_at, addr_bytes-length}
 use Rattle.pf_rule.specs.Value.Values.{has_ports}
 use Rattle.pf_rule.specs.declared.value.direction.Direction.{Direction}
 use Rattle.pf_rule.specs.declared.value.direction.Direction.TheVariants.{In, Out}
