@@ -9,7 +9,7 @@ use Rattle.byteorder.specs.Endian.{big_bytes}
 use Rattle.pf_addr.specs.declared.addr.Addr.{Addr}
 use Rattle.pf_addr.specs.declared.addr.Addr.TheVariants.{V4, V6}
 use Rattle.pf_addr.specs.declared.addr.Family.TheVariants as family
-use Rattle.pf_rule.specs.Bytes.{number_at, addr_bytes-length}
+use Rattle.pf_rule.specs.Bytes.{number_at, direction_byte, addr_bytes-length}
 use Rattle.pf_rule.specs.Value.Values.{has_ports}
 use Rattle.pf_rule.specs.declared.value.direction.Direction.{Direction}
 use Rattle.pf_rule.specs.declared.value.direction.Direction.TheVariants.{In, Out}
@@ -19,7 +19,7 @@ use Rattle.pf_state.specs.declared.peer.message.Message.{Message}
 use Rattle.pf_state.specs.declared.peer.record.TheConstants.{RECORD}
 use Rattle.pf_state.specs.declared.peer.record.Delete.{Delete}
 use Rattle.pf_state.specs.declared.peer.record.Clear.{Clear}
-use Rattle.pf_state.specs.Peer.Records.{PlainInsert, IsInsert, allowed, fields_of, insert_of, delete_of, clear_of, insert_bytes, delete_bytes, clear_bytes}
+use Rattle.pf_state.specs.Peer.Records.{PlainInsert, IsInsert, allowed, fields_of, direction_of, insert_of, delete_of, clear_of, insert_bytes, delete_bytes, clear_bytes}
 use Rattle.pf_state.specs.Peer.Groups.{records_of, content, is_action, group_at, AreGroups}
 use Rattle.pf_state.specs.Peer.Messages.{IsMessage}
 use Rattle.pf_state.proofs.Appended.{few_inserts, few_deletes, few_clears}
@@ -66,19 +66,25 @@ ports_again : (b : Bool) (m n : ℕ) → (b ≡ false → (m ≡ 0) × (n ≡ 0)
 ports_again true m n none = refl
 ports_again false m n none = rw ((none refl).0, (none refl).1) refl
 
+direction_again : (d : Direction) → direction_of (direction_byte d) ≡ d
+direction_again In = refl
+direction_again Out = refl
+
+direction_stands : (d : Direction) → ((direction_byte d == 1) || (direction_byte d == 2)) ≡ true
+direction_stands In = refl
+direction_stands Out = refl
+
 -- it may stand in a record
 allowed_again : (id creator generation : ℕ) (direction : Direction) (protocol : ℕ) (source destination : Addr) (source_port destination_port rule anchor : ℕ)
     → IsInsert (with_fields id creator generation direction protocol source destination source_port destination_port rule anchor)
     → allowed (insert_bytes (with_fields id creator generation direction protocol source destination source_port destination_port rule anchor)) ≡ true
 unfolding allowed number_at
-allowed_again id creator generation In protocol (V4 s) (V4 d) source_port destination_port rule anchor is =
-    rw (not_zero protocol is.protocol.0, big_number-reads_back 2 source_port _ is.source_port, big_number-reads_back 2 destination_port _ is.destination_port) (ports_again (has_ports protocol) source_port destination_port is.no_ports)
-allowed_again id creator generation Out protocol (V4 s) (V4 d) source_port destination_port rule anchor is =
-    rw (not_zero protocol is.protocol.0, big_number-reads_back 2 source_port _ is.source_port, big_number-reads_back 2 destination_port _ is.destination_port) (ports_again (has_ports protocol) source_port destination_port is.no_ports)
-allowed_again id creator generation In protocol (V6 s) (V6 d) source_port destination_port rule anchor is =
-    rw (not_zero protocol is.protocol.0, big_number-reads_back 2 source_port _ is.source_port, big_number-reads_back 2 destination_port _ is.destination_port) (ports_again (has_ports protocol) source_port destination_port is.no_ports)
-allowed_again id creator generation Out protocol (V6 s) (V6 d) source_port destination_port rule anchor is =
-    rw (not_zero protocol is.protocol.0, big_number-reads_back 2 source_port _ is.source_port, big_number-reads_back 2 destination_port _ is.destination_port) (ports_again (has_ports protocol) source_port destination_port is.no_ports)
+allowed_again id creator generation direction protocol (V4 s) (V4 d) source_port destination_port rule anchor is =
+    rw (direction_stands direction, not_zero protocol is.protocol.0, big_number-reads_back 2 source_port _ is.source_port, big_number-reads_back 2 destination_port _ is.destination_port)
+    (ports_again (has_ports protocol) source_port destination_port is.no_ports)
+allowed_again id creator generation direction protocol (V6 s) (V6 d) source_port destination_port rule anchor is =
+    rw (direction_stands direction, not_zero protocol is.protocol.0, big_number-reads_back 2 source_port _ is.source_port, big_number-reads_back 2 destination_port _ is.destination_port)
+    (ports_again (has_ports protocol) source_port destination_port is.no_ports)
 allowed_again id creator generation direction protocol (V4 s) (V6 d) source_port destination_port rule anchor is = let e : family.V4 ≡ family.V6 = is.families in cc
 allowed_again id creator generation direction protocol (V6 s) (V4 d) source_port destination_port rule anchor is = let e : family.V6 ≡ family.V4 = is.families in cc
 
@@ -87,8 +93,9 @@ fields_again : (id creator generation : ℕ) (direction : Direction) (protocol :
     → fields_of (insert_bytes (with_fields id creator generation direction protocol source destination source_port destination_port rule anchor))
     ≡ with_fields id creator generation direction protocol source destination source_port destination_port rule anchor
 unfolding fields_of number_at
-fields_again id creator generation In protocol (V4 s) (V4 d) source_port destination_port rule anchor is =
+fields_again id creator generation direction protocol (V4 s) (V4 d) source_port destination_port rule anchor is =
     rw (
+      direction_again direction,
       big_number-reads_back 8 id _ is.id,
       big_number-reads_back 4 creator _ is.creator,
       big_number-reads_back 4 generation _ is.generation,
@@ -99,32 +106,9 @@ fields_again id creator generation In protocol (V4 s) (V4 d) source_port destina
       big_number-reads_back 4 rule _ is.rule,
       big_number-reads_back 4 anchor [] is.anchor,
     ) refl
-fields_again id creator generation Out protocol (V4 s) (V4 d) source_port destination_port rule anchor is =
+fields_again id creator generation direction protocol (V6 s) (V6 d) source_port destination_port rule anchor is =
     rw (
-      big_number-reads_back 8 id _ is.id,
-      big_number-reads_back 4 creator _ is.creator,
-      big_number-reads_back 4 generation _ is.generation,
-      big_number-reads_back 4 s _ is.source,
-      big_number-reads_back 4 d _ is.destination,
-      big_number-reads_back 2 source_port _ is.source_port,
-      big_number-reads_back 2 destination_port _ is.destination_port,
-      big_number-reads_back 4 rule _ is.rule,
-      big_number-reads_back 4 anchor [] is.anchor,
-    ) refl
-fields_again id creator generation In protocol (V6 s) (V6 d) source_port destination_port rule anchor is =
-    rw (
-      big_number-reads_back 8 id _ is.id,
-      big_number-reads_back 4 creator _ is.creator,
-      big_number-reads_back 4 generation _ is.generation,
-      big_number-reads_back 16 s _ is.source,
-      big_number-reads_back 16 d _ is.destination,
-      big_number-reads_back 2 source_port _ is.source_port,
-      big_number-reads_back 2 destination_port _ is.destination_port,
-      big_number-reads_back 4 rule _ is.rule,
-      big_number-reads_back 4 anchor [] is.anchor,
-    ) refl
-fields_again id creator generation Out protocol (V6 s) (V6 d) source_port destination_port rule anchor is =
-    rw (
+      direction_again direction,
       big_number-reads_back 8 id _ is.id,
       big_number-reads_back 4 creator _ is.creator,
       big_number-reads_back 4 generation _ is.generation,
