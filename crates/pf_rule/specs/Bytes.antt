@@ -2,12 +2,9 @@
 -- first (network order, RFC 1700); the rest is own.
 use Rattle.std.specs.Prelude.{◌≡◌, ℕ, List, ◌++◌, drop, length, replicate, slice_index, refl}
 use Rattle.byteorder.specs.Endian.{big_number, big_bytes}
-use Rattle.pf_addr.specs.declared.addr.Addr.{Addr}
+use Rattle.pf_addr.specs.declared.{addr.Addr.Addr, addr.Family.Family, addr.Family.TheVariants.V4, addr.Family.TheVariants.V6}
 use Rattle.pf_addr.specs.declared.addr.Addr.TheVariants as addr
-use Rattle.pf_addr.specs.declared.addr.Family.{Family}
-use Rattle.pf_addr.specs.declared.addr.Family.TheVariants.{V4, V6}
-use Rattle.pf_rule.specs.declared.value.direction.Direction.{Direction}
-use Rattle.pf_rule.specs.declared.value.direction.Direction.TheVariants.{In, Out}
+use Rattle.pf_rule.specs.declared.{value.direction.Direction.Direction, value.direction.Direction.TheVariants.In, value.direction.Direction.TheVariants.Out}
 
 abbrev pub byte_at : ℕ → List ℕ → ℕ
 byte_at place bytes = slice_index bytes place

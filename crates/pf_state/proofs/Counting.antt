@@ -7,13 +7,7 @@ use Rattle.std.specs.List.{count_by}
 use Rattle.std.proofs.lemmas.List.Sums.{sum_by-cons}
 use Rattle.pf_table.specs.Map.Maps.{with_value}
 use Rattle.pf_table.proofs.Maps.{stays_sorted}
-use Rattle.pf_state.specs.declared.counts.Counts.{Counts}
-use Rattle.pf_state.specs.declared.state.Held.{Held}
-use Rattle.pf_state.specs.declared.state.StateName.{StateName}
-use Rattle.pf_state.specs.declared.step.Insertion.{Insertion}
-use Rattle.pf_state.specs.declared.step.Insertion.TheVariants.{Stale, Clash, Replaced, New}
-use Rattle.pf_state.specs.declared.step.Step.{Step}
-use Rattle.pf_state.specs.declared.step.Step.TheVariants.{Insert, Delete, Clear}
+use Rattle.pf_state.specs.declared.{counts.Counts.Counts, state.Held.Held, state.StateName.StateName, step.Insertion.Insertion, step.Insertion.TheVariants.Stale, step.Insertion.TheVariants.Clash, step.Insertion.TheVariants.Replaced, step.Insertion.TheVariants.New, step.Step.Step, step.Step.TheVariants.Insert, step.Step.TheVariants.Delete, step.Step.TheVariants.Clear}
 use Rattle.pf_state.specs.States.{Stated, name_order, held_at, NamesFlows, IsStates}
 use Rattle.pf_state.specs.Steps.{is_stale, is_clash, insertion, has_effect, without_creator, without_state, stepped, after, one_insertion, named_count, creator_count, counted, counts}
 use Rattle.pf_state.specs.Laws.{is_insert, CountsAddUp}

@@ -2,12 +2,7 @@
 use Rattle.std.proofs.Common.{◌≡◌, ◌≢◌, ◌==◌, true, false, true≢false, ◌+◌, ◌-◌, ◌<◌, ℕ, suc, List, [], ◌∷◌, ◌++◌, length, take, drop, Option, Some, None, Result, Ok, Err, refl, sym, ap, ◌∙◌, subst, append_assoc, arith}
 use Rattle.std.proofs.lemmas.Bool.Decides.{nat_tests}
 use Rattle.std.proofs.lemmas.List.{append-nil}
-use Rattle.pf_state.specs.declared.peer.fault.PeerFault.{PeerFault}
-use Rattle.pf_state.specs.declared.peer.fault.PeerFault.TheVariants.{BadRecord}
-use Rattle.pf_state.specs.declared.peer.message.Group.{Group}
-use Rattle.pf_state.specs.declared.peer.record.TheConstants.{RECORD}
-use Rattle.pf_state.specs.declared.peer.fault.ReadError.{ReadError}
-use Rattle.pf_state.specs.declared.peer.fault.ReadError.TheVariants.{Memory, Fault}
+use Rattle.pf_state.specs.declared.{peer.fault.PeerFault.PeerFault, peer.fault.PeerFault.TheVariants.BadRecord, peer.message.Group.Group, peer.record.TheConstants.RECORD, peer.fault.ReadError.ReadError, peer.fault.ReadError.TheVariants.Memory, peer.fault.ReadError.TheVariants.Fault}
 use Rattle.pf_state.specs.Peer.Outcomes.{Fails, IfFault}
 use Rattle.pf_state.specs.Peer.Groups.{records_of, ◌>>=◌, group_at, AreGroups, BreakBehind}
 

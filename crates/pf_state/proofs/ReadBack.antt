@@ -2,13 +2,10 @@
 use Rattle.std.proofs.Common.{◌≡◌, ◌<◌, ◌^◌, ℕ, zero, suc, List, [], ◌∷◌, length, map, take, drop, cond, Bool, true, false, arith}
 use Rattle.std.specs.Str.{bytes_eq}
 use Rattle.std.proofs.lemmas.List.{length-take}
-use Rattle.pf_state.specs.declared.peer.message.Message.{Message}
+use Rattle.pf_state.specs.declared.{peer.message.Message.Message, binding.TheConstants.ALL_ONES, state.Bound.Bound, state.Bound.TheVariants.Rule, state.Bound.TheVariants.Default}
 use Rattle.pf_state.specs.Peer.Messages.{IsMessage}
 use Rattle.pf_state.specs.Peer.Records.{IsInsert}
 use Rattle.pf_state.specs.Peer.Written.{Each, message_bytes, CanBeWritten}
-use Rattle.pf_state.specs.declared.binding.TheConstants.{ALL_ONES}
-use Rattle.pf_state.specs.declared.state.Bound.{Bound}
-use Rattle.pf_state.specs.declared.state.Bound.TheVariants.{Rule, Default}
 use Rattle.pf_state.specs.Bindings.{exported}
 use Rattle.pf_state.specs.States.{Stated}
 use Rattle.pf_state.specs.Failover.Outgoing.{exported_insert, exported_message, parts}
@@ -49,7 +46,7 @@ is_insert current s is = record {
   anchor = omega arith;
 }
 
-are_inserts : (current : List ℕ) (es : List Stated) → Each IsState es → Each IsInsert (map (exported_insert current) es)
+pub are_inserts : (current : List ℕ) (es : List Stated) → Each IsState es → Each IsInsert (map (exported_insert current) es)
 are_inserts current [] each = tt
 are_inserts current (s ∷ es) each = (is_insert current s each.0, are_inserts current es each.1)
 

@@ -6,19 +6,12 @@ use Rattle.std.proofs.lemmas.List.{take_at, drop_at}
 use Rattle.std.proofs.lemmas.Bool.Decides.{nat_tests}
 use Rattle.byteorder.specs.Numbers.{big_number-reads_back}
 use Rattle.byteorder.specs.Endian.{big_bytes}
-use Rattle.pf_addr.specs.declared.addr.Addr.{Addr}
-use Rattle.pf_addr.specs.declared.addr.Addr.TheVariants.{V4, V6}
+use Rattle.pf_addr.specs.declared.{addr.Addr.Addr, addr.Addr.TheVariants.V4, addr.Addr.TheVariants.V6}
 use Rattle.pf_addr.specs.declared.addr.Family.TheVariants as family
 use Rattle.pf_rule.specs.Bytes.{number_at, direction_byte, addr_bytes-length}
 use Rattle.pf_rule.specs.Value.Values.{has_ports}
-use Rattle.pf_rule.specs.declared.value.direction.Direction.{Direction}
-use Rattle.pf_rule.specs.declared.value.direction.Direction.TheVariants.{In, Out}
-use Rattle.pf_state.specs.declared.peer.message.Group.{Group}
-use Rattle.pf_state.specs.declared.peer.message.Group.TheVariants.{Inserts, Deletes, Clears}
-use Rattle.pf_state.specs.declared.peer.message.Message.{Message}
-use Rattle.pf_state.specs.declared.peer.record.TheConstants.{RECORD}
-use Rattle.pf_state.specs.declared.peer.record.Delete.{Delete}
-use Rattle.pf_state.specs.declared.peer.record.Clear.{Clear}
+use Rattle.pf_rule.specs.declared.{value.direction.Direction.Direction, value.direction.Direction.TheVariants.In, value.direction.Direction.TheVariants.Out}
+use Rattle.pf_state.specs.declared.{peer.message.Group.Group, peer.message.Group.TheVariants.Inserts, peer.message.Group.TheVariants.Deletes, peer.message.Group.TheVariants.Clears, peer.message.Message.Message, peer.record.TheConstants.RECORD, peer.record.Delete.Delete, peer.record.Clear.Clear}
 use Rattle.pf_state.specs.Peer.Records.{PlainInsert, IsInsert, allowed, fields_of, direction_of, insert_of, delete_of, clear_of, insert_bytes, delete_bytes, clear_bytes}
 use Rattle.pf_state.specs.Peer.Groups.{records_of, content, is_action, group_at, AreGroups}
 use Rattle.pf_state.specs.Peer.Messages.{IsMessage}

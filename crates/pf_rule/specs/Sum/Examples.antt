@@ -3,15 +3,7 @@
 use Rattle.std.specs.Prelude.{List, [], ◌∷◌, ◌++◌, ℕ, false, true, Option, None, Some, codes, replicate}
 use Rattle.pf_addr.specs.declared.addr.Family.TheVariants.{V4, V6}
 use Rattle.pf_addr.specs.Path.References.{refers}
-use Rattle.pf_rule.specs.declared.value.direction.Direction.TheVariants.{In, Out}
-use Rattle.pf_rule.specs.declared.value.ports.Comparison.TheVariants.{Equal, NotEqual, Less, AtMost, Greater, AtLeast}
-use Rattle.pf_rule.specs.declared.value.ports.PortRange.TheVariants.{Including, Excluding, Except}
-use Rattle.pf_rule.specs.declared.value.ports.PortTest.{PortTest}
-use Rattle.pf_rule.specs.declared.value.ports.PortTest.TheVariants.{Compared, Ranged}
-use Rattle.pf_rule.specs.declared.host.host.Host.TheVariants.{Any, Net, Table}
-use Rattle.pf_rule.specs.declared.rule.Action.TheVariants.{Pass, Block}
-use Rattle.pf_rule.specs.declared.rule.Effect.{Effect}
-use Rattle.pf_rule.specs.declared.rule.Effect.TheVariants.{Decide, Evaluate}
+use Rattle.pf_rule.specs.declared.{value.direction.Direction.TheVariants.In, value.direction.Direction.TheVariants.Out, value.ports.Comparison.TheVariants.Equal, value.ports.Comparison.TheVariants.NotEqual, value.ports.Comparison.TheVariants.Less, value.ports.Comparison.TheVariants.AtMost, value.ports.Comparison.TheVariants.Greater, value.ports.Comparison.TheVariants.AtLeast, value.ports.PortRange.TheVariants.Including, value.ports.PortRange.TheVariants.Excluding, value.ports.PortRange.TheVariants.Except, value.ports.PortTest.PortTest, value.ports.PortTest.TheVariants.Compared, value.ports.PortTest.TheVariants.Ranged, host.host.Host.TheVariants.Any, host.host.Host.TheVariants.Net, host.host.Host.TheVariants.Table, rule.Action.TheVariants.Pass, rule.Action.TheVariants.Block, rule.Effect.Effect, rule.Effect.TheVariants.Decide, rule.Effect.TheVariants.Evaluate}
 use Rattle.pf_rule.specs.Rules.{PlainRule}
 
 -- ---- rules
@@ -91,34 +83,17 @@ v6_form =
 -- each test of a port, and the form of any host with it: the test's number behind three zeros, and then the ports
 abbrev pub port_tests : List (Option PortTest)
 port_tests =
-    None
-    ∷ Some (Compared Equal 258)
-    ∷ Some (Compared NotEqual 258)
-    ∷ Some (Compared Less 258)
-    ∷ Some (Compared AtMost 258)
-    ∷ Some (Compared Greater 258)
-    ∷ Some (Compared AtLeast 258)
-    ∷ Some (Ranged Including 258 772)
-    ∷ Some (Ranged Excluding 258 772)
-    ∷ Some (Ranged Except 258 772)
-    ∷ []
+    None ∷ Some (Compared Equal 258) ∷ Some (Compared NotEqual 258) ∷ Some (Compared Less 258) ∷ Some (Compared AtMost 258)
+    ∷ Some (Compared Greater 258) ∷ Some (Compared AtLeast 258)
+    ∷ Some (Ranged Including 258 772) ∷ Some (Ranged Excluding 258 772) ∷ Some (Ranged Except 258 772) ∷ []
 
 abbrev pub any_form : ℕ → ℕ → ℕ → ℕ → ℕ → List ℕ
 any_form test a b c d = 0 ∷ 0 ∷ 0 ∷ test ∷ a ∷ b ∷ c ∷ d ∷ replicate 48 0
 
 abbrev pub tested_hosts : List (List ℕ)
 tested_hosts =
-    any_form 0 0 0 0 0
-    ∷ any_form 1 1 2 0 0
-    ∷ any_form 2 1 2 0 0
-    ∷ any_form 3 1 2 0 0
-    ∷ any_form 4 1 2 0 0
-    ∷ any_form 5 1 2 0 0
-    ∷ any_form 6 1 2 0 0
-    ∷ any_form 7 1 2 3 4
-    ∷ any_form 8 1 2 3 4
-    ∷ any_form 9 1 2 3 4
-    ∷ []
+    any_form 0 0 0 0 0 ∷ any_form 1 1 2 0 0 ∷ any_form 2 1 2 0 0 ∷ any_form 3 1 2 0 0 ∷ any_form 4 1 2 0 0
+    ∷ any_form 5 1 2 0 0 ∷ any_form 6 1 2 0 0 ∷ any_form 7 1 2 3 4 ∷ any_form 8 1 2 3 4 ∷ any_form 9 1 2 3 4 ∷ []
 
 -- ---- checksums
 

@@ -32,21 +32,10 @@ use Rattle.byteorder.specs.Endian.{big_bytes}
 use Rattle.md5.specs.Md5.{md5}
 use Rattle.pf_addr.specs.declared.addr.Family.{Family}
 use Rattle.pf_addr.specs.Spelling.{first_addr}
-use Rattle.pf_rule.specs.declared.value.direction.Direction.{Direction}
+use Rattle.pf_rule.specs.declared.{value.direction.Direction.Direction, value.ports.Comparison.Comparison, value.ports.Comparison.TheVariants.Equal, value.ports.Comparison.TheVariants.NotEqual, value.ports.Comparison.TheVariants.Less, value.ports.Comparison.TheVariants.AtMost, value.ports.Comparison.TheVariants.Greater, value.ports.Comparison.TheVariants.AtLeast, value.ports.PortRange.PortRange, value.ports.PortRange.TheVariants.Including, value.ports.PortRange.TheVariants.Excluding, value.ports.PortRange.TheVariants.Except, value.ports.PortTest.PortTest, value.ports.PortTest.TheVariants.Compared, value.ports.PortTest.TheVariants.Ranged, host.host.Host.Host, host.host.Host.TheVariants.Any, host.host.Host.TheVariants.Net, host.host.Host.TheVariants.Table, rule.Effect.Effect, rule.Effect.TheVariants.Decide, rule.Effect.TheVariants.Evaluate, rule.Action.TheVariants.Pass, rule.Action.TheVariants.Block}
 use Rattle.pf_rule.specs.Bytes as bytes
 use Rattle.pf_rule.specs.Bytes.{addr_bytes}
-use Rattle.pf_rule.specs.declared.value.ports.Comparison.{Comparison}
-use Rattle.pf_rule.specs.declared.value.ports.Comparison.TheVariants.{Equal, NotEqual, Less, AtMost, Greater, AtLeast}
-use Rattle.pf_rule.specs.declared.value.ports.PortRange.{PortRange}
-use Rattle.pf_rule.specs.declared.value.ports.PortRange.TheVariants.{Including, Excluding, Except}
-use Rattle.pf_rule.specs.declared.value.ports.PortTest.{PortTest}
-use Rattle.pf_rule.specs.declared.value.ports.PortTest.TheVariants.{Compared, Ranged}
-use Rattle.pf_rule.specs.declared.host.host.Host.{Host}
-use Rattle.pf_rule.specs.declared.host.host.Host.TheVariants.{Any, Net, Table}
 use Rattle.pf_rule.specs.Host.Hosts.{is_negated}
-use Rattle.pf_rule.specs.declared.rule.Effect.{Effect}
-use Rattle.pf_rule.specs.declared.rule.Effect.TheVariants.{Decide, Evaluate}
-use Rattle.pf_rule.specs.declared.rule.Action.TheVariants.{Pass, Block}
 use Rattle.pf_rule.specs.Rules.{PlainRule}
 
 abbrev pub flag : Bool → ℕ

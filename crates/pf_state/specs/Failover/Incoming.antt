@@ -1,14 +1,10 @@
 -- What a peer's message means for the states here: a step for each record. Own; the messages are pf_state::peer's, after pfsync(4).
 use Rattle.std.specs.Prelude.{ℕ, List, map}
 use Rattle.std.specs.List.{flat_map}
-use Rattle.pf_state.specs.declared.peer.message.Group.{Group}
-use Rattle.pf_state.specs.declared.peer.message.Group.TheVariants.{Inserts, Deletes, Clears}
-use Rattle.pf_state.specs.declared.peer.message.Message.{Message}
+use Rattle.pf_state.specs.declared.{peer.message.Group.Group, peer.message.Group.TheVariants.Inserts, peer.message.Group.TheVariants.Deletes, peer.message.Group.TheVariants.Clears, peer.message.Message.Message, step.Step.Step, step.Step.TheVariants.Insert, step.Step.TheVariants.Delete, step.Step.TheVariants.Clear}
 use Rattle.pf_state.specs.declared.peer.record.Clear.{Clear as ClearRecord}
 use Rattle.pf_state.specs.declared.peer.record.Delete.{Delete as DeleteRecord}
 use Rattle.pf_state.specs.Peer.Records.{PlainInsert}
-use Rattle.pf_state.specs.declared.step.Step.{Step}
-use Rattle.pf_state.specs.declared.step.Step.TheVariants.{Insert, Delete, Clear}
 use Rattle.pf_state.specs.Bindings.{bound}
 use Rattle.pf_state.specs.Flows.{PlainFlow}
 use Rattle.pf_state.specs.States.{Stated}

@@ -9,16 +9,12 @@
 --      18     1 protocol          56     4 rule, 60 4 anchor
 use Rattle.std.specs.Prelude.{◌≡◌, ◌<◌, ◌+◌, ◌==◌, ◌^◌, ◌&&◌, ◌||◌, not, ℕ, Bool, false, List, ◌∷◌, ◌++◌, replicate, Option, Some, None, if◌then◌else◌}
 use Rattle.byteorder.specs.Endian.{big_bytes}
-use Rattle.pf_addr.specs.declared.addr.Addr.{Addr}
-use Rattle.pf_addr.specs.declared.addr.Addr.TheVariants.{V4, V6}
+use Rattle.pf_addr.specs.declared.{addr.Addr.Addr, addr.Addr.TheVariants.V4, addr.Addr.TheVariants.V6}
 use Rattle.pf_addr.specs.Address.{IsAddr, family_of}
 use Rattle.pf_rule.specs.Bytes.{byte_at, number_at, addr_bytes, direction_byte, family_byte}
-use Rattle.pf_rule.specs.declared.value.direction.Direction.{Direction}
-use Rattle.pf_rule.specs.declared.value.direction.Direction.TheVariants.{In, Out}
+use Rattle.pf_rule.specs.declared.{value.direction.Direction.Direction, value.direction.Direction.TheVariants.In, value.direction.Direction.TheVariants.Out}
 use Rattle.pf_rule.specs.Value.Values.{IsProtocol, has_ports}
-use Rattle.pf_state.specs.declared.peer.record.InsertFields.{InsertFields}
-use Rattle.pf_state.specs.declared.peer.record.Delete.{Delete}
-use Rattle.pf_state.specs.declared.peer.record.Clear.{Clear}
+use Rattle.pf_state.specs.declared.{peer.record.InsertFields.InsertFields, peer.record.Delete.Delete, peer.record.Clear.Clear}
 
 -- an insert as contracts see it: its fields
 abbrev pub PlainInsert : Type 0
