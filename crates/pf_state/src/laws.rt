@@ -5,16 +5,12 @@ ghost use Rattle.pf_state.specs.Laws.{OneFlowOrAnother, InterfaceIsNoPart, OneSt
 use crate::binding::ALL_ONES;
 use crate::failover::EXPORT_RECORDS;
 use crate::limits::STATE_LIMIT;
-use crate::peer::{HEADER, MESSAGE_LIMIT, RECORD};
 
-/// The numbers that definitions and code cite by name: how many states there may be, what stands for no rule, how many bytes a message,
-/// its header and each record have, and how many states a message of an export tells of.
+/// The numbers that definitions and code cite by name: how many states there may be, what stands for no rule, and how many states a
+/// message of an export tells of. Those of messages are in [`crate::peer::numbers_of_messages_are_these`].
 pub fn numbers_are_these()
     ensures states { STATE_LIMIT ≡ 65_536 }
     ensures no_rule { ALL_ONES ≡ 4_294_967_295 }
-    ensures message { MESSAGE_LIMIT ≡ 65_535 }
-    ensures header { HEADER ≡ 20 }
-    ensures record { RECORD ≡ 64 }
     ensures exported { EXPORT_RECORDS ≡ 31 }
 {}
 

@@ -77,7 +77,8 @@ pub record MakesStates (steps : List Step) (es : List Stated) : Type 0 where
   pub left : after [] steps ≡ es
   pub fits : passes_limit [] steps ≡ false
 
--- a peer that has no states is never refused a table's states, and then has these and no other
+-- A peer that has no states acts on all that an export of a table asks for, in turn: at no step it has more states than there may be,
+-- and then it has these states and no other.
 abbrev pub TakesOver : Type 0
 TakesOver = (ours theirs : List ℕ) (count : ℕ) (es : List Stated) → IsStates es → count ≤ ALL_ONES
     → MakesStates (flat_map (λ m. steps_of m theirs count) (exported_messages ours es)) (map (state_there ours theirs count) es)

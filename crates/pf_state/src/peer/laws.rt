@@ -10,6 +10,10 @@ ghost use Rattle.pf_state.specs.Peer.One.{IsOne};
 ghost use Rattle.pf_state.specs.Peer.Streams.{Ending, Faulty, Reads, Feeds};
 ghost use Rattle.pf_state.specs.Peer.Written.{message_bytes, CanBeWritten};
 
+use crate::peer::message::{CLEAR, DELETE, INSERT, MESSAGE_LIMIT, VERSION};
+use crate::peer::record::RECORD;
+use crate::peer::stream::HEADER;
+
 /// The bytes so far are one list of messages, and end in one way.
 #[tactic(auto, using(crate::proofs::OneReading::one_reading))]
 pub fn stream_has_one_reading()
@@ -44,6 +48,15 @@ pub fn one_message_has_one_answer()
     ensures some { (bytes : List ℕ) → (r : Result Message OneFault) × IsOne bytes r }
     ensures one { (bytes : List ℕ) (r s : Result Message OneFault) → IsOne bytes r → IsOne bytes s → r ≡ s }
     ensures message { (bytes : List ℕ) (m : Message) → IsOne bytes (Ok m) ↔ IsMessage bytes m }
+{}
+
+/// The numbers of a message's form that definitions and code cite by name.
+pub fn numbers_of_messages_are_these()
+    ensures limit { MESSAGE_LIMIT ≡ 65_535 }
+    ensures header { HEADER ≡ 20 }
+    ensures record { RECORD ≡ 64 }
+    ensures version { VERSION ≡ 5 }
+    ensures actions { (INSERT ≡ 1) × (DELETE ≡ 6) × (CLEAR ≡ 0) }
 {}
 
 /// A message with an insert each way, one of each family, a delete and a clear has these bytes, and they are that message.
