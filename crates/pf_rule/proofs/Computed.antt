@@ -1,10 +1,11 @@
 -- The texts, the forms and the checksums of the examples, computed.
 use Rattle.std.proofs.Common.{◌≡◌, [], ◌∷◌, Ok, refl}
-use Rattle.std.specs.Prelude.{codes}
+use Rattle.std.specs.Prelude.{codes, map}
 use Rattle.md5.specs.Md5.{md5, hash_after, digest_bytes, compress, rounds, block_words}
 use Rattle.pf_addr.specs.Form.Words.{words_of}
 use Rattle.pf_addr.specs.Form.Forms.{read_all}
 use Rattle.pf_addr.specs.Reading.{part_at, pieces_at, v4_at, address_at}
+use Rattle.pf_rule.specs.declared.host.host.Host.TheVariants.{Any}
 use Rattle.pf_rule.specs.Value.Tests.{direction, interface, family, protocol}
 use Rattle.pf_rule.specs.Value.Ports.{port, port_test, order_or_range, compared, ranged, range_end, ports_fit}
 use Rattle.pf_rule.specs.Host.Hosts.{a_negated_host, a_host, host}
@@ -13,37 +14,26 @@ use Rattle.pf_rule.specs.RuleGrammar.{rule, opening, state}
 use Rattle.pf_rule.specs.Sum.Forms.{filled, host_form, rule_form, ruleset_sum}
 use Rattle.pf_rule.specs.Sum.Examples as example
 
-pub block_text : read_all rule (words_of (codes "block in all")) ≡ Ok (Ok example.block)
+-- the four texts and the four forms
+pub texts : (read_all rule (words_of (codes "block in all")) ≡ Ok (Ok example.block))
+    × (read_all rule (words_of (codes "pass in all")) ≡ Ok (Ok example.pass))
+    × (read_all rule (words_of (codes "anchor \"a/*\" all")) ≡ Ok (Ok example.anchor))
+    × (read_all rule (words_of (codes "pass out quick on em0 proto tcp from !10/8 port 1024:2048 to <web> port 80 no state")) ≡ Ok (Ok example.tested))
 unfolding rule opening state direction interface family protocol a_negated_host a_host host port port_test order_or_range compared ranged range_end end destination ends part_at pieces_at v4_at address_at ports_fit
-block_text = refl
+texts = (refl, refl, refl, refl)
 
-pub pass_text : read_all rule (words_of (codes "pass in all")) ≡ Ok (Ok example.pass)
-unfolding rule opening state direction interface family protocol a_negated_host a_host host port port_test order_or_range compared ranged range_end end destination ends part_at pieces_at v4_at address_at ports_fit
-pass_text = refl
-
-pub anchor_text : read_all rule (words_of (codes "anchor \"a/*\" all")) ≡ Ok (Ok example.anchor)
-unfolding rule opening state direction interface family protocol a_negated_host a_host host port port_test order_or_range compared ranged range_end end destination ends part_at pieces_at v4_at address_at ports_fit
-anchor_text = refl
-
-pub tested_text : read_all rule (words_of (codes "pass out quick on em0 proto tcp from !10/8 port 1024:2048 to <web> port 80 no state")) ≡ Ok (Ok example.tested)
-unfolding rule opening state direction interface family protocol a_negated_host a_host host port port_test order_or_range compared ranged range_end end destination ends part_at pieces_at v4_at address_at ports_fit
-tested_text = refl
-
-pub block_form : rule_form example.block ≡ example.block_form
+pub forms : (rule_form example.block ≡ example.block_form) × (rule_form example.pass ≡ example.pass_form)
+    × (rule_form example.anchor ≡ example.anchor_form) × (rule_form example.tested ≡ example.tested_form)
 unfolding rule_form host_form filled
-block_form = refl
+forms = (refl, refl, refl, refl)
 
-pub pass_form : rule_form example.pass ≡ example.pass_form
+pub v6_form : rule_form example.v6 ≡ example.v6_form
 unfolding rule_form host_form filled
-pass_form = refl
+v6_form = refl
 
-pub anchor_form : rule_form example.anchor ≡ example.anchor_form
-unfolding rule_form host_form filled
-anchor_form = refl
-
-pub tested_form : rule_form example.tested ≡ example.tested_form
-unfolding rule_form host_form filled
-tested_form = refl
+pub ports_form : map (host_form Any) example.port_tests ≡ example.tested_hosts
+unfolding host_form filled
+ports_form = refl
 
 pub none_sum : ruleset_sum [] ≡ example.sum_of_none
 unfolding ruleset_sum md5 hash_after digest_bytes compress rounds block_words

@@ -8,31 +8,19 @@ use Rattle.std.proofs.lemmas.List.{drop_at, drop-drop, get_or-drop, length-appen
 use Rattle.std.proofs.lemmas.List.Sums.{take_while-cons}
 use Rattle.std.proofs.lemmas.Nat.{shl_below, shl-shr}
 use Rattle.byteorder.specs.Numbers.{big_number-reads_back}
-use Rattle.pf_addr.specs.declared.addr.Addr.{Addr}
-use Rattle.pf_addr.specs.declared.addr.Addr.TheVariants as addr
-use Rattle.pf_addr.specs.declared.addr.Family.{Family}
-use Rattle.pf_addr.specs.declared.addr.Family.TheVariants.{V4, V6}
+use Rattle.pf_addr.specs.declared.{addr.Family.Family, addr.Family.TheVariants.V4, addr.Family.TheVariants.V6}
 use Rattle.pf_addr.specs.Address.{Network, IsNetwork}
 use Rattle.pf_addr.specs.Spelling.{first_addr}
 use Rattle.pf_addr.specs.Path.Names.{is_name_byte}
 use Rattle.pf_addr.specs.Path.Paths.{is_slash}
 use Rattle.pf_addr.proofs.ReferencesRead.{names_bytes}
-use Rattle.pf_rule.specs.declared.value.direction.Direction.{Direction}
-use Rattle.pf_rule.specs.declared.value.direction.Direction.TheVariants.{In, Out}
-use Rattle.pf_rule.specs.declared.value.ports.Comparison.TheVariants.{Equal, NotEqual, Less, AtMost, Greater, AtLeast}
-use Rattle.pf_rule.specs.declared.value.ports.PortRange.TheVariants.{Including, Excluding, Except}
-use Rattle.pf_rule.specs.declared.value.ports.PortTest.{PortTest}
-use Rattle.pf_rule.specs.declared.value.ports.PortTest.TheVariants.{Compared, Ranged}
+use Rattle.pf_rule.specs.declared.{value.direction.Direction.Direction, value.direction.Direction.TheVariants.In, value.direction.Direction.TheVariants.Out, value.ports.Comparison.TheVariants.Equal, value.ports.Comparison.TheVariants.NotEqual, value.ports.Comparison.TheVariants.Less, value.ports.Comparison.TheVariants.AtMost, value.ports.Comparison.TheVariants.Greater, value.ports.Comparison.TheVariants.AtLeast, value.ports.PortRange.TheVariants.Including, value.ports.PortRange.TheVariants.Excluding, value.ports.PortRange.TheVariants.Except, value.ports.PortTest.PortTest, value.ports.PortTest.TheVariants.Compared, value.ports.PortTest.TheVariants.Ranged, host.host.Host.Host, host.host.Host.TheVariants.Any, host.host.Host.TheVariants.Net, host.host.Host.TheVariants.Table, rule.Effect.Effect, rule.Effect.TheVariants.Decide, rule.Effect.TheVariants.Evaluate, rule.Action.TheVariants.Pass, rule.Action.TheVariants.Block}
 use Rattle.pf_rule.specs.Value.Ports.{IsPortTest}
 use Rattle.pf_rule.specs.Value.Values.{IsInterfaceName, IsProtocol}
-use Rattle.pf_rule.specs.declared.host.host.Host.{Host}
-use Rattle.pf_rule.specs.declared.host.host.Host.TheVariants.{Any, Net, Table}
-use Rattle.pf_rule.specs.declared.rule.Effect.{Effect}
-use Rattle.pf_rule.specs.declared.rule.Effect.TheVariants.{Decide, Evaluate}
-use Rattle.pf_rule.specs.declared.rule.Action.TheVariants.{Pass, Block}
 use Rattle.pf_rule.specs.Rules.{PlainRule, HostFits, IsEffect, IsRule}
-use Rattle.pf_rule.specs.Sum.Forms.{flag, filled, host_form, addr_bytes, address_bytes, table_name, effect_byte, keeps_state, direction_byte, family_byte, names, wildcard, rule_form}
-use Rattle.pf_rule.specs.Sum.Reading.{byte_at, is_set, number_at, name_at, read_host, read_port, effect_of, direction_of, family_of_byte, protocol_of_byte, interface_named, read_form}
+use Rattle.pf_rule.specs.Sum.Forms.{flag, filled, host_form, address_bytes, table_name, effect_byte, keeps_state, direction_byte, family_byte, names, wildcard, rule_form}
+use Rattle.pf_rule.specs.Bytes.{byte_at, number_at, addr_bytes-length}
+use Rattle.pf_rule.specs.Sum.Reading.{is_set, name_at, read_host, read_port, effect_of, direction_of, family_of_byte, protocol_of_byte, interface_named, read_form}
 
 -- ---- names in their fields
 
@@ -61,13 +49,9 @@ flag_again false = refl
 
 -- ---- a host and the test of its port
 
-addr_long : (a : Addr) → length (addr_bytes a) ≡ 16
-addr_long (addr.V4 n) = refl
-addr_long (addr.V6 n) = refl
-
 address_long : (h : Host) → length (address_bytes h) ≡ 16
 address_long Any = refl
-address_long (Net n negated) = addr_long (first_addr n)
+address_long (Net n negated) = addr_bytes-length (first_addr n)
 address_long (Table name negated) = refl
 
 table_short : (f : Option Family) (h : Host) → HostFits f h → length (table_name h) ≤ 32

@@ -1,5 +1,6 @@
 pub mod Value
 pub mod Host
+pub mod Bytes
 pub mod Sum
 pub mod Packets
 pub mod PacketGrammar

@@ -20,4 +20,5 @@ pub use laws::{
 pub use packet::Packet;
 pub use pf_addr::path::{Reference, TableName};
 pub use rule::{Action, Effect, Rule};
+pub use sum::{rule_bytes, ruleset_sum};
 pub use value::{Comparison, Direction, INTERFACE_LIMIT, Interface, PortRange, PortTest, Protocol};

@@ -7,7 +7,8 @@ mod sum;
 
 pub use form::{RULE_FORM, rule_bytes};
 pub use laws::{
-    different_rules_have_different_forms, forms_are_of_one_length, four_rules_have_these_forms,
-    four_rules_have_these_texts, rule_is_read_from_its_form, three_rulesets_have_these_sums,
+    different_rules_have_different_forms, families_and_port_tests_have_these_forms,
+    forms_are_of_one_length, four_rules_have_these_forms, four_rules_have_these_texts,
+    rule_is_read_from_its_form, three_rulesets_have_these_sums,
 };
 pub use sum::{RULESET_SUM, ruleset_sum};

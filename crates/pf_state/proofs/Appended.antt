@@ -3,10 +3,7 @@ use Rattle.std.proofs.Common.{◌≡◌, ◌+◌, ◌<◌, ◌≤◌, ℕ, zero,
 use Rattle.std.specs.List.{All, flat_map}
 use Rattle.std.proofs.lemmas.List.{take_all}
 use Rattle.std.proofs.lemmas.List.Elements.{All-head, All-tail, All-more}
-use Rattle.pf_state.specs.declared.peer.message.Group.{Group}
-use Rattle.pf_state.specs.declared.peer.message.Group.TheVariants.{Inserts, Deletes, Clears}
-use Rattle.pf_state.specs.declared.peer.record.Delete.{Delete}
-use Rattle.pf_state.specs.declared.peer.record.Clear.{Clear}
+use Rattle.pf_state.specs.declared.{peer.message.Group.Group, peer.message.Group.TheVariants.Inserts, peer.message.Group.TheVariants.Deletes, peer.message.Group.TheVariants.Clears, peer.record.Delete.Delete, peer.record.Clear.Clear}
 use Rattle.pf_state.specs.Peer.Records.{PlainInsert, insert_bytes, delete_bytes, clear_bytes}
 use Rattle.pf_state.specs.Peer.Written.{Each, group_bytes, group_with}
 

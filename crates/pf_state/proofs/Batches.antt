@@ -2,9 +2,7 @@
 use Rattle.std.proofs.Common.{◌≡◌, ℕ, suc, ◌+◌, ◌<◌, ◌≤◌, ◌^◌, Bool, true, false, ◌||◌, cond, List, [], ◌∷◌, length, drop, get_or, refl, sym, ap, ◌∙◌, subst, arith}
 use Rattle.std.proofs.Math.Seq.{drop-cons}
 use Rattle.std.proofs.lemmas.List.{drop_all}
-use Rattle.pf_state.specs.declared.counts.Counts.{Counts}
-use Rattle.pf_state.specs.declared.limits.TheConstants.{STATE_LIMIT}
-use Rattle.pf_state.specs.declared.step.Step.{Step}
+use Rattle.pf_state.specs.declared.{counts.Counts.Counts, limits.TheConstants.STATE_LIMIT, step.Step.Step}
 use Rattle.pf_state.specs.States.{Stated, NamesFlows, IsStates}
 use Rattle.pf_state.specs.Steps.{stepped, after, no_counts, both, IsCounted, counted, counts, is_over, passes_limit}
 use Rattle.pf_state.specs.Laws.{is_insert}

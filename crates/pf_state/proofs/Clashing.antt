@@ -6,10 +6,7 @@ use Rattle.std.specs.Option.{option_map_or, unwrap_or}
 use Rattle.std.specs.Ordering.{eq_by_cmp}
 use Rattle.std.proofs.lemmas.Bool.{eq-eqb}
 use Rattle.std.proofs.lemmas.List.Folds.{list_any-append}
-use Rattle.pf_state.specs.declared.state.Held.{Held}
-use Rattle.pf_state.specs.declared.state.StateName.{StateName}
-use Rattle.pf_state.specs.declared.step.Step.{Step}
-use Rattle.pf_state.specs.declared.step.Step.TheVariants.{Insert, Delete, Clear}
+use Rattle.pf_state.specs.declared.{state.Held.Held, state.StateName.StateName, step.Step.Step, step.Step.TheVariants.Insert, step.Step.TheVariants.Delete, step.Step.TheVariants.Clear}
 use Rattle.pf_state.specs.Candidates.{inserts_flow, is_inserted, key_of, keys_of, has_key, candidates, is_among, AreNamed, clashes_with, clashes_among, with_inserted}
 use Rattle.pf_state.specs.Flows.{PlainFlow, same_flow, turned}
 use Rattle.pf_state.specs.States.{Stated, name_order, held_at, NamesFlows}

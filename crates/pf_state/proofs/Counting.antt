@@ -7,13 +7,7 @@ use Rattle.std.specs.List.{count_by}
 use Rattle.std.proofs.lemmas.List.Sums.{sum_by-cons}
 use Rattle.pf_table.specs.Map.Maps.{with_value}
 use Rattle.pf_table.proofs.Maps.{stays_sorted}
-use Rattle.pf_state.specs.declared.counts.Counts.{Counts}
-use Rattle.pf_state.specs.declared.state.Held.{Held}
-use Rattle.pf_state.specs.declared.state.StateName.{StateName}
-use Rattle.pf_state.specs.declared.step.Insertion.{Insertion}
-use Rattle.pf_state.specs.declared.step.Insertion.TheVariants.{Stale, Clash, Replaced, New}
-use Rattle.pf_state.specs.declared.step.Step.{Step}
-use Rattle.pf_state.specs.declared.step.Step.TheVariants.{Insert, Delete, Clear}
+use Rattle.pf_state.specs.declared.{counts.Counts.Counts, state.Held.Held, state.StateName.StateName, step.Insertion.Insertion, step.Insertion.TheVariants.Stale, step.Insertion.TheVariants.Clash, step.Insertion.TheVariants.Replaced, step.Insertion.TheVariants.New, step.Step.Step, step.Step.TheVariants.Insert, step.Step.TheVariants.Delete, step.Step.TheVariants.Clear}
 use Rattle.pf_state.specs.States.{Stated, name_order, held_at, NamesFlows, IsStates}
 use Rattle.pf_state.specs.Steps.{is_stale, is_clash, insertion, has_effect, without_creator, without_state, stepped, after, one_insertion, named_count, creator_count, counted, counts}
 use Rattle.pf_state.specs.Laws.{is_insert, CountsAddUp}
@@ -35,6 +29,11 @@ shrinks_clear (e ∷ es) creator = by (e.0.creator == creator) (shrinks_clear es
   by : (t : Bool) → length (without_creator es creator) + creator_count es creator ≡ length es → creator_count (e ∷ es) creator ≡ cond t 1 0 + creator_count es creator → length (cond (not t) (e ∷ without_creator es creator) (without_creator es creator)) + creator_count (e ∷ es) creator ≡ suc (length es)
   by true rest more = omega (arith, rest, more)
   by false rest more = omega (arith, rest, more)
+
+-- both
+pub shrinks : ((es : List Stated) (n : StateName) → NamesFlows es → length (without_state es n) + named_count es n ≡ length es)
+    × ((es : List Stated) (creator : ℕ) → length (without_creator es creator) + creator_count es creator ≡ length es)
+shrinks = (shrinks_delete, shrinks_clear)
 
 -- a state that is put is one more where its name is new
 pub grows_put : (es : List Stated) (s : Stated) → NamesFlows es → length (with_value name_order es s.0 (Some s.1)) + named_count es s.0 ≡ length es + 1

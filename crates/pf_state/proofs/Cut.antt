@@ -5,7 +5,7 @@ use Rattle.std.specs.Simd.{first_chunks}
 use Rattle.std.specs.Slice.Iter.{chunk_count}
 use Rattle.pf_state.specs.Peer.Written.{Each}
 use Rattle.pf_state.specs.States.{Stated}
-use Rattle.pf_state.specs.Failover.Outgoing.{insert_of, told, parts}
+use Rattle.pf_state.specs.Failover.Outgoing.{exported_insert, exported_message, parts}
 use Rattle.pf_state.specs.Failover.Laws.{AreFullButLast, AreParts, CutsIntoParts, IsExported, ExportsMessages}
 use Rattle.pf_state.proofs.Parts.{next_part, told_long}
 
@@ -45,16 +45,16 @@ cuts_into_parts = by_parts AreParts (record { joined = refl; full = tt }) (λ es
   full = one_more (take 31 es) (parts (drop 31 es)) (part_some es some) (part_few es) (full_before es) rest.full;
 })
 
-is_exported : (current : List ℕ) (p : List Stated) → 1 ≤ length p → length p ≤ 31 → IsExported current (told current p)
+is_exported : (current : List ℕ) (p : List Stated) → 1 ≤ length p → length p ≤ 31 → IsExported current (exported_message current p)
 is_exported current p some few = record {
   checksum = refl;
-  inserts = map (insert_of current) p;
+  inserts = map (exported_insert current) p;
   one_group = refl;
-  some = omega (arith, some, length-map p (insert_of current));
-  few = omega (arith, few, length-map p (insert_of current));
+  some = omega (arith, some, length-map p (exported_insert current));
+  few = omega (arith, few, length-map p (exported_insert current));
   fits = omega (arith, few, told_long current p);
 }
 
 pub exports_messages : ExportsMessages
-exports_messages current = by_parts (λ es ps. Each (IsExported current) (map (told current) ps)) tt
+exports_messages current = by_parts (λ es ps. Each (IsExported current) (map (exported_message current) ps)) tt
     (λ es some rest. (is_exported current (take 31 es) (part_some es some) (part_few es), rest))

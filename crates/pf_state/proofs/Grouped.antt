@@ -2,24 +2,9 @@
 use Rattle.std.proofs.Common.{◌≡◌, ◌≢◌, ◌==◌, true, false, true≢false, ◌+◌, ◌-◌, ◌<◌, ℕ, suc, List, [], ◌∷◌, ◌++◌, length, take, drop, Option, Some, None, Result, Ok, Err, refl, sym, ap, ◌∙◌, subst, append_assoc, arith}
 use Rattle.std.proofs.lemmas.Bool.Decides.{nat_tests}
 use Rattle.std.proofs.lemmas.List.{append-nil}
-use Rattle.pf_state.specs.declared.peer.fault.PeerFault.{PeerFault}
-use Rattle.pf_state.specs.declared.peer.fault.PeerFault.TheVariants.{BadRecord}
-use Rattle.pf_state.specs.declared.peer.message.Group.{Group}
-use Rattle.pf_state.specs.declared.peer.record.TheConstants.{RECORD}
-use Rattle.pf_state.specs.declared.peer.fault.ReadError.{ReadError}
-use Rattle.pf_state.specs.declared.peer.fault.ReadError.TheVariants.{Memory, Fault}
+use Rattle.pf_state.specs.declared.{peer.fault.PeerFault.PeerFault, peer.fault.PeerFault.TheVariants.BadRecord, peer.message.Group.Group, peer.record.TheConstants.RECORD, peer.fault.ReadError.ReadError, peer.fault.ReadError.TheVariants.Memory, peer.fault.ReadError.TheVariants.Fault}
 use Rattle.pf_state.specs.Peer.Outcomes.{Fails, IfFault}
 use Rattle.pf_state.specs.Peer.Groups.{records_of, ◌>>=◌, group_at, AreGroups, BreakBehind}
-
-pub one_more_group : (bytes rest behind : List ℕ) (gs : List Group) (g : Group)
-    → ((hs : List Group) → AreGroups rest hs → AreGroups bytes (gs ++ hs)) → rest ≢ [] → group_at rest ≡ Ok (g, behind)
-    → (hs : List Group) → AreGroups behind hs → AreGroups bytes ((gs ++ g ∷ []) ++ hs)
-one_more_group bytes rest behind gs g so some is hs are = subst (λ (l : List Group). AreGroups bytes l) (sym (append_assoc gs (g ∷ []) hs)) (so (g ∷ hs) (some, behind, is, are))
-
-pub one_more_before : (bytes rest behind : List ℕ) (gs : List Group) (g : Group)
-    → ((hs : List Group) (f : PeerFault) → BreakBehind hs rest f → BreakBehind (gs ++ hs) bytes f) → rest ≢ [] → group_at rest ≡ Ok (g, behind)
-    → (hs : List Group) (f : PeerFault) → BreakBehind hs behind f → BreakBehind ((gs ++ g ∷ []) ++ hs) bytes f
-one_more_before bytes rest behind gs g so some is hs f breaks = subst (λ (l : List Group). BreakBehind l bytes f) (sym (append_assoc gs (g ∷ []) hs)) (so (g ∷ hs) f (some, behind, is, breaks))
 
 -- a bind behind a bind
 pub in_turn : {A : Type 0} (xs : List A) (x : A) (r : Result (List A) PeerFault) → ((r >>= λ ys. Ok (x ∷ ys)) >>= λ zs. Ok (xs ++ zs)) ≡ (r >>= λ ys. Ok ((xs ++ x ∷ []) ++ ys))

@@ -6,8 +6,9 @@ use Rattle.std.proofs.lemmas.Bool.Decides.{nat_tests}
 use Rattle.byteorder.specs.Numbers.{big_from-lt}
 use Rattle.pf_addr.specs.declared.addr.Addr.TheVariants.{V4, V6}
 use Rattle.pf_addr.specs.Address.{IsAddr, family_of}
+use Rattle.pf_rule.specs.Bytes.{byte_at, number_at}
 use Rattle.pf_rule.specs.Value.Values.{has_ports}
-use Rattle.pf_state.specs.Peer.Records.{IsInsert, allowed, fields_of, are_kinds, are_ports, is_padded, byte_at, number_at, address_at}
+use Rattle.pf_state.specs.Peer.Records.{IsInsert, allowed, fields_of, are_kinds, are_ports, is_padded, address_at}
 
 -- the places of a record hold bytes
 abbrev pub AreBytes : List ℕ → Type 0

@@ -5,10 +5,7 @@ use Rattle.std.specs.FinMap.Entries.{find-where_key}
 use Rattle.std.specs.Ordering.{eq_by_cmp}
 use Rattle.pf_table.specs.Map.Maps.{with_value}
 use Rattle.pf_table.proofs.Maps.{replaces_the_key}
-use Rattle.pf_state.specs.declared.state.Held.{Held}
-use Rattle.pf_state.specs.declared.state.StateName.{StateName}
-use Rattle.pf_state.specs.declared.step.Step.{Step}
-use Rattle.pf_state.specs.declared.step.Step.TheVariants.{Insert, Delete, Clear}
+use Rattle.pf_state.specs.declared.{state.Held.Held, state.StateName.StateName, step.Step.Step, step.Step.TheVariants.Insert, step.Step.TheVariants.Delete, step.Step.TheVariants.Clear}
 use Rattle.pf_state.specs.States.{Stated, name_order, held_at}
 use Rattle.pf_state.specs.Steps.{insertion, has_effect, without_creator, without_state, stepped}
 use Rattle.pf_state.specs.Laws.{KeepsWhatIsThere, StepsRead, left_by, left_behind, LastStepStands}

@@ -21,3 +21,4 @@ pub mod Tables
 pub mod Counting
 pub mod Batches
 pub mod Clashing
+pub mod Computed

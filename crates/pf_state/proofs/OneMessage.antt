@@ -1,8 +1,7 @@
 -- Bytes that have to be one message.
 use Rattle.std.proofs.Common.{◌≡◌, ◌↔◌, ℕ, List, [], ◌∷◌, Result, Ok, refl, sym, ◌∙◌}
 use Rattle.std.proofs.lemmas.List.{append-nil}
-use Rattle.pf_state.specs.declared.peer.fault.OneFault.{OneFault}
-use Rattle.pf_state.specs.declared.peer.message.Message.{Message}
+use Rattle.pf_state.specs.declared.{peer.fault.OneFault.OneFault, peer.message.Message.Message}
 use Rattle.pf_state.specs.Peer.Messages.{IsMessage}
 use Rattle.pf_state.specs.Peer.Streams.{Ending, Unfinished, Faulty, Reads}
 use Rattle.pf_state.specs.Peer.One.{IsOne, one_of}

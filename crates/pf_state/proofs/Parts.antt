@@ -3,36 +3,28 @@ use Rattle.std.proofs.Common.{◌≡◌, ◌+◌, ◌-◌, ◌*◌, ◌<◌, ◌
 use Rattle.std.proofs.lemmas.List.{append-nil, length-drop, length-map, take_all, drop_all, take_at, drop_at}
 use Rattle.std.specs.List.{concat, flat_map}
 use Rattle.std.specs.Slice.Iter.{chunk_count}
-use Rattle.pf_addr.specs.declared.addr.Addr.{Addr}
-use Rattle.pf_addr.specs.declared.addr.Addr.TheVariants.{V4, V6}
-use Rattle.pf_state.specs.Peer.Records.{PlainInsert, address_bytes, insert_bytes}
+use Rattle.pf_state.specs.Peer.Records.{PlainInsert, insert_bytes}
 use Rattle.pf_state.specs.Peer.Messages.{IsMessage}
 use Rattle.pf_state.specs.Peer.Streams.{Reads, Unfinished}
 use Rattle.pf_state.specs.Peer.Written.{Each, message_length, message_bytes}
 use Rattle.pf_state.specs.States.{Stated}
 use Rattle.pf_state.specs.declared.failover.outgoing.TheConstants.{EXPORT_RECORDS}
-use Rattle.pf_state.specs.Failover.Outgoing.{insert_of, told, parts, exported_messages}
+use Rattle.pf_state.specs.Failover.Outgoing.{exported_insert, exported_message, parts, exported_messages}
+use Rattle.pf_state.proofs.RoundTrip.{insert_long}
 
 -- ---- lengths
-
-address_long : (a : Addr) → length (address_bytes a) ≡ 16
-address_long (V4 n) = refl
-address_long (V6 n) = refl
-
-insert_long : (i : PlainInsert) → length (insert_bytes i) ≡ 64
-insert_long i = omega (arith, address_long i.source, address_long i.destination, length-append {A = ℕ})
 
 inserts_long : (xs : List PlainInsert) → length (flat_map insert_bytes xs) ≡ 64 * length xs
 inserts_long [] = refl
 inserts_long (x ∷ xs) = omega (arith, insert_long x, inserts_long xs, length-append (insert_bytes x) (flat_map insert_bytes xs))
 
 -- a header, a group's header, and 64 bytes for each state
-pub told_long : (current : List ℕ) (es : List Stated) → message_length (told current es) ≡ 24 + 64 * length es
+pub told_long : (current : List ℕ) (es : List Stated) → message_length (exported_message current es) ≡ 24 + 64 * length es
 told_long current es =
-    let xs = map (insert_of current) es in
-    omega (arith, inserts_long xs, length-map es (insert_of current), length-append (flat_map insert_bytes xs) [], ap (λ (l : List ℕ). length l) (append-nil (flat_map insert_bytes xs)))
+    let xs = map (exported_insert current) es in
+    omega (arith, inserts_long xs, length-map es (exported_insert current), length-append (flat_map insert_bytes xs) [], ap (λ (l : List ℕ). length l) (append-nil (flat_map insert_bytes xs)))
 
-pub told_fits : (current : List ℕ) (es : List Stated) → length es ≤ EXPORT_RECORDS → message_length (told current es) < 65536
+pub told_fits : (current : List ℕ) (es : List Stated) → length es ≤ EXPORT_RECORDS → message_length (exported_message current es) ≤ 65535
 told_fits current es few = omega (arith, told_long current es)
 
 -- ---- one part after the other
@@ -69,29 +61,29 @@ front_part rest part behind split long some =
     ap parts split ∙ cut_off part behind (subst (λ (l : List Stated). 0 < length l) split some) so_long
 
 pub one_more_part : (current : List ℕ) (rest part behind : List Stated) (before more all : List (List ℕ)) (bytes : List ℕ)
-    → rest ≡ part ++ behind → length part ≡ min 31 (length rest) → 0 < length rest → bytes ≡ message_bytes (told current part) → more ≡ before ++ bytes ∷ []
+    → rest ≡ part ++ behind → length part ≡ min 31 (length rest) → 0 < length rest → bytes ≡ message_bytes (exported_message current part) → more ≡ before ++ bytes ∷ []
     → before ++ map message_bytes (exported_messages current rest) ≡ all → more ++ map message_bytes (exported_messages current behind) ≡ all
 one_more_part current rest part behind before more all bytes split long some written grown so =
     let cut = front_part rest part behind split long some in
-    let now : before ++ (message_bytes (told current part) ∷ map message_bytes (exported_messages current behind)) ≡ all =
-    ap (λ (ps : List (List Stated)). before ++ map message_bytes (map (told current) ps)) (sym cut) ∙ so in
+    let now : before ++ (message_bytes (exported_message current part) ∷ map message_bytes (exported_messages current behind)) ≡ all =
+    ap (λ (ps : List (List Stated)). before ++ map message_bytes (map (exported_message current) ps)) (sym cut) ∙ so in
     rw (grown, append_assoc, written) now
 
 pub all_parts : (current : List ℕ) (rest : List Stated) (before all : List (List ℕ)) → length rest ≡ 0
     → before ++ map message_bytes (exported_messages current rest) ≡ all → before ≡ all
 all_parts current rest before all none so =
-    let cut : before ++ [] ≡ all = ap (λ (ps : List (List Stated)). before ++ map message_bytes (map (told current) ps)) (sym (no_part rest none)) ∙ so in
+    let cut : before ++ [] ≡ all = ap (λ (ps : List (List Stated)). before ++ map message_bytes (map (exported_message current) ps)) (sym (no_part rest none)) ∙ so in
     sym (append-nil before) ∙ cut
 
 -- ---- each message is read from its bytes
 
 abbrev pub IsRead : List ℕ → List Stated → Type 0
-IsRead current part = IsMessage (message_bytes (told current part)) (told current part)
+IsRead current part = IsMessage (message_bytes (exported_message current part)) (exported_message current part)
 
 -- where those of what follows a part are, and the part's is, all are
 pub one_read_more : (current : List ℕ) (rest part behind : List Stated) (bytes : List ℕ) (All : Type 0)
-    → rest ≡ part ++ behind → length part ≡ min 31 (length rest) → 0 < length rest → bytes ≡ message_bytes (told current part)
-    → IsMessage bytes (told current part) → (Each (IsRead current) (parts rest) → All) → Each (IsRead current) (parts behind) → All
+    → rest ≡ part ++ behind → length part ≡ min 31 (length rest) → 0 < length rest → bytes ≡ message_bytes (exported_message current part)
+    → IsMessage bytes (exported_message current part) → (Each (IsRead current) (parts rest) → All) → Each (IsRead current) (parts behind) → All
 one_read_more current rest part behind bytes All split long some written is so are =
     so (rw (front_part rest part behind split long some) (rw written at is, are))
 
@@ -100,11 +92,11 @@ all_read current rest All none so = so (rw (no_part rest none) tt)
 
 -- and they are read one after the other, with nothing left
 pub read_in_turn : (current : List ℕ) (ps : List (List Stated)) → Each (IsRead current) ps
-    → Reads (concat (map message_bytes (map (told current) ps))) (map (told current) ps) (Unfinished [])
+    → Reads (concat (map message_bytes (map (exported_message current) ps))) (map (exported_message current) ps) (Unfinished [])
 read_in_turn current [] each = (refl, tt)
 read_in_turn current (p ∷ ps) each = (
-  message_bytes (told current p),
-  concat (map message_bytes (map (told current) ps)),
+  message_bytes (exported_message current p),
+  concat (map message_bytes (map (exported_message current) ps)),
   refl,
   each.0,
   read_in_turn current ps each.1,

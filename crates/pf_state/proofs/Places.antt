@@ -3,8 +3,7 @@ use Rattle.std.proofs.Common.{◌≡◌, ℕ, zero, suc, ◌<◌, ◌≤◌, ◌
 use Rattle.std.proofs.lemmas.Cmp.{tied_itself}
 use Rattle.std.proofs.lemmas.List.Sorted.{searchable_from_sorted}
 use Rattle.std.proofs.Math.ListN.{set}
-use Rattle.std.specs.declared.cmp.Ordering.{Ordering}
-use Rattle.std.specs.declared.cmp.Ordering.TheVariants.{Less, Equal, Greater}
+use Rattle.std.specs.declared.{cmp.Ordering.Ordering, cmp.Ordering.TheVariants.Less, cmp.Ordering.TheVariants.Equal, cmp.Ordering.TheVariants.Greater}
 use Rattle.std.specs.FinMap.{put, is_sorted}
 use Rattle.std.specs.FinMap.Entries.{below_all}
 use Rattle.std.specs.List.{HoldsAt, insert, remove}
@@ -12,8 +11,7 @@ use Rattle.std.specs.List.Sorted.{IsBinarySearchResult, IsNonDecreasingBy, IsPar
 use Rattle.std.specs.Prelude.{Result, Ok, Err, IfOk, IfErr}
 use Rattle.std.specs.Ordering.{is_eq, is_lt, ordering_index, ordering_reverse}
 use Rattle.pf_table.specs.Map.Maps.{with_value}
-use Rattle.pf_state.specs.declared.state.Held.{Held}
-use Rattle.pf_state.specs.declared.state.StateName.{StateName}
+use Rattle.pf_state.specs.declared.{state.Held.Held, state.StateName.StateName}
 use Rattle.pf_state.specs.States.{Stated, name_order, held_at}
 use Rattle.pf_state.specs.Steps.{without_state}
 use Rattle.pf_state.proofs.Names.{name_total, name_alike, same_itself}

@@ -2,16 +2,13 @@
 use Rattle.std.proofs.Common.{◌≡◌, ◌<◌, ◌^◌, ℕ, zero, suc, List, [], ◌∷◌, length, map, take, drop, cond, Bool, true, false, arith}
 use Rattle.std.specs.Str.{bytes_eq}
 use Rattle.std.proofs.lemmas.List.{length-take}
-use Rattle.pf_state.specs.declared.peer.message.Message.{Message}
+use Rattle.pf_state.specs.declared.{peer.message.Message.Message, binding.TheConstants.ALL_ONES, state.Bound.Bound, state.Bound.TheVariants.Rule, state.Bound.TheVariants.Default}
 use Rattle.pf_state.specs.Peer.Messages.{IsMessage}
 use Rattle.pf_state.specs.Peer.Records.{IsInsert}
 use Rattle.pf_state.specs.Peer.Written.{Each, message_bytes, CanBeWritten}
-use Rattle.pf_state.specs.declared.binding.TheConstants.{ALL_ONES}
-use Rattle.pf_state.specs.declared.state.Bound.{Bound}
-use Rattle.pf_state.specs.declared.state.Bound.TheVariants.{Rule, Default}
 use Rattle.pf_state.specs.Bindings.{exported}
 use Rattle.pf_state.specs.States.{Stated}
-use Rattle.pf_state.specs.Failover.Outgoing.{insert_of, told, parts}
+use Rattle.pf_state.specs.Failover.Outgoing.{exported_insert, exported_message, parts}
 use Rattle.pf_state.specs.Failover.Laws.{IsBound, IsState, IsReadBack}
 use Rattle.pf_state.proofs.Cut.{by_parts}
 use Rattle.pf_state.proofs.Parts.{told_fits, IsRead, read_in_turn}
@@ -33,7 +30,7 @@ rule_fits current (Rule number sum) is = by (bytes_eq sum current) where
   by true = is
   by false = omega arith
 
-is_insert : (current : List ℕ) (s : Stated) → IsState s → IsInsert (insert_of current s)
+is_insert : (current : List ℕ) (s : Stated) → IsState s → IsInsert (exported_insert current s)
 is_insert current s is = record {
   id = is.id;
   creator = is.creator;
@@ -49,19 +46,19 @@ is_insert current s is = record {
   anchor = omega arith;
 }
 
-are_inserts : (current : List ℕ) (es : List Stated) → Each IsState es → Each IsInsert (map (insert_of current) es)
+pub are_inserts : (current : List ℕ) (es : List Stated) → Each IsState es → Each IsInsert (map (exported_insert current) es)
 are_inserts current [] each = tt
 are_inserts current (s ∷ es) each = (is_insert current s each.0, are_inserts current es each.1)
 
-can_be_written : (current : List ℕ) (es : List Stated) → length current ≡ 16 → Each IsState es → CanBeWritten (told current (take 31 es))
+can_be_written : (current : List ℕ) (es : List Stated) → length current ≡ 16 → Each IsState es → CanBeWritten (exported_message current (take 31 es))
 can_be_written current es long each = record {
   checksum = long;
   groups = (are_inserts current (take 31 es) (each_take 31 es each), tt);
-  fits = told_fits current (take 31 es) (omega (arith, length-take 31 es));
+  fits = omega (arith, told_fits current (take 31 es) (omega (arith, length-take 31 es)));
 }
 
 pub read_back : ((m : Message) → CanBeWritten m → IsMessage (message_bytes m) m) → IsReadBack
 read_back again current es long each =
     let each_read = by_parts (λ fs ps. Each IsState fs → Each (IsRead current) ps) (λ none. tt)
-    (λ fs some rest are. (again (told current (take 31 fs)) (can_be_written current fs long are), rest (each_drop 31 fs are))) es each in
+    (λ fs some rest are. (again (exported_message current (take 31 fs)) (can_be_written current fs long are), rest (each_drop 31 fs are))) es each in
     read_in_turn current (parts es) each_read

@@ -6,19 +6,13 @@ use Rattle.std.proofs.lemmas.List.{take_at, drop_at}
 use Rattle.std.proofs.lemmas.Bool.Decides.{nat_tests}
 use Rattle.byteorder.specs.Numbers.{big_number-reads_back}
 use Rattle.byteorder.specs.Endian.{big_bytes}
-use Rattle.pf_addr.specs.declared.addr.Addr.{Addr}
-use Rattle.pf_addr.specs.declared.addr.Addr.TheVariants.{V4, V6}
+use Rattle.pf_addr.specs.declared.{addr.Addr.Addr, addr.Addr.TheVariants.V4, addr.Addr.TheVariants.V6}
 use Rattle.pf_addr.specs.declared.addr.Family.TheVariants as family
+use Rattle.pf_rule.specs.Bytes.{number_at, direction_byte, addr_bytes-length}
 use Rattle.pf_rule.specs.Value.Values.{has_ports}
-use Rattle.pf_rule.specs.declared.value.direction.Direction.{Direction}
-use Rattle.pf_rule.specs.declared.value.direction.Direction.TheVariants.{In, Out}
-use Rattle.pf_state.specs.declared.peer.message.Group.{Group}
-use Rattle.pf_state.specs.declared.peer.message.Group.TheVariants.{Inserts, Deletes, Clears}
-use Rattle.pf_state.specs.declared.peer.message.Message.{Message}
-use Rattle.pf_state.specs.declared.peer.record.TheConstants.{RECORD}
-use Rattle.pf_state.specs.declared.peer.record.Delete.{Delete}
-use Rattle.pf_state.specs.declared.peer.record.Clear.{Clear}
-use Rattle.pf_state.specs.Peer.Records.{PlainInsert, IsInsert, number_at, allowed, fields_of, insert_of, delete_of, clear_of, address_bytes, insert_bytes, delete_bytes, clear_bytes}
+use Rattle.pf_rule.specs.declared.{value.direction.Direction.Direction, value.direction.Direction.TheVariants.In, value.direction.Direction.TheVariants.Out}
+use Rattle.pf_state.specs.declared.{peer.message.Group.Group, peer.message.Group.TheVariants.Inserts, peer.message.Group.TheVariants.Deletes, peer.message.Group.TheVariants.Clears, peer.message.Message.Message, peer.record.TheConstants.RECORD, peer.record.Delete.Delete, peer.record.Clear.Clear}
+use Rattle.pf_state.specs.Peer.Records.{PlainInsert, IsInsert, allowed, fields_of, direction_of, insert_of, delete_of, clear_of, insert_bytes, delete_bytes, clear_bytes}
 use Rattle.pf_state.specs.Peer.Groups.{records_of, content, is_action, group_at, AreGroups}
 use Rattle.pf_state.specs.Peer.Messages.{IsMessage}
 use Rattle.pf_state.proofs.Appended.{few_inserts, few_deletes, few_clears}
@@ -39,18 +33,8 @@ clear_again : (c : Clear) → IsClear c → Again clear_of clear_bytes c
 unfolding number_at
 clear_again c is = record { read = rw (big_number-reads_back 4 c.creator _ is) refl; long = refl }
 
-address_long : (a : Addr) → length (address_bytes a) ≡ 16
-address_long (V4 n) = refl
-address_long (V6 n) = refl
-
-insert_long : (i : PlainInsert) → length (insert_bytes i) ≡ RECORD
-insert_long i = omega (
-  arith,
-  length-append (address_bytes i.source) (address_bytes i.destination ++ (big_bytes 2 i.source_port ++ (big_bytes 2 i.destination_port ++ (big_bytes 4 i.rule ++ big_bytes 4 i.anchor)))),
-  length-append (address_bytes i.destination) (big_bytes 2 i.source_port ++ (big_bytes 2 i.destination_port ++ (big_bytes 4 i.rule ++ big_bytes 4 i.anchor))),
-  address_long i.source,
-  address_long i.destination,
-)
+pub insert_long : (i : PlainInsert) → length (insert_bytes i) ≡ 64
+insert_long i = omega (arith, addr_bytes-length i.source, addr_bytes-length i.destination, length-append {A = ℕ})
 
 -- an insert with these fields
 abbrev with_fields : ℕ → ℕ → ℕ → Direction → ℕ → Addr → Addr → ℕ → ℕ → ℕ → ℕ → PlainInsert
@@ -75,19 +59,25 @@ ports_again : (b : Bool) (m n : ℕ) → (b ≡ false → (m ≡ 0) × (n ≡ 0)
 ports_again true m n none = refl
 ports_again false m n none = rw ((none refl).0, (none refl).1) refl
 
+direction_again : (d : Direction) → direction_of (direction_byte d) ≡ d
+direction_again In = refl
+direction_again Out = refl
+
+direction_stands : (d : Direction) → ((direction_byte d == 1) || (direction_byte d == 2)) ≡ true
+direction_stands In = refl
+direction_stands Out = refl
+
 -- it may stand in a record
 allowed_again : (id creator generation : ℕ) (direction : Direction) (protocol : ℕ) (source destination : Addr) (source_port destination_port rule anchor : ℕ)
     → IsInsert (with_fields id creator generation direction protocol source destination source_port destination_port rule anchor)
     → allowed (insert_bytes (with_fields id creator generation direction protocol source destination source_port destination_port rule anchor)) ≡ true
 unfolding allowed number_at
-allowed_again id creator generation In protocol (V4 s) (V4 d) source_port destination_port rule anchor is =
-    rw (not_zero protocol is.protocol.0, big_number-reads_back 2 source_port _ is.source_port, big_number-reads_back 2 destination_port _ is.destination_port) (ports_again (has_ports protocol) source_port destination_port is.no_ports)
-allowed_again id creator generation Out protocol (V4 s) (V4 d) source_port destination_port rule anchor is =
-    rw (not_zero protocol is.protocol.0, big_number-reads_back 2 source_port _ is.source_port, big_number-reads_back 2 destination_port _ is.destination_port) (ports_again (has_ports protocol) source_port destination_port is.no_ports)
-allowed_again id creator generation In protocol (V6 s) (V6 d) source_port destination_port rule anchor is =
-    rw (not_zero protocol is.protocol.0, big_number-reads_back 2 source_port _ is.source_port, big_number-reads_back 2 destination_port _ is.destination_port) (ports_again (has_ports protocol) source_port destination_port is.no_ports)
-allowed_again id creator generation Out protocol (V6 s) (V6 d) source_port destination_port rule anchor is =
-    rw (not_zero protocol is.protocol.0, big_number-reads_back 2 source_port _ is.source_port, big_number-reads_back 2 destination_port _ is.destination_port) (ports_again (has_ports protocol) source_port destination_port is.no_ports)
+allowed_again id creator generation direction protocol (V4 s) (V4 d) source_port destination_port rule anchor is =
+    rw (direction_stands direction, not_zero protocol is.protocol.0, big_number-reads_back 2 source_port _ is.source_port, big_number-reads_back 2 destination_port _ is.destination_port)
+    (ports_again (has_ports protocol) source_port destination_port is.no_ports)
+allowed_again id creator generation direction protocol (V6 s) (V6 d) source_port destination_port rule anchor is =
+    rw (direction_stands direction, not_zero protocol is.protocol.0, big_number-reads_back 2 source_port _ is.source_port, big_number-reads_back 2 destination_port _ is.destination_port)
+    (ports_again (has_ports protocol) source_port destination_port is.no_ports)
 allowed_again id creator generation direction protocol (V4 s) (V6 d) source_port destination_port rule anchor is = let e : family.V4 ≡ family.V6 = is.families in cc
 allowed_again id creator generation direction protocol (V6 s) (V4 d) source_port destination_port rule anchor is = let e : family.V6 ≡ family.V4 = is.families in cc
 
@@ -96,8 +86,9 @@ fields_again : (id creator generation : ℕ) (direction : Direction) (protocol :
     → fields_of (insert_bytes (with_fields id creator generation direction protocol source destination source_port destination_port rule anchor))
     ≡ with_fields id creator generation direction protocol source destination source_port destination_port rule anchor
 unfolding fields_of number_at
-fields_again id creator generation In protocol (V4 s) (V4 d) source_port destination_port rule anchor is =
+fields_again id creator generation direction protocol (V4 s) (V4 d) source_port destination_port rule anchor is =
     rw (
+      direction_again direction,
       big_number-reads_back 8 id _ is.id,
       big_number-reads_back 4 creator _ is.creator,
       big_number-reads_back 4 generation _ is.generation,
@@ -108,32 +99,9 @@ fields_again id creator generation In protocol (V4 s) (V4 d) source_port destina
       big_number-reads_back 4 rule _ is.rule,
       big_number-reads_back 4 anchor [] is.anchor,
     ) refl
-fields_again id creator generation Out protocol (V4 s) (V4 d) source_port destination_port rule anchor is =
+fields_again id creator generation direction protocol (V6 s) (V6 d) source_port destination_port rule anchor is =
     rw (
-      big_number-reads_back 8 id _ is.id,
-      big_number-reads_back 4 creator _ is.creator,
-      big_number-reads_back 4 generation _ is.generation,
-      big_number-reads_back 4 s _ is.source,
-      big_number-reads_back 4 d _ is.destination,
-      big_number-reads_back 2 source_port _ is.source_port,
-      big_number-reads_back 2 destination_port _ is.destination_port,
-      big_number-reads_back 4 rule _ is.rule,
-      big_number-reads_back 4 anchor [] is.anchor,
-    ) refl
-fields_again id creator generation In protocol (V6 s) (V6 d) source_port destination_port rule anchor is =
-    rw (
-      big_number-reads_back 8 id _ is.id,
-      big_number-reads_back 4 creator _ is.creator,
-      big_number-reads_back 4 generation _ is.generation,
-      big_number-reads_back 16 s _ is.source,
-      big_number-reads_back 16 d _ is.destination,
-      big_number-reads_back 2 source_port _ is.source_port,
-      big_number-reads_back 2 destination_port _ is.destination_port,
-      big_number-reads_back 4 rule _ is.rule,
-      big_number-reads_back 4 anchor [] is.anchor,
-    ) refl
-fields_again id creator generation Out protocol (V6 s) (V6 d) source_port destination_port rule anchor is =
-    rw (
+      direction_again direction,
       big_number-reads_back 8 id _ is.id,
       big_number-reads_back 4 creator _ is.creator,
       big_number-reads_back 4 generation _ is.generation,

@@ -4,16 +4,8 @@ use Rattle.std.specs.Prelude.{nat_lt}
 use Rattle.std.proofs.lemmas.Bool.{cases_eq, cases_lt}
 use Rattle.std.proofs.lemmas.Bool.Decides.{nat_tests}
 use Rattle.std.proofs.lemmas.List.{take-append-drop, length-take-le}
-use Rattle.pf_state.specs.declared.peer.fault.PeerFault.{PeerFault}
-use Rattle.pf_state.specs.declared.peer.fault.PeerFault.TheVariants.{BadVersion, BadLength, BadAction}
-use Rattle.pf_state.specs.declared.peer.fault.OneFault.{OneFault}
-use Rattle.pf_state.specs.declared.peer.message.Group.{Group}
-use Rattle.pf_state.specs.declared.peer.message.Message.{Message}
-use Rattle.pf_state.specs.declared.peer.message.TheConstants.{VERSION}
-use Rattle.pf_state.specs.declared.peer.stream.TheConstants.{HEADER}
-use Rattle.pf_state.specs.declared.peer.stream.Front.{Front}
-use Rattle.pf_state.specs.declared.peer.stream.Front.TheVariants.{Partial, Whole, Bad}
-use Rattle.pf_state.specs.Peer.Records.{number_at, byte_at}
+use Rattle.pf_state.specs.declared.{peer.fault.PeerFault.PeerFault, peer.fault.PeerFault.TheVariants.BadVersion, peer.fault.PeerFault.TheVariants.BadLength, peer.fault.PeerFault.TheVariants.BadAction, peer.fault.OneFault.OneFault, peer.message.Group.Group, peer.message.Message.Message, peer.message.TheConstants.VERSION, peer.stream.TheConstants.HEADER, peer.stream.Front.Front, peer.stream.Front.TheVariants.Partial, peer.stream.Front.TheVariants.Whole, peer.stream.Front.TheVariants.Bad}
+use Rattle.pf_rule.specs.Bytes.{number_at, byte_at}
 use Rattle.pf_state.specs.Peer.Groups.{group_at, content, is_action, size_at, ◌>>=◌, AreGroups, BreakBehind}
 use Rattle.pf_state.specs.Peer.Messages.{IsWhole, IsJudged}
 use Rattle.pf_state.specs.Peer.Streams.{Ending, Unfinished, Faulty, Reads, IsFront}

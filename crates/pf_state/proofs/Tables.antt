@@ -2,20 +2,14 @@
 use Rattle.std.proofs.Common.{◌≡◌, ℕ, zero, suc, ◌≤◌, Bool, true, false, not, ◌&&◌, ◌||◌, cond, T, List, [], ◌∷◌, length, take, Option, Some, None, is_some, refl, sym, ap, ◌∙◌, subst, true≢false, arith}
 use Rattle.std.specs.Prelude.{◌==◌}
 use Rattle.std.proofs.lemmas.Bool.Decides.{nat_tests}
-use Rattle.std.specs.declared.cmp.Ordering.{Ordering}
-use Rattle.std.specs.declared.cmp.Ordering.TheVariants.{Less, Equal, Greater}
+use Rattle.std.specs.declared.{cmp.Ordering.Ordering, cmp.Ordering.TheVariants.Less, cmp.Ordering.TheVariants.Equal, cmp.Ordering.TheVariants.Greater}
 use Rattle.std.specs.FinMap.{is_sorted}
 use Rattle.std.specs.FinMap.Entries.{is_sorted-where_key, below_all}
 use Rattle.std.specs.Option.{unwrap_or}
 use Rattle.std.specs.Ordering.{eq_by_cmp, is_eq, is_lt}
 use Rattle.pf_table.specs.Map.Maps.{with_value}
 use Rattle.pf_table.proofs.Maps.{stays_sorted}
-use Rattle.pf_state.specs.declared.limits.TheConstants.{STATE_LIMIT}
-use Rattle.pf_state.specs.declared.state.Held.{Held}
-use Rattle.pf_state.specs.declared.state.StateName.{StateName}
-use Rattle.pf_state.specs.declared.step.Insertion.TheVariants.{Stale, Clash, Replaced, New}
-use Rattle.pf_state.specs.declared.step.Step.{Step}
-use Rattle.pf_state.specs.declared.step.Step.TheVariants.{Insert, Delete, Clear}
+use Rattle.pf_state.specs.declared.{limits.TheConstants.STATE_LIMIT, state.Held.Held, state.StateName.StateName, step.Insertion.TheVariants.Stale, step.Insertion.TheVariants.Clash, step.Insertion.TheVariants.Replaced, step.Insertion.TheVariants.New, step.Step.Step, step.Step.TheVariants.Insert, step.Step.TheVariants.Delete, step.Step.TheVariants.Clear}
 use Rattle.pf_state.specs.Flows.{PlainFlow, same_flow}
 use Rattle.pf_state.specs.States.{Stated, name_order, held_at, state_of, NamesFlows}
 use Rattle.pf_state.specs.Steps.{is_stale, is_clash, insertion, has_effect, without_creator, without_state, stepped, after, is_over, passes_limit}

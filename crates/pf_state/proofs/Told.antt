@@ -6,15 +6,11 @@ use Rattle.std.specs.Str.{bytes_eq}
 use Rattle.std.proofs.lemmas.Bool.Decides.{nat_tests}
 use Rattle.std.proofs.lemmas.List.{append-nil, map-append, take-append-drop}
 use Rattle.std.proofs.lemmas.Slice.Eq.{bytes_eq-Decides}
-use Rattle.pf_state.specs.declared.binding.TheConstants.{ALL_ONES}
-use Rattle.pf_state.specs.declared.state.Bound.{Bound}
-use Rattle.pf_state.specs.declared.state.Bound.TheVariants.{Rule, Default}
-use Rattle.pf_state.specs.declared.step.Step.{Step}
-use Rattle.pf_state.specs.declared.step.Step.TheVariants.{Insert}
+use Rattle.pf_state.specs.declared.{binding.TheConstants.ALL_ONES, state.Bound.Bound, state.Bound.TheVariants.Rule, state.Bound.TheVariants.Default, step.Step.Step, step.Step.TheVariants.Insert}
 use Rattle.pf_state.specs.Bindings.{bound, exported}
 use Rattle.pf_state.specs.States.{Stated}
 use Rattle.pf_state.specs.Failover.Incoming.{insert_step, steps_of}
-use Rattle.pf_state.specs.Failover.Outgoing.{insert_of, told, parts}
+use Rattle.pf_state.specs.Failover.Outgoing.{exported_insert, exported_message, parts}
 use Rattle.pf_state.specs.Failover.Laws.{bound_there, state_there, TellsTheStates}
 use Rattle.pf_state.proofs.Cut.{by_parts}
 
@@ -43,25 +39,25 @@ bound_again ours theirs count few (Rule number sum) = by (bytes_eq sum ours) ref
       ∙ ap (λ (l : List ℕ). cond (bytes_eq ours theirs && nat_lt number count) (Rule number l) Default) (sym (same_bytes sum ours same))
   by false other = no_rule ours theirs count
 
-step_again : (ours theirs : List ℕ) (count : ℕ) → count ≤ ALL_ONES → (s : Stated) → insert_step ours theirs count (insert_of ours s) ≡ Insert (state_there ours theirs count s)
+step_again : (ours theirs : List ℕ) (count : ℕ) → count ≤ ALL_ONES → (s : Stated) → insert_step ours theirs count (exported_insert ours s) ≡ Insert (state_there ours theirs count s)
 step_again ours theirs count few s =
     ap (λ (b : Bound). Insert (s.0, record { generation = s.1.generation; flow = s.1.flow; bound = b })) (bound_again ours theirs count few s.1.bound)
 
 steps_again : (ours theirs : List ℕ) (count : ℕ) → count ≤ ALL_ONES → (es : List Stated)
-    → map (insert_step ours theirs count) (map (insert_of ours) es) ≡ map (λ s. Insert (state_there ours theirs count s)) es
+    → map (insert_step ours theirs count) (map (exported_insert ours) es) ≡ map (λ s. Insert (state_there ours theirs count s)) es
 steps_again ours theirs count few [] = refl
 steps_again ours theirs count few (s ∷ es) = rw (step_again ours theirs count few s, steps_again ours theirs count few es) refl
 
 message_again : (ours theirs : List ℕ) (count : ℕ) → count ≤ ALL_ONES → (es : List Stated)
-    → steps_of (told ours es) theirs count ≡ map (λ s. Insert (state_there ours theirs count s)) es
-message_again ours theirs count few es = append-nil (map (insert_step ours theirs count) (map (insert_of ours) es)) ∙ steps_again ours theirs count few es
+    → steps_of (exported_message ours es) theirs count ≡ map (λ s. Insert (state_there ours theirs count s)) es
+message_again ours theirs count few es = append-nil (map (insert_step ours theirs count) (map (exported_insert ours) es)) ∙ steps_again ours theirs count few es
 
 pub tells_the_states : TellsTheStates
 tells_the_states ours theirs count es few =
     let insert : Stated → Step = λ s. Insert (state_there ours theirs count s) in
-    by_parts (λ fs ps. flat_map (λ m. steps_of m theirs count) (map (told ours) ps) ≡ map insert fs) refl
+    by_parts (λ fs ps. flat_map (λ m. steps_of m theirs count) (map (exported_message ours) ps) ≡ map insert fs) refl
     (λ fs some rest.
-    ap (λ (l : List Step). l ++ flat_map (λ m. steps_of m theirs count) (map (told ours) (parts (drop 31 fs)))) (message_again ours theirs count few (take 31 fs))
+    ap (λ (l : List Step). l ++ flat_map (λ m. steps_of m theirs count) (map (exported_message ours) (parts (drop 31 fs)))) (message_again ours theirs count few (take 31 fs))
     ∙ ap (λ (l : List Step). map insert (take 31 fs) ++ l) rest
     ∙ sym (map-append insert (take 31 fs) (drop 31 fs))
     ∙ ap (map insert) (take-append-drop 31 fs))

@@ -1,10 +1,8 @@
 -- Flows: what a state is looked for by (pf.conf(5)). That the interface is no part of a flow is own.
 use Rattle.std.specs.Prelude.{◌≡◌, ◌<◌, ◌==◌, ◌&&◌, ◌||◌, Bool, false}
-use Rattle.pf_addr.specs.declared.addr.Addr.{Addr}
-use Rattle.pf_addr.specs.declared.addr.Addr.TheVariants.{V4, V6}
+use Rattle.pf_addr.specs.declared.{addr.Addr.Addr, addr.Addr.TheVariants.V4, addr.Addr.TheVariants.V6}
 use Rattle.pf_addr.specs.Address.{family_of, same_family, IsAddr}
-use Rattle.pf_rule.specs.declared.value.direction.Direction.{Direction}
-use Rattle.pf_rule.specs.declared.value.direction.Direction.TheVariants.{In, Out}
+use Rattle.pf_rule.specs.declared.{value.direction.Direction.Direction, value.direction.Direction.TheVariants.In, value.direction.Direction.TheVariants.Out}
 use Rattle.pf_rule.specs.Value.Values.{IsProtocol, has_ports}
 use Rattle.pf_rule.specs.Value.Tests.{same_direction}
 use Rattle.pf_rule.specs.Packets.{PlainPacket}
@@ -24,7 +22,8 @@ pub record IsFlow (f : PlainFlow) : Type 0 where
 
 -- the same as a test, of fields that are each of their type
 abbrev pub is_flow : PlainFlow → Bool
-is_flow f = same_family (family_of f.source) (family_of f.destination) && (has_ports f.protocol || (f.source_port == 0) && (f.destination_port == 0))
+is_flow f = same_family (family_of f.source) (family_of f.destination)
+    && (has_ports f.protocol || (f.source_port == 0) && (f.destination_port == 0))
 
 -- a packet's flow: all of the packet but its interface
 abbrev pub flow_of : PlainPacket → PlainFlow

@@ -3,14 +3,7 @@ use Rattle.std.specs.Prelude.{◌≡◌, ◌≢◌, ℕ, ◌+◌, ◌<◌, ◌�
 use Rattle.std.specs.List.{count_by}
 use Rattle.std.specs.Ordering.{eq_by_cmp}
 use Rattle.pf_rule.specs.Packets.{PlainPacket}
-use Rattle.pf_state.specs.declared.binding.TheConstants.{ALL_ONES}
-use Rattle.pf_state.specs.declared.limits.TheConstants.{STATE_LIMIT}
-use Rattle.pf_state.specs.declared.state.Bound.TheVariants.{Rule, Default}
-use Rattle.pf_state.specs.declared.state.Held.{Held}
-use Rattle.pf_state.specs.declared.state.StateName.{StateName}
-use Rattle.pf_state.specs.declared.step.Insertion.TheVariants.{Stale}
-use Rattle.pf_state.specs.declared.step.Step.{Step}
-use Rattle.pf_state.specs.declared.step.Step.TheVariants.{Insert, Delete, Clear}
+use Rattle.pf_state.specs.declared.{binding.TheConstants.ALL_ONES, limits.TheConstants.STATE_LIMIT, state.Bound.TheVariants.Rule, state.Bound.TheVariants.Default, state.Held.Held, state.StateName.StateName, step.Insertion.TheVariants.Stale, step.Step.Step, step.Step.TheVariants.Insert, step.Step.TheVariants.Delete, step.Step.TheVariants.Clear}
 use Rattle.pf_state.specs.Flows.{PlainFlow, is_equal, turned, same_flow, flow_of}
 use Rattle.pf_state.specs.States.{Stated, name_order, held_at, state_of, NamesFlows, IsStates}
 use Rattle.pf_state.specs.Steps.{insertion, has_effect, stepped, after, counts, passes_limit}
@@ -32,7 +25,8 @@ OneFlowOrAnother = (f g h : PlainFlow) → FlowsAlike f g h
 
 -- packets that differ in their interface alone are of one flow
 abbrev pub InterfaceIsNoPart : Type 0
-InterfaceIsNoPart = (p q : PlainPacket) → p.direction ≡ q.direction → p.protocol ≡ q.protocol → p.source ≡ q.source → p.source_port ≡ q.source_port → p.destination ≡ q.destination → p.destination_port ≡ q.destination_port → flow_of p ≡ flow_of q
+InterfaceIsNoPart = (p q : PlainPacket) → p.direction ≡ q.direction → p.protocol ≡ q.protocol → p.source ≡ q.source
+    → p.source_port ≡ q.source_port → p.destination ≡ q.destination → p.destination_port ≡ q.destination_port → flow_of p ≡ flow_of q
 
 -- ---- the state of a flow
 
@@ -57,11 +51,13 @@ KeepsWhatIsThere = (es : List Stated) (s : Stated) → has_effect (insertion es 
 
 -- an insert of a known name is stale exactly where its generation isn't greater, whatever its flow
 abbrev pub StaleByGeneration : Type 0
-StaleByGeneration = (es : List Stated) (s : Stated) (there : Held) → held_at s.0 es ≡ Some there → (insertion es s ≡ Stale) ↔ (s.1.generation ≤ there.generation)
+StaleByGeneration = (es : List Stated) (s : Stated) (there : Held) → held_at s.0 es ≡ Some there
+    → (insertion es s ≡ Stale) ↔ (s.1.generation ≤ there.generation)
 
 -- under each name what a step leaves: an insert that has effect what it holds, a delete and a clear nothing, whatever the generation
 pub record StepsRead (es : List Stated) (q : StateName) : Type 0 where
-  pub insert : (s : Stated) → held_at q (stepped es (Insert s)) ≡ cond (has_effect (insertion es s) && eq_by_cmp name_order q s.0) (Some s.1) (held_at q es)
+  pub insert : (s : Stated)
+      → held_at q (stepped es (Insert s)) ≡ cond (has_effect (insertion es s) && eq_by_cmp name_order q s.0) (Some s.1) (held_at q es)
   pub delete : (n : StateName) → held_at q (stepped es (Delete n)) ≡ cond (eq_by_cmp name_order q n) None (held_at q es)
   pub clear : (creator : ℕ) → held_at q (stepped es (Clear creator)) ≡ cond (q.creator == creator) None (held_at q es)
 
@@ -98,7 +94,8 @@ StaysStates = (es : List Stated) (steps : List Step) → LeavesStates es steps
 
 -- a batch isn't refused exactly where, behind each front of it, there are no more states than there may be
 abbrev pub RefusedByAnyStep : Type 0
-RefusedByAnyStep = (es : List Stated) (steps : List Step) → IsStates es → (passes_limit es steps ≡ false) ↔ ((k : ℕ) → length (after es (take k steps)) ≤ STATE_LIMIT)
+RefusedByAnyStep = (es : List Stated) (steps : List Step) → IsStates es
+    → (passes_limit es steps ≡ false) ↔ ((k : ℕ) → length (after es (take k steps)) ≤ STATE_LIMIT)
 
 -- ---- what is counted
 
@@ -109,7 +106,7 @@ is_insert (Clear creator) = false
 
 -- each insert is counted once, and the states grow and shrink as is counted
 pub record AddsUp (es : List Stated) (steps : List Step) : Type 0 where
-  pub inserts : (counts es steps).inserted + ((counts es steps).replaced + ((counts es steps).stale + (counts es steps).clash)) ≡ count_by is_insert steps
+  pub inserts : let c = counts es steps in c.inserted + (c.replaced + (c.stale + c.clash)) ≡ count_by is_insert steps
   pub states : length (after es steps) + (counts es steps).deleted ≡ length es + (counts es steps).inserted
 
 abbrev pub CountsAddUp : Type 0
@@ -127,8 +124,11 @@ pub record BindsByRules (sum : List ℕ) (rule anchor : ℕ) (current : List ℕ
   pub its_sum : kept ≡ sum
 
 abbrev pub BindsExactly : Type 0
-BindsExactly = (sum : List ℕ) (rule anchor : ℕ) (current : List ℕ) (count number : ℕ) (kept : List ℕ) → (bound sum rule anchor current count ≡ Rule number kept) ↔ BindsByRules sum rule anchor current count number kept
+BindsExactly = (sum : List ℕ) (rule anchor : ℕ) (current : List ℕ) (count number : ℕ) (kept : List ℕ)
+    → (bound sum rule anchor current count ≡ Rule number kept) ↔ BindsByRules sum rule anchor current count number kept
 
 -- what is bound here and told while the same rules stand is the number that it came with
 abbrev pub TellsTheNumber : Type 0
-TellsTheNumber = (sum : List ℕ) (rule anchor : ℕ) (current later : List ℕ) (count : ℕ) → (later ≡ current → bound sum rule anchor current count ≢ Default → exported (bound sum rule anchor current count) later ≡ rule) × (later ≢ current → exported (bound sum rule anchor current count) later ≡ ALL_ONES)
+TellsTheNumber = (sum : List ℕ) (rule anchor : ℕ) (current later : List ℕ) (count : ℕ)
+    → let b = bound sum rule anchor current count in
+    (later ≡ current → b ≢ Default → exported b later ≡ rule) × (later ≢ current → exported b later ≡ ALL_ONES)

@@ -5,3 +5,4 @@ pub mod Streams
 pub mod Outcomes
 pub mod One
 pub mod Written
+pub mod Example

@@ -4,9 +4,7 @@ use Rattle.std.specs.declared.cmp.Ordering.{Ordering}
 use Rattle.std.specs.FinMap.{find, is_sorted}
 use Rattle.std.specs.List.{find as first_where}
 use Rattle.std.specs.Ordering.{ordering_then, nat_cmp}
-use Rattle.pf_state.specs.declared.limits.TheConstants.{STATE_LIMIT}
-use Rattle.pf_state.specs.declared.state.Held.{Held}
-use Rattle.pf_state.specs.declared.state.StateName.{StateName}
+use Rattle.pf_state.specs.declared.{limits.TheConstants.STATE_LIMIT, state.Held.Held, state.StateName.StateName}
 use Rattle.pf_state.specs.Flows.{PlainFlow, same_flow}
 
 -- a state: its name, and what is held under it

@@ -5,15 +5,7 @@ use Rattle.std.specs.List.{list_any, count_by}
 use Rattle.std.specs.Option.{option_map_or}
 use Rattle.std.specs.Ordering.{eq_by_cmp}
 use Rattle.pf_table.specs.Map.Maps.{with_value}
-use Rattle.pf_state.specs.declared.counts.Counts.{Counts}
-use Rattle.pf_state.specs.declared.limits.TheConstants.{STATE_LIMIT}
-use Rattle.pf_state.specs.declared.refusal.StatesRefusal.{StatesRefusal}
-use Rattle.pf_state.specs.declared.refusal.StatesRefusal.TheVariants.{StatesFull, Memory}
-use Rattle.pf_state.specs.declared.state.StateName.{StateName}
-use Rattle.pf_state.specs.declared.step.Insertion.{Insertion}
-use Rattle.pf_state.specs.declared.step.Insertion.TheVariants.{Stale, Clash, Replaced, New}
-use Rattle.pf_state.specs.declared.step.Step.{Step}
-use Rattle.pf_state.specs.declared.step.Step.TheVariants.{Insert, Delete, Clear}
+use Rattle.pf_state.specs.declared.{counts.Counts.Counts, limits.TheConstants.STATE_LIMIT, refusal.StatesRefusal.StatesRefusal, refusal.StatesRefusal.TheVariants.StatesFull, refusal.StatesRefusal.TheVariants.Memory, state.StateName.StateName, step.Insertion.Insertion, step.Insertion.TheVariants.Stale, step.Insertion.TheVariants.Clash, step.Insertion.TheVariants.Replaced, step.Insertion.TheVariants.New, step.Step.Step, step.Step.TheVariants.Insert, step.Step.TheVariants.Delete, step.Step.TheVariants.Clear}
 use Rattle.pf_state.specs.Flows.{same_flow}
 use Rattle.pf_state.specs.States.{Stated, name_order, held_at}
 

@@ -1,10 +1,10 @@
 //! Changes of a list of states.
-ghost use Rattle.std.specs.Prelude.{◌≡◌, ◌∷◌, [], nat_le, false, T, IfOk, OnOk, cond, Some};
+ghost use Rattle.std.specs.Prelude.{◌≡◌, ◌∷◌, [], nat_le, false, T, IfOk, OnOk, Some};
 ghost use Rattle.std.specs.FinMap.{is_sorted};
 ghost use Rattle.std.specs.Option.{option_map_or};
 ghost use Rattle.pf_state.specs.Candidates.{AreNamed};
 ghost use Rattle.pf_state.specs.States.{NamesFlows, name_order};
-ghost use Rattle.pf_state.specs.Steps.{insertion, stepped, counted, without_state, without_creator, named_count, creator_count, has_effect, is_over};
+ghost use Rattle.pf_state.specs.Steps.{insertion, stepped, counted, without_state, without_creator, named_count, creator_count, is_over};
 ghost use Rattle.pf_state.specs.declared.step.Step.TheVariants as step_kind;
 ghost use Rattle.pf_table.specs.Map.Maps.{with_value};
 
@@ -74,6 +74,7 @@ fn put(states: &mut Vec<State>, new: State) -> Result<(), AllocError>
 }
 
 // Inserts a state, unless it is stale or clashes.
+#[tactic(auto, unfolding(crate::specs::Steps::stepped))]
 fn insert(
     states: &mut Vec<State>,
     candidates: &[StateName],
@@ -82,7 +83,7 @@ fn insert(
     requires names { NamesFlows states.old.items }
     requires named { AreNamed candidates.now states.old.items (step_kind.Insert new ∷ []) }
     ensures judged { IfOk result (λ j. j ≡ insertion states.old.items new) }
-    ensures after { OnOk result (states.new.items ≡ cond (has_effect (insertion states.old.items new)) (with_value name_order states.old.items new.0 (Some new.1)) states.old.items) }
+    ensures after { OnOk result (states.new.items ≡ stepped states.old.items (step_kind.Insert new)) }
 {
     let judged = judge(states, candidates, &new);
     match judged {
@@ -100,7 +101,7 @@ pub(crate) fn is_over(states: &[State]) -> bool
 }
 
 /// Acts on one step, where the candidates name all states whose flow it inserts. `AllocError`: what the states are then isn't said.
-#[tactic(auto, using(crate::proofs::Counting::shrinks_delete, crate::proofs::Counting::shrinks_clear), unfolding(crate::specs::Steps::stepped, crate::specs::Steps::counted))]
+#[tactic(auto, using(crate::proofs::Counting::shrinks), unfolding(crate::specs::Steps::stepped, crate::specs::Steps::counted))]
 pub(crate) fn act(
     states: &mut Vec<State>,
     candidates: &[StateName],

@@ -136,7 +136,10 @@ impl Flow {
 
     // Whether all but the ports is equal.
     fn same_but_ports(&self, other: &Flow) -> bool
-        ensures { result ≡ same_direction self.now.direction other.now.direction && (self.now.protocol == other.now.protocol) && same_addr self.now.source other.now.source && same_addr self.now.destination other.now.destination }
+        ensures { result ≡ same_direction self.now.direction other.now.direction
+            && (self.now.protocol == other.now.protocol)
+            && same_addr self.now.source other.now.source
+            && same_addr self.now.destination other.now.destination }
     {
         self.0.direction == other.0.direction
             && self.0.protocol == other.0.protocol

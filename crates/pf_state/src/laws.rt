@@ -1,5 +1,18 @@
 //! What follows from the definitions that contracts cite: functions that do nothing, whose contracts are the laws.
+ghost use Rattle.std.specs.Prelude.{◌≡◌};
 ghost use Rattle.pf_state.specs.Laws.{OneFlowOrAnother, InterfaceIsNoPart, OneStateAFlow, KeepsWhatIsThere, StaleByGeneration, ReadsWhatStepsLeave, NamesAlike, LastStepStands, StaysStates, RefusedByAnyStep, CountsAddUp, BindsExactly, TellsTheNumber};
+
+use crate::binding::ALL_ONES;
+use crate::failover::EXPORT_RECORDS;
+use crate::limits::STATE_LIMIT;
+
+/// The numbers that definitions and code cite by name: how many states there may be, what stands for no rule, and how many states a
+/// message of an export tells of. Those of messages are in [`crate::peer::numbers_of_messages_are_these`].
+pub fn numbers_are_these()
+    ensures states { STATE_LIMIT ≡ 65_536 }
+    ensures no_rule { ALL_ONES ≡ 4_294_967_295 }
+    ensures exported { EXPORT_RECORDS ≡ 31 }
+{}
 
 /// Two flows are one where they are equal, or one is the other turned, which is so of each with itself, of both if of one, and of
 /// the first and the third if of the first and the second and of the second and the third. The interface of a packet is no part of
@@ -10,12 +23,14 @@ pub fn flows_are_one_or_another()
 {}
 
 /// In a table at most one state has a flow, and it is the one that is found.
+#[tactic(auto, using(crate::proofs::Tables::one_state_a_flow))]
 pub fn one_state_a_flow()
     ensures { OneStateAFlow }
 {}
 
 /// A stale insert, and one that clashes, changes nothing. A delete takes out what is there whatever its generation, and a clear
 /// exactly one creator's states. Whether an insert of a known name is stale its generation alone says.
+#[tactic(auto, using(crate::proofs::Leaves::keeps_what_is_there, crate::proofs::Leaves::steps_read))]
 pub fn steps_change_what_they_name()
     ensures keeps { KeepsWhatIsThere }
     ensures stale { StaleByGeneration }
@@ -32,6 +47,7 @@ pub fn batches_leave_states()
 {}
 
 /// Each insert is counted once, and the states grow and shrink by what is counted.
+#[tactic(auto, using(crate::proofs::Counting::counts_add_up))]
 pub fn counts_add_up()
     ensures { CountsAddUp }
 {}

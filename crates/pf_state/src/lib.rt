@@ -1,4 +1,21 @@
-//! States of flows, the table that holds them, and how a peer's states change it (pf.conf(5); the rest is own).
+//! States: what they are, how steps change them, and how a peer that takes over is told of them.
+//!
+//! A state lets the packets of one flow pass without a look at the rules (pf.conf(5)). It is named by a number and the host that made it,
+//! and bound to one of the main rules or to the default rule. A table holds at most 65,536 of them, no name and no flow twice, and is
+//! changed by batches of steps: inserts, deletes and clears. A peer tells of its states in messages, whose form is own, after that of
+//! pfsync(4).
+//!
+//! The crate has three layers, and they stay apart:
+//! - states, their table and steps, in the modules at the root: they know no bytes and nothing of `peer`;
+//! - messages, in [`peer`]: how a stream of bytes is read in whatever pieces it comes, and how messages are written. It knows no state;
+//! - [`failover`], which knows both: the steps that a message asks for, and the messages that tell a peer of all states.
+//!
+//! It knows packets and addresses, and of rules only how many main rules there are and the 16 bytes of their checksum: not what they
+//! say, no rulesets at paths, no lines and no disk. Of pf_table it has the definition of a map with one value put or taken out.
+//!
+//! To read first: `specs/Flows.antt`, `States.antt`, `Steps.antt` and `Bindings.antt` say what the table does, `specs/Peer/Records.antt`,
+//! `Groups.antt`, `Messages.antt` and `Streams.antt` what bytes mean, `specs/Failover/` how both meet. [`laws`], [`peer`] and
+//! [`failover::laws`] say what follows.
 #![tactic(auto)]
 
 mod binding;
@@ -20,6 +37,7 @@ pub use binding::{ALL_ONES, bind, exported};
 pub use counts::Counts;
 pub use flow::Flow;
 pub use limits::STATE_LIMIT;
+pub use peer::{Fed, FeedError, Message, OneFault, PeerFault, PeerReader, write_peer};
 pub use refusal::StatesRefusal;
 pub use state::{Bound, Held, State, StateName};
 pub use step::{Insertion, Step, StepList};

@@ -19,7 +19,8 @@ mod writing;
 
 pub use fault::{FeedError, OneFault, PeerFault};
 pub use laws::{
-    fault_stays_the_same, one_message_has_one_answer, pieces_make_one_stream, stream_has_a_reading,
+    fault_stays_the_same, numbers_of_messages_are_these, one_message_has_one_answer,
+    one_message_has_these_bytes, pieces_make_one_stream, stream_has_a_reading,
     stream_has_one_reading, written_message_is_read,
 };
 pub use message::{Group, MESSAGE_LIMIT, Message, Records};

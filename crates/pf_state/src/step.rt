@@ -44,7 +44,7 @@ impl Model for StepList {
 }
 
 impl StepList {
-    /// The list of these. It takes no memory.
+    /// The list of these. It is never refused for memory.
     pub fn new(steps: Vec<Step>) -> StepList
         ensures { result ≡ steps.items }
     {

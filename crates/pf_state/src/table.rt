@@ -57,7 +57,7 @@ fn copied(alloc: Global, states: &[State], room: usize) -> Result<Vec<State>, Al
 }
 
 impl StateTable {
-    /// No states. It takes no memory.
+    /// No states. It is never refused for memory.
     pub fn empty(alloc: Global) -> StateTable
         ensures { result ≡ [] }
     {
@@ -83,14 +83,14 @@ impl StateTable {
         &self.states
     }
 
-    /// The state of a packet's flow, of which there is one at most. It takes no memory.
+    /// The state of a packet's flow, of which there is one at most. It is never refused for memory.
     pub fn find(&self, packet: &Packet) -> Option<&State>
         ensures { option_map (λ s. s.now) result ≡ state_of (flow_of packet.now) self.now }
     {
         state_of(&self.states, &Flow::of(packet))
     }
 
-    /// What is held under a name, if it is known. It takes no memory.
+    /// What is held under a name, if it is known. It is never refused for memory.
     pub fn held_at(&self, name: StateName) -> Option<Held>
         ensures { result ≡ held_at name self.now }
     {
@@ -135,7 +135,7 @@ impl StateTable {
         Ok(counts)
     }
 
-    /// Takes out the state of a name, whatever its generation. Answers whether there was one. It takes no memory.
+    /// Takes out the state of a name, whatever its generation. Answers whether there was one. It is never refused for memory.
     #[tactic(auto, using(crate::proofs::Counting::found_by_length))]
     pub fn remove(&mut self, name: StateName) -> bool
         ensures found { result ≡ is_some (held_at name self.old) }
@@ -146,7 +146,7 @@ impl StateTable {
         self.states.len() < before
     }
 
-    /// Takes out all states of one creator. Answers how many there were. It takes no memory.
+    /// Takes out all states of one creator. Answers how many there were. It is never refused for memory.
     #[tactic(auto, using(crate::proofs::Counting::shrinks_clear))]
     pub fn clear_creator(&mut self, creator: u32) -> usize
         ensures count { result ≡ creator_count self.old creator }

@@ -1,16 +1,9 @@
 -- Rules with their texts and forms, and rulesets with their checksums, to be compared with what other programs make of the same bytes
 -- (as md5sum(1) does).
-use Rattle.std.specs.Prelude.{List, [], ◌∷◌, ◌++◌, ℕ, false, true, None, Some, codes, replicate}
-use Rattle.pf_addr.specs.declared.addr.Family.TheVariants.{V4}
+use Rattle.std.specs.Prelude.{List, [], ◌∷◌, ◌++◌, ℕ, false, true, Option, None, Some, codes, replicate}
+use Rattle.pf_addr.specs.declared.addr.Family.TheVariants.{V4, V6}
 use Rattle.pf_addr.specs.Path.References.{refers}
-use Rattle.pf_rule.specs.declared.value.direction.Direction.TheVariants.{In, Out}
-use Rattle.pf_rule.specs.declared.value.ports.Comparison.TheVariants.{Equal}
-use Rattle.pf_rule.specs.declared.value.ports.PortRange.TheVariants.{Including}
-use Rattle.pf_rule.specs.declared.value.ports.PortTest.TheVariants.{Compared, Ranged}
-use Rattle.pf_rule.specs.declared.host.host.Host.TheVariants.{Any, Net, Table}
-use Rattle.pf_rule.specs.declared.rule.Action.TheVariants.{Pass, Block}
-use Rattle.pf_rule.specs.declared.rule.Effect.{Effect}
-use Rattle.pf_rule.specs.declared.rule.Effect.TheVariants.{Decide, Evaluate}
+use Rattle.pf_rule.specs.declared.{value.direction.Direction.TheVariants.In, value.direction.Direction.TheVariants.Out, value.ports.Comparison.TheVariants.Equal, value.ports.Comparison.TheVariants.NotEqual, value.ports.Comparison.TheVariants.Less, value.ports.Comparison.TheVariants.AtMost, value.ports.Comparison.TheVariants.Greater, value.ports.Comparison.TheVariants.AtLeast, value.ports.PortRange.TheVariants.Including, value.ports.PortRange.TheVariants.Excluding, value.ports.PortRange.TheVariants.Except, value.ports.PortTest.PortTest, value.ports.PortTest.TheVariants.Compared, value.ports.PortTest.TheVariants.Ranged, host.host.Host.TheVariants.Any, host.host.Host.TheVariants.Net, host.host.Host.TheVariants.Table, rule.Action.TheVariants.Pass, rule.Action.TheVariants.Block, rule.Effect.Effect, rule.Effect.TheVariants.Decide, rule.Effect.TheVariants.Evaluate}
 use Rattle.pf_rule.specs.Rules.{PlainRule}
 
 -- ---- rules
@@ -70,6 +63,37 @@ tested_form =
     ++ 1 ∷ 1 ∷ 8 ∷ 7 ∷ 4 ∷ 0 ∷ 8 ∷ 0 ∷ 10 ∷ replicate 15 0 ++ replicate 32 0
     ++ 2 ∷ 0 ∷ 0 ∷ 1 ∷ 0 ∷ 80 ∷ 0 ∷ 0 ∷ replicate 16 0 ++ codes "web" ++ replicate 29 0
     ++ replicate 68 0
+
+-- one of the other family, for an address alone: pass out inet6 from !<web> to 2001:db8::1 keep state
+abbrev pub v6 : PlainRule
+v6 = record (untested (Decide (Pass true))) {
+  direction = Some Out;
+  family = Some V6;
+  source = Table (codes "web") true;
+  destination = Net (record { family = V6; len = 128; front = 0x20010db8000000000000000000000001 }) false;
+}
+
+abbrev pub v6_form : List ℕ
+v6_form =
+    1 ∷ 2 ∷ 0 ∷ 1 ∷ 6 ∷ replicate 19 0
+    ++ 2 ∷ 1 ∷ replicate 22 0 ++ codes "web" ++ replicate 29 0
+    ++ 1 ∷ 0 ∷ 128 ∷ replicate 5 0 ++ 0x20 ∷ 0x01 ∷ 0x0d ∷ 0xb8 ∷ replicate 11 0 ++ 1 ∷ replicate 32 0
+    ++ replicate 68 0
+
+-- each test of a port, and the form of any host with it: the test's number behind three zeros, and then the ports
+abbrev pub port_tests : List (Option PortTest)
+port_tests =
+    None ∷ Some (Compared Equal 258) ∷ Some (Compared NotEqual 258) ∷ Some (Compared Less 258) ∷ Some (Compared AtMost 258)
+    ∷ Some (Compared Greater 258) ∷ Some (Compared AtLeast 258)
+    ∷ Some (Ranged Including 258 772) ∷ Some (Ranged Excluding 258 772) ∷ Some (Ranged Except 258 772) ∷ []
+
+abbrev pub any_form : ℕ → ℕ → ℕ → ℕ → ℕ → List ℕ
+any_form test a b c d = 0 ∷ 0 ∷ 0 ∷ test ∷ a ∷ b ∷ c ∷ d ∷ replicate 48 0
+
+abbrev pub tested_hosts : List (List ℕ)
+tested_hosts =
+    any_form 0 0 0 0 0 ∷ any_form 1 1 2 0 0 ∷ any_form 2 1 2 0 0 ∷ any_form 3 1 2 0 0 ∷ any_form 4 1 2 0 0
+    ∷ any_form 5 1 2 0 0 ∷ any_form 6 1 2 0 0 ∷ any_form 7 1 2 3 4 ∷ any_form 8 1 2 3 4 ∷ any_form 9 1 2 3 4 ∷ []
 
 -- ---- checksums
 

@@ -30,25 +30,12 @@ use Rattle.std.specs.Prelude.{ℕ, ◌-◌, Bool, true, false, List, [], ◌∷�
 use Rattle.std.specs.List.{flat_map}
 use Rattle.byteorder.specs.Endian.{big_bytes}
 use Rattle.md5.specs.Md5.{md5}
-use Rattle.pf_addr.specs.declared.addr.Addr.{Addr}
-use Rattle.pf_addr.specs.declared.addr.Addr.TheVariants as addr
 use Rattle.pf_addr.specs.declared.addr.Family.{Family}
-use Rattle.pf_addr.specs.declared.addr.Family.TheVariants.{V4, V6}
 use Rattle.pf_addr.specs.Spelling.{first_addr}
-use Rattle.pf_rule.specs.declared.value.direction.Direction.{Direction}
-use Rattle.pf_rule.specs.declared.value.direction.Direction.TheVariants.{In, Out}
-use Rattle.pf_rule.specs.declared.value.ports.Comparison.{Comparison}
-use Rattle.pf_rule.specs.declared.value.ports.Comparison.TheVariants.{Equal, NotEqual, Less, AtMost, Greater, AtLeast}
-use Rattle.pf_rule.specs.declared.value.ports.PortRange.{PortRange}
-use Rattle.pf_rule.specs.declared.value.ports.PortRange.TheVariants.{Including, Excluding, Except}
-use Rattle.pf_rule.specs.declared.value.ports.PortTest.{PortTest}
-use Rattle.pf_rule.specs.declared.value.ports.PortTest.TheVariants.{Compared, Ranged}
-use Rattle.pf_rule.specs.declared.host.host.Host.{Host}
-use Rattle.pf_rule.specs.declared.host.host.Host.TheVariants.{Any, Net, Table}
+use Rattle.pf_rule.specs.declared.{value.direction.Direction.Direction, value.ports.Comparison.Comparison, value.ports.Comparison.TheVariants.Equal, value.ports.Comparison.TheVariants.NotEqual, value.ports.Comparison.TheVariants.Less, value.ports.Comparison.TheVariants.AtMost, value.ports.Comparison.TheVariants.Greater, value.ports.Comparison.TheVariants.AtLeast, value.ports.PortRange.PortRange, value.ports.PortRange.TheVariants.Including, value.ports.PortRange.TheVariants.Excluding, value.ports.PortRange.TheVariants.Except, value.ports.PortTest.PortTest, value.ports.PortTest.TheVariants.Compared, value.ports.PortTest.TheVariants.Ranged, host.host.Host.Host, host.host.Host.TheVariants.Any, host.host.Host.TheVariants.Net, host.host.Host.TheVariants.Table, rule.Effect.Effect, rule.Effect.TheVariants.Decide, rule.Effect.TheVariants.Evaluate, rule.Action.TheVariants.Pass, rule.Action.TheVariants.Block}
+use Rattle.pf_rule.specs.Bytes as bytes
+use Rattle.pf_rule.specs.Bytes.{addr_bytes}
 use Rattle.pf_rule.specs.Host.Hosts.{is_negated}
-use Rattle.pf_rule.specs.declared.rule.Effect.{Effect}
-use Rattle.pf_rule.specs.declared.rule.Effect.TheVariants.{Decide, Evaluate}
-use Rattle.pf_rule.specs.declared.rule.Action.TheVariants.{Pass, Block}
 use Rattle.pf_rule.specs.Rules.{PlainRule}
 
 abbrev pub flag : Bool → ℕ
@@ -99,10 +86,6 @@ second_port None = 0
 second_port (Some (Compared operator n)) = 0
 second_port (Some (Ranged range a b)) = b
 
-abbrev pub addr_bytes : Addr → List ℕ
-addr_bytes (addr.V4 n) = big_bytes 4 n ++ replicate 12 0
-addr_bytes (addr.V6 n) = big_bytes 16 n
-
 abbrev pub address_bytes : Host → List ℕ
 address_bytes Any = replicate 16 0
 address_bytes (Net n negated) = addr_bytes (first_addr n)
@@ -135,13 +118,11 @@ keeps_state (Evaluate r) = false
 
 abbrev pub direction_byte : Option Direction → ℕ
 direction_byte None = 0
-direction_byte (Some In) = 1
-direction_byte (Some Out) = 2
+direction_byte (Some way) = bytes.direction_byte way
 
 abbrev pub family_byte : Option Family → ℕ
 family_byte None = 0
-family_byte (Some V4) = 4
-family_byte (Some V6) = 6
+family_byte (Some family) = bytes.family_byte family
 
 abbrev pub names : Effect → List ℕ
 names (Decide a) = []

@@ -20,7 +20,7 @@ const TAIL: usize = 4;
 /// The rule's form: all that the rule says, in bytes at fixed places. Numbers have their highest byte first (network order), names
 /// are filled with zeros, and what doesn't apply is 0. The table of places is that of the definition `rule_form`, and own.
 ///
-/// It takes no memory. The rule can be read from its form, so that different rules have different forms.
+/// It is never refused for memory. The rule can be read from its form, so that different rules have different forms.
 #[tactic(auto, unfolding(crate::specs::Sum::Forms::rule_form))]
 pub fn rule_bytes(rule: &Rule) -> [u8; RULE_FORM]
     ensures { result ≡ rule_form rule.now }

@@ -1,11 +1,12 @@
 //! Laws of forms. Each function does nothing; its clauses are what is proved.
-ghost use Rattle.std.specs.Prelude.{◌≡◌, [], ◌∷◌, codes, length, Ok};
+ghost use Rattle.std.specs.Prelude.{◌≡◌, [], ◌∷◌, codes, length, map, Ok};
 ghost use Rattle.pf_rule.specs.Rules.{PlainRule, IsRule};
 ghost use Rattle.pf_addr.specs.Form.Words.{words_of};
 ghost use Rattle.pf_addr.specs.Form.Forms.{read_all};
 ghost use Rattle.pf_rule.specs.RuleGrammar.{rule};
+ghost use Rattle.pf_rule.specs.declared.host.host.Host.TheVariants.{Any};
 ghost use Rattle.pf_rule.specs.declared.sum.form.TheConstants.{RULE_FORM};
-ghost use Rattle.pf_rule.specs.Sum.Forms.{rule_form, ruleset_sum};
+ghost use Rattle.pf_rule.specs.Sum.Forms.{host_form, rule_form, ruleset_sum};
 ghost use Rattle.pf_rule.specs.Sum.Examples as example;
 ghost use Rattle.pf_rule.specs.Sum.Reading.{read_form};
 
@@ -27,21 +28,29 @@ pub fn different_rules_have_different_forms()
 {}
 
 /// Four rules are read from these texts.
-#[tactic(auto, using(crate::proofs::Computed::block_text, crate::proofs::Computed::pass_text, crate::proofs::Computed::anchor_text, crate::proofs::Computed::tested_text))]
+#[tactic(auto, using(crate::proofs::Computed::texts))]
 pub fn four_rules_have_these_texts()
     ensures block { read_all rule (words_of (codes "block in all")) ≡ Ok (Ok example.block) }
     ensures pass { read_all rule (words_of (codes "pass in all")) ≡ Ok (Ok example.pass) }
     ensures anchor { read_all rule (words_of (codes "anchor \"a/*\" all")) ≡ Ok (Ok example.anchor) }
-    ensures tested { read_all rule (words_of (codes "pass out quick on em0 proto tcp from !10/8 port 1024:2048 to <web> port 80 no state")) ≡ Ok (Ok example.tested) }
+    ensures tested { let text = codes "pass out quick on em0 proto tcp from !10/8 port 1024:2048 to <web> port 80 no state" in
+        read_all rule (words_of text) ≡ Ok (Ok example.tested) }
 {}
 
 /// The forms of these rules.
-#[tactic(auto, using(crate::proofs::Computed::block_form, crate::proofs::Computed::pass_form, crate::proofs::Computed::anchor_form, crate::proofs::Computed::tested_form))]
+#[tactic(auto, using(crate::proofs::Computed::forms))]
 pub fn four_rules_have_these_forms()
     ensures block { rule_form example.block ≡ example.block_form }
     ensures pass { rule_form example.pass ≡ example.pass_form }
     ensures anchor { rule_form example.anchor ≡ example.anchor_form }
     ensures tested { rule_form example.tested ≡ example.tested_form }
+{}
+
+/// The form of a rule of IPv6, and that of any host with each test of its port.
+#[tactic(auto, using(crate::proofs::Computed::v6_form, crate::proofs::Computed::ports_form))]
+pub fn families_and_port_tests_have_these_forms()
+    ensures family { rule_form example.v6 ≡ example.v6_form }
+    ensures ports { map (host_form Any) example.port_tests ≡ example.tested_hosts }
 {}
 
 /// The checksums of no rules, of the first of them, and of all four.

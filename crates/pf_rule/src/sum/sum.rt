@@ -10,8 +10,8 @@ use md5::{Digest, Md5};
 pub const RULESET_SUM: usize = 16;
 
 /// The checksum of a ruleset: the MD5 (RFC 1321) of the forms of its rules, which [`rule_bytes`] gives, one after the other in the
-/// rules' order. It takes no memory. Rulesets with different checksums are different; against someone who looks for two with one
-/// checksum it is no help.
+/// rules' order. It is never refused for memory. Rulesets with different checksums are different; against someone who looks for two
+/// with one checksum it is no help.
 #[tactic(auto, unfolding(crate::specs::Sum::Forms::ruleset_sum))]
 pub fn ruleset_sum(rules: &[Rule]) -> [u8; RULESET_SUM]
     ensures { result ≡ ruleset_sum rules.now }

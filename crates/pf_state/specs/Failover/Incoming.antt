@@ -1,21 +1,17 @@
 -- What a peer's message means for the states here: a step for each record. Own; the messages are pf_state::peer's, after pfsync(4).
 use Rattle.std.specs.Prelude.{ℕ, List, map}
 use Rattle.std.specs.List.{flat_map}
-use Rattle.pf_state.specs.declared.peer.message.Group.{Group}
-use Rattle.pf_state.specs.declared.peer.message.Group.TheVariants.{Inserts, Deletes, Clears}
-use Rattle.pf_state.specs.declared.peer.message.Message.{Message}
+use Rattle.pf_state.specs.declared.{peer.message.Group.Group, peer.message.Group.TheVariants.Inserts, peer.message.Group.TheVariants.Deletes, peer.message.Group.TheVariants.Clears, peer.message.Message.Message, step.Step.Step, step.Step.TheVariants.Insert, step.Step.TheVariants.Delete, step.Step.TheVariants.Clear}
 use Rattle.pf_state.specs.declared.peer.record.Clear.{Clear as ClearRecord}
 use Rattle.pf_state.specs.declared.peer.record.Delete.{Delete as DeleteRecord}
 use Rattle.pf_state.specs.Peer.Records.{PlainInsert}
-use Rattle.pf_state.specs.declared.step.Step.{Step}
-use Rattle.pf_state.specs.declared.step.Step.TheVariants.{Insert, Delete, Clear}
 use Rattle.pf_state.specs.Bindings.{bound}
 use Rattle.pf_state.specs.Flows.{PlainFlow}
 use Rattle.pf_state.specs.States.{Stated}
 
 -- the flow of the state that an insert tells of
-abbrev pub flow_of : PlainInsert → PlainFlow
-flow_of i = record {
+abbrev pub told_flow : PlainInsert → PlainFlow
+told_flow i = record {
   direction = i.direction;
   protocol = i.protocol;
   source = i.source;
@@ -25,14 +21,14 @@ flow_of i = record {
 }
 
 -- The state itself, in a message with this checksum: it is bound by the checksum of the main rules here and by their number.
-abbrev pub state_of : List ℕ → List ℕ → ℕ → PlainInsert → Stated
-state_of sum current count i = (
+abbrev pub told_state : List ℕ → List ℕ → ℕ → PlainInsert → Stated
+told_state sum current count i = (
   record { id = i.id; creator = i.creator },
-  record { generation = i.generation; flow = flow_of i; bound = bound sum i.rule i.anchor current count },
+  record { generation = i.generation; flow = told_flow i; bound = bound sum i.rule i.anchor current count },
 )
 
 abbrev pub insert_step : List ℕ → List ℕ → ℕ → PlainInsert → Step
-insert_step sum current count i = Insert (state_of sum current count i)
+insert_step sum current count i = Insert (told_state sum current count i)
 
 abbrev pub delete_step : DeleteRecord → Step
 delete_step d = Delete (record { id = d.id; creator = d.creator })

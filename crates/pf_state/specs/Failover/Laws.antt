@@ -2,22 +2,13 @@
 use Rattle.std.specs.Prelude.{◌≡◌, ℕ, ◌<◌, ◌≤◌, ◌^◌, ◌&&◌, false, nat_lt, cond, List, [], ◌∷◌, length, map}
 use Rattle.std.specs.List.{concat, flat_map, sum_by}
 use Rattle.std.specs.Str.{bytes_eq}
-use Rattle.pf_state.specs.declared.peer.message.Group.{Group}
-use Rattle.pf_state.specs.declared.peer.message.Group.TheVariants.{Inserts, Deletes, Clears}
-use Rattle.pf_state.specs.declared.peer.message.Message.{Message}
-use Rattle.pf_state.specs.declared.peer.message.TheConstants.{MESSAGE_LIMIT}
+use Rattle.pf_state.specs.declared.{peer.message.Group.Group, peer.message.Group.TheVariants.Inserts, peer.message.Group.TheVariants.Deletes, peer.message.Group.TheVariants.Clears, peer.message.Message.Message, peer.message.TheConstants.MESSAGE_LIMIT, binding.TheConstants.ALL_ONES, state.Bound.Bound, state.Bound.TheVariants.Rule, state.Bound.TheVariants.Default, step.Step.Step, step.Step.TheVariants.Insert, failover.outgoing.TheConstants.EXPORT_RECORDS}
 use Rattle.pf_state.specs.Peer.Records.{PlainInsert}
 use Rattle.pf_state.specs.Peer.Streams.{Reads, Unfinished}
 use Rattle.pf_state.specs.Peer.Written.{Each, message_length, message_bytes}
-use Rattle.pf_state.specs.declared.binding.TheConstants.{ALL_ONES}
-use Rattle.pf_state.specs.declared.state.Bound.{Bound}
-use Rattle.pf_state.specs.declared.state.Bound.TheVariants.{Rule, Default}
-use Rattle.pf_state.specs.declared.step.Step.{Step}
-use Rattle.pf_state.specs.declared.step.Step.TheVariants.{Insert}
 use Rattle.pf_state.specs.Flows.{IsFlow}
 use Rattle.pf_state.specs.States.{Stated, IsStates}
 use Rattle.pf_state.specs.Steps.{after, passes_limit}
-use Rattle.pf_state.specs.declared.failover.outgoing.TheConstants.{EXPORT_RECORDS}
 use Rattle.pf_state.specs.Failover.Incoming.{steps_of}
 use Rattle.pf_state.specs.Failover.Outgoing.{parts, exported_messages}
 
@@ -65,12 +56,16 @@ ExportsMessages = (current : List ℕ) (es : List Stated) → Each (IsExported c
 -- What a state is bound to at a peer: to its rule where that was one of the rules here, the peer has the same rules, and so many of
 -- them that it is one; else to the default rule.
 abbrev pub bound_there : List ℕ → List ℕ → ℕ → Bound → Bound
-bound_there ours theirs count (Rule number sum) = cond (bytes_eq sum ours && (bytes_eq ours theirs && nat_lt number count)) (Rule number sum) Default
+bound_there ours theirs count (Rule number sum) =
+    cond (bytes_eq sum ours && (bytes_eq ours theirs && nat_lt number count)) (Rule number sum) Default
 bound_there ours theirs count Default = Default
 
 -- the state at a peer: all of it but the rule that it is bound to
 abbrev pub state_there : List ℕ → List ℕ → ℕ → Stated → Stated
-state_there ours theirs count s = (s.0, record { generation = s.1.generation; flow = s.1.flow; bound = bound_there ours theirs count s.1.bound })
+state_there ours theirs count s = (
+  s.0,
+  record { generation = s.1.generation; flow = s.1.flow; bound = bound_there ours theirs count s.1.bound },
+)
 
 -- an export asks a peer for an insert of each state, in order, and for nothing else
 abbrev pub TellsTheStates : Type 0
@@ -82,7 +77,8 @@ pub record MakesStates (steps : List Step) (es : List Stated) : Type 0 where
   pub left : after [] steps ≡ es
   pub fits : passes_limit [] steps ≡ false
 
--- a peer that has no states is never refused a table's states, and then has these and no other
+-- A peer that has no states acts on all that an export of a table asks for, in turn: at no step it has more states than there may be,
+-- and then it has these states and no other.
 abbrev pub TakesOver : Type 0
 TakesOver = (ours theirs : List ℕ) (count : ℕ) (es : List Stated) → IsStates es → count ≤ ALL_ONES
     → MakesStates (flat_map (λ m. steps_of m theirs count) (exported_messages ours es)) (map (state_there ours theirs count) es)

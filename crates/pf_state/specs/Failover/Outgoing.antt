@@ -2,18 +2,15 @@
 use Rattle.std.specs.Prelude.{ℕ, List, [], ◌∷◌, length, map}
 use Rattle.std.specs.Simd.{first_chunks}
 use Rattle.std.specs.Slice.Iter.{chunk_count}
-use Rattle.pf_state.specs.declared.peer.message.Group.TheVariants.{Inserts}
-use Rattle.pf_state.specs.declared.peer.message.Message.{Message}
+use Rattle.pf_state.specs.declared.{peer.message.Group.TheVariants.Inserts, peer.message.Message.Message, binding.TheConstants.ALL_ONES, failover.outgoing.TheConstants.EXPORT_RECORDS}
 use Rattle.pf_state.specs.Peer.Records.{PlainInsert}
-use Rattle.pf_state.specs.declared.binding.TheConstants.{ALL_ONES}
 use Rattle.pf_state.specs.Bindings.{exported}
 use Rattle.pf_state.specs.States.{Stated}
-use Rattle.pf_state.specs.declared.failover.outgoing.TheConstants.{EXPORT_RECORDS}
 
 -- The insert that tells of a state where the main rules have this checksum: it names the state's main rule while they are the rules
 -- that it was bound by, and no anchor.
-abbrev pub insert_of : List ℕ → Stated → PlainInsert
-insert_of current s = record {
+abbrev pub exported_insert : List ℕ → Stated → PlainInsert
+exported_insert current s = record {
   id = s.0.id;
   creator = s.0.creator;
   generation = s.1.generation;
@@ -28,8 +25,8 @@ insert_of current s = record {
 }
 
 -- a message of one group, which tells of these states
-abbrev pub told : List ℕ → List Stated → Message
-told current es = record { checksum = current; groups = Inserts (map (insert_of current) es) ∷ [] }
+abbrev pub exported_message : List ℕ → List Stated → Message
+exported_message current es = record { checksum = current; groups = Inserts (map (exported_insert current) es) ∷ [] }
 
 -- the states in parts of 31, the last of what is left
 abbrev pub parts : List Stated → List (List Stated)
@@ -37,4 +34,4 @@ parts es = first_chunks EXPORT_RECORDS (chunk_count (length es) EXPORT_RECORDS) 
 
 -- a message for each part
 abbrev pub exported_messages : List ℕ → List Stated → List Message
-exported_messages current es = map (told current) (parts es)
+exported_messages current es = map (exported_message current) (parts es)

@@ -1,13 +1,9 @@
 -- A message's groups, in order, and the fault of the first that is none. A group is an action, a zero byte, a count in two bytes, and
 -- that many records of 64 bytes. Own.
 use Rattle.std.specs.Prelude.{◌≡◌, ◌≢◌, ◌*◌, ◌==◌, ◌&&◌, ◌||◌, nat_lt, ℕ, zero, suc, Bool, List, [], ◌∷◌, length, take, drop, Option, Some, None, Result, Ok, Err, if◌then◌else◌}
-use Rattle.pf_state.specs.declared.peer.fault.PeerFault.{PeerFault}
-use Rattle.pf_state.specs.declared.peer.fault.PeerFault.TheVariants.{BadLength, BadAction, BadRecord}
-use Rattle.pf_state.specs.declared.peer.message.Group.{Group}
-use Rattle.pf_state.specs.declared.peer.message.Group.TheVariants.{Inserts, Deletes, Clears}
-use Rattle.pf_state.specs.declared.peer.message.TheConstants.{INSERT, DELETE, CLEAR}
-use Rattle.pf_state.specs.declared.peer.record.TheConstants.{RECORD}
-use Rattle.pf_state.specs.Peer.Records.{byte_at, number_at, insert_of, delete_of, clear_of}
+use Rattle.pf_state.specs.declared.{peer.fault.PeerFault.PeerFault, peer.fault.PeerFault.TheVariants.BadLength, peer.fault.PeerFault.TheVariants.BadAction, peer.fault.PeerFault.TheVariants.BadRecord, peer.message.Group.Group, peer.message.Group.TheVariants.Inserts, peer.message.Group.TheVariants.Deletes, peer.message.Group.TheVariants.Clears, peer.message.TheConstants.INSERT, peer.message.TheConstants.DELETE, peer.message.TheConstants.CLEAR, peer.record.TheConstants.RECORD}
+use Rattle.pf_rule.specs.Bytes.{byte_at, number_at}
+use Rattle.pf_state.specs.Peer.Records.{insert_of, delete_of, clear_of}
 
 infixl 10 ◌>>=◌
 abbrev pub ◌>>=◌ : {A B : Type 0} → Result A PeerFault → (A → Result B PeerFault) → Result B PeerFault
@@ -24,7 +20,8 @@ or_bad None = Err BadRecord
 -- what so many records say, one after the other, each as `reading` has it
 abbrev pub records_of : {A : Type 0} → (List ℕ → Option A) → ℕ → List ℕ → Result (List A) PeerFault
 records_of reading zero bytes = Ok []
-records_of reading (suc n) bytes = or_bad (reading (take RECORD bytes)) >>= λ x. records_of reading n (drop RECORD bytes) >>= λ xs. Ok (x ∷ xs)
+records_of reading (suc n) bytes =
+    or_bad (reading (take RECORD bytes)) >>= λ x. records_of reading n (drop RECORD bytes) >>= λ xs. Ok (x ∷ xs)
 
 -- ---- a group
 
@@ -34,7 +31,8 @@ is_action a = (a == INSERT) || ((a == DELETE) || (a == CLEAR))
 -- the records of a group of this action
 unfoldable pub content : ℕ → ℕ → List ℕ → Result Group PeerFault
 content a n bytes = if a == INSERT then (records_of insert_of n bytes >>= λ xs. Ok (Inserts xs))
-    else (if a == DELETE then (records_of delete_of n bytes >>= λ xs. Ok (Deletes xs)) else (records_of clear_of n bytes >>= λ xs. Ok (Clears xs)))
+    else (if a == DELETE then (records_of delete_of n bytes >>= λ xs. Ok (Deletes xs))
+    else (records_of clear_of n bytes >>= λ xs. Ok (Clears xs)))
 
 -- how many bytes its records take
 abbrev pub size_at : List ℕ → ℕ

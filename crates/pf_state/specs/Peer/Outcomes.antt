@@ -1,13 +1,8 @@
 -- What readers answer.
 use Rattle.std.specs.Prelude.{◌≡◌, Result, Ok, Err, Option, Some, None, List, [], ◌∷◌, ◌++◌, ℕ}
-use Rattle.pf_state.specs.declared.peer.fault.PeerFault.{PeerFault}
-use Rattle.pf_state.specs.declared.peer.fault.PeerFault.TheVariants.{Ended}
-use Rattle.pf_state.specs.declared.peer.fault.FeedError.{FeedError}
-use Rattle.pf_state.specs.declared.peer.fault.FeedError.TheVariants.{Failed}
-use Rattle.pf_state.specs.declared.peer.fault.ReadError.{ReadError}
+use Rattle.pf_state.specs.declared.{peer.fault.PeerFault.PeerFault, peer.fault.PeerFault.TheVariants.Ended, peer.fault.FeedError.FeedError, peer.fault.FeedError.TheVariants.Failed, peer.fault.ReadError.ReadError, peer.message.Message.Message}
 use Rattle.pf_state.specs.declared.peer.fault.ReadError.TheVariants as errors
 use Rattle.pf_state.specs.Peer.Streams.{Ending, Unfinished, Faulty, Reads}
-use Rattle.pf_state.specs.declared.peer.message.Message.{Message}
 
 -- it is what reading gives, unless memory was refused
 abbrev pub Fails : {Y : Type 0} → ReadError → Result Y PeerFault → Type 0

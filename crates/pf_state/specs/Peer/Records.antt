@@ -7,18 +7,14 @@
 --      16     1 direction         52     2 source port
 --      17     1 family            54     2 destination port
 --      18     1 protocol          56     4 rule, 60 4 anchor
-use Rattle.std.specs.Prelude.{◌≡◌, ◌<◌, ◌+◌, ◌==◌, ◌^◌, ◌&&◌, ◌||◌, not, ℕ, Bool, false, List, ◌∷◌, ◌++◌, drop, slice_index, replicate, Option, Some, None, if◌then◌else◌}
-use Rattle.byteorder.specs.Endian.{big_number, big_bytes}
-use Rattle.pf_addr.specs.declared.addr.Addr.{Addr}
-use Rattle.pf_addr.specs.declared.addr.Addr.TheVariants.{V4, V6}
+use Rattle.std.specs.Prelude.{◌≡◌, ◌<◌, ◌+◌, ◌==◌, ◌^◌, ◌&&◌, ◌||◌, not, ℕ, Bool, false, List, ◌∷◌, ◌++◌, replicate, Option, Some, None, if◌then◌else◌}
+use Rattle.byteorder.specs.Endian.{big_bytes}
+use Rattle.pf_addr.specs.declared.{addr.Addr.Addr, addr.Addr.TheVariants.V4, addr.Addr.TheVariants.V6}
 use Rattle.pf_addr.specs.Address.{IsAddr, family_of}
-use Rattle.pf_rule.specs.declared.value.direction.Direction.{Direction}
-use Rattle.pf_rule.specs.declared.value.direction.Direction.TheVariants.{In, Out}
+use Rattle.pf_rule.specs.Bytes.{byte_at, number_at, addr_bytes, direction_byte, family_byte}
+use Rattle.pf_rule.specs.declared.{value.direction.Direction.Direction, value.direction.Direction.TheVariants.In, value.direction.Direction.TheVariants.Out}
 use Rattle.pf_rule.specs.Value.Values.{IsProtocol, has_ports}
-use Rattle.pf_state.specs.declared.peer.fields.TheConstants.{IN, OUT, FAMILY_4, FAMILY_6}
-use Rattle.pf_state.specs.declared.peer.record.InsertFields.{InsertFields}
-use Rattle.pf_state.specs.declared.peer.record.Delete.{Delete}
-use Rattle.pf_state.specs.declared.peer.record.Clear.{Clear}
+use Rattle.pf_state.specs.declared.{peer.record.InsertFields.InsertFields, peer.record.Delete.Delete, peer.record.Clear.Clear}
 
 -- an insert as contracts see it: its fields
 abbrev pub PlainInsert : Type 0
@@ -41,20 +37,13 @@ pub record IsInsert (i : PlainInsert) : Type 0 where
 
 -- ---- reading
 
--- the number of so many bytes at a place
-unfoldable pub number_at : ℕ → ℕ → List ℕ → ℕ
-number_at place width r = big_number width (drop place r)
-
-abbrev pub byte_at : ℕ → List ℕ → ℕ
-byte_at place r = slice_index r place
-
 -- the address at a place, in a family, 4 or 6
 abbrev pub address_at : ℕ → ℕ → List ℕ → Addr
-address_at family place r = if family == FAMILY_4 then V4 (number_at place 4 r) else V6 (number_at place 16 r)
+address_at family place r = if family == 4 then V4 (number_at place 4 r) else V6 (number_at place 16 r)
 
 -- an IPv4 address has twelve bytes of 0 behind it
 abbrev pub is_padded : ℕ → ℕ → List ℕ → Bool
-is_padded family place r = (family == FAMILY_6) || ((number_at (place + 4) 8 r == 0) && (number_at (place + 12) 4 r == 0))
+is_padded family place r = (family == 6) || ((number_at (place + 4) 8 r == 0) && (number_at (place + 12) 4 r == 0))
 
 -- ports are 0 where the protocol has none
 abbrev pub are_ports : List ℕ → Bool
@@ -62,14 +51,15 @@ are_ports r = has_ports (byte_at 18 r) || ((number_at 52 2 r == 0) && (number_at
 
 -- direction 1 or 2, family 4 or 6, a protocol, and the zero
 abbrev pub are_kinds : List ℕ → Bool
-are_kinds r = ((byte_at 16 r == IN) || (byte_at 16 r == OUT)) && (((byte_at 17 r == FAMILY_4) || (byte_at 17 r == FAMILY_6)) && (not (byte_at 18 r == 0) && (byte_at 19 r == 0)))
+are_kinds r = ((byte_at 16 r == 1) || (byte_at 16 r == 2))
+    && (((byte_at 17 r == 4) || (byte_at 17 r == 6)) && (not (byte_at 18 r == 0) && (byte_at 19 r == 0)))
 
 -- what an insert's record may say
 unfoldable pub allowed : List ℕ → Bool
 allowed r = are_kinds r && (is_padded (byte_at 17 r) 20 r && (is_padded (byte_at 17 r) 36 r && are_ports r))
 
 abbrev pub direction_of : ℕ → Direction
-direction_of b = if b == IN then In else Out
+direction_of b = if b == 1 then In else Out
 
 -- what its fields say
 unfoldable pub fields_of : List ℕ → PlainInsert
@@ -99,21 +89,9 @@ clear_of r = Some (record { creator = number_at 8 4 r })
 
 -- ---- writing
 
-abbrev pub direction_byte : Direction → ℕ
-direction_byte In = IN
-direction_byte Out = OUT
-
-abbrev pub family_byte : Addr → ℕ
-family_byte (V4 n) = FAMILY_4
-family_byte (V6 n) = FAMILY_6
-
-abbrev pub address_bytes : Addr → List ℕ
-address_bytes (V4 n) = big_bytes 4 n ++ replicate 12 0
-address_bytes (V6 n) = big_bytes 16 n
-
 abbrev pub insert_bytes : PlainInsert → List ℕ
 insert_bytes i = big_bytes 8 i.id ++ (big_bytes 4 i.creator ++ (big_bytes 4 i.generation
-    ++ (direction_byte i.direction ∷ family_byte i.source ∷ i.protocol ∷ 0 ∷ (address_bytes i.source ++ (address_bytes i.destination
+    ++ (direction_byte i.direction ∷ family_byte (family_of i.source) ∷ i.protocol ∷ 0 ∷ (addr_bytes i.source ++ (addr_bytes i.destination
     ++ (big_bytes 2 i.source_port ++ (big_bytes 2 i.destination_port ++ (big_bytes 4 i.rule ++ big_bytes 4 i.anchor))))))))
 
 abbrev pub delete_bytes : Delete → List ℕ

@@ -1,12 +1,6 @@
 -- A stream: messages one after the other, and then a message that isn't whole yet, or a fault. Own.
 use Rattle.std.specs.Prelude.{◌≡◌, ◌≢◌, ◌⊎◌, ◌+◌, ◌*◌, ◌≤◌, ◌<◌, ℕ, List, [], ◌∷◌, ◌++◌, length, take}
-use Rattle.pf_state.specs.declared.peer.fault.PeerFault.{PeerFault}
-use Rattle.pf_state.specs.declared.peer.fault.PeerFault.TheVariants.{BadVersion, BadLength}
-use Rattle.pf_state.specs.declared.peer.message.Message.{Message}
-use Rattle.pf_state.specs.declared.peer.message.TheConstants.{VERSION}
-use Rattle.pf_state.specs.declared.peer.stream.TheConstants.{HEADER}
-use Rattle.pf_state.specs.declared.peer.stream.Front.{Front}
-use Rattle.pf_state.specs.declared.peer.stream.Front.TheVariants.{Partial, Whole, Bad}
+use Rattle.pf_state.specs.declared.{peer.fault.PeerFault.PeerFault, peer.fault.PeerFault.TheVariants.BadVersion, peer.fault.PeerFault.TheVariants.BadLength, peer.message.Message.Message, peer.message.TheConstants.VERSION, peer.stream.TheConstants.HEADER, peer.stream.Front.Front, peer.stream.Front.TheVariants.Partial, peer.stream.Front.TheVariants.Whole, peer.stream.Front.TheVariants.Bad}
 use Rattle.pf_state.specs.Peer.Messages.{IsWhole, IsMessage, IsBroken}
 
 -- how it ends so far
@@ -69,4 +63,5 @@ Reads bytes (m ∷ ms) e = (front behind : List ℕ) × (bytes ≡ front ++ behi
 abbrev pub Feeds : List ℕ → List (List ℕ) → List Message → Ending → Type 0
 Feeds rest [] ms e = (ms ≡ []) × (e ≡ Unfinished rest)
 Feeds rest (p ∷ ps) ms e = ((f : PeerFault) × (e ≡ Faulty f) × Reads (rest ++ p) ms e)
-    ⊎ ((first others : List Message) × (left : List ℕ) × (ms ≡ first ++ others) × Reads (rest ++ p) first (Unfinished left) × Feeds left ps others e)
+    ⊎ ((first others : List Message) × (left : List ℕ) × (ms ≡ first ++ others)
+    × Reads (rest ++ p) first (Unfinished left) × Feeds left ps others e)

@@ -2,13 +2,7 @@
 use Rattle.std.specs.Prelude.{◌+◌, ◌<◌, ℕ, List, [], ◌∷◌, ◌++◌, length, ◌^◌, ◌≡◌}
 use Rattle.std.specs.List.{flat_map}
 use Rattle.byteorder.specs.Endian.{big_bytes}
-use Rattle.pf_state.specs.declared.peer.message.Group.{Group}
-use Rattle.pf_state.specs.declared.peer.message.Group.TheVariants.{Inserts, Deletes, Clears}
-use Rattle.pf_state.specs.declared.peer.message.Message.{Message}
-use Rattle.pf_state.specs.declared.peer.message.TheConstants.{INSERT, DELETE, CLEAR, VERSION}
-use Rattle.pf_state.specs.declared.peer.stream.TheConstants.{HEADER}
-use Rattle.pf_state.specs.declared.peer.record.Delete.{Delete}
-use Rattle.pf_state.specs.declared.peer.record.Clear.{Clear}
+use Rattle.pf_state.specs.declared.{peer.message.Group.Group, peer.message.Group.TheVariants.Inserts, peer.message.Group.TheVariants.Deletes, peer.message.Group.TheVariants.Clears, peer.message.Message.Message, peer.message.TheConstants.INSERT, peer.message.TheConstants.DELETE, peer.message.TheConstants.CLEAR, peer.message.TheConstants.VERSION, peer.stream.TheConstants.HEADER, peer.record.Delete.Delete, peer.record.Clear.Clear}
 use Rattle.pf_state.specs.Peer.Records.{IsInsert, insert_bytes, delete_bytes, clear_bytes}
 
 -- an action, a zero, how many records, and the records

@@ -1,6 +1,6 @@
 //! What a peer's message means for the states here.
 ghost use Rattle.std.specs.Prelude.{◌≡◌, ◌++◌, map, IfOk, OnOk};
-ghost use Rattle.pf_state.specs.Failover.Incoming.{flow_of, state_of, insert_step, delete_step, clear_step, group_steps, steps_of};
+ghost use Rattle.pf_state.specs.Failover.Incoming.{told_flow, told_state, insert_step, delete_step, clear_step, group_steps, steps_of};
 
 use crate::peer::{Clear, Delete, Group, Insert, Message};
 use crate::{Flow, Held, State, StateName, Step, StepList, bind};
@@ -53,7 +53,7 @@ fn push_inserts(
     ensures { OnOk result (steps.new.items ≡ steps.old.items ++ map (insert_step sum.now current.now rule_count) inserts.now) }
 {
     for insert in inserts {
-        steps.push(Step::Insert(state_of(insert, sum, current, rule_count)))?;
+        steps.push(Step::Insert(told_state(insert, sum, current, rule_count)))?;
     }
     Ok(())
 }
@@ -82,8 +82,8 @@ fn push_clears(steps: &mut Vec<Step>, clears: &[Clear]) -> Result<(), AllocError
 }
 
 // The state that an insert tells of, bound by the rules here.
-fn state_of(insert: &Insert, sum: &[u8; 16], current: &[u8; 16], rule_count: usize) -> State
-    ensures { result ≡ state_of sum.now current.now rule_count insert.now }
+fn told_state(insert: &Insert, sum: &[u8; 16], current: &[u8; 16], rule_count: usize) -> State
+    ensures { result ≡ told_state sum.now current.now rule_count insert.now }
 {
     let fields = insert.fields();
     let name = StateName {
@@ -92,15 +92,15 @@ fn state_of(insert: &Insert, sum: &[u8; 16], current: &[u8; 16], rule_count: usi
     };
     let held = Held {
         generation: fields.generation,
-        flow: flow_of(insert),
+        flow: told_flow(insert),
         bound: bind(sum, fields.rule, fields.anchor, current, rule_count),
     };
     State::new(name, held)
 }
 
 // The flow of the state that an insert tells of.
-fn flow_of(insert: &Insert) -> Flow
-    ensures { result ≡ flow_of insert.now }
+fn told_flow(insert: &Insert) -> Flow
+    ensures { result ≡ told_flow insert.now }
 {
     let fields = insert.fields();
     Flow::new(

@@ -1,10 +1,10 @@
 //! Messages that tell a peer of the states here.
-ghost use Rattle.std.specs.Prelude.{◌≡◌, ◌≤◌, ◌==◌, ℕ, [], length, map, IfOk};
+ghost use Rattle.std.specs.Prelude.{◌≡◌, ◌≤◌, [], length, map, IfOk};
 ghost use Rattle.std.specs.List.{concat};
 ghost use Rattle.pf_state.specs.Peer.Messages.{IsMessage};
 ghost use Rattle.pf_state.specs.Peer.Streams.{Reads, Unfinished};
 ghost use Rattle.pf_state.specs.Peer.Written.{message_bytes};
-ghost use Rattle.pf_state.specs.Failover.Outgoing.{insert_of, told, exported_messages};
+ghost use Rattle.pf_state.specs.Failover.Outgoing.{exported_insert, exported_message, exported_messages};
 
 use crate::peer::{Group, Insert, InsertFields, Message, Records, write_peer};
 use crate::{ALL_ONES, State, StateTable, exported};
@@ -42,13 +42,6 @@ impl Exported {
     {
         self.messages.len()
     }
-
-    /// Whether there are none.
-    pub fn is_empty(&self) -> bool
-        ensures { result ≡ (length self.now == 0) }
-    {
-        self.messages.is_empty()
-    }
 }
 
 /// The messages, in bytes, that tell a peer of all states, in the table's order. Each has the checksum of the main rules here,
@@ -74,8 +67,8 @@ pub fn export(
 // The message that tells of these states, in bytes.
 fn written(alloc: Global, states: &[State], current: &[u8; 16]) -> Result<Vec<u8>, AllocError>
     requires { length states.now ≤ EXPORT_RECORDS }
-    ensures written { IfOk result (λ bytes. bytes.items ≡ message_bytes (told current.now states.now)) }
-    ensures read { IfOk result (λ bytes. IsMessage bytes.items (told current.now states.now)) }
+    ensures written { IfOk result (λ bytes. bytes.items ≡ message_bytes (exported_message current.now states.now)) }
+    ensures read { IfOk result (λ bytes. IsMessage bytes.items (exported_message current.now states.now)) }
 {
     let mut groups = Vec::new(alloc);
     groups.push(Group::Inserts(inserts_of(alloc, states, current)?))?;
@@ -92,18 +85,18 @@ fn inserts_of(
     states: &[State],
     current: &[u8; 16],
 ) -> Result<Records<Insert>, AllocError>
-    ensures { IfOk result (λ r. r ≡ map (insert_of current.now) states.now) }
+    ensures { IfOk result (λ r. r ≡ map (exported_insert current.now) states.now) }
 {
     let mut inserts = Vec::with_capacity(alloc, states.len())?;
     for state in states {
-        inserts.push(insert_of(state, current))?;
+        inserts.push(exported_insert(state, current))?;
     }
     Ok(Records::new(inserts))
 }
 
 // The insert that tells of a state.
-fn insert_of(state: &State, current: &[u8; 16]) -> Insert
-    ensures { result ≡ insert_of current.now state.now }
+fn exported_insert(state: &State, current: &[u8; 16]) -> Insert
+    ensures { result ≡ exported_insert current.now state.now }
 {
     let name = state.name();
     let held = state.held();

@@ -1,6 +1,7 @@
 //! The fields of an insert's record, and whether they are what they may be.
 ghost use Rattle.std.specs.Prelude.{◌≡◌, ◌+◌, ◌≤◌, ◌<◌, length, true};
-ghost use Rattle.pf_state.specs.Peer.Records.{IsInsert, allowed, fields_of, is_padded, address_at, are_kinds, are_ports, direction_of, number_at};
+ghost use Rattle.pf_rule.specs.Bytes.{number_at};
+ghost use Rattle.pf_state.specs.Peer.Records.{IsInsert, allowed, fields_of, is_padded, address_at, are_kinds, are_ports, direction_of};
 
 use crate::peer::record::{InsertFields, RECORD};
 use byteorder::{BigEndian, ByteOrder};
@@ -105,7 +106,7 @@ fn address_at(family: u8, place: usize, row: &[u8]) -> Addr
 }
 
 /// The number in two bytes at a place.
-#[tactic(auto, unfolding(crate::specs::Peer::Records::number_at))]
+#[tactic(auto, unfolding(pf_rule::specs::Bytes::number_at))]
 pub(crate) fn u16_at(place: usize, bytes: &[u8]) -> u16
     requires { place + 2 ≤ length bytes.now }
     ensures { result ≡ number_at place 2 bytes.now }
@@ -114,7 +115,7 @@ pub(crate) fn u16_at(place: usize, bytes: &[u8]) -> u16
 }
 
 /// The number in four bytes at a place.
-#[tactic(auto, unfolding(crate::specs::Peer::Records::number_at))]
+#[tactic(auto, unfolding(pf_rule::specs::Bytes::number_at))]
 pub(crate) fn u32_at(place: usize, bytes: &[u8]) -> u32
     requires { place + 4 ≤ length bytes.now }
     ensures { result ≡ number_at place 4 bytes.now }
@@ -123,7 +124,7 @@ pub(crate) fn u32_at(place: usize, bytes: &[u8]) -> u32
 }
 
 /// The number in eight bytes at a place.
-#[tactic(auto, unfolding(crate::specs::Peer::Records::number_at))]
+#[tactic(auto, unfolding(pf_rule::specs::Bytes::number_at))]
 pub(crate) fn u64_at(place: usize, bytes: &[u8]) -> u64
     requires { place + 8 ≤ length bytes.now }
     ensures { result ≡ number_at place 8 bytes.now }
@@ -132,7 +133,7 @@ pub(crate) fn u64_at(place: usize, bytes: &[u8]) -> u64
 }
 
 /// The number in 16 bytes at a place.
-#[tactic(auto, unfolding(crate::specs::Peer::Records::number_at))]
+#[tactic(auto, unfolding(pf_rule::specs::Bytes::number_at))]
 pub(crate) fn u128_at(place: usize, bytes: &[u8]) -> u128
     requires { place + 16 ≤ length bytes.now }
     ensures { result ≡ number_at place 16 bytes.now }

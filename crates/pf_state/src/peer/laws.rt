@@ -4,10 +4,15 @@ ghost use Rattle.std.specs.List.{concat};
 ghost use Rattle.pf_state.specs.declared.peer.fault.OneFault.{OneFault};
 ghost use Rattle.pf_state.specs.declared.peer.fault.PeerFault.{PeerFault};
 ghost use Rattle.pf_state.specs.declared.peer.message.Message.{Message};
+ghost use Rattle.pf_state.specs.Peer.Example as example;
 ghost use Rattle.pf_state.specs.Peer.Messages.{IsMessage};
 ghost use Rattle.pf_state.specs.Peer.One.{IsOne};
 ghost use Rattle.pf_state.specs.Peer.Streams.{Ending, Faulty, Reads, Feeds};
 ghost use Rattle.pf_state.specs.Peer.Written.{message_bytes, CanBeWritten};
+
+use crate::peer::message::{CLEAR, DELETE, INSERT, MESSAGE_LIMIT, VERSION};
+use crate::peer::record::RECORD;
+use crate::peer::stream::HEADER;
 
 /// The bytes so far are one list of messages, and end in one way.
 #[tactic(auto, using(crate::proofs::OneReading::one_reading))]
@@ -16,11 +21,12 @@ pub fn stream_has_one_reading()
 {}
 
 /// Whatever the bytes so far are, they are some list of messages and end in some way.
+#[tactic(auto, using(crate::proofs::SomeReading::some_reading))]
 pub fn stream_has_a_reading()
     ensures { (bytes : List ℕ) → (ms : List Message) × (e : Ending) × Reads bytes ms e }
 {}
 
-/// A fault is there with the first bytes that show it, and no further ones change it or the messages before it.
+/// A fault stays: no further bytes change it or the messages before it.
 #[tactic(auto, using(crate::proofs::Pieces::fault_stays))]
 pub fn fault_stays_the_same()
     ensures { (bytes more : List ℕ) (ms : List Message) (f : PeerFault) → Reads bytes ms (Faulty f) → Reads (bytes ++ more) ms (Faulty f) }
@@ -42,4 +48,20 @@ pub fn one_message_has_one_answer()
     ensures some { (bytes : List ℕ) → (r : Result Message OneFault) × IsOne bytes r }
     ensures one { (bytes : List ℕ) (r s : Result Message OneFault) → IsOne bytes r → IsOne bytes s → r ≡ s }
     ensures message { (bytes : List ℕ) (m : Message) → IsOne bytes (Ok m) ↔ IsMessage bytes m }
+{}
+
+/// The numbers of a message's form that definitions and code cite by name.
+pub fn numbers_of_messages_are_these()
+    ensures limit { MESSAGE_LIMIT ≡ 65_535 }
+    ensures header { HEADER ≡ 20 }
+    ensures record { RECORD ≡ 64 }
+    ensures version { VERSION ≡ 5 }
+    ensures actions { (INSERT ≡ 1) × (DELETE ≡ 6) × (CLEAR ≡ 0) }
+{}
+
+/// A message with an insert each way, one of each family, a delete and a clear has these bytes, and they are that message.
+#[tactic(auto, using(crate::proofs::Computed::example_written, crate::proofs::Computed::example_read))]
+pub fn one_message_has_these_bytes()
+    ensures written { message_bytes example.message ≡ example.bytes }
+    ensures read { IsMessage example.bytes example.message }
 {}

@@ -30,7 +30,7 @@ impl<T: Drop> Model for Records<T> {
 }
 
 impl<T: Drop> Records<T> {
-    /// The list of these. It takes no memory.
+    /// The list of these. It is never refused for memory.
     pub fn new(items: Vec<T>) -> Records<T>
         ensures { result ≡ items.items }
     {

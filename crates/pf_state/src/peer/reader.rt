@@ -35,7 +35,7 @@ impl Model for PeerReader {
 }
 
 impl PeerReader {
-    /// A reader of a stream of which nothing has come. It takes no memory.
+    /// A reader of a stream of which nothing has come. It is never refused for memory.
     pub fn new(alloc: Global) -> PeerReader
         ensures { result ≡ Some [] }
     {
@@ -46,7 +46,8 @@ impl PeerReader {
     }
 
     /// Takes the next piece of the stream: the messages that it completes, and the fault behind them, if there is one. Where the
-    /// pieces were cut makes no difference, and a fault comes with the first byte that shows it.
+    /// pieces were cut makes no difference. A fault of a message's header comes with the byte that shows it, one of its groups with the
+    /// message's last byte, wherever in it the fault is.
     ///
     /// After a fault the answer is [`FeedError::Failed`] from the next call on. [`FeedError::Memory`] leaves the reader as it was.
     pub fn feed(&mut self, alloc: Global, piece: &[u8]) -> Result<Fed, FeedError>
@@ -72,7 +73,7 @@ impl PeerReader {
 
     /// What the end of the stream shows: [`PeerFault::Ended`] within a message, and no fault between messages. `Ended` is a fault as
     /// the others are: from the next call on `feed` and `finish` answer [`FeedError::Failed`]. Where there is no fault the reader is
-    /// as before. It takes no memory.
+    /// as before. It is never refused for memory.
     pub fn finish(&mut self) -> Result<Option<PeerFault>, FeedError>
         ensures answer { result ≡ finished self.old }
         ensures left { self.new ≡ kept_at_end self.old }

@@ -69,7 +69,7 @@ pub(crate) fn read_stream(alloc: Global, bytes: &[u8]) -> Result<Read<'_>, Alloc
 }
 
 // What stands at the front.
-#[tactic(auto, unfolding(crate::specs::Peer::Records::number_at))]
+#[tactic(auto, unfolding(pf_rule::specs::Bytes::number_at))]
 fn front_of(bytes: &[u8]) -> Front
     ensures { IsFront bytes.now result }
 {

@@ -1,12 +1,13 @@
 //! Writing messages.
-ghost use Rattle.std.specs.Prelude.{◌≡◌, ◌++◌, ◌<◌, ◌∷◌, [], length, IfOk, OnOk, List};
+ghost use Rattle.std.specs.Prelude.{◌≡◌, ◌++◌, ◌<◌, ◌≤◌, ◌∷◌, [], length, IfOk, OnOk, List};
 ghost use Rattle.byteorder.specs.Endian.{big_bytes};
-ghost use Rattle.pf_state.specs.Peer.Records.{address_bytes, direction_byte, family_byte};
+ghost use Rattle.pf_addr.specs.Address.{family_of};
+ghost use Rattle.pf_rule.specs.Bytes.{addr_bytes, direction_byte, family_byte};
 ghost use Rattle.pf_state.specs.Peer.Messages.{IsMessage};
 ghost use Rattle.pf_state.specs.Peer.Written.{message_bytes, message_length, groups_bytes, group_bytes, group_with, Each, IsGroup};
 
 use crate::peer::fields::{FAMILY_4, FAMILY_6, IN, OUT};
-use crate::peer::message::{CLEAR, DELETE, Group, INSERT, Message, VERSION};
+use crate::peer::message::{CLEAR, DELETE, Group, INSERT, MESSAGE_LIMIT, Message, VERSION};
 use crate::peer::record::{InsertFields, Record};
 use crate::peer::stream::HEADER;
 use byteorder::{BigEndian, ByteOrder};
@@ -18,7 +19,7 @@ use std::alloc::{AllocError, Global};
 /// [`MESSAGE_LIMIT`](crate::peer::MESSAGE_LIMIT) bytes, which is the caller's condition: its header, 4 bytes for each group and
 /// [`RECORD`](crate::peer::RECORD) for each record. The only error is that memory is refused.
 pub fn write_peer(alloc: Global, message: &Message) -> Result<Vec<u8>, AllocError>
-    requires { message_length message.now < 65536 }
+    requires { message_length message.now ≤ MESSAGE_LIMIT }
     ensures written { IfOk result (λ bytes. bytes.items ≡ message_bytes message.now) }
     ensures read { IfOk result (λ bytes. IsMessage bytes.items message.now) }
 {
@@ -70,7 +71,8 @@ fn push_records<T: Record>(out: &mut Vec<u8>, action: u8, records: &[T]) -> Resu
 
 /// Writes the direction's, the family's and the protocol's byte, and a zero.
 pub(crate) fn push_kinds(out: &mut Vec<u8>, fields: &InsertFields) -> Result<(), AllocError>
-    ensures { OnOk result (out.new.items ≡ out.old.items ++ (direction_byte fields.now.direction ∷ family_byte fields.now.source ∷ fields.now.protocol ∷ 0 ∷ [])) }
+    ensures { OnOk result (out.new.items ≡ out.old.items
+        ++ (direction_byte fields.now.direction ∷ family_byte (family_of fields.now.source) ∷ fields.now.protocol ∷ 0 ∷ [])) }
 {
     let direction = match fields.direction {
         Direction::In => IN,
@@ -85,7 +87,7 @@ pub(crate) fn push_kinds(out: &mut Vec<u8>, fields: &InsertFields) -> Result<(),
 
 /// Writes an address in 16 bytes, one of IPv4 in the first four.
 pub(crate) fn push_address(out: &mut Vec<u8>, address: Addr) -> Result<(), AllocError>
-    ensures { OnOk result (out.new.items ≡ out.old.items ++ address_bytes address) }
+    ensures { OnOk result (out.new.items ≡ out.old.items ++ addr_bytes address) }
 {
     match address {
         Addr::V4(number) => {

@@ -1,6 +1,5 @@
 use Rattle.std.proofs.Common.{◌++◌, List, length}
-use Rattle.pf_state.specs.declared.peer.message.Group.{Group}
-use Rattle.pf_state.specs.declared.peer.fault.PeerFault.{PeerFault}
+use Rattle.pf_state.specs.declared.{peer.message.Group.Group, peer.fault.PeerFault.PeerFault}
 use Rattle.pf_state.specs.Peer.Groups.{AreGroups, BreakBehind}
 use Rattle.pf_state.proofs.peer.groups.groups_of.Given as goal
 

@@ -9,4 +9,4 @@ returns-clause-read c =
     let m = c.args.message.now in
     let same : c.extend_from_slice-3.new.self.items ≡ message_bytes m = grind (arith, common_steps) in
     let groups : Each IsGroup m.groups = rw c.as_slice.ensures at c.in_ok-push_groups.ensures.kept in
-    rw same (message_again m (record { checksum = omega arith; groups = groups; fits = c.requires }))
+    rw same (message_again m (record { checksum = omega arith; groups = groups; fits = omega (arith, c.requires) }))

@@ -1,0 +1,31 @@
+-- How numbers, addresses, directions and families stand in bytes, in a rule's form as in a peer's message. A number has its highest byte
+-- first (network order, RFC 1700); the rest is own.
+use Rattle.std.specs.Prelude.{◌≡◌, ℕ, List, ◌++◌, drop, length, replicate, slice_index, refl}
+use Rattle.byteorder.specs.Endian.{big_number, big_bytes}
+use Rattle.pf_addr.specs.declared.{addr.Addr.Addr, addr.Family.Family, addr.Family.TheVariants.V4, addr.Family.TheVariants.V6}
+use Rattle.pf_addr.specs.declared.addr.Addr.TheVariants as addr
+use Rattle.pf_rule.specs.declared.{value.direction.Direction.Direction, value.direction.Direction.TheVariants.In, value.direction.Direction.TheVariants.Out}
+
+abbrev pub byte_at : ℕ → List ℕ → ℕ
+byte_at place bytes = slice_index bytes place
+
+-- the number of so many bytes at a place
+unfoldable pub number_at : ℕ → ℕ → List ℕ → ℕ
+number_at place width bytes = big_number width (drop place bytes)
+
+-- an address in 16 bytes, one of IPv4 in the first four
+abbrev pub addr_bytes : Addr → List ℕ
+addr_bytes (addr.V4 n) = big_bytes 4 n ++ replicate 12 0
+addr_bytes (addr.V6 n) = big_bytes 16 n
+
+abbrev pub direction_byte : Direction → ℕ
+direction_byte In = 1
+direction_byte Out = 2
+
+abbrev pub family_byte : Family → ℕ
+family_byte V4 = 4
+family_byte V6 = 6
+
+pub addr_bytes-length : (a : Addr) → length (addr_bytes a) ≡ 16
+addr_bytes-length (addr.V4 n) = refl
+addr_bytes-length (addr.V6 n) = refl

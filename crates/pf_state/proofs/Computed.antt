@@ -1,0 +1,19 @@
+-- The bytes of the example message, computed, and what is read of them.
+use Rattle.std.proofs.Common.{◌≡◌, lit≤, refl}
+use Rattle.pf_rule.specs.Bytes.{number_at}
+use Rattle.pf_state.specs.Peer.Records.{allowed, fields_of}
+use Rattle.pf_state.specs.Peer.Groups.{content, group_at}
+use Rattle.pf_state.specs.Peer.Messages.{IsMessage}
+use Rattle.pf_state.specs.Peer.Written.{message_bytes}
+use Rattle.pf_state.specs.Peer.Example as example
+
+pub example_written : message_bytes example.message ≡ example.bytes
+example_written = refl
+
+pub example_read : IsMessage example.bytes example.message
+unfolding number_at allowed fields_of content group_at
+example_read = record {
+  whole = record { version = refl; zero = refl; measured = refl; enough = lit≤ tt };
+  checksum = refl;
+  groups = ((λ e. cc), _, refl, ((λ e. cc), _, refl, ((λ e. cc), _, refl, refl)));
+}
