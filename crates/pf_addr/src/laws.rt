@@ -2,6 +2,8 @@
 ghost use Rattle.std.specs.Prelude.{◌≡◌, ◌↔◌, ℕ, ◌^◌, ◌<◌, ◌≤◌, true, List, Ok};
 ghost use Rattle.pf_addr.specs.declared.addr.Addr.{Addr};
 ghost use Rattle.pf_addr.specs.Address.{Network, width, family_of, network_from, contains, IsAddr, BeginsAs, Agree};
+ghost use Rattle.pf_addr.specs.FaultCases.{IsAddrFault, IsNetFault};
+ghost use Rattle.pf_addr.specs.Form.Told.{TellsFaults};
 ghost use Rattle.pf_addr.specs.Grammar.{SpellsAddr, SpellsNet};
 ghost use Rattle.pf_addr.specs.Reading.{addr_at, net_at};
 ghost use Rattle.pf_addr.specs.Spelling.{addr_text, net_text};
@@ -70,4 +72,16 @@ pub fn nets_have_texts_of_their_own()
 #[tactic(auto, using(crate::specs::SpellingLaws::net_text_is_word))]
 pub fn net_text_is_one_word()
     ensures { (net : Network) → IsNetwork net → IsNetWord 43 (net_text net) }
+{}
+
+/// A text that is refused as an address is refused for the one fault that it has, by cases on the text.
+#[tactic(auto, using(crate::proofs::FaultsTold::addr_told))]
+pub fn faults_of_addrs_are_told()
+    ensures { TellsFaults addr_at IsAddrFault }
+{}
+
+/// A text that is refused as a network is refused for the one fault that it has, by cases on the text.
+#[tactic(auto, using(crate::proofs::FaultsTold::net_faults_told))]
+pub fn faults_of_nets_are_told()
+    ensures { TellsFaults net_at IsNetFault }
 {}

@@ -1,4 +1,10 @@
 //! What follows from the definitions that contracts cite: functions that do nothing, whose contracts are the laws.
+ghost use Rattle.std.specs.Prelude.{ℕ};
+ghost use Rattle.pf_addr.specs.Form.Told.{TellsFaults};
+ghost use Rattle.pf_addr.specs.Path.FaultCases.{IsNameFault, IsPathFault, IsReferenceFault};
+ghost use Rattle.pf_addr.specs.Path.Names.{name_of};
+ghost use Rattle.pf_addr.specs.Path.Paths.{path_of};
+ghost use Rattle.pf_addr.specs.Path.References.{reference_of};
 ghost use Rattle.pf_addr.specs.Path.NameLaws.{ReadsANameAlone, ReadsEachName};
 ghost use Rattle.pf_addr.specs.Path.PathLaws.{ReadsWhatIsSpelled, ReadsAllThatIsSpelled, WritesWhatWasRead, ReadsWhatIsWritten, SamePathIsEqual};
 ghost use Rattle.pf_addr.specs.Path.ReferenceLaws.{ReferenceIsSpelled, SpelledReferenceIsRead};
@@ -45,4 +51,12 @@ pub fn paths_stand_within_one_another()
     ensures deeper { LeadsDeeper }
     ensures one_more { ChildHasOneMore }
     ensures each { EachIsAChild }
+{}
+
+/// A word that is refused as a name, as a path or as a reference is refused for the one fault that it has, by cases on the word.
+#[tactic(auto, using(crate::proofs::NameFaultsTold::names_told, crate::proofs::NameFaultsTold::paths_told, crate::proofs::NameFaultsTold::references_told))]
+pub fn faults_of_names_are_told()
+    ensures names { (limit : ℕ) → TellsFaults (name_of limit) (IsNameFault limit) }
+    ensures paths { TellsFaults path_of IsPathFault }
+    ensures references { TellsFaults reference_of IsReferenceFault }
 {}
