@@ -177,3 +177,5 @@ reference_only w k (text, names, quotes, end, fault) =
 
 pub references_told : TellsFaults reference_of IsReferenceFault
 references_told = tells reference_of IsReferenceFault reference_told reference_only
+
+pub ruleset all_told = (names_told, paths_told, references_told)

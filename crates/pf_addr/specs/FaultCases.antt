@@ -70,7 +70,8 @@ pub record IsFirstFault (Good : List ℕ → ℕ → Type 0) (inner last : Fault
 -- its first faulty part's fault; or all parts are good, and they are too few or more than four
 pub data IsV4Fault (fewest at : ℕ) (text : List ℕ) (fault : AddrFault) : Type 0 where
   bad_part : IsFirstFault (IsNumber 255) IsPartFault IsPartFault at (pieces 46 text) fault → IsV4Fault fewest at text fault
-  wrong_number : (parts : List ℕ) → Dotted parts text → (length parts < fewest) ⊎ (4 < length parts) → fault ≡ BadGroups at → IsV4Fault fewest at text fault
+  wrong_number : (parts : List ℕ) → Dotted parts text → (length parts < fewest) ⊎ (4 < length parts)
+      → fault ≡ BadGroups at → IsV4Fault fewest at text fault
 
 -- ---- V6
 
@@ -95,13 +96,17 @@ pub record FirstGap (text front back : List ℕ) : Type 0 where
   pub cut : text ≡ front ++ 58 ∷ 58 ∷ back
   pub first : (f b : List ℕ) → text ≡ f ++ 58 ∷ 58 ∷ b → length front ≤ length f
 
--- The first faulty piece's fault, before `::` or behind it; or all pieces are good, and without `::` they aren't eight groups, or beside it more than seven.
+-- The first faulty piece's fault, before `::` or behind it; or all pieces are good, and without `::` they aren't eight groups, or
+-- beside it more than seven.
 pub data IsV6Fault (text : List ℕ) (fault : AddrFault) : Type 0 where
   bad_piece : NoGap text → IsOuterFault 0 text fault → IsV6Fault text fault
-  wrong_number : NoGap text → (groups : List ℕ) → EndGrouped groups text → length groups ≢ GROUPS → fault ≡ BadGroups 0 → IsV6Fault text fault
+  wrong_number : NoGap text → (groups : List ℕ) → EndGrouped groups text → length groups ≢ GROUPS
+      → fault ≡ BadGroups 0 → IsV6Fault text fault
   bad_before : (front back : List ℕ) → FirstGap text front back → IsInnerFault 0 front fault → IsV6Fault text fault
-  bad_behind : (front back fs : List ℕ) → FirstGap text front back → Grouped fs front → IsOuterFault (length front + 2) back fault → IsV6Fault text fault
-  too_many : (front back fs bs : List ℕ) → FirstGap text front back → Grouped fs front → EndGrouped bs back → GROUPS ≤ length fs + length bs → fault ≡ BadGroups 0 → IsV6Fault text fault
+  bad_behind : (front back fs : List ℕ) → FirstGap text front back → Grouped fs front
+      → IsOuterFault (length front + 2) back fault → IsV6Fault text fault
+  too_many : (front back fs bs : List ℕ) → FirstGap text front back → Grouped fs front → EndGrouped bs back
+      → GROUPS ≤ length fs + length bs → fault ≡ BadGroups 0 → IsV6Fault text fault
 
 -- ---- an address, which is V6 where it has a colon (58), and else V4 of so many parts at least
 
@@ -115,8 +120,12 @@ IsAddrFault = IsAddressFault 4
 
 -- ---- a network
 
--- Without a slash (47) it is an address. With one, the fault of the address before its first slash; or that is good, and what stands behind the slash is no length.
+-- Without a slash (47) it is an address. With one, the fault of the address before its first slash; or that is good, and what stands
+-- behind the slash is no length.
 pub data IsNetFault (text : List ℕ) (fault : AddrFault) : Type 0 where
   no_slash : Without 47 text → IsAddrFault text fault → IsNetFault text fault
-  bad_address : (front digits : List ℕ) → text ≡ front ++ 47 ∷ digits → Without 47 front → IsAddressFault 1 front fault → IsNetFault text fault
-  bad_length : (front digits : List ℕ) → text ≡ front ++ 47 ∷ digits → Without 47 front → (a : Addr) → Spells 1 front a → ((n : ℕ) → IsNumber (width (family_of a)) digits n → ⊥) → fault ≡ BadLength (length front + 1) → IsNetFault text fault
+  bad_address : (front digits : List ℕ) → text ≡ front ++ 47 ∷ digits → Without 47 front
+      → IsAddressFault 1 front fault → IsNetFault text fault
+  bad_length : (front digits : List ℕ) → text ≡ front ++ 47 ∷ digits → Without 47 front
+      → (a : Addr) → Spells 1 front a → ((n : ℕ) → IsNumber (width (family_of a)) digits n → ⊥)
+      → fault ≡ BadLength (length front + 1) → IsNetFault text fault

@@ -39,7 +39,8 @@ part_at at text = ok_or (small_number 255 text) (part_fault at text)
 
 abbrev pub group_by : ℕ → List ℕ → Option ℕ → Result ℕ AddrFault
 group_by at text (Some i) = Err (BadDigit (at + i))
-group_by at text None = if length text == 0 then Err (BadDigit at) else (if nat_le (length text) GROUP_DIGITS then Ok (digits_value 16 text) else Err (TooBig at))
+group_by at text None =
+    if length text == 0 then Err (BadDigit at) else (if nat_le (length text) GROUP_DIGITS then Ok (digits_value 16 text) else Err (TooBig at))
 
 unfoldable pub group_at : ℕ → List ℕ → Result ℕ AddrFault
 group_at at text = group_by at text (position (is_other 16) text)
@@ -91,7 +92,9 @@ v6_of groups = if length groups == GROUPS then Ok (v6_number groups) else Err (B
 
 -- with zeros in between
 abbrev pub v6_around : List ℕ → List ℕ → Result ℕ AddrFault
-v6_around front back = if nat_le (length front + length back) (GROUPS - 1) then Ok (v6_number (front ++ replicate (GROUPS - (length front + length back)) 0 ++ back)) else Err (BadGroups 0)
+v6_around front back =
+    let count : ℕ = length front + length back in
+    if nat_le count (GROUPS - 1) then Ok (v6_number (front ++ replicate (GROUPS - count) 0 ++ back)) else Err (BadGroups 0)
 
 abbrev pub later : ℕ → Option ℕ → Option ℕ
 later n (Some i) = Some (n + i)

@@ -1,6 +1,9 @@
 //! Laws of networks and of texts. Each function's contract is the law, and its body does nothing.
 ghost use Rattle.std.specs.Prelude.{◌≡◌, ◌↔◌, ℕ, ◌^◌, ◌<◌, ◌≤◌, true, List, Ok};
 ghost use Rattle.pf_addr.specs.declared.addr.Addr.{Addr};
+ghost use Rattle.pf_addr.specs.declared.addr.TheConstants.{V4_BITS, V6_BITS};
+ghost use Rattle.pf_addr.specs.declared.groups.TheConstants.{GROUPS, GROUP_DIGITS};
+ghost use Rattle.pf_addr.specs.declared.reading.TheConstants.{NUMBER_DIGITS};
 ghost use Rattle.pf_addr.specs.Address.{Network, width, family_of, network_from, contains, IsAddr, BeginsAs, Agree};
 ghost use Rattle.pf_addr.specs.FaultCases.{IsAddrFault, IsNetFault};
 ghost use Rattle.pf_addr.specs.Form.Told.{TellsFaults};
@@ -14,9 +17,10 @@ use crate::addr::Addr;
 /// A network contains exactly the addresses of its family whose first bits are its own, bit by bit.
 #[tactic(auto, using(crate::specs::BitLaws::contains_by_bits, crate::specs::BitLaws::network_agrees))]
 pub fn networks_contain_by_bits()
-    ensures bits { (net : Network) (a : Addr) → net.len ≤ width net.family → net.front < 2 ^ net.len → IsAddr a → (contains net a ≡ true) ↔ BeginsAs net a }
+    ensures bits { (net : Network) (a : Addr) → IsNetwork net → IsAddr a → (contains net a ≡ true) ↔ BeginsAs net a }
     // an address with its length is the network of those that agree with it in so many first bits
-    ensures shared { (a b : Addr) (len : ℕ) → len ≤ width (family_of b) → IsAddr a → IsAddr b → (contains (network_from b len) a ≡ true) ↔ Agree len a b }
+    ensures shared { (a b : Addr) (len : ℕ) → len ≤ width (family_of b) → IsAddr a → IsAddr b
+        → (contains (network_from b len) a ≡ true) ↔ Agree len a b }
 {}
 
 /// The text that an address is written as spells it.
@@ -84,4 +88,13 @@ pub fn faults_of_addrs_are_told()
 #[tactic(auto, using(crate::proofs::FaultsTold::net_faults_told))]
 pub fn faults_of_nets_are_told()
     ensures { TellsFaults net_at IsNetFault }
+{}
+
+/// How many bits, digits and groups addresses have.
+pub fn sizes_are_these()
+    ensures v4 { V4_BITS ≡ 32 }
+    ensures v6 { V6_BITS ≡ 128 }
+    ensures groups { GROUPS ≡ 8 }
+    ensures group_digits { GROUP_DIGITS ≡ 4 }
+    ensures number_digits { NUMBER_DIGITS ≡ 3 }
 {}

@@ -15,7 +15,9 @@ mod wanted;
 
 pub use direction::Direction;
 pub use interface::{INTERFACE_LIMIT, Interface};
-pub use laws::{port_words_are_read_as_spelled, protocol_words_are_read_as_spelled};
+pub use laws::{
+    limits_are_these, port_words_are_read_as_spelled, protocol_words_are_read_as_spelled,
+};
 pub use port_words::read_port;
 pub use ports::{Comparison, PortRange, PortTest, ports_fit, takes_port};
 pub use protocol::Protocol;

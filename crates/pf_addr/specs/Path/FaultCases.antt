@@ -26,11 +26,14 @@ IsComponentFault c BadWord = IsBad c
 IsComponentFault c NameTooLong = (IsBad c → ⊥) × (COMPONENT_LIMIT < length c)
 IsComponentFault c BadProto = ⊥
 
--- Names in a text of so many bytes at most: the text is longer; or one component has the fault, and each before it is good; or all are good, and too many.
+-- Names in a text of so many bytes at most: the text is longer; or one component has the fault, and each before it is good; or all are
+-- good, and too many.
 pub data IsFaultWithin (limit : ℕ) (text names : Word) (kind : Kind) : Type 0 where
   too_long : limit < length text → kind ≡ NameTooLong → IsFaultWithin limit text names kind
-  bad_component : length text ≤ limit → (front behind : List (List ℕ)) → (c : List ℕ) → components names ≡ front ++ c ∷ behind → AllByRecursion IsComponent front → IsComponentFault c kind → IsFaultWithin limit text names kind
-  too_deep : length text ≤ limit → AllByRecursion IsComponent (components names) → DEPTH_LIMIT < length (components names) → kind ≡ NameTooLong → IsFaultWithin limit text names kind
+  bad_component : length text ≤ limit → (front behind : List (List ℕ)) → (c : List ℕ) → components names ≡ front ++ c ∷ behind
+      → AllByRecursion IsComponent front → IsComponentFault c kind → IsFaultWithin limit text names kind
+  too_deep : length text ≤ limit → AllByRecursion IsComponent (components names) → DEPTH_LIMIT < length (components names)
+      → kind ≡ NameTooLong → IsFaultWithin limit text names kind
 
 -- "-" is the main ruleset's path
 abbrev pub IsPathFault : Word → Kind → Type 0

@@ -1,4 +1,5 @@
--- Hosts: which addresses they take, and how their words are spelled (pf.conf(5), PARAMETERS and TABLES). That a table in its brackets is one word is own.
+-- Hosts: which addresses they take, and how their words are spelled (pf.conf(5), PARAMETERS and TABLES). That a table in its brackets
+-- is one word is own.
 use Rattle.std.specs.Prelude.{ℕ, ◌++◌, not, Bool, true, false, List, [], ◌∷◌, drop, codes, Option, Some, None, Result, Ok, Err, if◌then◌else◌}
 use Rattle.std.specs.Option.{option_and_then, option_map_or}
 use Rattle.std.proofs.Common.{◌≡◌, refl}
@@ -98,7 +99,8 @@ net_of w = net_in (net_at w)
 
 -- a table, or else a network, negated or not
 abbrev pub marked_by : Bool → Word → Option Word → Result Host Kind
-marked_by negated w between = option_map_or (λ name. table_name_of name >>= λ n. Ok (Table n negated)) between (net_of w >>= λ n. Ok (Net n negated))
+marked_by negated w between =
+    option_map_or (λ name. table_name_of name >>= λ n. Ok (Table n negated)) between (net_of w >>= λ n. Ok (Net n negated))
 
 abbrev pub marked : Bool → Word → Result Host Kind
 marked negated w = marked_by negated w (bracketed w)
@@ -108,7 +110,8 @@ unfolding part_at pieces_at v4_at address_at
 marked_taken = refl
 
 unfoldable pub a_negated_host : Form Host
-a_negated_host = word (record { of = marked true; sample = codes "0.0.0.0"; value = Net (network_of (addr.V4 0)) true; takes = marked_taken })
+a_negated_host =
+    word (record { of = marked true; sample = codes "0.0.0.0"; value = Net (network_of (addr.V4 0)) true; takes = marked_taken })
 
 -- with a "!" joined to it, or without one
 abbrev pub host_of : Word → Result Host Kind

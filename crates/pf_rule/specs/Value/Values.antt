@@ -30,7 +30,9 @@ an_interface = word (record { of = interface_of; sample = codes "a"; value = cod
 -- ---- a protocol: its name, or its number (IANA's protocol numbers)
 
 abbrev pub protocol_names : List (Word × ℕ)
-protocol_names = (codes "tcp", protocols.TCP) ∷ (codes "udp", protocols.UDP) ∷ (codes "icmp", protocols.ICMP) ∷ (codes "icmp6", protocols.ICMP6) ∷ (codes "ipv6-icmp", protocols.ICMP6) ∷ []
+protocol_names =
+    (codes "tcp", protocols.TCP) ∷ (codes "udp", protocols.UDP) ∷ (codes "icmp", protocols.ICMP) ∷
+    (codes "icmp6", protocols.ICMP6) ∷ (codes "ipv6-icmp", protocols.ICMP6) ∷ []
 
 -- the name stands in the table with the number
 abbrev pub IsNamed : List (Word × ℕ) → Word → ℕ → Type 0
