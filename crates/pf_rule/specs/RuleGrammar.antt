@@ -52,8 +52,18 @@ effect_of (openings.Anchor r) keeps = Evaluate r
 abbrev pub rule_with :
     Opening × (Option Direction × (Bool × (Option (List ℕ) × (Option Family × (Option ℕ × ((End × End) × Bool)))))) → PlainRule
 rule_with (o, (d, (q, (i, (f, (p, ((s, t), keeps))))))) =
-    record { effect = effect_of o keeps; direction = d; quick = q; interface = i; family = f; protocol = p;
-      source = s.0; source_port = s.1; destination = t.0; destination_port = t.1 }
+    record {
+      effect = effect_of o keeps;
+      direction = d;
+      quick = q;
+      interface = i;
+      family = f;
+      protocol = p;
+      source = s.0;
+      source_port = s.1;
+      destination = t.0;
+      destination_port = t.1;
+    }
 
 abbrev pub rule_words : Form PlainRule
 rule_words =
