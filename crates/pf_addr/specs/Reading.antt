@@ -1,6 +1,5 @@
--- Which fault of a text is answered. Several faults may stand in one text, and their order is own (pieces
--- from left to right; in a piece the first byte that is no digit before its length and value; then the number of
--- pieces; then a network's length). So the fault and its place are a function of the text.
+-- How a text is read from left to right: what it spells (`Grammar`), or else its fault (`FaultCases`). It is there so that functions
+-- have something to compute; laws say that both are told exactly so.
 use Rattle.std.specs.Prelude.{ℕ, ◌+◌, ◌-◌, ◌==◌, nat_le, Bool, true, false, ◌&&◌, List, [], ◌∷◌, ◌++◌, length, take, drop, replicate, Option, Some, None, is_some, Result, Ok, Err, if◌then◌else◌}
 use Rattle.std.specs.List.{position}
 use Rattle.std.specs.Option.{ok_or}
@@ -40,7 +39,8 @@ part_at at text = ok_or (small_number 255 text) (part_fault at text)
 abbrev pub group_by : ℕ → List ℕ → Option ℕ → Result ℕ AddrFault
 group_by at text (Some i) = Err (BadDigit (at + i))
 group_by at text None =
-    if length text == 0 then Err (BadDigit at) else (if nat_le (length text) GROUP_DIGITS then Ok (digits_value 16 text) else Err (TooBig at))
+    if length text == 0 then Err (BadDigit at) else
+    (if nat_le (length text) GROUP_DIGITS then Ok (digits_value 16 text) else Err (TooBig at))
 
 unfoldable pub group_at : ℕ → List ℕ → Result ℕ AddrFault
 group_at at text = group_by at text (position (is_other 16) text)

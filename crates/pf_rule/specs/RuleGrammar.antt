@@ -31,7 +31,8 @@ a_reference = word (record { of = reference_of; sample = codes "a"; value = refe
 unfoldable pub opening : Form Opening
 opening =
     or (codes "pass") (nothing openings.Pass)
-    (or (codes "block") (or (codes "drop") (nothing openings.Block) (nothing openings.Block)) (key (codes "anchor") (making openings.Anchor a_reference)))
+    (or (codes "block") (or (codes "drop") (nothing openings.Block) (nothing openings.Block))
+    (key (codes "anchor") (making openings.Anchor a_reference)))
 
 abbrev pub passes : Opening → Bool
 passes openings.Pass = true

@@ -53,7 +53,8 @@ depth_fault n = if nat_lt DEPTH_LIMIT n then Some NameTooLong else None
 -- then the number of these
 abbrev pub fault_within : ℕ → Word → Word → Option Kind
 fault_within limit text names =
-    if nat_lt limit (length text) then Some NameTooLong else option_or (first_fault (components names)) (depth_fault (length (components names)))
+    if nat_lt limit (length text) then Some NameTooLong else
+    option_or (first_fault (components names)) (depth_fault (length (components names)))
 
 -- why a word is no path
 abbrev pub path_fault : Word → Option Kind

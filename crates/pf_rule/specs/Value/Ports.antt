@@ -83,7 +83,8 @@ split_by (o ∷ os) w = if begins_with o.0 w then Some (o.1, drop (length o.0) w
 
 abbrev pub operators : List (Word × Comparison)
 operators =
-    (codes "=", Equal) ∷ (codes "!=", NotEqual) ∷ (codes "<=", AtMost) ∷ (codes "<", Less) ∷ (codes ">=", AtLeast) ∷ (codes ">", Greater) ∷ []
+    (codes "=", Equal) ∷ (codes "!=", NotEqual) ∷ (codes "<=", AtMost) ∷
+    (codes "<", Less) ∷ (codes ">=", AtLeast) ∷ (codes ">", Greater) ∷ []
 
 -- a word that begins with a unary operator: the operator, the longest that it begins with, and what stands behind it
 abbrev pub split_operator : Word → Option (Comparison × Word)
@@ -149,7 +150,8 @@ compared operator = making (λ n. Compared operator n) number
 -- an operator of order and a number, or a test that begins with no operator as a word of its own
 unfoldable pub order_or_range : Form PortTest
 order_or_range =
-    or (codes "<") (compared Less) (or (codes "<=") (compared AtMost) (or (codes ">") (compared Greater) (or (codes ">=") (compared AtLeast) ranged)))
+    or (codes "<") (compared Less) (or (codes "<=") (compared AtMost)
+    (or (codes ">") (compared Greater) (or (codes ">=") (compared AtLeast) ranged)))
 
 -- an operator of equality and a number, or one of the above
 unfoldable pub port_test : Form PortTest
