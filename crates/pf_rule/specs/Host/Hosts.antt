@@ -1,15 +1,13 @@
 -- Hosts: which addresses they take, and how their words are spelled (pf.conf(5), PARAMETERS and TABLES). That a table in its brackets
 -- is one word is own.
-use Rattle.std.specs.Prelude.{ℕ, ◌++◌, not, Bool, true, false, List, [], ◌∷◌, drop, codes, Option, Some, None, Result, Ok, Err, if◌then◌else◌}
+use Rattle.std.specs.Prelude.{ℕ, ◌++◌, not, Bool, true, false, List, [], ◌∷◌, drop, codes, Option, Some, None, Result, Ok, if◌then◌else◌}
 use Rattle.std.specs.Option.{option_and_then, option_map_or}
 use Rattle.std.proofs.Common.{◌≡◌, refl}
 use Rattle.pf_addr.specs.declared.form.fault.Kind.{Kind}
-use Rattle.pf_addr.specs.declared.form.fault.Kind.TheVariants.{BadWord}
 use Rattle.pf_addr.specs.Form.Words.{Word}
 use Rattle.pf_addr.specs.Form.Forms.{Form, nothing, word, or, ◌>>=◌}
 use Rattle.pf_addr.specs.declared.addr.Addr.{Addr}
 use Rattle.pf_addr.specs.declared.addr.Addr.TheVariants as addr
-use Rattle.pf_addr.specs.declared.fault.AddrFault.{AddrFault}
 use Rattle.pf_addr.specs.Address.{Network, IsNetwork, network_of, contains}
 use Rattle.pf_addr.specs.Spelling.{net_text}
 use Rattle.pf_addr.specs.declared.addr.Family.{Family}
@@ -17,7 +15,7 @@ use Rattle.pf_addr.specs.Grammar.{SpellsNet}
 use Rattle.pf_addr.specs.Reading.{part_at, pieces_at, v4_at, address_at, net_at}
 use Rattle.pf_addr.specs.Path.Names.{IsTableName, table_name_of}
 use Rattle.pf_addr.specs.Path.References.{behind, before}
-use Rattle.pf_rule.specs.Value.Values.{begins_with}
+use Rattle.pf_rule.specs.Value.Values.{begins_with, as_word}
 use Rattle.pf_rule.specs.declared.host.host.Host.{Host}
 use Rattle.pf_rule.specs.declared.host.host.Host.TheVariants.{Any, Net, Table}
 
@@ -90,12 +88,8 @@ SpellsHost w h = SpellsMarked (is_negated h) w h
 abbrev pub bracketed : Word → Option Word
 bracketed w = option_and_then (before (codes ">")) (behind (codes "<") w)
 
-abbrev pub net_in : Result Network AddrFault → Result Network Kind
-net_in (Ok n) = Ok n
-net_in (Err e) = Err BadWord
-
 abbrev pub net_of : Word → Result Network Kind
-net_of w = net_in (net_at w)
+net_of w = as_word (net_at w)
 
 -- a table, or else a network, negated or not
 abbrev pub marked_by : Bool → Word → Option Word → Result Host Kind
