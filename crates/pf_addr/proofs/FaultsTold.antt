@@ -1,6 +1,6 @@
 -- A text that is no address or no network is refused with the fault that it has by cases, and with no other.
 use Rattle.std.proofs.Common.{◌≡◌, ℕ, ◌+◌, ◌<◌, ◌≤◌, ◌==◌, ◌&&◌, Bool, true, false, List, [], ◌∷◌, ◌++◌, length, take, drop, Option, Some, None, Result, Ok, Err, inl, inr, refl, sym, ap, ◌∙◌, subst, arith}
-use Rattle.std.specs.Prelude.{◌⊎◌, nat_le, is_some}
+use Rattle.std.specs.Prelude.{◌⊎◌, ◌↔◌, nat_le, is_some, if◌then◌else◌}
 use Rattle.std.specs.List.{position, position_or_len, AllZip}
 use Rattle.std.specs.Option.{ok_or}
 use Rattle.std.specs.Str.Parse.{digits_value}
@@ -18,12 +18,12 @@ use Rattle.pf_addr.specs.declared.fault.AddrFault.{AddrFault}
 use Rattle.pf_addr.specs.declared.fault.AddrFault.TheVariants.{Empty, BadDigit, TooBig, BadLength, BadGroups}
 use Rattle.pf_addr.specs.Address.{width, family_of, network_from, network_of}
 use Rattle.pf_addr.specs.DigitLaws.{digits_all, all_digits}
-use Rattle.pf_addr.specs.FaultCases.{FirstAt, Faulty, empty, no_digit, too_big, IsPartFault, IsGroupFault, place_behind, where_last, IsFirstFault, IsV4Fault, bad_part, wrong_number, IsEndFault, end_v4, end_group, IsInnerFault, IsOuterFault, NoGap, FirstGap, IsV6Fault, bad_piece, bad_before, bad_behind, too_many, IsAddressFault, no_text, as_v6, as_v4, IsAddrFault, IsNetFault, no_slash, bad_address, bad_length}
-use Rattle.pf_addr.specs.Grammar.{is_other, pieces, IsNumber, IsGroup, two_groups}
+use Rattle.pf_addr.specs.FaultCases.{FirstAt, Faulty, IsPieceFault, empty, no_digit, too_big, IsPartFault, IsGroupFault, place_behind, where_last, IsFirstFault, IsV4Fault, bad_part, wrong_number, IsEndFault, end_v4, end_group, IsInnerFault, IsOuterFault, NoGap, FirstGap, IsV6Fault, bad_piece, bad_before, bad_behind, too_many, IsAddressFault, no_text, as_v6, as_v4, IsAddrFault, IsNetFault, no_slash, bad_address, bad_length}
+use Rattle.pf_addr.specs.Grammar.{is_other, is_small, is_short, pieces, IsNumber, IsGroup, two_groups}
 use Rattle.pf_addr.specs.GapLaws.{gap_cut}
 use Rattle.pf_addr.specs.PieceLaws.{all_read, all_found}
 use Rattle.pf_addr.specs.PlaceLaws.{without, first_none, no_place, place_after, cut_there}
-use Rattle.pf_addr.specs.Reading.{small_number, fault_by, part_fault, part_at, group_by, group_at, One, Last, single, pieces_at, parts_at, v4_of, v4_at, has, end_at, groups_at, begins_with_byte, v6_of, v6_around, gap, v6_by, v6_at, family_at, address_at, addr_at, is_slash, length_at, front_at, cut_at, net_at}
+use Rattle.pf_addr.specs.Reading.{small_number, fault_by, part_at, piece_by, group_at, One, Last, single, pieces_at, parts_at, v4_of, v4_at, has, end_at, groups_at, begins_with_byte, v6_of, v6_around, gap, v6_by, v6_at, address_at, addr_at, is_slash, length_at, front_at, cut_at, net_at}
 use Rattle.pf_addr.specs.ReadingLaws.{small_read, small_found, part_read, part_found, group_read, group_found, grouped_read, ended_read, grouped_found, ended_found, behind_gap, address_read, address_found, behind as behind_slash}
 
 -- ---- places
@@ -53,82 +53,74 @@ pub length_none : (text : List ℕ) → length text ≡ 0 → text ≡ []
 length_none [] e = refl
 length_none (b ∷ bs) e = absurd (omega arith)
 
-part_told : (at : ℕ) (p : List ℕ) (f : AddrFault) → part_at at p ≡ Err f → IsPartFault at p f
-unfolding part_at
-part_told at p f e = by (position (is_other 10) p) refl (refused (small_number 255 p) (part_fault at p) f e).1 where
-  none : small_number 255 p ≡ None
-  none = (refused (small_number 255 p) (part_fault at p) f e).0
+module _ (radix : ℕ) (fits : List ℕ → Bool) (at : ℕ) (p : List ℕ) (f : AddrFault) where
+  piece_told : piece_by radix fits at p (position (is_other radix) p) ≡ Err f → IsPieceFault radix fits at p f
+  piece_told e = by (position (is_other radix) p) refl e where
+    by : (o : Option ℕ) → position (is_other radix) p ≡ o → piece_by radix fits at p o ≡ Err f → IsPieceFault radix fits at p f
+    by (Some i) h e = let is : f ≡ BadDigit (at + i) = cc in no_digit i (first_found (is_other radix) p i h) is
+    by None h e = elim (eqb_tells (length p) 0) [
+      | inl none ↦ let is : f ≡ BadDigit at = let made = rw none.0 at e in cc in empty (length_none p none.1) is
+      | inr some ↦ sized (omega (arith, some.1)) (fits p) refl (rw some.0 at e)
+    ] where
+      sized : 0 < length p → (t : Bool) → fits p ≡ t → (if t then Ok (digits_value radix p) else Err (TooBig at)) ≡ Err f → IsPieceFault radix fits at p f
+      sized lt true t e = absurd cc
+      sized lt false t e = let is : f ≡ TooBig at = cc in too_big (lt, all_digits radix p h) t is
 
-  large : (0 < length p) → position (is_other 10) p ≡ None → (3 < length p) ⊎ (255 < digits_value 10 p)
-  large some h = elim (leb_tells (length p) 3) [
-    | inr many ↦ inl many.1
-    | inl few ↦ elim (leb_tells (digits_value 10 p) 255) [
-      | inr high ↦ inr high.1
-      | inl small ↦ let read = small_read 255 p (digits_value 10 p) (record { number = record { digits = (some, all_digits 10 p h); few = few.1; value = refl }; small = small.1 }) in absurd cc
+  piece_only : IsPieceFault radix fits at p f → piece_by radix fits at p (position (is_other radix) p) ≡ Err f
+  piece_only (empty none is) = rw (none, is) refl
+  piece_only (no_digit i first is) = rw (first_read (is_other radix) p i first, is) refl
+  piece_only (too_big digits big is) =
+      let some : (length p == 0) ≡ false = let lt = digits.0 in grind (arith, nat_tests) in
+      rw (digits_all radix p digits.1, some, big, is) refl
+
+part_is : (at : ℕ) (p : List ℕ) → part_at at p ≡ piece_by 10 is_small at p (position (is_other 10) p)
+unfolding part_at
+part_is at p = by (position (is_other 10) p) refl where
+  by : (o : Option ℕ) → position (is_other 10) p ≡ o → ok_or (small_number 255 p) (fault_by at p o) ≡ piece_by 10 is_small at p o
+  by (Some i) h = rw (small_none 255 p (λ n is. let all = digits_all 10 p is.number.digits.1 in absurd cc)) refl
+  by None h = elim (eqb_tells (length p) 0) [
+    | inl none ↦ rw (length_none p none.1) refl
+    | inr some ↦ elim (leb_tells (length p) 3) [
+      | inr many ↦ rw (small_none 255 p (λ n is. omega (arith, is.number.few, many.1)), some.0, many.0) refl
+      | inl few ↦ elim (leb_tells (digits_value 10 p) 255) [
+        | inr high ↦ rw (small_none 255 p (λ n is. omega (arith, is.number.value, is.small, high.1)), some.0, few.0, high.0) refl
+        | inl small ↦ rw (small_read 255 p (digits_value 10 p) (record { number = record { digits = (omega (arith, some.1), all_digits 10 p h); few = few.1; value = refl }; small = small.1 }), some.0, few.0, small.0) refl
+      ]
     ]
   ]
 
-  by : (o : Option ℕ) → position (is_other 10) p ≡ o → f ≡ fault_by at p o → IsPartFault at p f
-  by (Some i) h is = no_digit i (first_found (is_other 10) p i h) is
-  by None h is = elim (eqb_tells (length p) 0) [
-    | inl none ↦ empty (length_none p none.1) (rw none.0 at is)
-    | inr some ↦ let lt : 0 < length p = omega (arith, some.1) in too_big (lt, all_digits 10 p h) (large lt h) (rw some.0 at is)
-  ]
+-- which faults are told
+abbrev Tells : {A : Type 0} → (ℕ → List ℕ → Result A AddrFault) → Faulty → Type 0
+Tells read Fault = (at : ℕ) (p : List ℕ) (f : AddrFault) → (read at p ≡ Err f) ↔ Fault at p f
 
-part_only : (at : ℕ) (p : List ℕ) (f : AddrFault) → IsPartFault at p f → part_at at p ≡ Err f
-unfolding part_at
-part_only at p f (empty none is) = rw (none, is) refl
-part_only at p f (no_digit i first is) =
-    let place = first_read (is_other 10) p i first in
-    rw (small_none 255 p (λ n h. let none = digits_all 10 p h.number.digits.1 in absurd cc), place, is) refl
-part_only at p f (too_big digits large is) =
-    let some : (length p == 0) ≡ false = let lt = digits.0 in grind (arith, nat_tests) in
-    rw (small_none 255 p (λ n h. elim large [ inl many ↦ omega (arith, h.number.few) | inr high ↦ omega (arith, h.number.value, h.small) ]), digits_all 10 p digits.1, some, is) refl
+part_tells : Tells part_at IsPartFault
+part_tells at p f = (λ e. piece_told 10 is_small at p f (sym (part_is at p) ∙ e), λ h. part_is at p ∙ piece_only 10 is_small at p f h)
 
-group_told : (at : ℕ) (p : List ℕ) (f : AddrFault) → group_at at p ≡ Err f → IsGroupFault at p f
+group_tells : Tells group_at IsGroupFault
 unfolding group_at
-group_told at p f e = by (position (is_other 16) p) refl e where
-  by : (o : Option ℕ) → position (is_other 16) p ≡ o → group_by at p o ≡ Err f → IsGroupFault at p f
-  by (Some i) h e = let is : f ≡ BadDigit (at + i) = cc in no_digit i (first_found (is_other 16) p i h) is
-  by None h e = elim (eqb_tells (length p) 0) [
-    | inl none ↦ let is : f ≡ BadDigit at = let made = rw none.0 at e in cc in empty (length_none p none.1) is
-    | inr some ↦ elim (leb_tells (length p) 4) [
-      | inl few ↦ let no = rw (some.0, few.0) at e in absurd cc
-      | inr many ↦ let is : f ≡ TooBig at = let made = rw (some.0, many.0) at e in cc in too_big (omega (arith, some.1), all_digits 16 p h) many.1 is
-    ]
-  ]
-
-group_only : (at : ℕ) (p : List ℕ) (f : AddrFault) → IsGroupFault at p f → group_at at p ≡ Err f
-unfolding group_at
-group_only at p f (empty none is) = rw (none, is) refl
-group_only at p f (no_digit i first is) = rw (first_read (is_other 16) p i first, is) refl
-group_only at p f (too_big digits many is) =
-    let some : (length p == 0) ≡ false = let lt = digits.0 in grind (arith, nat_tests) in
-    rw (digits_all 16 p digits.1, some, lt-leb (length p) 4 many, is) refl
+group_tells at p f = (piece_told 16 is_short at p f, piece_only 16 is_short at p f)
 
 -- ---- pieces in a row
 
--- how the faults of pieces are told, and which are
+-- which pieces are good, and which faults of others are told
 record Told (Good : List ℕ → ℕ → Type 0) (inner last : Faulty) (one : One) (end : Last) : Type 0 where
   found : (at : ℕ) (p : List ℕ) (n : ℕ) → one at p ≡ Ok n → Good p n
   read : (at : ℕ) (p : List ℕ) (n : ℕ) → Good p n → one at p ≡ Ok n
-  inner_told : (at : ℕ) (p : List ℕ) (f : AddrFault) → one at p ≡ Err f → inner at p f
-  inner_only : (at : ℕ) (p : List ℕ) (f : AddrFault) → inner at p f → one at p ≡ Err f
-  last_told : (at : ℕ) (p : List ℕ) (f : AddrFault) → end at p ≡ Err f → last at p f
-  last_only : (at : ℕ) (p : List ℕ) (f : AddrFault) → last at p f → end at p ≡ Err f
+  one_tells : Tells one inner
+  end_tells : Tells end last
 
 module _ (Good : List ℕ → ℕ → Type 0) (inner last : Faulty) (one : One) (end : Last) (is : Told Good inner last one end) where
-  pieces_told : (at : ℕ) (ps : List (List ℕ)) (f : AddrFault) → pieces_at one end at ps ≡ Err f → IsFirstFault Good inner last at ps f
+  row_told : (at : ℕ) (ps : List (List ℕ)) (f : AddrFault) → pieces_at one end at ps ≡ Err f → IsFirstFault Good inner last at ps f
   unfolding pieces_at
-  pieces_told at [] f e = absurd cc
-  pieces_told at (p ∷ []) f e = record { front = []; piece = p; behind = []; numbers = []; cut = refl; good = tt; faulty = is.last_told at p f e }
-  pieces_told at (p ∷ q ∷ ps) f e =
+  row_told at [] f e = absurd cc
+  row_told at (p ∷ []) f e = record { front = []; piece = p; behind = []; numbers = []; cut = refl; good = tt; faulty = (is.end_tells at p f).0 e }
+  row_told at (p ∷ q ∷ ps) f e =
       let others : Result (List ℕ) AddrFault = pieces_at one end (at + length p + 1) (q ∷ ps) in
       elim (bind_err (one at p) (λ n. others >>= λ ns. Ok (n ∷ ns)) f e) [
-        | inl first ↦ record { front = []; piece = p; behind = q ∷ ps; numbers = []; cut = refl; good = tt; faulty = is.inner_told at p f first }
+        | inl first ↦ record { front = []; piece = p; behind = q ∷ ps; numbers = []; cut = refl; good = tt; faulty = (is.one_tells at p f).0 first }
         | inr (n, ok, rest) ↦ elim (bind_err others (λ ns. Ok (n ∷ ns)) f rest) [
           | inl fault ↦
-              let more = pieces_told (at + length p + 1) (q ∷ ps) f fault in
+              let more = row_told (at + length p + 1) (q ∷ ps) f fault in
               record { front = p ∷ more.front; piece = more.piece; behind = more.behind; numbers = n ∷ more.numbers; cut = ap (λ (l : List (List ℕ)). p ∷ l) more.cut; good = (is.found at p n ok, more.good); faulty = more.faulty }
           | inr (ns, read, made) ↦ absurd cc
         ]
@@ -136,30 +128,30 @@ module _ (Good : List ℕ → ℕ → Type 0) (inner last : Faulty) (one : One) 
 
   row_only : (at : ℕ) (front : List (List ℕ)) (piece : List ℕ) (behind : List (List ℕ)) (numbers : List ℕ) (f : AddrFault) → AllZip Good front numbers → where_last behind inner last (place_behind at front) piece f → pieces_at one end at (front ++ piece ∷ behind) ≡ Err f
   unfolding pieces_at
-  row_only at [] piece [] numbers f good faulty = is.last_only at piece f faulty
-  row_only at [] piece (q ∷ qs) numbers f good faulty = rw (is.inner_only at piece f faulty) refl
+  row_only at [] piece [] numbers f good faulty = (is.end_tells at piece f).1 faulty
+  row_only at [] piece (q ∷ qs) numbers f good faulty = rw ((is.one_tells at piece f).1 faulty) refl
   row_only at (p ∷ front) piece behind [] f good faulty = absurd good
   row_only at (p ∷ []) piece behind (n ∷ ns) f good faulty = rw (is.read at p n good.0, row_only (at + length p + 1) [] piece behind ns f good.1 faulty) refl
   row_only at (p ∷ g ∷ gs) piece behind (n ∷ ns) f good faulty = rw (is.read at p n good.0, row_only (at + length p + 1) (g ∷ gs) piece behind ns f good.1 faulty) refl
 
-  pieces_only : (at : ℕ) (ps : List (List ℕ)) (f : AddrFault) → IsFirstFault Good inner last at ps f → pieces_at one end at ps ≡ Err f
-  pieces_only at ps f h = ap (pieces_at one end at) h.cut ∙ row_only at h.front h.piece h.behind h.numbers f h.good h.faulty
+  row_tells : (c : ℕ) → Tells (λ at text. pieces_at one end at (pieces c text)) (λ at text f. IsFirstFault Good inner last at (pieces c text) f)
+  row_tells c at text f = (row_told at (pieces c text) f, λ h. ap (pieces_at one end at) h.cut ∙ row_only at h.front h.piece h.behind h.numbers f h.good h.faulty)
 
-single_told : (inner : Faulty) (one : One) → ((at : ℕ) (p : List ℕ) (f : AddrFault) → one at p ≡ Err f → inner at p f) → (at : ℕ) (p : List ℕ) (f : AddrFault) → single one at p ≡ Err f → inner at p f
-single_told inner one told at p f e = elim (bind_err (one at p) (λ n. Ok (n ∷ [])) f e) [ inl fault ↦ told at p f fault | inr (n, ok, made) ↦ absurd cc ]
-
-by_one : (Good : List ℕ → ℕ → Type 0) (inner : Faulty) (one : One) → ((at : ℕ) (p : List ℕ) (n : ℕ) → one at p ≡ Ok n → Good p n) → ((at : ℕ) (p : List ℕ) (n : ℕ) → Good p n → one at p ≡ Ok n) → ((at : ℕ) (p : List ℕ) (f : AddrFault) → one at p ≡ Err f → inner at p f) → ((at : ℕ) (p : List ℕ) (f : AddrFault) → inner at p f → one at p ≡ Err f) → Told Good inner inner one (single one)
-by_one Good inner one found read told only = record { found = found; read = read; inner_told = told; inner_only = only; last_told = single_told inner one told; last_only = λ at p f h. rw (only at p f h) refl }
+single_tells : (inner : Faulty) (one : One) → Tells one inner → Tells (single one) inner
+single_tells inner one tells at p f = (
+  λ e. elim (bind_err (one at p) (λ n. Ok (n ∷ [])) f e) [ inl fault ↦ (tells at p f).0 fault | inr (n, ok, made) ↦ absurd cc ],
+  λ h. rw ((tells at p f).1 h) refl,
+)
 
 -- ---- V4
 
-parts : Told (IsNumber 255) IsPartFault IsPartFault part_at (single part_at)
-parts = by_one (IsNumber 255) IsPartFault part_at part_found part_read part_told part_only
+parts_tell : Tells parts_at (λ at text f. IsFirstFault (IsNumber 255) IsPartFault IsPartFault at (pieces 46 text) f)
+parts_tell = row_tells (IsNumber 255) IsPartFault IsPartFault part_at (single part_at) (record { found = part_found; read = part_read; one_tells = part_tells; end_tells = single_tells IsPartFault part_at part_tells }) 46
 
 v4_told : (fewest at : ℕ) (text : List ℕ) (f : AddrFault) → v4_at fewest at text ≡ Err f → IsV4Fault fewest at text f
 unfolding v4_at
 v4_told fewest at text f e = elim (bind_err (parts_at at text) (v4_of fewest at) f e) [
-  | inl fault ↦ bad_part (pieces_told (IsNumber 255) IsPartFault IsPartFault part_at (single part_at) parts at (pieces 46 text) f fault)
+  | inl fault ↦ bad_part ((parts_tell at text f).0 fault)
   | inr (numbers, read, made) ↦
       let good = all_found (IsNumber 255) part_at part_found at (pieces 46 text) numbers read in
       elim (leb_tells fewest (length numbers)) [
@@ -173,7 +165,7 @@ v4_told fewest at text f e = elim (bind_err (parts_at at text) (v4_of fewest at)
 
 v4_only : (fewest at : ℕ) (text : List ℕ) (f : AddrFault) → IsV4Fault fewest at text f → v4_at fewest at text ≡ Err f
 unfolding v4_at
-v4_only fewest at text f (bad_part first) = rw (pieces_only (IsNumber 255) IsPartFault IsPartFault part_at (single part_at) parts at (pieces 46 text) f first) refl
+v4_only fewest at text f (bad_part first) = rw ((parts_tell at text f).1 first) refl
 v4_only fewest at text f (wrong_number numbers good wrong is) =
     let read = all_read (IsNumber 255) part_at (single part_at) part_read (λ k p m h. rw (part_read k p m h) refl) at (pieces 46 text) numbers good in
     let test : (nat_le fewest (length numbers) && nat_le (length numbers) 4) ≡ false = elim wrong [ inl missing ↦ grind (arith, nat_tests) | inr many ↦ grind (arith, nat_tests) ] in
@@ -181,50 +173,30 @@ v4_only fewest at text f (wrong_number numbers good wrong is) =
 
 -- ---- V6
 
-has_none : (c : ℕ) (text : List ℕ) → has c text ≡ false → without c text
-has_none c text e = by (position (λ b. b == c) text) refl e where
-  by : (o : Option ℕ) → position (λ b. b == c) text ≡ o → is_some o ≡ false → without c text
-  by None h e = first_none (λ b. b == c) text h
-  by (Some i) h e = absurd cc
-
-has_one : (c : ℕ) (text : List ℕ) → has c text ≡ true → (i : ℕ) × FirstAt (λ b. b == c) text i
-has_one c text e = by (position (λ b. b == c) text) refl e where
-  by : (o : Option ℕ) → position (λ b. b == c) text ≡ o → is_some o ≡ true → (i : ℕ) × FirstAt (λ b. b == c) text i
-  by None h e = absurd cc
-  by (Some i) h e = (i, first_found (λ b. b == c) text i h)
+has_tells : (c : ℕ) (text : List ℕ) → ((has c text ≡ true) × ((i : ℕ) × FirstAt (λ b. b == c) text i)) ⊎ ((has c text ≡ false) × without c text)
+has_tells c text = by (position (λ b. b == c) text) refl where
+  by : (o : Option ℕ) → position (λ b. b == c) text ≡ o → ((is_some o ≡ true) × ((i : ℕ) × FirstAt (λ b. b == c) text i)) ⊎ ((is_some o ≡ false) × without c text)
+  by None h = inr (refl, first_none (λ b. b == c) text h)
+  by (Some i) h = inl (refl, (i, first_found (λ b. b == c) text i h))
 
 end_told : (at : ℕ) (p : List ℕ) (f : AddrFault) → end_at true at p ≡ Err f → IsEndFault at p f
 unfolding end_at
-end_told at p f e = by (has 46 p) refl where
-  by : (b : Bool) → has 46 p ≡ b → IsEndFault at p f
-  by true h =
-      let (i, first) = has_one 46 p h in
-      elim (bind_err (v4_at 4 at p) (λ n. Ok (two_groups n)) f (rw h at e)) [ inl fault ↦ end_v4 i first (v4_told 4 at p f fault) | inr (n, read, made) ↦ absurd cc ]
-  by false h = end_group (has_none 46 p h) (single_told IsGroupFault group_at group_told at p f (rw h at e))
+end_told at p f e = elim (has_tells 46 p) [
+  | inl (dot, first) ↦ elim (bind_err (v4_at 4 at p) (λ n. Ok (two_groups n)) f (rw dot at e)) [ inl fault ↦ end_v4 first.0 first.1 (v4_told 4 at p f fault) | inr (n, read, made) ↦ absurd cc ]
+  | inr none ↦ end_group none.1 ((single_tells IsGroupFault group_at group_tells at p f).0 (rw none.0 at e))
+]
 
 end_only : (at : ℕ) (p : List ℕ) (f : AddrFault) → IsEndFault at p f → end_at true at p ≡ Err f
 unfolding end_at
 end_only at p f (end_v4 i first fault) = rw (first_read (λ b. b == 46) p i first, v4_only 4 at p f fault) refl
-end_only at p f (end_group none fault) = rw (no_place 46 p none, group_only at p f fault) refl
+end_only at p f (end_group none fault) = rw (no_place 46 p none, (group_tells at p f).1 fault) refl
 
-inners : Told IsGroup IsGroupFault IsGroupFault group_at (end_at false)
+inner_tells : Tells (groups_at false) IsInnerFault
 unfolding end_at
-inners = by_one IsGroup IsGroupFault group_at group_found group_read group_told group_only
+inner_tells = row_tells IsGroup IsGroupFault IsGroupFault group_at (end_at false) (record { found = group_found; read = group_read; one_tells = group_tells; end_tells = single_tells IsGroupFault group_at group_tells }) 58
 
-ends : Told IsGroup IsGroupFault IsEndFault group_at (end_at true)
-ends = record { found = group_found; read = group_read; inner_told = group_told; inner_only = group_only; last_told = end_told; last_only = end_only }
-
-inner_told : (at : ℕ) (text : List ℕ) (f : AddrFault) → groups_at false at text ≡ Err f → IsInnerFault at text f
-inner_told at text f e = pieces_told IsGroup IsGroupFault IsGroupFault group_at (end_at false) inners at (pieces 58 text) f e
-
-inner_only : (at : ℕ) (text : List ℕ) (f : AddrFault) → IsInnerFault at text f → groups_at false at text ≡ Err f
-inner_only at text f h = pieces_only IsGroup IsGroupFault IsGroupFault group_at (end_at false) inners at (pieces 58 text) f h
-
-outer_told : (at : ℕ) (text : List ℕ) (f : AddrFault) → groups_at true at text ≡ Err f → IsOuterFault at text f
-outer_told at text f e = pieces_told IsGroup IsGroupFault IsEndFault group_at (end_at true) ends at (pieces 58 text) f e
-
-outer_only : (at : ℕ) (text : List ℕ) (f : AddrFault) → IsOuterFault at text f → groups_at true at text ≡ Err f
-outer_only at text f h = pieces_only IsGroup IsGroupFault IsEndFault group_at (end_at true) ends at (pieces 58 text) f h
+outer_tells : Tells (groups_at true) IsOuterFault
+outer_tells = row_tells IsGroup IsGroupFault IsEndFault group_at (end_at true) (record { found = group_found; read = group_read; one_tells = group_tells; end_tells = λ at p f. (end_told at p f, end_only at p f) }) 58
 
 -- ---- the first `::`
 
@@ -268,7 +240,7 @@ unfolding v6_at
 v6_told text f e = by (gap text) refl e where
   by : (o : Option ℕ) → gap text ≡ o → v6_by text o ≡ Err f → IsV6Fault text f
   by None h e = elim (bind_err (groups_at true 0 text) v6_of f e) [
-    | inl fault ↦ bad_piece (gap_none text h) (outer_told 0 text f fault)
+    | inl fault ↦ bad_piece (gap_none text h) ((outer_tells 0 text f).0 fault)
     | inr (groups, read, made) ↦ elim (eqb_tells (length groups) 8) [
       | inl eight ↦ let no = rw eight.0 at made in absurd cc
       | inr wrong ↦ let is : f ≡ BadGroups 0 = let m = rw wrong.0 at made in cc in wrong_number (gap_none text h) groups (ended_found 0 text groups read) wrong.1 is
@@ -280,9 +252,9 @@ v6_told text f e = by (gap text) refl e where
       let first = gap_first text i h in
       let size : i ≡ length front = omega (arith, length-take i text, ap length first.cut, length-append front (58 ∷ 58 ∷ back)) in
       elim (bind_err (groups_at false 0 front) (λ fs. groups_at true (i + 2) back >>= v6_around fs) f e) [
-        | inl fault ↦ bad_before front back first (inner_told 0 front f fault)
+        | inl fault ↦ bad_before front back first ((inner_tells 0 front f).0 fault)
         | inr (fs, read, rest) ↦ elim (bind_err (groups_at true (i + 2) back) (v6_around fs) f rest) [
-          | inl fault ↦ bad_behind front back fs first (grouped_found 0 front fs read) (subst (λ (k : ℕ). IsOuterFault (k + 2) back f) size (outer_told (i + 2) back f fault))
+          | inl fault ↦ bad_behind front back fs first (grouped_found 0 front fs read) (subst (λ (k : ℕ). IsOuterFault (k + 2) back f) size ((outer_tells (i + 2) back f).0 fault))
           | inr (bs, read_back, made) ↦ elim (leb_tells (length fs + length bs) 7) [
             | inl few ↦ let no = rw few.0 at made in absurd cc
             | inr more ↦ let is : f ≡ BadGroups 0 = let m = rw more.0 at made in cc in too_many front back fs bs first (grouped_found 0 front fs read) (ended_found (i + 2) back bs read_back) more.1 is
@@ -298,12 +270,12 @@ back_is text front back h = ap (drop (length front + 2)) h.cut ∙ behind_gap fr
 
 v6_only : (text : List ℕ) (f : AddrFault) → IsV6Fault text f → v6_at text ≡ Err f
 unfolding v6_at
-v6_only text f (bad_piece never fault) = rw (none_gap text never, outer_only 0 text f fault) refl
+v6_only text f (bad_piece never fault) = rw (none_gap text never, (outer_tells 0 text f).1 fault) refl
 v6_only text f (wrong_number never groups good wrong is) =
     let test : (length groups == 8) ≡ false = grind (arith, nat_tests) in
     rw (none_gap text never, ended_read 0 text groups good, test, is) refl
-v6_only text f (bad_before front back h fault) = rw (first_gap text front back h, front_is text front back h, inner_only 0 front f fault) refl
-v6_only text f (bad_behind front back fs h good fault) = rw (first_gap text front back h, front_is text front back h, grouped_read false 0 front fs good, back_is text front back h, outer_only (length front + 2) back f fault) refl
+v6_only text f (bad_before front back h fault) = rw (first_gap text front back h, front_is text front back h, (inner_tells 0 front f).1 fault) refl
+v6_only text f (bad_behind front back fs h good fault) = rw (first_gap text front back h, front_is text front back h, grouped_read false 0 front fs good, back_is text front back h, (outer_tells (length front + 2) back f).1 fault) refl
 v6_only text f (too_many front back fs bs h good ended more is) =
     rw (first_gap text front back h, front_is text front back h, grouped_read false 0 front fs good, back_is text front back h, ended_read (length front + 2) back bs ended, lt-leb (length fs + length bs) 7 more, is) refl
 
@@ -313,11 +285,11 @@ address_told : (fewest : ℕ) (text : List ℕ) (f : AddrFault) → address_at f
 unfolding address_at
 address_told fewest text f e = elim (eqb_tells (length text) 0) [
   | inl none ↦ let is : f ≡ Empty 0 = let m = rw none.0 at e in cc in no_text (length_none text none.1) is
-  | inr some ↦ by (has 58 text) refl (omega (arith, some.1)) (rw some.0 at e)
-] where
-  by : (b : Bool) → has 58 text ≡ b → 0 < length text → family_at fewest text b ≡ Err f → IsAddressFault fewest text f
-  by true h lt e = elim (bind_err (v6_at text) (λ n. Ok (addr.V6 n)) f e) [ inl fault ↦ let (i, first) = has_one 58 text h in as_v6 i first (v6_told text f fault) | inr (n, read, made) ↦ absurd cc ]
-  by false h lt e = elim (bind_err (v4_at fewest 0 text) (λ n. Ok (addr.V4 n)) f e) [ inl fault ↦ as_v4 lt (has_none 58 text h) (v4_told fewest 0 text f fault) | inr (n, read, made) ↦ absurd cc ]
+  | inr some ↦ elim (has_tells 58 text) [
+    | inl (colon, first) ↦ elim (bind_err (v6_at text) (λ n. Ok (addr.V6 n)) f (rw (some.0, colon) at e)) [ inl fault ↦ as_v6 first.0 first.1 (v6_told text f fault) | inr (n, read, made) ↦ absurd cc ]
+    | inr none ↦ elim (bind_err (v4_at fewest 0 text) (λ n. Ok (addr.V4 n)) f (rw (some.0, none.0) at e)) [ inl fault ↦ as_v4 (omega (arith, some.1)) none.1 (v4_told fewest 0 text f fault) | inr (n, read, made) ↦ absurd cc ]
+  ]
+]
 
 address_only : (fewest : ℕ) (text : List ℕ) (f : AddrFault) → IsAddressFault fewest text f → address_at fewest text ≡ Err f
 unfolding address_at

@@ -1,14 +1,13 @@
 -- Which fault a text has that spells no address or no network, and at which byte, by cases on the text. Their order is own.
 use Rattle.std.specs.Prelude.{◌≡◌, ◌≢◌, ℕ, ◌+◌, ◌==◌, ◌<◌, ◌≤◌, ◌⊎◌, Bool, true, false, List, [], ◌∷◌, ◌++◌, length, slice_index, All}
 use Rattle.std.specs.List.{AllZip}
-use Rattle.std.specs.Str.Parse.{IsNumeral, digits_value}
+use Rattle.std.specs.Str.Parse.{IsNumeral}
 use Rattle.pf_addr.specs.declared.addr.Addr.{Addr}
 use Rattle.pf_addr.specs.declared.fault.AddrFault.{AddrFault}
 use Rattle.pf_addr.specs.declared.fault.AddrFault.TheVariants.{Empty, BadDigit, TooBig, BadLength, BadGroups}
-use Rattle.pf_addr.specs.declared.reading.TheConstants.{NUMBER_DIGITS}
-use Rattle.pf_addr.specs.declared.groups.TheConstants.{GROUP_DIGITS, GROUPS}
+use Rattle.pf_addr.specs.declared.groups.TheConstants.{GROUPS}
 use Rattle.pf_addr.specs.Address.{width, family_of}
-use Rattle.pf_addr.specs.Grammar.{is_other, pieces, IsNumber, Dotted, IsGroup, Grouped, EndGrouped, Spells}
+use Rattle.pf_addr.specs.Grammar.{is_other, is_small, is_short, pieces, IsNumber, Dotted, IsGroup, Grouped, EndGrouped, Spells}
 
 -- the first byte that passes a test stands at this place
 pub record FirstAt (test : ℕ → Bool) (text : List ℕ) (place : ℕ) : Type 0 where
@@ -26,22 +25,22 @@ Faulty = ℕ → List ℕ → AddrFault → Type 0
 
 -- ---- one piece
 
--- A piece is no number in the radix: it is empty, has a byte that is no digit, or is digits alone and too big.
-pub data IsPieceFault (radix : ℕ) (Big : List ℕ → Type 0) (at : ℕ) (piece : List ℕ) (fault : AddrFault) : Type 0 where
+-- A piece is no number in the radix: it is empty, has a byte that is no digit, or is digits alone that don't fit.
+pub data IsPieceFault (radix : ℕ) (fits : List ℕ → Bool) (at : ℕ) (piece : List ℕ) (fault : AddrFault) : Type 0 where
   -- told where the piece begins
-  empty : piece ≡ [] → fault ≡ BadDigit at → IsPieceFault radix Big at piece fault
+  empty : piece ≡ [] → fault ≡ BadDigit at → IsPieceFault radix fits at piece fault
   -- told at the first such byte
-  no_digit : (i : ℕ) → FirstAt (is_other radix) piece i → fault ≡ BadDigit (at + i) → IsPieceFault radix Big at piece fault
+  no_digit : (i : ℕ) → FirstAt (is_other radix) piece i → fault ≡ BadDigit (at + i) → IsPieceFault radix fits at piece fault
   -- told where the piece begins
-  too_big : IsNumeral radix piece → Big piece → fault ≡ TooBig at → IsPieceFault radix Big at piece fault
+  too_big : IsNumeral radix piece → fits piece ≡ false → fault ≡ TooBig at → IsPieceFault radix fits at piece fault
 
--- a part of a V4 address is too big past three digits, and past 255
+-- a part of a V4 address has three digits at most, and is 255 at most
 abbrev pub IsPartFault : Faulty
-IsPartFault = IsPieceFault 10 (λ piece. (NUMBER_DIGITS < length piece) ⊎ (255 < digits_value 10 piece))
+IsPartFault = IsPieceFault 10 is_small
 
--- a group of a V6 address is too big past four digits
+-- a group of a V6 address has four digits at most
 abbrev pub IsGroupFault : Faulty
-IsGroupFault = IsPieceFault 16 (λ piece. GROUP_DIGITS < length piece)
+IsGroupFault = IsPieceFault 16 is_short
 
 -- ---- pieces in a row, with one byte between two
 

@@ -11,9 +11,9 @@ use Rattle.pf_addr.specs.declared.addr.Addr.TheVariants as addr
 use Rattle.pf_addr.specs.declared.fault.AddrFault.{AddrFault}
 use Rattle.pf_addr.specs.declared.fault.AddrFault.TheVariants.{Empty, BadDigit, TooBig, BadLength, BadGroups}
 use Rattle.pf_addr.specs.declared.reading.TheConstants.{NUMBER_DIGITS}
-use Rattle.pf_addr.specs.declared.groups.TheConstants.{GROUP_DIGITS, GROUPS}
+use Rattle.pf_addr.specs.declared.groups.TheConstants.{GROUPS}
 use Rattle.pf_addr.specs.Address.{Network, width, family_of, network_from, network_of}
-use Rattle.pf_addr.specs.Grammar.{is_other, pieces, v4_number, v6_number, two_groups}
+use Rattle.pf_addr.specs.Grammar.{is_other, is_short, pieces, v4_number, v6_number, two_groups}
 
 -- the number, if it is at most `most`
 abbrev pub kept_to : ℕ → Option ℕ → Option ℕ
@@ -36,14 +36,13 @@ part_fault at text = fault_by at text (position (is_other 10) text)
 unfoldable pub part_at : ℕ → List ℕ → Result ℕ AddrFault
 part_at at text = ok_or (small_number 255 text) (part_fault at text)
 
-abbrev pub group_by : ℕ → List ℕ → Option ℕ → Result ℕ AddrFault
-group_by at text (Some i) = Err (BadDigit (at + i))
-group_by at text None =
-    if length text == 0 then Err (BadDigit at) else
-    (if nat_le (length text) GROUP_DIGITS then Ok (digits_value 16 text) else Err (TooBig at))
+abbrev pub piece_by : ℕ → (List ℕ → Bool) → ℕ → List ℕ → Option ℕ → Result ℕ AddrFault
+piece_by radix fits at text (Some i) = Err (BadDigit (at + i))
+piece_by radix fits at text None =
+    if length text == 0 then Err (BadDigit at) else (if fits text then Ok (digits_value radix text) else Err (TooBig at))
 
 unfoldable pub group_at : ℕ → List ℕ → Result ℕ AddrFault
-group_at at text = group_by at text (position (is_other 16) text)
+group_at at text = piece_by 16 is_short at text (position (is_other 16) text)
 
 -- ---- pieces in a row, of which the first begins at `at`, with one byte between two
 

@@ -19,8 +19,8 @@ use Rattle.pf_addr.specs.declared.addr.Addr.TheVariants as addr
 use Rattle.pf_addr.specs.declared.fault.AddrFault.{AddrFault}
 use Rattle.pf_addr.specs.declared.fault.AddrFault.TheVariants.{BadLength}
 use Rattle.pf_addr.specs.Address.{Network, width, family_of, network_from, network_of}
-use Rattle.pf_addr.specs.Grammar.{is_other, pieces, IsNumber, Dotted, v4_number, SpellsV4, IsGroup, Grouped, two_groups, EndGrouped, Shortened, v6_number, SpellsV6, Spells, SpellsAddr, SpellsFront, SpellsNet}
-use Rattle.pf_addr.specs.Reading.{kept_to, small_number, part_fault, part_at, group_by, group_at, single, pieces_at, parts_at, v4_of, v4_at, has, end_at, groups_at, v6_of, v6_around, gap, v6_by, v6_at, family_at, address_at, addr_at, is_slash, length_at, front_at, cut_at, net_at}
+use Rattle.pf_addr.specs.Grammar.{is_other, is_short, pieces, IsNumber, Dotted, v4_number, SpellsV4, IsGroup, Grouped, two_groups, EndGrouped, Shortened, v6_number, SpellsV6, Spells, SpellsAddr, SpellsFront, SpellsNet}
+use Rattle.pf_addr.specs.Reading.{kept_to, small_number, part_fault, part_at, piece_by, group_at, single, pieces_at, parts_at, v4_of, v4_at, has, end_at, groups_at, v6_of, v6_around, gap, v6_by, v6_at, family_at, address_at, addr_at, is_slash, length_at, front_at, cut_at, net_at}
 use Rattle.pf_addr.specs.PlaceLaws.{without, no_place, place_after, cut_there}
 use Rattle.pf_addr.specs.DigitLaws.{none_in_digits, all_digits, digits_all}
 use Rattle.pf_addr.specs.GapLaws.{Clean, no_gap, gap_after, gap_cut}
@@ -63,7 +63,7 @@ group_read at p n is =
 pub group_found : (at : ℕ) (p : List ℕ) (n : ℕ) → group_at at p ≡ Ok n → IsGroup p n
 unfolding group_at
 group_found at p n e = by (position (is_other 16) p) refl e where
-  by : (o : Option ℕ) → position (is_other 16) p ≡ o → group_by at p o ≡ Ok n → IsGroup p n
+  by : (o : Option ℕ) → position (is_other 16) p ≡ o → piece_by 16 is_short at p o ≡ Ok n → IsGroup p n
   by (Some i) h e = absurd cc
   by None h e = elim (eqb_tells (length p) 0) [
     | inl none ↦ let no = rw none.0 at e in absurd cc
