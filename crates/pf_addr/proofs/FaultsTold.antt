@@ -19,7 +19,7 @@ use Rattle.pf_addr.specs.declared.fault.AddrFault.TheVariants.{Empty, BadDigit, 
 use Rattle.pf_addr.specs.Address.{width, family_of, network_from, network_of}
 use Rattle.pf_addr.specs.DigitLaws.{digits_all, all_digits}
 use Rattle.pf_addr.specs.FaultCases.{FirstAt, Faulty, IsPieceFault, empty, no_digit, too_big, IsPartFault, IsGroupFault, place_behind, where_last, IsFirstFault, IsV4Fault, bad_part, wrong_number, IsEndFault, end_v4, end_group, IsInnerFault, IsOuterFault, NoGap, FirstGap, IsV6Fault, bad_piece, bad_before, bad_behind, too_many, IsAddressFault, no_text, as_v6, as_v4, IsAddrFault, IsNetFault, no_slash, bad_address, bad_length}
-use Rattle.pf_addr.specs.Grammar.{is_other, is_small, is_short, pieces, IsNumber, IsGroup, two_groups}
+use Rattle.pf_addr.specs.Grammar.{is_other, is_small, is_short, pieces, IsNumber, IsGroup, two_groups, v6_number}
 use Rattle.pf_addr.specs.GapLaws.{gap_cut}
 use Rattle.pf_addr.specs.PieceLaws.{all_read, all_found}
 use Rattle.pf_addr.specs.PlaceLaws.{without, first_none, no_place, place_after, cut_there}
@@ -53,6 +53,10 @@ pub length_none : (text : List ℕ) → length text ≡ 0 → text ≡ []
 length_none [] e = refl
 length_none (b ∷ bs) e = absurd (omega arith)
 
+if_err : {A : Type 0} (t : Bool) (x : A) (e f : AddrFault) → (if t then Ok x else Err e) ≡ Err f → (t ≡ false) × (f ≡ e)
+if_err true x e f is = absurd cc
+if_err false x e f is = let same : f ≡ e = cc in (refl, same)
+
 module _ (radix : ℕ) (fits : List ℕ → Bool) (at : ℕ) (p : List ℕ) (f : AddrFault) where
   piece_told : piece_by radix fits at p (position (is_other radix) p) ≡ Err f → IsPieceFault radix fits at p f
   piece_told e = by (position (is_other radix) p) refl e where
@@ -60,11 +64,8 @@ module _ (radix : ℕ) (fits : List ℕ → Bool) (at : ℕ) (p : List ℕ) (f :
     by (Some i) h e = let is : f ≡ BadDigit (at + i) = cc in no_digit i (first_found (is_other radix) p i h) is
     by None h e = elim (eqb_tells (length p) 0) [
       | inl none ↦ let is : f ≡ BadDigit at = let made = rw none.0 at e in cc in empty (length_none p none.1) is
-      | inr some ↦ sized (omega (arith, some.1)) (fits p) refl (rw some.0 at e)
-    ] where
-      sized : 0 < length p → (t : Bool) → fits p ≡ t → (if t then Ok (digits_value radix p) else Err (TooBig at)) ≡ Err f → IsPieceFault radix fits at p f
-      sized lt true t e = absurd cc
-      sized lt false t e = let is : f ≡ TooBig at = cc in too_big (lt, all_digits radix p h) t is
+      | inr some ↦ let no = if_err (fits p) (digits_value radix p) (TooBig at) f (rw some.0 at e) in too_big (omega (arith, some.1), all_digits radix p h) no.0 no.1
+    ]
 
   piece_only : IsPieceFault radix fits at p f → piece_by radix fits at p (position (is_other radix) p) ≡ Err f
   piece_only (empty none is) = rw (none, is) refl
@@ -241,10 +242,9 @@ v6_told text f e = by (gap text) refl e where
   by : (o : Option ℕ) → gap text ≡ o → v6_by text o ≡ Err f → IsV6Fault text f
   by None h e = elim (bind_err (groups_at true 0 text) v6_of f e) [
     | inl fault ↦ bad_piece (gap_none text h) ((outer_tells 0 text f).0 fault)
-    | inr (groups, read, made) ↦ elim (eqb_tells (length groups) 8) [
-      | inl eight ↦ let no = rw eight.0 at made in absurd cc
-      | inr wrong ↦ let is : f ≡ BadGroups 0 = let m = rw wrong.0 at made in cc in wrong_number (gap_none text h) groups (ended_found 0 text groups read) wrong.1 is
-    ]
+    | inr (groups, read, made) ↦
+        let wrong = if_err (length groups == 8) (v6_number groups) (BadGroups 0) f made in
+        wrong_number (gap_none text h) groups (ended_found 0 text groups read) (λ eight. let test = wrong.0 in grind (arith, nat_tests)) wrong.1
   ]
   by (Some i) h e =
       let front : List ℕ = take i text in
@@ -255,10 +255,9 @@ v6_told text f e = by (gap text) refl e where
         | inl fault ↦ bad_before front back first ((inner_tells 0 front f).0 fault)
         | inr (fs, read, rest) ↦ elim (bind_err (groups_at true (i + 2) back) (v6_around fs) f rest) [
           | inl fault ↦ bad_behind front back fs first (grouped_found 0 front fs read) (subst (λ (k : ℕ). IsOuterFault (k + 2) back f) size ((outer_tells (i + 2) back f).0 fault))
-          | inr (bs, read_back, made) ↦ elim (leb_tells (length fs + length bs) 7) [
-            | inl few ↦ let no = rw few.0 at made in absurd cc
-            | inr more ↦ let is : f ≡ BadGroups 0 = let m = rw more.0 at made in cc in too_many front back fs bs first (grouped_found 0 front fs read) (ended_found (i + 2) back bs read_back) more.1 is
-          ]
+          | inr (bs, read_back, made) ↦
+              let more = if_err (nat_le (length fs + length bs) 7) _ (BadGroups 0) f made in
+              too_many front back fs bs first (grouped_found 0 front fs read) (ended_found (i + 2) back bs read_back) (let test = more.0 in grind (arith, nat_tests)) more.1
         ]
       ]
 

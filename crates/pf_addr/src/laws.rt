@@ -35,30 +35,18 @@ pub fn written_net_is_read_again()
     ensures { (net : Network) → IsNetwork net → SpellsNet (net_text net) net }
 {}
 
-/// An address is read from a text exactly where the text spells it.
+/// An address is read from a text exactly where the text spells it. So a text spells at most one.
 #[tactic(auto, using(crate::specs::ReadingLaws::addr_found, crate::specs::ReadingLaws::addr_only))]
 pub fn addrs_are_read_as_spelled()
     ensures read { (text : List ℕ) (a : Addr) → addr_at text ≡ Ok a → SpellsAddr text a }
     ensures spelled { (text : List ℕ) (a : Addr) → SpellsAddr text a → addr_at text ≡ Ok a }
 {}
 
-/// A network is read from a text exactly where the text spells it.
+/// A network is read from a text exactly where the text spells it. So a text spells at most one.
 #[tactic(auto, using(crate::specs::ReadingLaws::net_found, crate::specs::ReadingLaws::net_only))]
 pub fn nets_are_read_as_spelled()
     ensures read { (text : List ℕ) (net : Network) → net_at text ≡ Ok net → SpellsNet text net }
     ensures spelled { (text : List ℕ) (net : Network) → SpellsNet text net → net_at text ≡ Ok net }
-{}
-
-/// A text spells at most one address.
-#[tactic(auto, using(crate::specs::ReadingLaws::addr_only))]
-pub fn text_spells_one_addr()
-    ensures { (text : List ℕ) (a b : Addr) → SpellsAddr text a → SpellsAddr text b → a ≡ b }
-{}
-
-/// A text spells at most one network.
-#[tactic(auto, using(crate::specs::ReadingLaws::net_only))]
-pub fn text_spells_one_net()
-    ensures { (text : List ℕ) (a b : Network) → SpellsNet text a → SpellsNet text b → a ≡ b }
 {}
 
 /// Two addresses that are written as one text are one.
