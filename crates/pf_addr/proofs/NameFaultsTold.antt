@@ -1,11 +1,11 @@
 -- A word that is no name, no path or no reference is refused with the fault that it has by cases, and with no other.
-use Rattle.std.proofs.Common.{◌≡◌, ◌≢◌, inl, inr, ℕ, ◌<◌, ◌≤◌, ◌&&◌, Bool, true, false, List, [], ◌∷◌, ◌++◌, length, Some, None, Option, Ok, Err, refl, sym, ap, subst, ◌∙◌, arith}
-use Rattle.std.specs.Prelude.{◌⊎◌, codes, nat_lt, if◌then◌else◌}
+use Rattle.std.proofs.Common.{not, ◌≡◌, ◌≢◌, inl, inr, ℕ, ◌<◌, ◌≤◌, ◌&&◌, Bool, true, false, List, [], ◌∷◌, ◌++◌, length, Some, None, Option, Ok, Err, refl, sym, ap, subst, ◌∙◌, arith}
+use Rattle.std.specs.Prelude.{codes, nat_lt, if◌then◌else◌}
 use Rattle.std.specs.List.{AllByRecursion, list_all}
 use Rattle.std.specs.Option.{option_map_or, option_or}
 use Rattle.std.specs.Str.{bytes_eq}
 use Rattle.std.proofs.lemmas.Bool.Decides.{leb_tells, nat_tests}
-use Rattle.std.proofs.lemmas.Bool.{lt-ltb}
+use Rattle.std.proofs.lemmas.Bool.{lt-ltb, ltb-true}
 use Rattle.std.proofs.lemmas.List.{length-append}
 use Rattle.std.proofs.lemmas.Slice.Eq.{bytes_eq-Decides}
 use Rattle.pf_addr.specs.declared.form.fault.Kind.{Kind}
@@ -13,7 +13,7 @@ use Rattle.pf_addr.specs.declared.form.fault.Kind.TheVariants.{BadWord, NameTooL
 use Rattle.pf_addr.specs.declared.path.limits.TheConstants.{PATH_LIMIT, COMPONENT_LIMIT, DEPTH_LIMIT, REFERENCE_LIMIT}
 use Rattle.pf_addr.specs.Form.Told.{TellsFaults}
 use Rattle.pf_addr.specs.Form.Words.{Word}
-use Rattle.pf_addr.specs.Path.FaultCases.{IsNameFault, IsBad, IsComponentFault, IsFaultWithin, too_long, bad_component, too_deep, IsPathFault, IsUnquoted, IsUnended, IsReferenceFault}
+use Rattle.pf_addr.specs.Path.FaultCases.{IsNameFault, IsComponentFault, IsFaultWithin, too_long, bad_component, too_deep, IsPathFault, IsUnquoted, IsUnended, IsReferenceFault}
 use Rattle.pf_addr.specs.Path.Names.{is_name_byte, name_of}
 use Rattle.pf_addr.specs.Path.PathGrammar.{IsComponent}
 use Rattle.pf_addr.specs.Path.Paths.{components, is_component, component_fault, first_fault, depth_fault, fault_within, path_fault, path_of, main}
@@ -43,33 +43,16 @@ names_told limit = tells (name_of limit) (IsNameFault limit) (name_told limit) (
 
 -- ---- components
 
-bad_tells : (c : List ℕ) → ((is_component c ≡ false) × IsBad c) ⊎ ((is_component c ≡ true) × (IsBad c → ⊥))
-bad_tells c = by (nat_lt 0 (length c)) (list_all is_name_byte c) (bytes_eq c (codes "..")) (bytes_eq c (codes "-")) refl refl refl refl where
-  good : nat_lt 0 (length c) ≡ true → list_all is_name_byte c ≡ true → bytes_eq c (codes "..") ≡ false → bytes_eq c (codes "-") ≡ false → IsBad c → ⊥
-  good s g dots dash (inl none) = let size = ap length none in let test = s in grind (arith, nat_tests)
-  good s g dots dash (inr (inl bad)) = cc
-  good s g dots dash (inr (inr (inl is))) = let same = (bytes_eq-Decides c (codes "..")).1 is in cc
-  good s g dots dash (inr (inr (inr is))) = let same = (bytes_eq-Decides c (codes "-")).1 is in cc
-
-  by : (some all dots dash : Bool) → nat_lt 0 (length c) ≡ some → list_all is_name_byte c ≡ all → bytes_eq c (codes "..") ≡ dots → bytes_eq c (codes "-") ≡ dash → ((is_component c ≡ false) × IsBad c) ⊎ ((is_component c ≡ true) × (IsBad c → ⊥))
-  by false all dots dash s g d m = inl (rw s refl, inl (length_none c (grind (arith, nat_tests))))
-  by true false dots dash s g d m = inl (rw (s, g) refl, inr (inl g))
-  by true true true dash s g d m = inl (rw (s, g, d) refl, inr (inr (inl ((bytes_eq-Decides c (codes "..")).0 d))))
-  by true true false true s g d m = inl (rw (s, g, d, m) refl, inr (inr (inr ((bytes_eq-Decides c (codes "-")).0 m))))
-  by true true false false s g d m = inr (rw (s, g, d, m) refl, good s g d m)
-
 component_told : (c : List ℕ) (k : Kind) → component_fault c ≡ Some k → IsComponentFault c k
-component_told c k e = elim (bad_tells c) [
-  | inl bad ↦ let is : BadWord ≡ k = let made = rw bad.0 at e in cc in subst (IsComponentFault c) is bad.1
-  | inr good ↦ elim (leb_tells (length c) COMPONENT_LIMIT) [
-    | inl short ↦ absurd (let made = rw good.0 at e in grind (arith, nat_tests))
-    | inr long ↦ let is : NameTooLong ≡ k = let made = rw (good.0, lt-ltb COMPONENT_LIMIT (length c) long.1) at e in cc in subst (IsComponentFault c) is (good.1, long.1)
-  ]
-]
+component_told c k e = by (is_component c) (nat_lt COMPONENT_LIMIT (length c)) refl refl e where
+  by : (good long : Bool) → is_component c ≡ good → nat_lt COMPONENT_LIMIT (length c) ≡ long → (if not good then Some BadWord else (if long then Some NameTooLong else None)) ≡ Some k → IsComponentFault c k
+  by false long g l e = let is : BadWord ≡ k = cc in subst (IsComponentFault c) is g
+  by true true g l e = let is : NameTooLong ≡ k = cc in subst (IsComponentFault c) is (g, ltb-true COMPONENT_LIMIT (length c) l)
+  by true false g l e = absurd cc
 
 component_only : (c : List ℕ) (k : Kind) → IsComponentFault c k → component_fault c ≡ Some k
-component_only c BadWord bad = elim (bad_tells c) [ inl is ↦ rw is.0 refl | inr good ↦ absurd (good.1 bad) ]
-component_only c NameTooLong (good, long) = elim (bad_tells c) [ inl bad ↦ absurd (good bad.1) | inr is ↦ rw (is.0, lt-ltb COMPONENT_LIMIT (length c) long) refl ]
+component_only c BadWord bad = rw bad refl
+component_only c NameTooLong (good, long) = rw (good, lt-ltb COMPONENT_LIMIT (length c) long) refl
 component_only c BadProto none = absurd none
 
 -- the first faulty component

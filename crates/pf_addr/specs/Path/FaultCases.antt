@@ -1,12 +1,12 @@
 -- Which fault a word has that is no name, no path or no reference, by cases on the word. Their order is own.
-use Rattle.std.specs.Prelude.{◌≡◌, ◌≢◌, ℕ, ◌<◌, ◌≤◌, ◌⊎◌, false, List, [], ◌∷◌, ◌++◌, length, codes}
+use Rattle.std.specs.Prelude.{◌≡◌, ◌≢◌, ℕ, ◌<◌, ◌≤◌, ◌⊎◌, true, false, List, [], ◌∷◌, ◌++◌, length, codes}
 use Rattle.std.specs.List.{AllByRecursion, list_all}
 use Rattle.pf_addr.specs.declared.form.fault.Kind.{Kind}
 use Rattle.pf_addr.specs.declared.form.fault.Kind.TheVariants.{BadWord, NameTooLong, BadProto}
 use Rattle.pf_addr.specs.declared.path.limits.TheConstants.{PATH_LIMIT, COMPONENT_LIMIT, DEPTH_LIMIT, REFERENCE_LIMIT}
 use Rattle.pf_addr.specs.Form.Words.{Word}
 use Rattle.pf_addr.specs.Path.Names.{is_name_byte}
-use Rattle.pf_addr.specs.Path.Paths.{components}
+use Rattle.pf_addr.specs.Path.Paths.{components, is_component}
 use Rattle.pf_addr.specs.Path.PathGrammar.{IsComponent}
 use Rattle.pf_addr.specs.Path.References.{ending, quoted}
 
@@ -16,14 +16,10 @@ IsNameFault limit w NameTooLong = limit < length w
 IsNameFault limit w BadWord = (length w ≤ limit) × ((w ≡ []) ⊎ (list_all is_name_byte w ≡ false))
 IsNameFault limit w BadProto = ⊥
 
--- a component that is empty, has another byte, or is ".." or "-"
-abbrev pub IsBad : List ℕ → Type 0
-IsBad c = (c ≡ []) ⊎ ((list_all is_name_byte c ≡ false) ⊎ ((c ≡ codes "..") ⊎ (c ≡ codes "-")))
-
--- A bad component is a bad word whatever its length; another is too long.
+-- A component that is empty, has another byte, or is ".." or "-" is a bad word whatever its length; another is too long.
 abbrev pub IsComponentFault : List ℕ → Kind → Type 0
-IsComponentFault c BadWord = IsBad c
-IsComponentFault c NameTooLong = (IsBad c → ⊥) × (COMPONENT_LIMIT < length c)
+IsComponentFault c BadWord = is_component c ≡ false
+IsComponentFault c NameTooLong = (is_component c ≡ true) × (COMPONENT_LIMIT < length c)
 IsComponentFault c BadProto = ⊥
 
 -- Names in a text of so many bytes at most: the text is longer; or one component has the fault, and each before it is good; or all are
