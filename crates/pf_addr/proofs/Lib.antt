@@ -9,3 +9,5 @@ pub mod Numbers
 pub mod Fronts
 pub mod Writers
 pub mod Addresses
+pub mod FaultsTold
+pub mod NameFaultsTold

@@ -19,7 +19,7 @@ use Rattle.pf_addr.specs.Path.PathLaws.{SamePathIsEqual}
 
 -- ---- components
 
-component_is : (c : List ℕ) → component_fault c ≡ None → IsComponent c
+pub component_is : (c : List ℕ) → component_fault c ≡ None → IsComponent c
 component_is c e = record {
   some = grind (arith, nat_tests);
   short = grind (arith, nat_tests);
@@ -28,7 +28,7 @@ component_is c e = record {
   no_dash = λ same. let is = (bytes_eq-Decides c (codes "-")).1 same in grind (arith, nat_tests);
 }
 
-component_faultless : (c : List ℕ) → IsComponent c → component_fault c ≡ None
+pub component_faultless : (c : List ℕ) → IsComponent c → component_fault c ≡ None
 component_faultless c is =
     let dots = (bytes_eq-Decides c (codes "..")).0 in
     let dash = (bytes_eq-Decides c (codes "-")).0 in
@@ -38,11 +38,11 @@ pub none_parts : (o p : Option Kind) → option_or o p ≡ None → (o ≡ None)
 none_parts (Some k) p e = absurd (cc)
 none_parts None p e = (refl, e)
 
-each_is : (cs : List (List ℕ)) → first_fault cs ≡ None → AllByRecursion IsComponent cs
+pub each_is : (cs : List (List ℕ)) → first_fault cs ≡ None → AllByRecursion IsComponent cs
 each_is [] e = tt
 each_is (c ∷ cs) e = let parts = none_parts (component_fault c) (first_fault cs) e in (component_is c parts.0, each_is cs parts.1)
 
-each_faultless : (cs : List (List ℕ)) → AllByRecursion IsComponent cs → first_fault cs ≡ None
+pub each_faultless : (cs : List (List ℕ)) → AllByRecursion IsComponent cs → first_fault cs ≡ None
 each_faultless [] is = refl
 each_faultless (c ∷ cs) is = rw (component_faultless c is.0) (each_faultless cs is.1)
 

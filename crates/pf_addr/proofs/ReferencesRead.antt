@@ -108,12 +108,12 @@ not_quoted (b ∷ bs) more some bytes =
     let other : bytes_eq (b ∷ []) quote ≡ false = grind (arith, nat_tests) in
     rw other refl
 
-in_quotes : (text : Word) → unquoted (quoted text) ≡ text
+pub in_quotes : (text : Word) → unquoted (quoted text) ≡ text
 in_quotes text = rw (before_end text quote) refl
 
 -- ---- reading
 
-unquoted_is : (w : Word) → (w ≡ unquoted w) ⊎ (w ≡ quoted (unquoted w))
+pub unquoted_is : (w : Word) → (w ≡ unquoted w) ⊎ (w ≡ quoted (unquoted w))
 unquoted_is w = by (behind quote w) refl where
   within : (rest : Word) (o : Option Word) → behind quote w ≡ Some rest → before quote rest ≡ o → (w ≡ option_map_or (λ text. text) o w) ⊎ (w ≡ quoted (option_map_or (λ text. text) o w))
   within rest None front end = inl refl

@@ -7,7 +7,7 @@ use Rattle.pf_addr.specs.declared.addr.Addr.{Addr}
 use Rattle.pf_addr.specs.declared.addr.Addr.TheVariants as addr
 use Rattle.pf_addr.specs.declared.addr.Family.{Family}
 use Rattle.pf_addr.specs.declared.addr.Family.TheVariants.{V4, V6}
-use Rattle.pf_addr.specs.Address.{Network, width, family_of, number_in, first_bits, network_from, same_family, contains, IsAddr, bit, BeginsAs, Agree}
+use Rattle.pf_addr.specs.Address.{Network, IsNetwork, width, family_of, number_in, first_bits, network_from, same_family, contains, IsAddr, bit, BeginsAs, Agree}
 
 one_family : (f g : Family) → Decides (same_family f g) (f ≡ g)
 one_family V4 V4 = (λ _. refl, λ _. refl)
@@ -38,10 +38,10 @@ same_by_bits size a b p q same = same_from_bits_below size a b p q (λ i lt.
     subst (λ (k : ℕ). a / 2 ^ k % 2 ≡ b / 2 ^ k % 2) turned (same (size - 1 - i) (omega arith)))
 
 -- a network contains exactly the addresses of its family whose first bits are its front's
-pub contains_by_bits : (net : Network) (a : Addr) → net.len ≤ width net.family → net.front < 2 ^ net.len → IsAddr a → Decides (contains net a) (BeginsAs net a)
+pub contains_by_bits : (net : Network) (a : Addr) → IsNetwork net → IsAddr a → Decides (contains net a) (BeginsAs net a)
 unfolding contains
-contains_by_bits net a le front is =
-    let within : family_of a ≡ net.family → net.len ≤ width (family_of a) = λ e. subst (λ (f : Family). net.len ≤ width f) (sym e) le in
+contains_by_bits net a whole is =
+    let within : family_of a ≡ net.family → net.len ≤ width (family_of a) = λ e. subst (λ (f : Family). net.len ≤ width f) (sym e) whole.len in
     let own : (e : family_of a ≡ net.family) (i : ℕ) → i < net.len → bit net.len i (first_bits net.len a) ≡ bit (width (family_of a)) i (number_in a) =
     λ e i lt. bit_of_front (width (family_of a)) net.len (number_in a) i (within e) lt in
     Decides-like (contains net a)
@@ -49,7 +49,7 @@ contains_by_bits net a le front is =
     (λ b. (
       sym b.family,
       same_by_bits net.len (first_bits net.len a) net.front
-          (front_below (width (family_of a)) net.len (number_in a) (within b.family) (number_below a is)) front
+          (front_below (width (family_of a)) net.len (number_in a) (within b.family) (number_below a is)) whole.front
           (λ i lt. own b.family i lt ∙ b.bits i lt),
     ))
     (Decides-and (same_family net.family (family_of a)) (first_bits net.len a == net.front) (one_family net.family (family_of a)) (Decides-eqb (first_bits net.len a) net.front))
@@ -62,4 +62,4 @@ network_agrees a b len le p q =
     Decides-like (contains (network_from b len) a)
     (λ h. record { family = h.family; bits = λ i lt. h.bits i lt ∙ own i lt })
     (λ h. record { family = h.family; bits = λ i lt. h.bits i lt ∙ sym (own i lt) })
-    (contains_by_bits (network_from b len) a le (front_below (width (family_of b)) len (number_in b) le (number_below b q)) p)
+    (contains_by_bits (network_from b len) a (record { len = le; front = front_below (width (family_of b)) len (number_in b) le (number_below b q) }) p)

@@ -4,6 +4,7 @@ pub mod Numbers
 pub mod NumberLaws
 pub mod Forms
 pub mod Readers
+pub mod Told
 pub mod Laws
 pub mod WordLaws
 pub mod PairLaws

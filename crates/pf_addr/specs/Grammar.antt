@@ -1,6 +1,7 @@
 -- Which texts spell an address or a network: V4 in decimal numbers between dots, V6 in hexadecimal groups between colons
 -- (RFC 4291 section 2.2), a network in CIDR notation (pf.conf(5), PARAMETERS).
-use Rattle.std.specs.Prelude.{◌≡◌, ℕ, ◌/◌, ◌%◌, ◌<◌, ◌≤◌, ◌==◌, ◌⊎◌, List, [], ◌∷◌, ◌++◌, length, take, replicate}
+use Rattle.std.specs.Prelude.{◌≡◌, ℕ, ◌/◌, ◌%◌, ◌<◌, ◌≤◌, nat_le, Bool, ◌&&◌, ◌==◌, ◌⊎◌, List, [], ◌∷◌, ◌++◌, length, take, replicate}
+use Rattle.std.specs.Char.{digit_value}
 use Rattle.std.specs.List.{AllZip, slice_split}
 use Rattle.std.specs.Int.{from_be_bytes, w32}
 use Rattle.std.specs.Int.Digits.{number_from_digits}
@@ -16,6 +17,17 @@ use Rattle.pf_addr.specs.Address.{Network, width, family_of, network_from, netwo
 abbrev pub pieces : ℕ → List ℕ → List (List ℕ)
 pieces c [] = []
 pieces c (b ∷ bs) = slice_split (λ x. x == c) (b ∷ bs)
+
+-- a byte that is no digit in the radix
+abbrev pub is_other : ℕ → ℕ → Bool
+is_other radix b = nat_le radix (digit_value b)
+
+-- digits that a part of a V4 address may have, and those that a group of a V6 address may have
+abbrev pub is_small : List ℕ → Bool
+is_small digits = nat_le (length digits) NUMBER_DIGITS && nat_le (digits_value 10 digits) 255
+
+abbrev pub is_short : List ℕ → Bool
+is_short digits = nat_le (length digits) GROUP_DIGITS
 
 -- ---- V4
 

@@ -4,6 +4,7 @@ pub mod Address
 pub mod Nets
 pub mod BitLaws
 pub mod Grammar
+pub mod FaultCases
 pub mod Reading
 pub mod Collected
 pub mod PlaceLaws

@@ -3,6 +3,7 @@ pub mod NameLaws
 pub mod KeptNames
 pub mod Paths
 pub mod PathGrammar
+pub mod FaultCases
 pub mod PathLaws
 pub mod References
 pub mod ReferenceGrammar

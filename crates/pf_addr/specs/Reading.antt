@@ -1,21 +1,19 @@
--- Which fault of a text is answered. Several faults may stand in one text, and their order is own (pieces
--- from left to right; in a piece the first byte that is no digit before its length and value; then the number of
--- pieces; then a network's length). So the fault and its place are a function of the text.
-use Rattle.std.specs.Prelude.{ℕ, ◌+◌, ◌-◌, ◌==◌, not, nat_le, Bool, true, false, ◌&&◌, List, [], ◌∷◌, ◌++◌, length, take, drop, replicate, Option, Some, None, is_some, Result, Ok, Err, if◌then◌else◌}
-use Rattle.std.specs.Char.{digit_value}
+-- How a text is read from left to right: what it spells (`Grammar`), or else its fault (`FaultCases`). It is there so that functions
+-- have something to compute; laws say that both are told exactly so.
+use Rattle.std.specs.Prelude.{ℕ, ◌+◌, ◌-◌, ◌==◌, nat_le, Bool, true, false, ◌&&◌, List, [], ◌∷◌, ◌++◌, length, take, drop, replicate, Option, Some, None, is_some, Result, Ok, Err, if◌then◌else◌}
 use Rattle.std.specs.List.{position}
 use Rattle.std.specs.Option.{ok_or}
 use Rattle.std.specs.Str.Parse.{digits_value}
 use Rattle.pf_addr.specs.Form.Forms.{◌>>=◌}
-use Rattle.pf_addr.specs.Form.Numbers.{is_digit, number_of}
+use Rattle.pf_addr.specs.Form.Numbers.{number_of}
 use Rattle.pf_addr.specs.declared.addr.Addr.{Addr}
 use Rattle.pf_addr.specs.declared.addr.Addr.TheVariants as addr
 use Rattle.pf_addr.specs.declared.fault.AddrFault.{AddrFault}
 use Rattle.pf_addr.specs.declared.fault.AddrFault.TheVariants.{Empty, BadDigit, TooBig, BadLength, BadGroups}
 use Rattle.pf_addr.specs.declared.reading.TheConstants.{NUMBER_DIGITS}
-use Rattle.pf_addr.specs.declared.groups.TheConstants.{GROUP_DIGITS, GROUPS}
+use Rattle.pf_addr.specs.declared.groups.TheConstants.{GROUPS}
 use Rattle.pf_addr.specs.Address.{Network, width, family_of, network_from, network_of}
-use Rattle.pf_addr.specs.Grammar.{pieces, v4_number, v6_number, two_groups}
+use Rattle.pf_addr.specs.Grammar.{is_other, is_short, pieces, v4_number, v6_number, two_groups}
 
 -- the number, if it is at most `most`
 abbrev pub kept_to : ℕ → Option ℕ → Option ℕ
@@ -33,20 +31,18 @@ fault_by at text (Some i) = BadDigit (at + i)
 fault_by at text None = if length text == 0 then BadDigit at else TooBig at
 
 abbrev pub part_fault : ℕ → List ℕ → AddrFault
-part_fault at text = fault_by at text (position (λ b. not (is_digit b)) text)
+part_fault at text = fault_by at text (position (is_other 10) text)
 
 unfoldable pub part_at : ℕ → List ℕ → Result ℕ AddrFault
 part_at at text = ok_or (small_number 255 text) (part_fault at text)
 
-abbrev pub is_no_hex : ℕ → Bool
-is_no_hex b = nat_le 16 (digit_value b)
-
-abbrev pub group_by : ℕ → List ℕ → Option ℕ → Result ℕ AddrFault
-group_by at text (Some i) = Err (BadDigit (at + i))
-group_by at text None = if length text == 0 then Err (BadDigit at) else (if nat_le (length text) GROUP_DIGITS then Ok (digits_value 16 text) else Err (TooBig at))
+abbrev pub piece_by : ℕ → (List ℕ → Bool) → ℕ → List ℕ → Option ℕ → Result ℕ AddrFault
+piece_by radix fits at text (Some i) = Err (BadDigit (at + i))
+piece_by radix fits at text None =
+    if length text == 0 then Err (BadDigit at) else (if fits text then Ok (digits_value radix text) else Err (TooBig at))
 
 unfoldable pub group_at : ℕ → List ℕ → Result ℕ AddrFault
-group_at at text = group_by at text (position is_no_hex text)
+group_at at text = piece_by 16 is_short at text (position (is_other 16) text)
 
 -- ---- pieces in a row, of which the first begins at `at`, with one byte between two
 
@@ -95,7 +91,9 @@ v6_of groups = if length groups == GROUPS then Ok (v6_number groups) else Err (B
 
 -- with zeros in between
 abbrev pub v6_around : List ℕ → List ℕ → Result ℕ AddrFault
-v6_around front back = if nat_le (length front + length back) (GROUPS - 1) then Ok (v6_number (front ++ replicate (GROUPS - (length front + length back)) 0 ++ back)) else Err (BadGroups 0)
+v6_around front back =
+    let count : ℕ = length front + length back in
+    if nat_le count (GROUPS - 1) then Ok (v6_number (front ++ replicate (GROUPS - count) 0 ++ back)) else Err (BadGroups 0)
 
 abbrev pub later : ℕ → Option ℕ → Option ℕ
 later n (Some i) = Some (n + i)

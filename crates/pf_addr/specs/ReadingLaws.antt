@@ -19,19 +19,19 @@ use Rattle.pf_addr.specs.declared.addr.Addr.TheVariants as addr
 use Rattle.pf_addr.specs.declared.fault.AddrFault.{AddrFault}
 use Rattle.pf_addr.specs.declared.fault.AddrFault.TheVariants.{BadLength}
 use Rattle.pf_addr.specs.Address.{Network, width, family_of, network_from, network_of}
-use Rattle.pf_addr.specs.Grammar.{pieces, IsNumber, Dotted, v4_number, SpellsV4, IsGroup, Grouped, two_groups, EndGrouped, Shortened, v6_number, SpellsV6, Spells, SpellsAddr, SpellsFront, SpellsNet}
-use Rattle.pf_addr.specs.Reading.{kept_to, small_number, part_fault, part_at, group_by, group_at, is_no_hex, single, pieces_at, parts_at, v4_of, v4_at, has, end_at, groups_at, v6_of, v6_around, gap, v6_by, v6_at, family_at, address_at, addr_at, is_slash, length_at, front_at, cut_at, net_at}
+use Rattle.pf_addr.specs.Grammar.{is_other, is_short, pieces, IsNumber, Dotted, v4_number, SpellsV4, IsGroup, Grouped, two_groups, EndGrouped, Shortened, v6_number, SpellsV6, Spells, SpellsAddr, SpellsFront, SpellsNet}
+use Rattle.pf_addr.specs.Reading.{kept_to, small_number, part_fault, part_at, piece_by, group_at, single, pieces_at, parts_at, v4_of, v4_at, has, end_at, groups_at, v6_of, v6_around, gap, v6_by, v6_at, family_at, address_at, addr_at, is_slash, length_at, front_at, cut_at, net_at}
 use Rattle.pf_addr.specs.PlaceLaws.{without, no_place, place_after, cut_there}
-use Rattle.pf_addr.specs.DigitLaws.{none_in_digits, all_hex, hex_all}
+use Rattle.pf_addr.specs.DigitLaws.{none_in_digits, all_digits, digits_all}
 use Rattle.pf_addr.specs.GapLaws.{Clean, no_gap, gap_after, gap_cut}
 use Rattle.pf_addr.specs.PieceLaws.{Alone, zip_length, zip_all, all_read, run_read, run_found, alone_found, run_alone, all_found, has_between, has_there}
 
 -- ---- one number
 
-small_read : (most : ℕ) (text : List ℕ) (n : ℕ) → IsNumber most text n → small_number most text ≡ Some n
+pub small_read : (most : ℕ) (text : List ℕ) (n : ℕ) → IsNumber most text n → small_number most text ≡ Some n
 small_read most text n is = rw (number_only 3 text n is.number, le-leb n most is.small) refl
 
-small_found : (most : ℕ) (text : List ℕ) (n : ℕ) → small_number most text ≡ Some n → IsNumber most text n
+pub small_found : (most : ℕ) (text : List ℕ) (n : ℕ) → small_number most text ≡ Some n → IsNumber most text n
 small_found most text n e = by (number_of 3 text) refl e where
   by : (o : Option ℕ) → number_of 3 text ≡ o → kept_to most o ≡ Some n → IsNumber most text n
   by None h e = absurd cc
@@ -46,31 +46,31 @@ given : (o : Option ℕ) (f : AddrFault) (n : ℕ) → ok_or o f ≡ Ok n → o 
 given (Some m) f n e = cc
 given None f n e = absurd cc
 
-part_read : (at : ℕ) (p : List ℕ) (n : ℕ) → IsNumber 255 p n → part_at at p ≡ Ok n
+pub part_read : (at : ℕ) (p : List ℕ) (n : ℕ) → IsNumber 255 p n → part_at at p ≡ Ok n
 unfolding part_at
 part_read at p n is = rw (small_read 255 p n is) refl
 
-part_found : (at : ℕ) (p : List ℕ) (n : ℕ) → part_at at p ≡ Ok n → IsNumber 255 p n
+pub part_found : (at : ℕ) (p : List ℕ) (n : ℕ) → part_at at p ≡ Ok n → IsNumber 255 p n
 unfolding part_at
 part_found at p n e = small_found 255 p n (given (small_number 255 p) (part_fault at p) n e)
 
-group_read : (at : ℕ) (p : List ℕ) (n : ℕ) → IsGroup p n → group_at at p ≡ Ok n
+pub group_read : (at : ℕ) (p : List ℕ) (n : ℕ) → IsGroup p n → group_at at p ≡ Ok n
 unfolding group_at
 group_read at p n is =
     let some : (length p == 0) ≡ false = let lt = is.digits.0 in grind (arith, nat_tests) in
-    rw (hex_all p is.digits.1, some, le-leb (length p) 4 is.few) (ap (λ (k : ℕ). Ok k) is.value)
+    rw (digits_all 16 p is.digits.1, some, le-leb (length p) 4 is.few) (ap (λ (k : ℕ). Ok k) is.value)
 
-group_found : (at : ℕ) (p : List ℕ) (n : ℕ) → group_at at p ≡ Ok n → IsGroup p n
+pub group_found : (at : ℕ) (p : List ℕ) (n : ℕ) → group_at at p ≡ Ok n → IsGroup p n
 unfolding group_at
-group_found at p n e = by (position is_no_hex p) refl e where
-  by : (o : Option ℕ) → position is_no_hex p ≡ o → group_by at p o ≡ Ok n → IsGroup p n
+group_found at p n e = by (position (is_other 16) p) refl e where
+  by : (o : Option ℕ) → position (is_other 16) p ≡ o → piece_by 16 is_short at p o ≡ Ok n → IsGroup p n
   by (Some i) h e = absurd cc
   by None h e = elim (eqb_tells (length p) 0) [
     | inl none ↦ let no = rw none.0 at e in absurd cc
     | inr some ↦ elim (leb_tells (length p) 4) [
       | inl few ↦
           let is : digits_value 16 p ≡ n = let made = rw (some.0, few.0) at e in cc in
-          record { digits = (omega (arith, some.1), all_hex p h); few = few.1; value = is }
+          record { digits = (omega (arith, some.1), all_digits 16 p h); few = few.1; value = is }
       | inr many ↦ let no = rw (some.0, many.0) at e in absurd cc
     ]
   ]
@@ -93,13 +93,13 @@ dotted_bytes P ns text dot digits is = pieces_bytes P 46 text dot (zip_all (IsNu
 
 -- ---- V4
 
-v4_read : (fewest at : ℕ) (text : List ℕ) (n : ℕ) → SpellsV4 fewest text n → v4_at fewest at text ≡ Ok n
+pub v4_read : (fewest at : ℕ) (text : List ℕ) (n : ℕ) → SpellsV4 fewest text n → v4_at fewest at text ≡ Ok n
 unfolding v4_at
 v4_read fewest at text n is =
     let parts = all_read (IsNumber 255) part_at (single part_at) part_read (λ k p m h. rw (part_read k p m h) refl) at (pieces 46 text) is.parts is.dotted in
     rw (parts, le-leb fewest (length is.parts) is.enough, le-leb (length is.parts) 4 is.few) (ap (λ (k : ℕ). Ok k) (sym is.value))
 
-v4_found : (fewest at : ℕ) (text : List ℕ) (n : ℕ) → v4_at fewest at text ≡ Ok n → SpellsV4 fewest text n
+pub v4_found : (fewest at : ℕ) (text : List ℕ) (n : ℕ) → v4_at fewest at text ≡ Ok n → SpellsV4 fewest text n
 unfolding v4_at
 v4_found fewest at text n e =
     let (parts, read, made) = bind_ok (parts_at at text) (v4_of fewest at) n e in
@@ -115,25 +115,25 @@ v4_found fewest at text n e =
 v4_without : (c fewest : ℕ) (text : List ℕ) (n : ℕ) → ((46 == c) ≡ false) → 10 ≤ digit_value c → SpellsV4 fewest text n → without c text
 v4_without c fewest text n dot le is = dotted_bytes (λ b. (b == c) ≡ false) is.parts text dot (λ ds all. none_in_digits 10 c ds le all) is.dotted
 
-v4_some : (fewest : ℕ) (text : List ℕ) (n : ℕ) → 0 < fewest → SpellsV4 fewest text n → 0 < length text
+pub v4_some : (fewest : ℕ) (text : List ℕ) (n : ℕ) → 0 < fewest → SpellsV4 fewest text n → 0 < length text
 v4_some fewest [] n lt is = absurd (omega (arith, zip_length (IsNumber 255) [] is.parts is.dotted, is.enough))
 v4_some fewest (b ∷ bs) n lt is = omega arith
 
 -- ---- V6
 
-end_group : (ends : Bool) (at : ℕ) (p : List ℕ) (n : ℕ) → IsGroup p n → end_at ends at p ≡ Ok (n ∷ [])
+pub end_group : (ends : Bool) (at : ℕ) (p : List ℕ) (n : ℕ) → IsGroup p n → end_at ends at p ≡ Ok (n ∷ [])
 unfolding end_at
 end_group true at p n is = rw (no_place 46 p (none_in_digits 16 46 p (omega arith) is.digits.1), group_read at p n is) refl
 end_group false at p n is = rw (group_read at p n is) refl
 
-end_v4 : (at : ℕ) (p : List ℕ) (n : ℕ) → SpellsV4 4 p n → end_at true at p ≡ Ok (two_groups n)
+pub end_v4 : (at : ℕ) (p : List ℕ) (n : ℕ) → SpellsV4 4 p n → end_at true at p ≡ Ok (two_groups n)
 unfolding end_at
 end_v4 at p n is = rw (has_between 46 p (omega (arith, zip_length (IsNumber 255) (pieces 46 p) is.parts is.dotted, is.enough)), v4_read 4 at p n is) refl
 
-grouped_read : (ends : Bool) (at : ℕ) (text groups : List ℕ) → Grouped groups text → groups_at ends at text ≡ Ok groups
+pub grouped_read : (ends : Bool) (at : ℕ) (text groups : List ℕ) → Grouped groups text → groups_at ends at text ≡ Ok groups
 grouped_read ends at text groups is = all_read IsGroup group_at (end_at ends) group_read (end_group ends) at (pieces 58 text) groups is
 
-ended_read : (at : ℕ) (text groups : List ℕ) → EndGrouped groups text → groups_at true at text ≡ Ok groups
+pub ended_read : (at : ℕ) (text groups : List ℕ) → EndGrouped groups text → groups_at true at text ≡ Ok groups
 ended_read at text groups (inl is) = grouped_read true at text groups is
 ended_read at text groups (inr is) = rw (is.cut, is.value) (run_read IsGroup (λ p ns. (n : ℕ) × SpellsV4 4 p n × (ns ≡ two_groups n)) group_at (end_at true) group_read (λ k p ns e. rw e.2 (end_v4 k p e.0 e.1)) at is.front is.last is.before (two_groups is.number) is.grouped (is.number, is.v4, refl))
 
@@ -141,7 +141,7 @@ ended_read at text groups (inr is) = rw (is.cut, is.value) (run_read IsGroup (λ
 abbrev End : List ℕ → List ℕ → Type 0
 End p ns = Alone IsGroup p ns ⊎ ((n : ℕ) × SpellsV4 4 p n × (ns ≡ two_groups n))
 
-end_found : (at : ℕ) (p ns : List ℕ) → end_at true at p ≡ Ok ns → End p ns
+pub end_found : (at : ℕ) (p ns : List ℕ) → end_at true at p ≡ Ok ns → End p ns
 unfolding end_at
 end_found at p ns e = by (has 46 p) refl where
   by : (b : Bool) → has 46 p ≡ b → End p ns
@@ -151,11 +151,11 @@ end_found at p ns e = by (has 46 p) refl where
       inr (all.0, v4_found 4 at p all.0 all.1, is)
   by false h = inl (alone_found IsGroup group_at group_found at p ns (rw h at e))
 
-grouped_found : (at : ℕ) (text groups : List ℕ) → groups_at false at text ≡ Ok groups → Grouped groups text
+pub grouped_found : (at : ℕ) (text groups : List ℕ) → groups_at false at text ≡ Ok groups → Grouped groups text
 unfolding end_at
 grouped_found at text groups e = all_found IsGroup group_at group_found at (pieces 58 text) groups e
 
-ended_found : (at : ℕ) (text groups : List ℕ) → groups_at true at text ≡ Ok groups → EndGrouped groups text
+pub ended_found : (at : ℕ) (text groups : List ℕ) → groups_at true at text ≡ Ok groups → EndGrouped groups text
 unfolding pieces_at
 ended_found at text groups e = by (pieces 58 text) refl e where
   by : (ps : List (List ℕ)) → pieces 58 text ≡ ps → pieces_at group_at (end_at true) at ps ≡ Ok groups → EndGrouped groups text
@@ -190,7 +190,7 @@ ended_without c text groups out is = pieces_bytes (λ b. (b == c) ≡ false) 58 
 abbrev at_gap : List ℕ → List ℕ → List ℕ
 at_gap front back = front ++ 58 ∷ 58 ∷ back
 
-behind_gap : (front back : List ℕ) → drop (length front + 2) (at_gap front back) ≡ back
+pub behind_gap : (front back : List ℕ) → drop (length front + 2) (at_gap front back) ≡ back
 behind_gap front back = ap (drop (length front + 2)) (sym (append_assoc front (58 ∷ 58 ∷ []) back)) ∙ drop_at (front ++ 58 ∷ 58 ∷ []) back (length front + 2) (length-append front (58 ∷ 58 ∷ []))
 
 v6_read : (text : List ℕ) (n : ℕ) → SpellsV6 text n → v6_at text ≡ Ok n
@@ -252,7 +252,7 @@ v6_colon text n is = by is.spelled where
 
 -- ---- an address
 
-address_read : (fewest : ℕ) (text : List ℕ) (a : Addr) → 0 < fewest → Spells fewest text a → address_at fewest text ≡ Ok a
+pub address_read : (fewest : ℕ) (text : List ℕ) (a : Addr) → 0 < fewest → Spells fewest text a → address_at fewest text ≡ Ok a
 unfolding address_at
 address_read fewest text (addr.V4 n) lt is =
     let some : (length text == 0) ≡ false = let le = v4_some fewest text n lt is in grind (arith, nat_tests) in
@@ -265,7 +265,7 @@ address_read fewest text (addr.V6 n) lt is =
       by [] h = absurd cc
       by (b ∷ bs) h = grind (arith, nat_tests)
 
-address_found : (fewest : ℕ) (text : List ℕ) (a : Addr) → address_at fewest text ≡ Ok a → Spells fewest text a
+pub address_found : (fewest : ℕ) (text : List ℕ) (a : Addr) → address_at fewest text ≡ Ok a → Spells fewest text a
 unfolding address_at
 address_found fewest text a e = elim (eqb_tells (length text) 0) [
   | inl none ↦ let no = rw none.0 at e in absurd cc
@@ -304,7 +304,7 @@ addr_without c fewest text (addr.V6 n) out is = by is.spelled where
       let others = All-cons (λ b. (b == c) ≡ false) 58 (58 ∷ short.back) out.colon (All-cons (λ b. (b == c) ≡ false) 58 short.back out.colon (ended_without c short.back short.behind out short.ended)) in
       rw short.cut (All-append (λ b. (b == c) ≡ false) short.front (58 ∷ 58 ∷ short.back) (ended_without c short.front short.before out (inl short.grouped)) others)
 
-no_slash : (fewest : ℕ) (text : List ℕ) (a : Addr) → Spells fewest text a → without 47 text
+pub no_slash : (fewest : ℕ) (text : List ℕ) (a : Addr) → Spells fewest text a → without 47 text
 no_slash fewest text a is = addr_without 47 fewest text a (record { digit = omega arith; dot = refl; colon = refl }) is
 
 -- a byte that stands in no network's text
@@ -347,7 +347,7 @@ net_if_ok text (Ok n) e = net_found text n (sym e)
 net_if_ok text (Err f) e = tt
 
 -- what stands behind a text and one byte more
-behind : (front digits : List ℕ) → drop (length front + 1) (front ++ 47 ∷ digits) ≡ digits
+pub behind : (front digits : List ℕ) → drop (length front + 1) (front ++ 47 ∷ digits) ≡ digits
 behind front digits = ap (drop (length front + 1)) (sym (append_assoc front (47 ∷ []) digits)) ∙ drop_at (front ++ 47 ∷ []) digits (length front + 1) (length-append front (47 ∷ []))
 
 pub net_only : (text : List ℕ) (net : Network) → SpellsNet text net → net_at text ≡ Ok net

@@ -22,7 +22,8 @@ abbrev pub Wrote : {A : Type 0} → Result A Error → Option (List ℕ) → Opt
 Wrote r old new text = Writes r old new text × IfErr r (λ e. error_kind e ≢ Interrupted)
 
 -- Behind what was written so far the text is written; where an earlier write failed, that error stays, and nothing more is written.
-pub record Continues {A B : Type 0} (so_far : Result A Error) (mid : Option (List ℕ)) (r : Result B Error) (new : Option (List ℕ)) (text : List ℕ) : Type 0 where
+pub record Continues {A B : Type 0} (so_far : Result A Error) (mid : Option (List ℕ))
+    (r : Result B Error) (new : Option (List ℕ)) (text : List ℕ) : Type 0 where
   pub behind : (old : Option (List ℕ)) (front : List ℕ) → Wrote so_far old mid front → Wrote r old new (front ++ text)
 
 -- ---- laws

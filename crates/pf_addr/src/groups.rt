@@ -1,14 +1,12 @@
 //! IPv6 addresses as text: the groups between the colons.
 ghost use Rattle.std.specs.Prelude.{◌≡◌, ℕ, ◌+◌, ◌-◌, ◌^◌, ◌<◌, ◌≤◌, ◌==◌, ◌&&◌, List, ◌++◌, length, set, take, slice_index, IfSome};
-ghost use Rattle.std.specs.Char.{digit_value};
-ghost use Rattle.std.specs.List.{position};
 ghost use Rattle.std.specs.Str.Parse.{AllDigits, digits_value};
 ghost use Rattle.pf_addr.specs.Collected.{groups_of, groups_kept, last_kept};
 ghost use Rattle.pf_addr.specs.Grammar.{v6_number};
-ghost use Rattle.pf_addr.specs.Reading.{is_no_hex, group_at, has, gap, v6_at};
+ghost use Rattle.pf_addr.specs.Reading.{group_at, has, gap, v6_at};
 
 use crate::fault::AddrFault;
-use crate::reading::{place_of, read_v4};
+use crate::reading::{figure, first_other, place_of, read_v4};
 
 /// How many digits a group may have, leading zeros among them.
 pub(crate) const GROUP_DIGITS: usize = 4;
@@ -138,7 +136,7 @@ fn read_group(at: usize, text: &[u8]) -> Result<u16, AddrFault>
     requires { at + length text.now < 2 ^ 64 }
     ensures { result ≡ group_at at text.now }
 {
-    if let Some(i) = first_no_hex(text) {
+    if let Some(i) = first_other(16, text) {
         return Err(AddrFault::BadDigit { at: at + i });
     }
     if text.is_empty() {
@@ -148,14 +146,6 @@ fn read_group(at: usize, text: &[u8]) -> Result<u16, AddrFault>
         return Err(AddrFault::TooBig { at });
     }
     Ok(hex_value(text))
-}
-
-/// The first byte that is no hexadecimal digit.
-fn first_no_hex(text: &[u8]) -> Option<usize>
-    ensures place { result ≡ position is_no_hex text.now }
-    ensures bound { IfSome result (λ i. i < length text.now) }
-{
-    text.iter().position(|b| figure(*b) >= 16)
 }
 
 /// The number that at most four hexadecimal digits write.
@@ -169,18 +159,6 @@ fn hex_value(digits: &[u8]) -> u16
         value = value * 16 + figure(*digit);
     }
     value
-}
-
-/// The value of a digit or a letter in either case, 36 of any other byte.
-fn figure(b: u8) -> u16
-    ensures { result ≡ digit_value b }
-{
-    match b {
-        b'0'..=b'9' => u16::from(b - b'0'),
-        b'a'..=b'z' => u16::from(b - b'a') + 10,
-        b'A'..=b'Z' => u16::from(b - b'A') + 10,
-        _ => 36,
-    }
 }
 
 /// The number that eight groups write.

@@ -1,7 +1,12 @@
 //! Laws of networks and of texts. Each function's contract is the law, and its body does nothing.
 ghost use Rattle.std.specs.Prelude.{◌≡◌, ◌↔◌, ℕ, ◌^◌, ◌<◌, ◌≤◌, true, List, Ok};
 ghost use Rattle.pf_addr.specs.declared.addr.Addr.{Addr};
+ghost use Rattle.pf_addr.specs.declared.addr.TheConstants.{V4_BITS, V6_BITS};
+ghost use Rattle.pf_addr.specs.declared.groups.TheConstants.{GROUPS, GROUP_DIGITS};
+ghost use Rattle.pf_addr.specs.declared.reading.TheConstants.{NUMBER_DIGITS};
 ghost use Rattle.pf_addr.specs.Address.{Network, width, family_of, network_from, contains, IsAddr, BeginsAs, Agree};
+ghost use Rattle.pf_addr.specs.FaultCases.{IsAddrFault, IsNetFault};
+ghost use Rattle.pf_addr.specs.Form.Told.{TellsFaults};
 ghost use Rattle.pf_addr.specs.Grammar.{SpellsAddr, SpellsNet};
 ghost use Rattle.pf_addr.specs.Reading.{addr_at, net_at};
 ghost use Rattle.pf_addr.specs.Spelling.{addr_text, net_text};
@@ -12,9 +17,10 @@ use crate::addr::Addr;
 /// A network contains exactly the addresses of its family whose first bits are its own, bit by bit.
 #[tactic(auto, using(crate::specs::BitLaws::contains_by_bits, crate::specs::BitLaws::network_agrees))]
 pub fn networks_contain_by_bits()
-    ensures bits { (net : Network) (a : Addr) → net.len ≤ width net.family → net.front < 2 ^ net.len → IsAddr a → (contains net a ≡ true) ↔ BeginsAs net a }
+    ensures bits { (net : Network) (a : Addr) → IsNetwork net → IsAddr a → (contains net a ≡ true) ↔ BeginsAs net a }
     // an address with its length is the network of those that agree with it in so many first bits
-    ensures shared { (a b : Addr) (len : ℕ) → len ≤ width (family_of b) → IsAddr a → IsAddr b → (contains (network_from b len) a ≡ true) ↔ Agree len a b }
+    ensures shared { (a b : Addr) (len : ℕ) → len ≤ width (family_of b) → IsAddr a → IsAddr b
+        → (contains (network_from b len) a ≡ true) ↔ Agree len a b }
 {}
 
 /// The text that an address is written as spells it.
@@ -29,30 +35,18 @@ pub fn written_net_is_read_again()
     ensures { (net : Network) → IsNetwork net → SpellsNet (net_text net) net }
 {}
 
-/// An address is read from a text exactly where the text spells it.
+/// An address is read from a text exactly where the text spells it. So a text spells at most one.
 #[tactic(auto, using(crate::specs::ReadingLaws::addr_found, crate::specs::ReadingLaws::addr_only))]
 pub fn addrs_are_read_as_spelled()
     ensures read { (text : List ℕ) (a : Addr) → addr_at text ≡ Ok a → SpellsAddr text a }
     ensures spelled { (text : List ℕ) (a : Addr) → SpellsAddr text a → addr_at text ≡ Ok a }
 {}
 
-/// A network is read from a text exactly where the text spells it.
+/// A network is read from a text exactly where the text spells it. So a text spells at most one.
 #[tactic(auto, using(crate::specs::ReadingLaws::net_found, crate::specs::ReadingLaws::net_only))]
 pub fn nets_are_read_as_spelled()
     ensures read { (text : List ℕ) (net : Network) → net_at text ≡ Ok net → SpellsNet text net }
     ensures spelled { (text : List ℕ) (net : Network) → SpellsNet text net → net_at text ≡ Ok net }
-{}
-
-/// A text spells at most one address.
-#[tactic(auto, using(crate::specs::ReadingLaws::addr_only))]
-pub fn text_spells_one_addr()
-    ensures { (text : List ℕ) (a b : Addr) → SpellsAddr text a → SpellsAddr text b → a ≡ b }
-{}
-
-/// A text spells at most one network.
-#[tactic(auto, using(crate::specs::ReadingLaws::net_only))]
-pub fn text_spells_one_net()
-    ensures { (text : List ℕ) (a b : Network) → SpellsNet text a → SpellsNet text b → a ≡ b }
 {}
 
 /// Two addresses that are written as one text are one.
@@ -70,4 +64,25 @@ pub fn nets_have_texts_of_their_own()
 #[tactic(auto, using(crate::specs::SpellingLaws::net_text_is_word))]
 pub fn net_text_is_one_word()
     ensures { (net : Network) → IsNetwork net → IsNetWord 43 (net_text net) }
+{}
+
+/// A text that is refused as an address is refused for the one fault that it has, by cases on the text.
+#[tactic(auto, using(crate::proofs::FaultsTold::addr_told))]
+pub fn faults_of_addrs_are_told()
+    ensures { TellsFaults addr_at IsAddrFault }
+{}
+
+/// A text that is refused as a network is refused for the one fault that it has, by cases on the text.
+#[tactic(auto, using(crate::proofs::FaultsTold::net_faults_told))]
+pub fn faults_of_nets_are_told()
+    ensures { TellsFaults net_at IsNetFault }
+{}
+
+/// How many bits, digits and groups addresses have.
+pub fn sizes_are_these()
+    ensures v4 { V4_BITS ≡ 32 }
+    ensures v6 { V6_BITS ≡ 128 }
+    ensures groups { GROUPS ≡ 8 }
+    ensures group_digits { GROUP_DIGITS ≡ 4 }
+    ensures number_digits { NUMBER_DIGITS ≡ 3 }
 {}

@@ -14,8 +14,9 @@ mod write;
 pub use addr::{Addr, Family, V4_BITS, V6_BITS};
 pub use fault::AddrFault;
 pub use laws::{
-    addrs_have_texts_of_their_own, net_text_is_one_word, nets_have_texts_of_their_own,
-    networks_contain_by_bits, text_spells_one_addr, text_spells_one_net,
+    addrs_are_read_as_spelled, addrs_have_texts_of_their_own, faults_of_addrs_are_told,
+    faults_of_nets_are_told, net_text_is_one_word, nets_are_read_as_spelled,
+    nets_have_texts_of_their_own, networks_contain_by_bits, sizes_are_these,
     written_addr_is_read_again, written_net_is_read_again,
 };
 pub use net::Net;

@@ -11,6 +11,6 @@ mod reference;
 
 pub use limits::{COMPONENT_LIMIT, DEPTH_LIMIT, PATH_LIMIT, REFERENCE_LIMIT, TABLE_NAME_LIMIT};
 pub use name::{Name, TableName};
-pub use names::has_name_bytes;
+pub(crate) use names::has_name_bytes;
 pub use path::Path;
 pub use reference::Reference;

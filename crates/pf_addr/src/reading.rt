@@ -1,7 +1,8 @@
 //! Addresses as text, and the numbers between the dots of an IPv4 address.
-ghost use Rattle.std.specs.Prelude.{◌≡◌, ◌+◌, ◌^◌, ◌<◌, ◌==◌, ◌-◌, length, set, not, IfSome};
+ghost use Rattle.std.specs.Prelude.{◌≡◌, ◌+◌, ◌^◌, ◌<◌, ◌==◌, ◌-◌, length, set, IfSome};
+ghost use Rattle.std.specs.Char.{digit_value};
 ghost use Rattle.std.specs.List.{position};
-ghost use Rattle.pf_addr.specs.Form.Numbers.{is_digit};
+ghost use Rattle.pf_addr.specs.Grammar.{is_other};
 ghost use Rattle.pf_addr.specs.Collected.{parts_kept};
 ghost use Rattle.pf_addr.specs.Reading.{small_number, part_at, part_fault, v4_at, address_at, length_at};
 
@@ -111,19 +112,31 @@ fn part_fault(at: usize, text: &[u8]) -> AddrFault
     requires { at + length text.now < 2 ^ 64 }
     ensures { result ≡ part_fault at text.now }
 {
-    match first_other(text) {
+    match first_other(10, text) {
         Some(i) => AddrFault::BadDigit { at: at + i },
         None if text.is_empty() => AddrFault::BadDigit { at },
         None => AddrFault::TooBig { at },
     }
 }
 
-/// The first byte that is no digit.
-fn first_other(text: &[u8]) -> Option<usize>
-    ensures place { result ≡ position (λ b. not (is_digit b)) text.now }
+/// The first byte that is no digit in the radix.
+pub(crate) fn first_other(radix: u16, text: &[u8]) -> Option<usize>
+    ensures place { result ≡ position (is_other radix) text.now }
     ensures bound { IfSome result (λ i. i < length text.now) }
 {
-    text.iter().position(|b| !b.is_ascii_digit())
+    text.iter().position(|b| figure(*b) >= radix)
+}
+
+/// The value of a digit or a letter in either case, 36 of any other byte.
+pub(crate) fn figure(b: u8) -> u16
+    ensures { result ≡ digit_value b }
+{
+    match b {
+        b'0'..=b'9' => u16::from(b - b'0'),
+        b'a'..=b'z' => u16::from(b - b'a') + 10,
+        b'A'..=b'Z' => u16::from(b - b'A') + 10,
+        _ => 36,
+    }
 }
 
 /// The number of at most `most` that one to three digits write.

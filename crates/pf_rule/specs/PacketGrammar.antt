@@ -16,11 +16,14 @@ unfoldable pub way : Form Direction
 way = or (codes "in") (nothing In) (key (codes "out") (nothing Out))
 
 abbrev pub packet_with : Direction × (List ℕ × (ℕ × (Addr × (ℕ × (Addr × ℕ))))) → PlainPacket
-packet_with (d, (i, (p, (s, (sp, (t, tp)))))) = record { direction = d; interface = i; protocol = p; source = s; source_port = sp; destination = t; destination_port = tp }
+packet_with (d, (i, (p, (s, (sp, (t, tp)))))) =
+    record { direction = d; interface = i; protocol = p; source = s; source_port = sp; destination = t; destination_port = tp }
 
 -- direction, interface, protocol, source, its port, destination, its port
 abbrev pub packet_words : Form PlainPacket
-packet_words = making packet_with (pair way (pair an_interface (pair_by a_protocol has_ports (λ ports. pair an_address (pair (a_port ports) (pair an_address (a_port ports)))))))
+packet_words =
+    making packet_with (pair way (pair an_interface (pair_by a_protocol has_ports (λ ports.
+    pair an_address (pair (a_port ports) (pair an_address (a_port ports)))))))
 
 -- after the last word: a packet has addresses of one family
 abbrev pub of_one_family : PlainPacket → Result PlainPacket Mistake

@@ -29,7 +29,10 @@ a_reference = word (record { of = reference_of; sample = codes "a"; value = refe
 
 -- "pass" | "block" ["drop"] | "anchor" reference
 unfoldable pub opening : Form Opening
-opening = or (codes "pass") (nothing openings.Pass) (or (codes "block") (or (codes "drop") (nothing openings.Block) (nothing openings.Block)) (key (codes "anchor") (making openings.Anchor a_reference)))
+opening =
+    or (codes "pass") (nothing openings.Pass)
+    (or (codes "block") (or (codes "drop") (nothing openings.Block) (nothing openings.Block))
+    (key (codes "anchor") (making openings.Anchor a_reference)))
 
 abbrev pub passes : Opening → Bool
 passes openings.Pass = true
@@ -47,11 +50,26 @@ effect_of openings.Block keeps = Decide Block
 effect_of (openings.Anchor r) keeps = Evaluate r
 
 -- with the family as it is written
-abbrev pub rule_with : Opening × (Option Direction × (Bool × (Option (List ℕ) × (Option Family × (Option ℕ × ((End × End) × Bool)))))) → PlainRule
-rule_with (o, (d, (q, (i, (f, (p, (h, keeps))))))) = record { effect = effect_of o keeps; direction = d; quick = q; interface = i; family = f; protocol = p; source = h.0.0; source_port = h.0.1; destination = h.1.0; destination_port = h.1.1 }
+abbrev pub rule_with :
+    Opening × (Option Direction × (Bool × (Option (List ℕ) × (Option Family × (Option ℕ × ((End × End) × Bool)))))) → PlainRule
+rule_with (o, (d, (q, (i, (f, (p, ((s, t), keeps))))))) =
+    record {
+      effect = effect_of o keeps;
+      direction = d;
+      quick = q;
+      interface = i;
+      family = f;
+      protocol = p;
+      source = s.0;
+      source_port = s.1;
+      destination = t.0;
+      destination_port = t.1;
+    }
 
 abbrev pub rule_words : Form PlainRule
-rule_words = making rule_with (pair_by opening passes (λ passes. pair direction (pair (if_there (codes "quick")) (pair interface (pair family (pair protocol (pair ends (state passes))))))))
+rule_words =
+    making rule_with (pair_by opening passes (λ passes.
+    pair direction (pair (if_there (codes "quick")) (pair interface (pair family (pair protocol (pair ends (state passes))))))))
 
 -- ---- after the last word: the families that are written agree, and ports are tested of a protocol that has them
 

@@ -32,8 +32,9 @@ state_words (Evaluate r) = []
 
 abbrev pub canonical : PlainRule → List Word
 canonical r =
-    effect_word r.effect ∷ (reference_words r.effect ++ (direction_words r.direction ++ (quick_words r.quick ++ (interface_words r.interface ++ (family_words r.family
-    ++ (protocol_words r.protocol ++ (ends_words (r.source, r.source_port) (r.destination, r.destination_port) ++ state_words r.effect)))))))
+    effect_word r.effect ∷ (reference_words r.effect ++ (direction_words r.direction ++ (quick_words r.quick ++ (interface_words r.interface
+    ++ (family_words r.family ++ (protocol_words r.protocol
+    ++ (ends_words (r.source, r.source_port) (r.destination, r.destination_port) ++ state_words r.effect)))))))
 
 -- words with a space (32) between two
 unfoldable pub rule_text : PlainRule → List ℕ

@@ -115,6 +115,8 @@ rule_text_bytes r is = join_bytes (canonical r) (rule_written r is).words
 pub read_again : (r : PlainRule) → IsRule r → read_all rule (words_of (rule_text r)) ≡ Ok (Ok r)
 read_again r is = ap (read_all rule) (words_are r is) ∙ only (Result PlainRule Mistake) rule rule_decided (canonical r) (Ok r) (spells_canonical r is)
 
+pub ruleset texts_of_rules = (spells_canonical, words_are, read_again)
+
 pub same_rule : (r s : PlainRule) → IsRule r → IsRule s → rule_text r ≡ rule_text s → r ≡ s
 same_rule r s p q e =
     let again = read_again r p in

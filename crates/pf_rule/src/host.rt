@@ -7,7 +7,7 @@ mod host;
 mod host_words;
 mod laws;
 
-pub use ends::{End, read_ends};
-pub use ends_text::write_ends;
+pub(crate) use ends::{End, read_ends};
+pub(crate) use ends_text::write_ends;
 pub use host::{Host, TableAnswers};
 pub use laws::host_words_are_read_as_spelled;

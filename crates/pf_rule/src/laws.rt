@@ -12,7 +12,7 @@ ghost use Rattle.pf_rule.specs.PacketGrammar.{packet};
 ghost use Rattle.pf_rule.specs.RuleText.{canonical, rule_text};
 
 /// The text that a rule is written as has the rule's canonical words, which spell the rule; so it is read back as that rule.
-#[tactic(auto, using(crate::specs::RuleTextLaws::spells_canonical, crate::specs::RuleTextLaws::words_are, crate::specs::RuleTextLaws::read_again))]
+#[tactic(auto, using(crate::specs::RuleTextLaws::texts_of_rules))]
 pub fn what_is_written_is_read_again()
     ensures words { (r : PlainRule) → IsRule r → words_of (rule_text r) ≡ canonical r }
     ensures spelled { (r : PlainRule) → IsRule r → Spells rule (Ok r) (canonical r) }
@@ -33,8 +33,10 @@ pub fn what_is_spelled_is_kept()
 
 /// A text that is refused at a word has one place at which it can be refused, and one kind of refusal there.
 pub fn a_refusal_is_one()
-    ensures rules { (ws : List Word) (m n : ℕ) (j k : Kind) → RefusedAt (Result PlainRule Mistake) rule ws m j → RefusedAt (Result PlainRule Mistake) rule ws n k → (m ≡ n) × (j ≡ k) }
-    ensures packets { (ws : List Word) (m n : ℕ) (j k : Kind) → RefusedAt (Result PlainPacket Mistake) packet ws m j → RefusedAt (Result PlainPacket Mistake) packet ws n k → (m ≡ n) × (j ≡ k) }
+    ensures rules { (ws : List Word) (m n : ℕ) (j k : Kind) →
+        RefusedAt (Result PlainRule Mistake) rule ws m j → RefusedAt (Result PlainRule Mistake) rule ws n k → (m ≡ n) × (j ≡ k) }
+    ensures packets { (ws : List Word) (m n : ℕ) (j k : Kind) →
+        RefusedAt (Result PlainPacket Mistake) packet ws m j → RefusedAt (Result PlainPacket Mistake) packet ws n k → (m ≡ n) × (j ≡ k) }
 {}
 
 /// Words are read as a rule or a packet, or as the mistake that they make, exactly where they spell it. So they spell one at most.

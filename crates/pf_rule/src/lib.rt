@@ -15,7 +15,7 @@ pub use fault::{Mistake, TextFault};
 pub use host::{Host, TableAnswers};
 pub use laws::{
     a_refusal_is_one, different_rules_have_different_texts, hosts_without_tables_ask_none,
-    what_is_spelled_is_kept, what_is_written_is_read_again,
+    rules_and_packets_are_read_as_spelled, what_is_spelled_is_kept, what_is_written_is_read_again,
 };
 pub use packet::Packet;
 pub use pf_addr::path::{Reference, TableName};

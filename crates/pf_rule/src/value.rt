@@ -15,11 +15,17 @@ mod wanted;
 
 pub use direction::Direction;
 pub use interface::{INTERFACE_LIMIT, Interface};
-pub use laws::{port_words_are_read_as_spelled, protocol_words_are_read_as_spelled};
-pub use port_words::read_port;
-pub use ports::{Comparison, PortRange, PortTest, ports_fit, takes_port};
+pub use laws::{
+    limits_are_these, port_words_are_read_as_spelled, protocol_words_are_read_as_spelled,
+};
+pub(crate) use port_words::read_port;
+pub use ports::{Comparison, PortRange, PortTest};
+pub(crate) use ports::{ports_fit, takes_port};
 pub use protocol::Protocol;
-pub use test_text::{direction_text, family_text, write_interface, write_port, write_protocol};
-pub use test_words::{read_direction, read_family, read_interface, read_protocol};
-pub use value_words::{address_word, interface_word, port_word, protocol_word};
-pub use wanted::is_wanted;
+pub(crate) use test_text::{
+    direction_text, family_text, write_interface, write_port, write_protocol,
+};
+pub(crate) use test_words::{read_direction, read_family, read_interface, read_protocol};
+pub use value_words::address_word;
+pub(crate) use value_words::{interface_word, port_word, protocol_word};
+pub(crate) use wanted::is_wanted;

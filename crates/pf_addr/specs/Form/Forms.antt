@@ -59,8 +59,10 @@ Faults (nothing none) front w kind = ⊥
 Faults (word test) front w kind = (test.of w ≡ Err kind) × (kind ≢ BadWord) × (front ≡ [])
 Faults (key k f) front w kind = (rest : List Word) × Faults f rest w kind × (front ≡ k ∷ rest)
 Faults (or k f g) front w kind = ((rest : List Word) × Faults f rest w kind × (front ≡ k ∷ rest)) ⊎ Faults g front w kind
-Faults {A = _} (pair f g) front w kind = Faults f front w kind ⊎ ((x : _) × (a b : List Word) × Spells f x a × Faults g b w kind × (front ≡ a ++ b))
-Faults (pair_by f flag g) front w kind = Faults f front w kind ⊎ ((x : _) × (a b : List Word) × Spells f x a × Faults (g (flag x)) b w kind × (front ≡ a ++ b))
+Faults {A = _} (pair f g) front w kind =
+    Faults f front w kind ⊎ ((x : _) × (a b : List Word) × Spells f x a × Faults g b w kind × (front ≡ a ++ b))
+Faults (pair_by f flag g) front w kind =
+    Faults f front w kind ⊎ ((x : _) × (a b : List Word) × Spells f x a × Faults (g (flag x)) b w kind × (front ≡ a ++ b))
 Faults (any_number f) front w kind = (xs : List _) × (a b : List Word) × InOrder (Spells f) xs a × Faults f b w kind × (front ≡ a ++ b)
 Faults (making make f) front w kind = Faults f front w kind
 
@@ -186,7 +188,8 @@ is_decided (word test) = true
 is_decided (key k f) = is_decided f
 is_decided (or k f g) = is_decided f && (is_decided g && not (begins g k))
 is_decided (pair f g) = is_decided f && (is_decided g && may_follow (follow f) (begins g))
-is_decided (pair_by f flag g) = is_decided f && ((is_decided (g true) && is_decided (g false)) && may_follow (follow f) (λ w. either (λ b. begins (g b) w)))
+is_decided (pair_by f flag g) =
+    is_decided f && ((is_decided (g true) && is_decided (g false)) && may_follow (follow f) (λ w. either (λ b. begins (g b) w)))
 is_decided (any_number f) = is_decided f && (not (empties f) && may_follow (follow f) (begins f))
 is_decided (making make f) = is_decided f
 

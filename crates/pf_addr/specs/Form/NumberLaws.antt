@@ -46,6 +46,8 @@ kept bits o n e = (grind (arith, nat_tests), grind (arith, nat_tests))
 pub number_in_found : (bits most : ℕ) (w : Word) (n : ℕ) → number_in bits most w ≡ Some n → IsNumberIn bits most w n
 number_in_found bits most w n e = let is = kept bits (number_of most w) n e in record { number = number_found most w n is.0; small = is.1 }
 
+pub ruleset numbers_read = (number_found, number_only, number_in_found, number_in_only)
+
 -- what so few digits write has 64 bits at most
 pub few_digits : (w : Word) → list_all is_digit w ≡ true → length w ≤ 19 → decimal_value w < 2 ^ 64
 few_digits w all few = omega (arith, digits_value_short own w 19 all few)

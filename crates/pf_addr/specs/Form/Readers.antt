@@ -60,7 +60,8 @@ TakesSome {A = A} post = (ws vs : MutBor (Bor (List (Bor Word)))) (x : A) → po
 
 -- what a function returns and leaves is what reading gives
 abbrev pub IsReadBy : {A : Type 0} → Returns A → Reader A → Type 0
-IsReadBy {A = A} post read = (ws vs : MutBor (Bor (List (Bor Word)))) (r : Result A Stop) → post ws r vs → MovesBy read r ws.now.now vs.now.now
+IsReadBy {A = A} post read =
+    (ws vs : MutBor (Bor (List (Bor Word)))) (r : Result A Stop) → post ws r vs → MovesBy read r ws.now.now vs.now.now
 
 -- reading each of a part, up to the last word
 abbrev pub each_by : {A : Type 0} → Reader A → List Word → Result (List A) (Kind × List Word)

@@ -1,4 +1,4 @@
--- Names: of interfaces, of tables, and the bytes of a path's components too. Which bytes a name may have, and that names are ordered by their bytes, are own.
+-- Names: of interfaces, of tables, and the bytes of a path's components too. Their bytes, and that they are ordered by them, are own.
 use Rattle.std.specs.Prelude.{◌≡◌, ℕ, ◌==◌, ◌||◌, ◌&&◌, ◌<◌, ◌≤◌, nat_le, nat_lt, Bool, true, if◌then◌else◌, List, length, Result, Ok, Err}
 use Rattle.std.specs.List.{list_all}
 use Rattle.std.specs.declared.cmp.Ordering.{Ordering}
@@ -11,7 +11,8 @@ use Rattle.pf_addr.specs.declared.path.limits.TheConstants.{TABLE_NAME_LIMIT}
 
 -- a letter, a digit, `_`, `.` or `-`
 abbrev pub is_name_byte : ℕ → Bool
-is_name_byte b = (nat_le 65 b && nat_le b 90) || (nat_le 97 b && nat_le b 122) || (nat_le 48 b && nat_le b 57) || (b == 95) || (b == 46) || (b == 45)
+is_name_byte b =
+    (nat_le 65 b && nat_le b 90) || (nat_le 97 b && nat_le b 122) || (nat_le 48 b && nat_le b 57) || (b == 95) || (b == 46) || (b == 45)
 
 -- some of these bytes, and not too many
 pub record IsName (limit : ℕ) (name : List ℕ) : Type 0 where
@@ -21,7 +22,8 @@ pub record IsName (limit : ℕ) (name : List ℕ) : Type 0 where
 
 -- a word as a name; its length is tested before its bytes
 abbrev pub name_of : ℕ → Word → Result (List ℕ) Kind
-name_of limit w = if nat_lt limit (length w) then Err NameTooLong else (if nat_lt 0 (length w) && list_all is_name_byte w then Ok w else Err BadWord)
+name_of limit w =
+    if nat_lt limit (length w) then Err NameTooLong else (if nat_lt 0 (length w) && list_all is_name_byte w then Ok w else Err BadWord)
 
 -- names of tables (pf.conf(5), TABLES)
 abbrev pub IsTableName : List ℕ → Type 0

@@ -1,4 +1,5 @@
--- Paths within one another (pf.conf(5), ANCHORS): a ruleset is attached to the one whose path is its own without the last component. That names past the limits lead nowhere is own.
+-- Paths within one another (pf.conf(5), ANCHORS): a ruleset is attached to the one whose path is its own without the last component.
+-- That names past the limits lead nowhere is own.
 use Rattle.std.specs.Prelude.{ℕ, ◌&&◌, Bool, not, if◌then◌else◌, List, [], ◌∷◌, ◌++◌, length, take, drop, Option, Some, None, nat_lt}
 use Rattle.std.specs.List.{list_any}
 use Rattle.std.specs.Option.{is_none}

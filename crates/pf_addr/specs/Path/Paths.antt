@@ -1,4 +1,5 @@
--- Paths of rulesets (pf.conf(5), ANCHORS), and their texts: components, with a slash between each two. The limits, that the main ruleset is written "-", and that paths are ordered by their bytes, are own.
+-- Paths of rulesets (pf.conf(5), ANCHORS), and their texts: components, with a slash between each two. The limits, that the main
+-- ruleset is written "-", and that paths are ordered by their bytes, are own.
 use Rattle.std.specs.Prelude.{ℕ, ◌==◌, ◌&&◌, Bool, true, not, if◌then◌else◌, List, [], ◌∷◌, length, codes, Option, Some, None, Result, Ok, Err, nat_lt}
 use Rattle.std.specs.List.{list_all, slice_split}
 use Rattle.std.specs.Option.{is_none, option_map_or, option_or}
@@ -48,9 +49,12 @@ first_fault (c ∷ cs) = option_or (component_fault c) (first_fault cs)
 abbrev pub depth_fault : ℕ → Option Kind
 depth_fault n = if nat_lt DEPTH_LIMIT n then Some NameTooLong else None
 
--- why a text of so many bytes at most can't have these names in it: its whole length first, then their components from left to right, then the number of these
+-- why a text of so many bytes at most can't have these names in it: its whole length first, then their components from left to right,
+-- then the number of these
 abbrev pub fault_within : ℕ → Word → Word → Option Kind
-fault_within limit text names = if nat_lt limit (length text) then Some NameTooLong else option_or (first_fault (components names)) (depth_fault (length (components names)))
+fault_within limit text names =
+    if nat_lt limit (length text) then Some NameTooLong else
+    option_or (first_fault (components names)) (depth_fault (length (components names)))
 
 -- why a word is no path
 abbrev pub path_fault : Word → Option Kind

@@ -1,4 +1,5 @@
--- References to rulesets (pf.conf(5), ANCHORS): names of a path, "/*" behind them where the rulesets attached to it are meant, and perhaps quotes round all. The limit of bytes is own.
+-- References to rulesets (pf.conf(5), ANCHORS): names of a path, "/*" behind them where the rulesets attached to it are meant, and
+-- perhaps quotes round all. The limit of bytes is own.
 use Rattle.std.specs.Prelude.{ℕ, ◌-◌, ◌++◌, Bool, true, false, if◌then◌else◌, List, [], length, take, drop, codes, Option, Some, None, Result, Ok, Err}
 use Rattle.std.specs.Option.{option_and_then, option_map_or}
 use Rattle.std.specs.Str.{bytes_eq}

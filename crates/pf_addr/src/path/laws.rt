@@ -1,4 +1,11 @@
 //! What follows from the definitions that contracts cite: functions that do nothing, whose contracts are the laws.
+ghost use Rattle.std.specs.Prelude.{◌≡◌, ℕ};
+ghost use Rattle.pf_addr.specs.declared.path.limits.TheConstants.{PATH_LIMIT, COMPONENT_LIMIT, DEPTH_LIMIT, REFERENCE_LIMIT, TABLE_NAME_LIMIT};
+ghost use Rattle.pf_addr.specs.Form.Told.{TellsFaults};
+ghost use Rattle.pf_addr.specs.Path.FaultCases.{IsNameFault, IsPathFault, IsReferenceFault};
+ghost use Rattle.pf_addr.specs.Path.Names.{name_of};
+ghost use Rattle.pf_addr.specs.Path.Paths.{path_of};
+ghost use Rattle.pf_addr.specs.Path.References.{reference_of};
 ghost use Rattle.pf_addr.specs.Path.NameLaws.{ReadsANameAlone, ReadsEachName};
 ghost use Rattle.pf_addr.specs.Path.PathLaws.{ReadsWhatIsSpelled, ReadsAllThatIsSpelled, WritesWhatWasRead, ReadsWhatIsWritten, SamePathIsEqual};
 ghost use Rattle.pf_addr.specs.Path.ReferenceLaws.{ReferenceIsSpelled, SpelledReferenceIsRead};
@@ -45,4 +52,21 @@ pub fn paths_stand_within_one_another()
     ensures deeper { LeadsDeeper }
     ensures one_more { ChildHasOneMore }
     ensures each { EachIsAChild }
+{}
+
+/// A word that is refused as a name, as a path or as a reference is refused for the one fault that it has, by cases on the word.
+#[tactic(auto, using(crate::proofs::NameFaultsTold::all_told))]
+pub fn faults_of_names_are_told()
+    ensures names { (limit : ℕ) → TellsFaults (name_of limit) (IsNameFault limit) }
+    ensures paths { TellsFaults path_of IsPathFault }
+    ensures references { TellsFaults reference_of IsReferenceFault }
+{}
+
+/// How long names, paths and references may be.
+pub fn limits_are_these()
+    ensures path { PATH_LIMIT ≡ 255 }
+    ensures component { COMPONENT_LIMIT ≡ 63 }
+    ensures depth { DEPTH_LIMIT ≡ 16 }
+    ensures reference { REFERENCE_LIMIT ≡ 63 }
+    ensures table_name { TABLE_NAME_LIMIT ≡ 31 }
 {}

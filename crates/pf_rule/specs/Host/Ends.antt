@@ -33,7 +33,9 @@ to_alone e = (anywhere, e)
 
 -- ["all" | "from" end ["to" end] | "to" end], a source and a destination
 unfoldable pub ends : Form (End × End)
-ends = or (codes "all") (nothing (anywhere, anywhere)) (or (codes "from") (pair end destination) (or (codes "to") (making to_alone end) (nothing (anywhere, anywhere))))
+ends =
+    or (codes "all") (nothing (anywhere, anywhere))
+    (or (codes "from") (pair end destination) (or (codes "to") (making to_alone end) (nothing (anywhere, anywhere))))
 
 -- ---- how they are written
 

@@ -22,13 +22,13 @@ use Rattle.pf_addr.specs.Path.Names.{IsTableName, table_name_of}
 use Rattle.pf_addr.specs.Path.References.{behind, before}
 use Rattle.pf_addr.proofs.NamesRead.{name_found, name_only, name_bytes}
 use Rattle.pf_addr.proofs.ReferencesRead.{behind_is, before_is, before_end}
-use Rattle.pf_rule.specs.Value.Values.{begins_with}
+use Rattle.pf_rule.specs.Value.Values.{begins_with, as_word}
 use Rattle.pf_rule.specs.Value.ReadingLaws.{front_is}
 use Rattle.pf_rule.specs.Value.Spacing.{is_word}
 use Rattle.pf_rule.specs.Value.Written.{Written}
 use Rattle.pf_rule.specs.declared.host.host.Host.{Host}
 use Rattle.pf_rule.specs.declared.host.host.Host.TheVariants.{Any, Net, Table}
-use Rattle.pf_rule.specs.Host.Hosts.{in_brackets, is_negated, SpellsUnmarked, SpellsMarked, SpellsHost, bracketed, net_in, net_of, marked_by, marked, a_negated_host, host_of, a_host, IsHost, host, host_words}
+use Rattle.pf_rule.specs.Host.Hosts.{in_brackets, is_negated, SpellsUnmarked, SpellsMarked, SpellsHost, bracketed, net_of, marked_by, marked, a_negated_host, host_of, a_host, IsHost, host, host_words}
 
 -- ---- a table in its brackets
 
@@ -43,7 +43,7 @@ brackets_taken name = before_end name (codes ">")
 
 -- ---- a network
 
-net_given : (r : Result Network AddrFault) (n : Network) → net_in r ≡ Ok n → r ≡ Ok n
+net_given : (r : Result Network AddrFault) (n : Network) → as_word r ≡ Ok n → r ≡ Ok n
 net_given (Ok m) n e = cc
 net_given (Err f) n e = absurd cc
 

@@ -1,14 +1,13 @@
--- Hosts: which addresses they take, and how their words are spelled (pf.conf(5), PARAMETERS and TABLES). That a table in its brackets is one word is own.
-use Rattle.std.specs.Prelude.{ℕ, ◌++◌, not, Bool, true, false, List, [], ◌∷◌, drop, codes, Option, Some, None, Result, Ok, Err, if◌then◌else◌}
+-- Hosts: which addresses they take, and how their words are spelled (pf.conf(5), PARAMETERS and TABLES). That a table in its brackets
+-- is one word is own.
+use Rattle.std.specs.Prelude.{ℕ, ◌++◌, not, Bool, true, false, List, [], ◌∷◌, drop, codes, Option, Some, None, Result, Ok, if◌then◌else◌}
 use Rattle.std.specs.Option.{option_and_then, option_map_or}
 use Rattle.std.proofs.Common.{◌≡◌, refl}
 use Rattle.pf_addr.specs.declared.form.fault.Kind.{Kind}
-use Rattle.pf_addr.specs.declared.form.fault.Kind.TheVariants.{BadWord}
 use Rattle.pf_addr.specs.Form.Words.{Word}
 use Rattle.pf_addr.specs.Form.Forms.{Form, nothing, word, or, ◌>>=◌}
 use Rattle.pf_addr.specs.declared.addr.Addr.{Addr}
 use Rattle.pf_addr.specs.declared.addr.Addr.TheVariants as addr
-use Rattle.pf_addr.specs.declared.fault.AddrFault.{AddrFault}
 use Rattle.pf_addr.specs.Address.{Network, IsNetwork, network_of, contains}
 use Rattle.pf_addr.specs.Spelling.{net_text}
 use Rattle.pf_addr.specs.declared.addr.Family.{Family}
@@ -16,7 +15,7 @@ use Rattle.pf_addr.specs.Grammar.{SpellsNet}
 use Rattle.pf_addr.specs.Reading.{part_at, pieces_at, v4_at, address_at, net_at}
 use Rattle.pf_addr.specs.Path.Names.{IsTableName, table_name_of}
 use Rattle.pf_addr.specs.Path.References.{behind, before}
-use Rattle.pf_rule.specs.Value.Values.{begins_with}
+use Rattle.pf_rule.specs.Value.Values.{begins_with, as_word}
 use Rattle.pf_rule.specs.declared.host.host.Host.{Host}
 use Rattle.pf_rule.specs.declared.host.host.Host.TheVariants.{Any, Net, Table}
 
@@ -89,16 +88,13 @@ SpellsHost w h = SpellsMarked (is_negated h) w h
 abbrev pub bracketed : Word → Option Word
 bracketed w = option_and_then (before (codes ">")) (behind (codes "<") w)
 
-abbrev pub net_in : Result Network AddrFault → Result Network Kind
-net_in (Ok n) = Ok n
-net_in (Err e) = Err BadWord
-
 abbrev pub net_of : Word → Result Network Kind
-net_of w = net_in (net_at w)
+net_of w = as_word (net_at w)
 
 -- a table, or else a network, negated or not
 abbrev pub marked_by : Bool → Word → Option Word → Result Host Kind
-marked_by negated w between = option_map_or (λ name. table_name_of name >>= λ n. Ok (Table n negated)) between (net_of w >>= λ n. Ok (Net n negated))
+marked_by negated w between =
+    option_map_or (λ name. table_name_of name >>= λ n. Ok (Table n negated)) between (net_of w >>= λ n. Ok (Net n negated))
 
 abbrev pub marked : Bool → Word → Result Host Kind
 marked negated w = marked_by negated w (bracketed w)
@@ -108,7 +104,8 @@ unfolding part_at pieces_at v4_at address_at
 marked_taken = refl
 
 unfoldable pub a_negated_host : Form Host
-a_negated_host = word (record { of = marked true; sample = codes "0.0.0.0"; value = Net (network_of (addr.V4 0)) true; takes = marked_taken })
+a_negated_host =
+    word (record { of = marked true; sample = codes "0.0.0.0"; value = Net (network_of (addr.V4 0)) true; takes = marked_taken })
 
 -- with a "!" joined to it, or without one
 abbrev pub host_of : Word → Result Host Kind

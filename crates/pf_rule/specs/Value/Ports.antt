@@ -82,7 +82,9 @@ split_by [] w = None
 split_by (o ∷ os) w = if begins_with o.0 w then Some (o.1, drop (length o.0) w) else split_by os w
 
 abbrev pub operators : List (Word × Comparison)
-operators = (codes "=", Equal) ∷ (codes "!=", NotEqual) ∷ (codes "<=", AtMost) ∷ (codes "<", Less) ∷ (codes ">=", AtLeast) ∷ (codes ">", Greater) ∷ []
+operators =
+    (codes "=", Equal) ∷ (codes "!=", NotEqual) ∷ (codes "<=", AtMost) ∷
+    (codes "<", Less) ∷ (codes ">=", AtLeast) ∷ (codes ">", Greater) ∷ []
 
 -- a word that begins with a unary operator: the operator, the longest that it begins with, and what stands behind it
 abbrev pub split_operator : Word → Option (Comparison × Word)
@@ -124,7 +126,8 @@ number = a_port true
 
 -- ["><" number | "<>" number], behind a number that stands alone
 unfoldable pub range_end : Bool → Form (Option (PortRange × ℕ))
-range_end true = or (codes "><") (making (λ n. Some (Excluding, n)) number) (or (codes "<>") (making (λ n. Some (Except, n)) number) (nothing None))
+range_end true =
+    or (codes "><") (making (λ n. Some (Excluding, n)) number) (or (codes "<>") (making (λ n. Some (Except, n)) number) (nothing None))
 range_end false = nothing None
 
 abbrev pub is_number : PortStart → Bool
@@ -146,7 +149,9 @@ compared operator = making (λ n. Compared operator n) number
 
 -- an operator of order and a number, or a test that begins with no operator as a word of its own
 unfoldable pub order_or_range : Form PortTest
-order_or_range = or (codes "<") (compared Less) (or (codes "<=") (compared AtMost) (or (codes ">") (compared Greater) (or (codes ">=") (compared AtLeast) ranged)))
+order_or_range =
+    or (codes "<") (compared Less) (or (codes "<=") (compared AtMost)
+    (or (codes ">") (compared Greater) (or (codes ">=") (compared AtLeast) ranged)))
 
 -- an operator of equality and a number, or one of the above
 unfoldable pub port_test : Form PortTest

@@ -59,7 +59,9 @@ family_words (Some V6) = codes "inet6" ∷ []
 
 -- the names of four protocols (`icmp6`, of the two names of 58), and the numbers of the others
 abbrev pub protocol_word : ℕ → Word
-protocol_word n = if n == protocols.ICMP then codes "icmp" else (if n == protocols.TCP then codes "tcp" else (if n == protocols.UDP then codes "udp" else (if n == protocols.ICMP6 then codes "icmp6" else decimal n)))
+protocol_word n =
+    if n == protocols.ICMP then codes "icmp" else (if n == protocols.TCP then codes "tcp" else
+    (if n == protocols.UDP then codes "udp" else (if n == protocols.ICMP6 then codes "icmp6" else decimal n)))
 
 abbrev pub protocol_words : Option ℕ → List Word
 protocol_words None = []

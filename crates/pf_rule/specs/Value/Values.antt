@@ -30,7 +30,9 @@ an_interface = word (record { of = interface_of; sample = codes "a"; value = cod
 -- ---- a protocol: its name, or its number (IANA's protocol numbers)
 
 abbrev pub protocol_names : List (Word × ℕ)
-protocol_names = (codes "tcp", protocols.TCP) ∷ (codes "udp", protocols.UDP) ∷ (codes "icmp", protocols.ICMP) ∷ (codes "icmp6", protocols.ICMP6) ∷ (codes "ipv6-icmp", protocols.ICMP6) ∷ []
+protocol_names =
+    (codes "tcp", protocols.TCP) ∷ (codes "udp", protocols.UDP) ∷ (codes "icmp", protocols.ICMP) ∷
+    (codes "icmp6", protocols.ICMP6) ∷ (codes "ipv6-icmp", protocols.ICMP6) ∷ []
 
 -- the name stands in the table with the number
 abbrev pub IsNamed : List (Word × ℕ) → Word → ℕ → Type 0
@@ -73,12 +75,13 @@ begins_with front w = bytes_eq (take (length front) w) front
 
 -- ---- an address
 
-abbrev pub address_in : Result Addr AddrFault → Result Addr Kind
-address_in (Ok a) = Ok a
-address_in (Err e) = Err BadWord
+-- any fault of an address, or of a network, makes a bad word
+abbrev pub as_word : {A : Type 0} → Result A AddrFault → Result A Kind
+as_word (Ok x) = Ok x
+as_word (Err e) = Err BadWord
 
 abbrev pub address_of : Word → Result Addr Kind
-address_of w = address_in (addr_at w)
+address_of w = as_word (addr_at w)
 
 pub address_taken : address_of (codes "0.0.0.0") ≡ Ok (addr.V4 0)
 unfolding part_at pieces_at v4_at address_at

@@ -2,6 +2,9 @@
 ghost use Rattle.std.specs.Prelude.{◌≡◌, ℕ, Ok};
 ghost use Rattle.pf_addr.specs.Form.Words.{Word};
 ghost use Rattle.pf_rule.specs.declared.value.port_words.PortStart.{PortStart};
+ghost use Rattle.pf_rule.specs.declared.value.interface.TheConstants.{INTERFACE_LIMIT};
+ghost use Rattle.pf_rule.specs.declared.value.protocol.TheConstants.Protocol as protocols;
+ghost use Rattle.pf_rule.specs.declared.value.values.TheConstants.{PROTOCOL_DIGITS, PORT_DIGITS};
 ghost use Rattle.pf_rule.specs.Value.Values.{SpellsProtocol, protocol_of};
 ghost use Rattle.pf_rule.specs.Value.Ports.{SpellsStart, start_of};
 
@@ -17,4 +20,12 @@ pub fn protocol_words_are_read_as_spelled()
 pub fn port_words_are_read_as_spelled()
     ensures read { (w : Word) (s : PortStart) → start_of w ≡ Ok s → SpellsStart w s }
     ensures spelled { (w : Word) (s : PortStart) → SpellsStart w s → start_of w ≡ Ok s }
+{}
+
+/// The numbers of the protocols that have names, and how long names of interfaces and numbers of protocols and ports may be.
+pub fn limits_are_these()
+    ensures interface { INTERFACE_LIMIT ≡ 15 }
+    ensures protocol_digits { PROTOCOL_DIGITS ≡ 3 }
+    ensures port_digits { PORT_DIGITS ≡ 5 }
+    ensures protocols { (protocols.ICMP ≡ 1) × (protocols.TCP ≡ 6) × (protocols.UDP ≡ 17) × (protocols.ICMP6 ≡ 58) }
 {}

@@ -120,7 +120,8 @@ fn write_range<W: Write>(
     between: &[u8],
     last: u16,
 ) -> io::Result<()>
-    ensures { Continues so_far (W.contents out.old) result (W.contents out.new) (codes " port " ++ (decimal first ++ (between.now ++ decimal last))) }
+    ensures { Continues so_far (W.contents out.old) result (W.contents out.new)
+        (codes " port " ++ (decimal first ++ (between.now ++ decimal last))) }
 {
     let so_far = write_more(out, so_far, b" port ");
     let so_far = write_more_number(out, so_far, u64::from(first));

@@ -46,8 +46,5 @@ pub(crate) fn port_of(ports: bool, word: &[u8]) -> Result<u16, Kind>
 pub(crate) fn address_of(word: &[u8]) -> Result<Addr, Kind>
     ensures { result ≡ address_of word.now }
 {
-    match Addr::from_ascii(word) {
-        Ok(address) => Ok(address),
-        Err(_) => Err(Kind::BadWord),
-    }
+    Addr::from_ascii(word).map_err(|_| Kind::BadWord)
 }

@@ -1,0 +1,48 @@
+-- Which fault a word has that is no name, no path or no reference, by cases on the word. Their order is own.
+use Rattle.std.specs.Prelude.{◌≡◌, ◌≢◌, ℕ, ◌<◌, ◌≤◌, ◌⊎◌, true, false, List, [], ◌∷◌, ◌++◌, length, codes}
+use Rattle.std.specs.List.{AllByRecursion, list_all}
+use Rattle.pf_addr.specs.declared.form.fault.Kind.{Kind}
+use Rattle.pf_addr.specs.declared.form.fault.Kind.TheVariants.{BadWord, NameTooLong, BadProto}
+use Rattle.pf_addr.specs.declared.path.limits.TheConstants.{PATH_LIMIT, COMPONENT_LIMIT, DEPTH_LIMIT, REFERENCE_LIMIT}
+use Rattle.pf_addr.specs.Form.Words.{Word}
+use Rattle.pf_addr.specs.Path.Names.{is_name_byte}
+use Rattle.pf_addr.specs.Path.Paths.{components, is_component}
+use Rattle.pf_addr.specs.Path.PathGrammar.{IsComponent}
+use Rattle.pf_addr.specs.Path.References.{ending, quoted}
+
+-- A name past its limit is too long whatever its bytes; a shorter one is empty, or has another byte.
+abbrev pub IsNameFault : ℕ → Word → Kind → Type 0
+IsNameFault limit w NameTooLong = limit < length w
+IsNameFault limit w BadWord = (length w ≤ limit) × ((w ≡ []) ⊎ (list_all is_name_byte w ≡ false))
+IsNameFault limit w BadProto = ⊥
+
+-- A component that is empty, has another byte, or is ".." or "-" is a bad word whatever its length; another is too long.
+abbrev pub IsComponentFault : List ℕ → Kind → Type 0
+IsComponentFault c BadWord = is_component c ≡ false
+IsComponentFault c NameTooLong = (is_component c ≡ true) × (COMPONENT_LIMIT < length c)
+IsComponentFault c BadProto = ⊥
+
+-- Names in a text of so many bytes at most: the text is longer; or one component has the fault, and each before it is good; or all are
+-- good, and too many.
+pub data IsFaultWithin (limit : ℕ) (text names : Word) (kind : Kind) : Type 0 where
+  too_long : limit < length text → kind ≡ NameTooLong → IsFaultWithin limit text names kind
+  bad_component : length text ≤ limit → (front behind : List (List ℕ)) → (c : List ℕ) → components names ≡ front ++ c ∷ behind
+      → AllByRecursion IsComponent front → IsComponentFault c kind → IsFaultWithin limit text names kind
+  too_deep : length text ≤ limit → AllByRecursion IsComponent (components names) → DEPTH_LIMIT < length (components names)
+      → kind ≡ NameTooLong → IsFaultWithin limit text names kind
+
+-- "-" is the main ruleset's path
+abbrev pub IsPathFault : Word → Kind → Type 0
+IsPathFault w kind = (w ≢ codes "-") × IsFaultWithin PATH_LIMIT w w kind
+
+-- what stands between two quotes, or, where the word isn't in quotes, the word
+abbrev pub IsUnquoted : Word → Word → Type 0
+IsUnquoted w text = (w ≡ quoted text) ⊎ ((w ≡ text) × ((t : Word) → w ≢ quoted t))
+
+-- what stands before "/*", or, where the text doesn't end so, the text
+abbrev pub IsUnended : Word → Word → Type 0
+IsUnended text names = (text ≡ names ++ ending) ⊎ ((text ≡ names) × ((n : Word) → text ≢ n ++ ending))
+
+-- The quotes count in no length, and "/*" in the text's.
+abbrev pub IsReferenceFault : Word → Kind → Type 0
+IsReferenceFault w kind = (text names : Word) × IsUnquoted w text × IsUnended text names × IsFaultWithin REFERENCE_LIMIT text names kind
