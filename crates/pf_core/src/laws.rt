@@ -1,6 +1,13 @@
 //! What follows from the definitions that contracts cite: functions that do nothing, whose contracts are the laws.
+ghost use Rattle.std.specs.Prelude.{◌≡◌};
+ghost use Rattle.pf_core.specs.Worlds.{last_epoch};
 ghost use Rattle.pf_core.specs.Laws.{LeaveTheOtherKind, WantsWhatFits, SwitchesAll, VoidsTheNamed, KeepsNoneValid, LeavesTheOthers, MentionsTheNamed, RefusedMentionNothing, TrackMakesOne};
 ghost use Rattle.pf_core.specs.WorldFacts.{TicketsAreOfTheCalls, GivesEachOnce, KeepsTheLimits, ShowsAll};
+
+/// No opening has an epoch past 4,294,967,295.
+pub fn the_last_epoch()
+    ensures { last_epoch ≡ 4294967295 }
+{}
 
 /// A commit of filter rulesets leaves all tables, and a commit of table rulesets leaves all rulesets.
 pub fn commits_leave_the_other_kind()

@@ -8,7 +8,9 @@ use Rattle.std.specs.FinMap.Entries.{by_order}
 use Rattle.pf_addr.specs.Path.Names.{name_order}
 use Rattle.pf_table.specs.declared.limits.TheConstants.{TABLE_LIMIT}
 use Rattle.pf_table.specs.Edits.{conflict_in, replaced}
+use Rattle.pf_table.specs.EditLaws.{sorted_added}
 use Rattle.pf_table.specs.Entries.{Row}
+use Rattle.pf_table.specs.Tables.{AreEntries}
 use Rattle.std.proofs.lemmas.Bool.{cond_both}
 use Rattle.std.proofs.lemmas.Bool.Decides.{nat_tests}
 use Rattle.pf_rule.specs.Rules.{PlainRule}
@@ -102,9 +104,9 @@ one-more : (l : Loaded) (r : PlainRule) → length l.rules < RULE_LIMIT → Shor
 one-more l r room = record { rules = (let k = length-append l.rules (r ∷ []) in omega (arith, k, room)); tables = omega arith; entries = tt }
 
 abbrev AreShortRows : List Named → Type 0
-AreShortRows ts = AllByRecursion (λ n. length n.1 ≤ TABLE_LIMIT) ts
+AreShortRows ts = AllByRecursion (λ n. AreEntries n.1) ts
 
-rows-put : (name : List ℕ) (new : List Row) (ts : List Named) → length new ≤ TABLE_LIMIT → AreShortRows ts → AreShortRows (put_entry name_order name new ts)
+rows-put : (name : List ℕ) (new : List Row) (ts : List Named) → AreEntries new → AreShortRows ts → AreShortRows (put_entry name_order name new ts)
 rows-put name new [] short all = (short, tt)
 rows-put name new (t ∷ ts) short all =
     elim (name_order name t.0) as (λ o. AreShortRows (by_order o ((name, new) ∷ t ∷ ts) ((t.0, new) ∷ ts) (t ∷ put_entry name_order name new ts))) [
@@ -113,7 +115,7 @@ rows-put name new (t ∷ ts) short all =
       | Greater ↦ (all.0, rows-put name new ts short all.1)
     ]
 
-one-table : (l : Loaded) (name : List ℕ) (new : List Row) → length new ≤ TABLE_LIMIT → length (with_table l name new).tables ≤ OFFERED_TABLE_LIMIT → Short Table l → Short Table (with_table l name new)
+one-table : (l : Loaded) (name : List ℕ) (new : List Row) → AreEntries new → length (with_table l name new).tables ≤ OFFERED_TABLE_LIMIT → Short Table l → Short Table (with_table l name new)
 one-table l name new short few old = record {
   rules = omega arith;
   tables = few;
@@ -193,7 +195,7 @@ keeps_the_limits = record {
       not-refused long TableFull (cond many (Err TooManyTables) done) tt (not-refused (not (is_valid t n u)) (Busy 0) limits tt (passed (refused_at (λ i. Conflict i) (conflict_in xs)) (cond (not (is_valid t n u)) (Err (Busy 0)) limits) h)).1 in
       let short = fits.0 in
       let few = (not-refused many TooManyTables done tt fits.1).0 in
-      within-loaded t n u new (one-table (loaded t n) name rows (grind (arith, nat_tests, short)) (grind (arith, nat_tests, few)) (w.offered n)) w;
+      within-loaded t n u new (one-table (loaded t n) name rows (record { sorted = sorted_added [] xs tt; few = grind (arith, nat_tests, short) }) (grind (arith, nat_tests, few)) (w.offered n)) w;
   commit = switches-keep IsWithin within-out;
   rollback = drops-keep IsWithin within-out;
 }

@@ -3,9 +3,9 @@ use Rattle.std.specs.Prelude.{◌≡◌, T, ℕ, ◌+◌, ◌≤◌, ◌&&◌, B
 use Rattle.std.specs.FinMap.{find, is_sorted}
 use Rattle.std.specs.List.{AllByRecursion, list_any, slice_get, last_or}
 use Rattle.pf_addr.specs.Path.Names.{name_order, same_name as same_table}
-use Rattle.pf_table.specs.declared.limits.TheConstants.{TABLE_LIMIT}
 use Rattle.pf_table.specs.Edits.{replaced}
 use Rattle.pf_table.specs.Entries.{Row}
+use Rattle.pf_table.specs.Tables.{AreEntries}
 use Rattle.pf_rule.specs.Rules.{PlainRule}
 use Rattle.pf_anchor.specs.declared.limits.TheConstants.{RULE_LIMIT, RULESET_LIMIT}
 use Rattle.pf_ticket.specs.declared.entry.Entry.{Entry}
@@ -146,11 +146,11 @@ pub record BeginsGive : Type 0 where
 
 -- ---- the limits
 
--- so many rules, tables, and entries of each table at most
+-- so many rules, tables, and entries of each table at most, no network of a table twice
 pub record IsFew (o : Offered) : Type 0 where
   pub rules : length (rules_in o) ≤ RULE_LIMIT
   pub tables : length (tables_in o) ≤ OFFERED_TABLE_LIMIT
-  pub entries : AllByRecursion (λ n. length n.1 ≤ TABLE_LIMIT) (tables_in o)
+  pub entries : AllByRecursion (λ n. AreEntries n.1) (tables_in o)
 
 -- as many rulesets of both kinds at most as there may be, and as much offered for each
 pub record IsWithin (t : Open) : Type 0 where
