@@ -47,11 +47,15 @@ pub record IsDeciding (test : PlainRule → Bool) (rules : List PlainRule) (numb
   pub not_ended : list_all (λ r. not (test r && r.quick)) before ≡ true
   pub stands : (rule.quick ≡ true) ⊎ (list_any test behind ≡ false)
 
--- where the main ruleset has no anchor rule: none of its rules matches, and the default is told; or one decides, and its number is told with what it does
-abbrev pub TellsWhatDecides : Type 0
-TellsWhatDecides = (c : Configuration) (packet : PlainPacket) → list_all decides (rules_at main c.rulesets) ≡ true →
+-- none of the main ruleset's rules matches, and the default is told; or one decides, and its number is told with what it does
+abbrev pub IsToldOfMain : Configuration → PlainPacket → Type 0
+IsToldOfMain c packet =
     ((list_any (matching c.tables packet main) (rules_at main c.rulesets) ≡ false) × (judged c packet ≡ by.Default))
     ⊎ ((n : ℕ) × ((r : PlainRule) × ((a : Action) × (IsDeciding (matching c.tables packet main) (rules_at main c.rulesets) n r × (r.effect ≡ Decide a) × (judged c packet ≡ by.Rule main n a)))))
+
+-- so it is where the main ruleset has no anchor rule
+abbrev pub TellsWhatDecides : Type 0
+TellsWhatDecides = (c : Configuration) (packet : PlainPacket) → list_all decides (rules_at main c.rulesets) ≡ true → IsToldOfMain c packet
 
 -- ---- a rule that matches, before other rules; f is what each ruleset gives
 

@@ -20,6 +20,7 @@ refusal_of TicketsExhausted = told.TicketsExhausted
 refusal_of Memory = told.Memory
 
 abbrev pub change_refusal_of : ChangeRefusal → Refusal
+change_refusal_of (by_change.Twice i) = told.Twice i
 change_refusal_of (by_change.Conflict i) = told.Conflict i
 change_refusal_of by_change.TableFull = told.TableFull
 change_refusal_of by_change.TooManyRulesets = told.TooManyRulesets

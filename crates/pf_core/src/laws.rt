@@ -2,7 +2,7 @@
 ghost use Rattle.std.specs.Prelude.{◌≡◌};
 ghost use Rattle.pf_core.specs.Worlds.{last_epoch};
 ghost use Rattle.pf_core.specs.Laws.{LeaveTheOtherKind, WantsWhatFits, SwitchesAll, VoidsTheNamed, KeepsNoneValid, LeavesTheOthers, MentionsTheNamed, RefusedMentionNothing, TrackMakesOne};
-ghost use Rattle.pf_core.specs.WorldFacts.{TicketsAreOfTheCalls, GivesEachOnce, KeepsTheLimits, ShowsAll};
+ghost use Rattle.pf_core.specs.WorldFacts.{TicketsAreOfTheCalls, GivesEachOnce, KeepsTheLimits, ShowsAll, TestsTellTheEntry, JudgesTellTheVerdict};
 
 /// No opening has an epoch past 4,294,967,295.
 pub fn the_last_epoch()
@@ -27,7 +27,6 @@ pub fn track_makes_one_state()
 
 /// A commit that isn't refused switches all rulesets that it names, each to what was offered for it, and no other. Of
 /// the tables at a path those that were defined are switched, and the others stay.
-#[tactic(auto, using(crate::proofs::Switching::switches_all))]
 pub fn switches_all()
     ensures { SwitchesAll }
 {}
@@ -68,8 +67,9 @@ pub fn gives_each_ticket_once()
     ensures { GivesEachOnce }
 {}
 
-/// In each opening that a world comes to, where what was held first is within the limits, all of them hold: of rules,
-/// rulesets, entries, tables, states, tickets and history.
+/// In each opening that a world comes to, where what was held first is so: what is kept are maps of rulesets and of tables, in which
+/// none is empty and no path, no name at a path and no network of a table stands twice, and states of which no name and no flow does;
+/// and all limits hold, of rules, rulesets, entries, tables, states, tickets and history.
 pub fn keeps_the_limits()
     ensures { KeepsTheLimits }
 {}
@@ -77,4 +77,12 @@ pub fn keeps_the_limits()
 /// In each opening that a world comes to every change is acknowledged, and is shown.
 pub fn shows_all()
     ensures { ShowsAll }
+{}
+
+/// So a test is told of the table that it names the one entry that contains the address with the most specific network, or none where
+/// none contains it; and a packet is judged by the one state of its flow, and where there is none by the rules: where the main ruleset
+/// has no anchor rule by the last rule that matches or the first quick one, and an anchor rule leads to the rulesets that there are.
+pub fn answers_rest_on_what_is_kept()
+    ensures tests { TestsTellTheEntry }
+    ensures judges { JudgesTellTheVerdict }
 {}

@@ -18,4 +18,4 @@ pub use name::{RulesetKind, RulesetName, RulesetNames};
 pub use offered::Offered;
 pub use refusal::TicketRefusal;
 pub use ticket::{Ticket, TicketRange};
-pub use tickets::Tickets;
+pub use tickets::{Tickets, named_twice};

@@ -5,7 +5,7 @@ ghost use Rattle.pf_anchor.specs.declared.limits.TheConstants.{RULE_LIMIT};
 ghost use Rattle.pf_table.specs.Edits.{conflict_in, replaced};
 ghost use Rattle.pf_ticket.specs.Mentions.{added, defined, load, moved, take_out, after, gives, switches, drops};
 ghost use Rattle.pf_ticket.specs.Names.{filter_at, table_ruleset_at, is_named, same_name, names_of};
-ghost use Rattle.pf_ticket.specs.Replies.{bad_count, twice_in, busy_in, list_check, commit_check, begin_reply, add_reply, table_reply, define_reply, IsReply};
+ghost use Rattle.pf_ticket.specs.Replies.{bad_count, twice_behind, twice_in, busy_in, list_check, commit_check, begin_reply, add_reply, table_reply, define_reply, IsReply};
 ghost use Rattle.pf_ticket.specs.Tickets.{Offer, offer, offer_at, nothing, loaded, with_rule, with_table, offered_as, put, without, IsPlace, fresh, open_with, content, is_valid};
 
 use crate::defined::Defined;
@@ -98,6 +98,18 @@ fn is_named(names: &[RulesetName], name: &RulesetName) -> bool
     ensures { result ≡ is_named names.now name.now }
 {
     names.iter().any(|other| other.same(name))
+}
+
+/// The first of these rulesets, from 0, that is named before it. It takes no memory.
+pub fn named_twice(names: &[RulesetName]) -> Option<usize>
+    ensures { result ≡ twice_behind [] names.now }
+{
+    for (place, name) in names.iter().enumerate() {
+        if is_named(&names[..place], name) {
+            return Some(place);
+        }
+    }
+    None
 }
 
 // Whether one of these entries names the ruleset.

@@ -1,7 +1,9 @@
 -- What is kept, what a change does to it (pf(4), DIOCXCOMMIT and DIOCRADDADDRS to DIOCRSETADDRS), and what it says of a packet (pf.conf(5), PACKET FILTERING, ANCHORS and TABLES). That an empty table doesn't exist, how a peer's states act, and the limits, are own.
-use Rattle.std.specs.Prelude.{ℕ, ◌==◌, ◌&&◌, Bool, not, if◌then◌else◌, List, [], ◌∷◌, ◌++◌, fold, length, map, nat_lt, Option, Some, None, Result, Ok, Err}
-use Rattle.std.specs.List.{list_any}
-use Rattle.std.specs.Option.{option_map_or}
+use Rattle.std.specs.Prelude.{ℕ, ◌==◌, ◌&&◌, Bool, true, not, if◌then◌else◌, List, [], ◌∷◌, ◌++◌, fold, length, map, nat_lt, Option, Some, None, Result, Ok, Err}
+use Rattle.std.specs.FinMap.{is_sorted}
+use Rattle.std.specs.List.{list_any, position}
+use Rattle.std.specs.Option.{option_map_or, option_or}
+use Rattle.pf_addr.specs.Path.Names.{name_order}
 use Rattle.pf_addr.specs.Path.Paths.{same_path}
 use Rattle.pf_rule.specs.Packets.{PlainPacket}
 use Rattle.pf_table.specs.declared.limits.TheConstants.{TABLE_LIMIT}
@@ -21,10 +23,11 @@ use Rattle.pf_rule.specs.Sum.Forms.{ruleset_sum}
 use Rattle.pf_ticket.specs.declared.name.RulesetName.{RulesetName}
 use Rattle.pf_ticket.specs.Names.{filter_at, table_ruleset_at}
 use Rattle.pf_ticket.specs.NamedTables.{Named}
+use Rattle.pf_ticket.specs.Replies.{twice_behind}
 use Rattle.pf_core.specs.declared.durable.change.Item.{Item}
 use Rattle.pf_core.specs.declared.durable.change.Item.TheVariants as item
 use Rattle.pf_core.specs.declared.durable.refusal.ChangeRefusal.{ChangeRefusal}
-use Rattle.pf_core.specs.declared.durable.refusal.ChangeRefusal.TheVariants.{Conflict, TableFull, TooManyRulesets, TooManyTables, StatesFull}
+use Rattle.pf_core.specs.declared.durable.refusal.ChangeRefusal.TheVariants.{Twice, Conflict, TableFull, TooManyRulesets, TooManyTables, StatesFull}
 use Rattle.pf_core.specs.declared.durable.verdict.Verdict.{Verdict}
 use Rattle.pf_core.specs.declared.durable.verdict.Verdict.TheVariants.{State as Stateful, Rules}
 
@@ -129,13 +132,23 @@ and_then (Err e) next = Err e
 abbrev pub unless : Bool → ChangeRefusal → Result (Unit {0}) ChangeRefusal
 unless b why = if b then Err why else Ok tt
 
-abbrev pub conflict_at : Option ℕ → Result (Unit {0}) ChangeRefusal
-conflict_at None = Ok tt
-conflict_at (Some i) = Err (Conflict i)
+-- refused at a place, where there is one
+abbrev pub refused_at : (ℕ → ChangeRefusal) → Option ℕ → Result (Unit {0}) ChangeRefusal
+refused_at why None = Ok tt
+refused_at why (Some i) = Err (why i)
 
 -- no network stands in the list with both signs
 abbrev pub no_conflict : List Row → Result (Unit {0}) ChangeRefusal
-no_conflict xs = conflict_at (conflict_in xs)
+no_conflict xs = refused_at (λ i. Conflict i) (conflict_in xs)
+
+-- an item has its tables in the order of their names, so none of them twice
+abbrev pub is_in_order : Item → Bool
+is_in_order (item.Rules r) = true
+is_in_order (item.Tables p named) = is_sorted name_order named
+
+-- the first item that names a ruleset named before it, else the first that names a table twice
+abbrev pub named_again : List Item → Option ℕ
+named_again items = option_or (twice_behind [] (map name_of items)) (position (λ i. not (is_in_order i)) items)
 
 -- entries that a table can hold
 abbrev pub holdable : List Row → Result (Unit {0}) ChangeRefusal
@@ -157,9 +170,9 @@ replaceable d p name new = and_then (holdable new) (room_for_table d p name new)
 abbrev pub few : Configuration → Result (Unit {0}) ChangeRefusal
 few c = and_then (unless (nat_lt RULESET_LIMIT (length c.rulesets)) TooManyRulesets) (unless (nat_lt TABLE_COUNT_LIMIT (length c.tables)) TooManyTables)
 
--- Why a change isn't made, where there is a cause. A commit's limits are counted once it is whole, those of states behind each step. To delete entries or a state no limit is asked.
+-- Why a change isn't made, where there is a cause. A commit names nothing twice, and its limits are counted once it is whole, those of states behind each step. To delete entries or a state no limit is asked.
 abbrev pub fits : Kept → Edit → Result (Unit {0}) ChangeRefusal
-fits d (commits items) = few (applied d (commits items)).config
+fits d (commits items) = and_then (refused_at (λ i. Twice i) (named_again items)) (few (applied d (commits items)).config)
 fits d (adds p name xs) = and_then (no_conflict xs) (replaceable d p name (added (entries_at d p name) xs))
 fits d (deletes p name xs) = no_conflict xs
 fits d (sets p name xs) = and_then (no_conflict xs) (replaceable d p name (replaced xs))

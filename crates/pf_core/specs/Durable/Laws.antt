@@ -1,8 +1,9 @@
 -- What follows from the definitions, as law functions promise it.
 use Rattle.std.specs.Prelude.{◌≡◌, ◌≢◌, ◌⊎◌, ℕ, ◌≤◌, List, [], length, Ok}
-use Rattle.pf_table.specs.declared.limits.TheConstants.{TABLE_LIMIT}
+use Rattle.std.specs.List.{AllByRecursion}
 use Rattle.pf_table.specs.Edits.{added, deleted, replaced}
 use Rattle.pf_table.specs.Entries.{Row}
+use Rattle.pf_table.specs.Tables.{AreEntries}
 use Rattle.pf_anchor.specs.declared.limits.TheConstants.{RULE_LIMIT, RULESET_LIMIT, TABLE_COUNT_LIMIT}
 use Rattle.pf_anchor.specs.Configurations.{IsConfiguration}
 use Rattle.pf_anchor.specs.Laws.{rules_by}
@@ -65,16 +66,23 @@ pub record StepsExactly : Type 0 where
 
 -- ---- limits
 
--- what is kept is within the limits
+-- what is kept is a configuration, tables and states in which nothing stands twice, all within the limits
 pub record IsWithin (d : Kept) : Type 0 where
+  pub maps : IsConfiguration d.config
   pub rulesets : length d.config.rulesets ≤ RULESET_LIMIT
   pub rules : (p : List ℕ) → length (rules_at p d.config.rulesets) ≤ RULE_LIMIT
   pub tables : length d.config.tables ≤ TABLE_COUNT_LIMIT
-  pub entries : (p name : List ℕ) → length (entries_at d p name) ≤ TABLE_LIMIT
+  pub entries : (p name : List ℕ) → AreEntries (entries_at d p name)
   pub states : IsStates d.states
 
--- an edit of a table and a change of states that fit leave what is kept within the limits
+-- what a commit replaces is so long, and in order
+pub record AreFew (items : List Item) : Type 0 where
+  pub rules : AllByRecursion (λ r. length r.1 ≤ RULE_LIMIT) (rulesets_in items)
+  pub entries : AllByRecursion (λ t. AreEntries t.1) (tables_in items)
+
+-- a change that fits leaves what is kept within the limits
 pub record StaysWithin (d : Kept) : Type 0 where
+  pub by_commit : (items : List Item) → AreFew items → fits d (commits items) ≡ Ok tt → IsWithin (applied d (commits items))
   pub by_add : (p name : List ℕ) (xs : List Row) → fits d (adds p name xs) ≡ Ok tt → IsWithin (applied d (adds p name xs))
   pub by_delete : (p name : List ℕ) (xs : List Row) → IsWithin (applied d (deletes p name xs))
   pub by_set : (p name : List ℕ) (xs : List Row) → fits d (sets p name xs) ≡ Ok tt → IsWithin (applied d (sets p name xs))
