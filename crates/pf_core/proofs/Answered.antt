@@ -13,7 +13,6 @@ use Rattle.pf_state.specs.States.{Stated, state_of}
 use Rattle.pf_core.specs.declared.command.Command.{Command}
 use Rattle.pf_core.specs.declared.command.Command.TheVariants.{Ask}
 use Rattle.pf_core.specs.declared.command.Question.TheVariants.{Judge, Test}
-use Rattle.pf_core.specs.declared.durable.verdict.Verdict.{Verdict}
 use Rattle.pf_core.specs.declared.durable.verdict.Verdict.TheVariants.{State as Stateful, Rules as ByRules}
 use Rattle.pf_core.specs.declared.reply.Refusal.TheVariants.{Memory}
 use Rattle.pf_core.specs.declared.reply.Reply.{Reply}

@@ -2,8 +2,6 @@
 use Rattle.std.proofs.Common.{◌≡◌, ℕ, ◌+◌, ◌≤◌, Bool, true, false, cond, List, [], ◌∷◌, length, refl, sym, ap, ◌∙◌, subst, inl, inr, Option, Some, None, Result, Ok, Err, arith, zero, suc, ◌++◌}
 use Rattle.std.specs.Prelude.{nat_lt, fold, is_some, if◌then◌else◌}
 use Rattle.std.specs.List.{AllByRecursion}
-use Rattle.std.specs.Ordering.{eq_by_cmp}
-use Rattle.pf_table.specs.Map.ListMaps.{list_by}
 use Rattle.pf_table.specs.Edits.{additions, deletions}
 use Rattle.pf_table.specs.Tables.{AreEntries}
 use Rattle.std.proofs.lemmas.Bool.Decides.{nat_tests}
@@ -14,8 +12,7 @@ use Rattle.pf_ticket.specs.declared.name.RulesetKind.{RulesetKind}
 use Rattle.pf_ticket.specs.declared.name.RulesetKind.TheVariants.{Filter, Table}
 use Rattle.pf_ticket.specs.Laws.{AreGiven, IsFew, IsWithin as AreTicketsWithin, AreOnce}
 use Rattle.pf_ticket.specs.Mentions.{Mention, gives, switches, after as moved_by}
-use Rattle.pf_ticket.specs.Names.{filter_at, table_ruleset_at, same_name, names_of, tickets_from, ticket}
-use Rattle.pf_ticket.specs.NameLaws.{name_is}
+use Rattle.pf_ticket.specs.Names.{filter_at, table_ruleset_at, tickets_from, ticket}
 use Rattle.pf_ticket.specs.NamedTables.{Named}
 use Rattle.pf_ticket.specs.Replies.{begin_reply, add_reply, define_reply, list_check, commit_check}
 use Rattle.pf_ticket.specs.Tickets.{Loaded, Open, offered_as, loaded, content}
@@ -46,34 +43,24 @@ use Rattle.pf_core.specs.declared.reply.Outcome.TheVariants as outcome
 use Rattle.pf_core.specs.declared.reply.Refusal.{Refusal}
 use Rattle.pf_core.specs.declared.reply.Refusal.TheVariants.{HistoryFull}
 use Rattle.pf_core.specs.declared.durable.refusal.ChangeRefusal.{ChangeRefusal}
-use Rattle.pf_core.specs.declared.durable.refusal.ChangeRefusal.TheVariants.{TooManyRulesets, TooManyTables}
 use Rattle.pf_core.specs.declared.reply.Reply.{Reply}
 use Rattle.pf_core.specs.declared.reply.Reply.TheVariants.{Answer as Answered, Applied, Refused}
 use Rattle.pf_core.specs.declared.step.Step.{Step}
 use Rattle.pf_core.specs.declared.step.Step.TheVariants.{Done, Wants}
 use Rattle.pf_core.specs.Calls.{call, mentions_of, Call}
 use Rattle.pf_core.specs.Commands.{item_of, unless_refused, unless_unfit, if_there, is_table, items, wanting, added_of, deleted_of, edit_step, makes_state, tracked, track_step, steps_here, states_step, answer_of, step_by, mentioned}
-use Rattle.pf_core.specs.Durable.Edits.{Kept, Edit, commits, adds, deletes, sets, acts, removes, verdict, rulesets_in, placed, tables_in, entries_at, applied, voided_by, after, unless, no_conflict, fits}
+use Rattle.pf_core.specs.Durable.Edits.{Kept, Edit, commits, adds, deletes, sets, acts, removes, verdict, placed, tables_in, entries_at, applied, voided_by, after, no_conflict, fits}
 use Rattle.pf_core.specs.Durable.Laws.{IsWithin, AreFew}
-use Rattle.pf_core.proofs.Checks.{AreBothPassed, both_passed, not_refused}
 use Rattle.pf_core.proofs.Within.{keeps_within}
 use Rattle.pf_core.specs.WorldFacts.{tickets_in, given_by, tickets_given, GivesEachOnce, KeepsTheLimits, ShowsAll}
 use Rattle.pf_core.specs.WorldLaws.{unit_is, IsPassed, passed, none-wanted, fit, IsThis, wants_commit, edit_of, wants_edit, IsOfStates, of_steps, of_removal, IsStateChange, wants_states, IsWanted, wants}
 use Rattle.pf_core.specs.Worlds.{Held, log_of, durable_of, step_in, room_for, if_ok, or_refused, due_at, grouped, group_at, LegalReply, State, up, down, Upshot, Event, called, opened, flat, group_in, acked_by, shown_by, heard, next, LegalCall, IsLegal, state_after, IsLegalFrom, IsWorld}
-use Rattle.std.proofs.lemmas.Bool.{cond_both}
 use Rattle.std.proofs.lemmas.List.{append-nil, length-append}
 use Rattle.std.proofs.lemmas.List.Sums.{fold_push}
-use Rattle.pf_rule.specs.Rules.{PlainRule}
-use Rattle.pf_anchor.specs.declared.limits.TheConstants.{RULE_LIMIT, RULESET_LIMIT, TABLE_COUNT_LIMIT}
-use Rattle.pf_anchor.specs.Configurations.{Configuration}
 use Rattle.pf_anchor.specs.Tables.{Tabled}
-use Rattle.pf_anchor.proofs.TableMaps.{tables_replaced}
-use Rattle.pf_anchor.specs.Rulesets.{rules_at}
-use Rattle.pf_anchor.proofs.RulesetMaps.{replaced_in_turn}
 use Rattle.pf_ticket.specs.declared.entry.Entry.{Entry}
 use Rattle.pf_ticket.proofs.Twice.{gives_each_once as once_given}
 use Rattle.pf_core.proofs.LongerWorlds.{flat-push}
-use Rattle.pf_core.proofs.Switching.{switched_in, rules_of, rules-switched, entries_of, tables-switched}
 
 -- ---- by the step that was answered
 

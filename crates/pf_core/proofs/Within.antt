@@ -26,7 +26,7 @@ use Rattle.pf_state.proofs.Tables.{stays_states}
 use Rattle.pf_core.specs.declared.durable.refusal.ChangeRefusal.{ChangeRefusal}
 use Rattle.pf_core.specs.declared.durable.refusal.ChangeRefusal.TheVariants.{Twice, TableFull, TooManyRulesets, TooManyTables, StatesFull}
 use Rattle.pf_core.specs.declared.durable.change.Item.{Item}
-use Rattle.pf_core.specs.Durable.Edits.{Kept, commits, adds, deletes, applied, fits, and_then, unless, refused_at, named_again, rulesets_in, tables_in, entries_at, with_entries, is_one_more, no_conflict, holdable, room_for_table, replaceable}
+use Rattle.pf_core.specs.Durable.Edits.{Kept, commits, deletes, applied, fits, and_then, unless, refused_at, named_again, rulesets_in, tables_in, entries_at, with_entries, is_one_more, no_conflict, holdable, room_for_table, replaceable}
 use Rattle.pf_core.specs.Durable.Laws.{IsWithin, AreFew, KeepsWithin}
 use Rattle.pf_core.proofs.Checks.{AreBothPassed, both_passed, not_refused}
 use Rattle.pf_core.proofs.Edited.{replaces_exactly}

@@ -15,7 +15,7 @@ use Rattle.pf_state.specs.declared.step.Step.{Step}
 use Rattle.pf_state.specs.States.{Stated, IsStates}
 use Rattle.pf_state.specs.Steps.{after as stepped_on, without_state}
 use Rattle.pf_core.specs.declared.durable.change.Item.{Item}
-use Rattle.pf_core.specs.Durable.Edits.{Kept, Edit, commits, adds, deletes, sets, acts, removes, rulesets_in, tables_in, entries_at, applied, fits}
+use Rattle.pf_core.specs.Durable.Edits.{Kept, commits, adds, deletes, sets, acts, removes, rulesets_in, tables_in, entries_at, applied, fits}
 
 -- what is kept after a commit, whole
 pub record IsReplaced (d : Kept) (items : List Item) (new : Kept) : Type 0 where
