@@ -7,10 +7,8 @@ use Rattle.pf_addr.specs.Path.Nested.{path_within}
 use Rattle.pf_addr.specs.Path.References.{PlainReference}
 use Rattle.pf_rule.specs.Packets.{PlainPacket}
 use Rattle.pf_rule.specs.Rules.{PlainRule}
-use Rattle.pf_rule.specs.declared.rule.Action.{Action}
-use Rattle.pf_rule.specs.declared.rule.Effect.TheVariants.{Decide, Evaluate}
-use Rattle.pf_anchor.specs.declared.evaluated.Evaluated.{Evaluated}
-use Rattle.pf_anchor.specs.declared.evaluated.Evaluated.TheVariants.{Open, Ended}
+use Rattle.pf_rule.specs.declared.{rule.Action.Action, rule.Effect.TheVariants.Decide, rule.Effect.TheVariants.Evaluate}
+use Rattle.pf_anchor.specs.declared.{evaluated.Evaluated.Evaluated, evaluated.Evaluated.TheVariants.Open, evaluated.Evaluated.TheVariants.Ended}
 use Rattle.pf_anchor.specs.declared.verdict.RuleVerdict.TheVariants as by
 use Rattle.pf_anchor.specs.Matches.{PlainMatch, found}
 use Rattle.pf_anchor.specs.Rulesets.{Ruled, ruled, IsMap, rules_at, children, leads_to, targets}

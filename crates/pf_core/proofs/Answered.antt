@@ -10,13 +10,7 @@ use Rattle.pf_state.proofs.Tables.{one_state_a_flow}
 use Rattle.pf_state.specs.Flows.{flow_of}
 use Rattle.pf_state.specs.Laws.{IsStateOf, FindsTheState}
 use Rattle.pf_state.specs.States.{Stated, state_of}
-use Rattle.pf_core.specs.declared.command.Command.{Command}
-use Rattle.pf_core.specs.declared.command.Command.TheVariants.{Ask}
-use Rattle.pf_core.specs.declared.command.Question.TheVariants.{Judge, Test}
-use Rattle.pf_core.specs.declared.durable.verdict.Verdict.TheVariants.{State as Stateful, Rules as ByRules}
-use Rattle.pf_core.specs.declared.reply.Refusal.TheVariants.{Memory}
-use Rattle.pf_core.specs.declared.reply.Reply.{Reply}
-use Rattle.pf_core.specs.declared.reply.Reply.TheVariants.{Refused}
+use Rattle.pf_core.specs.declared.{command.Command.Command, command.Command.TheVariants.Ask, command.Question.TheVariants.Judge, command.Question.TheVariants.Test, durable.verdict.Verdict.TheVariants.State as Stateful, durable.verdict.Verdict.TheVariants.Rules as ByRules, reply.Refusal.TheVariants.Memory, reply.Reply.Reply, reply.Reply.TheVariants.Refused}
 use Rattle.pf_core.specs.Commands.{takes_memory}
 use Rattle.pf_core.specs.Durable.Edits.{Kept, entries_at, verdict}
 use Rattle.pf_core.specs.Durable.Laws.{IsWithin}

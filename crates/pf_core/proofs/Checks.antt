@@ -5,9 +5,7 @@ use Rattle.std.proofs.lemmas.Bool.Decides.{nat_tests}
 use Rattle.std.specs.List.{list_all, position, prefix_len}
 use Rattle.std.specs.Option.{option_or}
 use Rattle.pf_ticket.specs.Replies.{twice_behind}
-use Rattle.pf_core.specs.declared.durable.change.Item.{Item}
-use Rattle.pf_core.specs.declared.durable.refusal.ChangeRefusal.{ChangeRefusal}
-use Rattle.pf_core.specs.declared.durable.refusal.ChangeRefusal.TheVariants.{Twice}
+use Rattle.pf_core.specs.declared.{durable.change.Item.Item, durable.refusal.ChangeRefusal.ChangeRefusal, durable.refusal.ChangeRefusal.TheVariants.Twice}
 use Rattle.pf_core.specs.Durable.Edits.{and_then, unless, refused_at, name_of, is_in_order, named_again}
 
 pub record AreBothPassed {A : Type 0} (r : Result (Unit {0}) ChangeRefusal) (next : Result A ChangeRefusal) (x : A) : Type 0 where

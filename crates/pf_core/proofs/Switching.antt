@@ -1,8 +1,7 @@
 -- What a commit leaves of each ruleset, and any call of those that it doesn't name.
 use Rattle.std.proofs.Common.{◌≡◌, ℕ, T, Bool, true, false, cond, ◌&&◌, ◌||◌, List, [], ◌∷◌, ◌++◌, length, refl, sym, ap, ◌∙◌, Option, Some, None, Result, Ok, Err, subst}
 use Rattle.std.specs.Prelude.{fold, unwrap_or}
-use Rattle.std.specs.declared.cmp.Ordering.{Ordering}
-use Rattle.std.specs.declared.cmp.Ordering.TheVariants.{Less, Equal, Greater}
+use Rattle.std.specs.declared.{cmp.Ordering.Ordering, cmp.Ordering.TheVariants.Less, cmp.Ordering.TheVariants.Equal, cmp.Ordering.TheVariants.Greater}
 use Rattle.std.specs.FinMap.{find, is_sorted, slice_cmp-IsAntisymmetric, nat_cmp-IsAntisymmetric}
 use Rattle.std.specs.FinMap.Entries.{below_all}
 use Rattle.std.specs.List.{list_all}
@@ -21,12 +20,7 @@ use Rattle.pf_anchor.specs.Rulesets.{Ruled, rules_at, with_rules}
 use Rattle.pf_anchor.specs.Tables.{TableKey, Tabled, table_order, with_table}
 use Rattle.pf_anchor.proofs.RulesetMaps.{replaced_in_turn}
 use Rattle.pf_anchor.proofs.TableMaps.{tables_replaced}
-use Rattle.pf_ticket.specs.declared.entry.Entry.{Entry}
-use Rattle.pf_ticket.specs.declared.name.RulesetKind.{RulesetKind}
-use Rattle.pf_ticket.specs.declared.name.RulesetKind.TheVariants.{Filter, Table}
-use Rattle.pf_ticket.specs.declared.name.RulesetName.{RulesetName}
-use Rattle.pf_ticket.specs.declared.refusal.TicketRefusal.{TicketRefusal}
-use Rattle.pf_ticket.specs.declared.refusal.TicketRefusal.TheVariants.{BadCount, Twice, Busy}
+use Rattle.pf_ticket.specs.declared.{entry.Entry.Entry, name.RulesetKind.RulesetKind, name.RulesetKind.TheVariants.Filter, name.RulesetKind.TheVariants.Table, name.RulesetName.RulesetName, refusal.TicketRefusal.TicketRefusal, refusal.TicketRefusal.TheVariants.BadCount, refusal.TicketRefusal.TheVariants.Twice, refusal.TicketRefusal.TheVariants.Busy}
 use Rattle.pf_ticket.specs.NameLaws.{paths_alike, name_is}
 use Rattle.pf_ticket.specs.Names.{same_kind, same_name, is_named, names_of, filter_at, table_ruleset_at, IsDistinct}
 use Rattle.pf_ticket.specs.Replies.{bad_count, twice_in, busy_in, refused_at, and_then, list_check, commit_check}
@@ -35,9 +29,7 @@ use Rattle.pf_ticket.specs.NamedTables.{Named}
 use Rattle.pf_ticket.specs.Tickets.{Loaded, Open, offered_as, loaded, offer_at, ticket_in, content}
 use Rattle.pf_ticket.proofs.Moves.{leaves_the_others as mentions_leave, commit_takes_out, gives-named}
 use Rattle.pf_ticket.proofs.Twice.{otherwise_once}
-use Rattle.pf_core.specs.declared.durable.change.Item.{Item}
-use Rattle.pf_core.specs.declared.command.Command.TheVariants.{Transact, Edit as Change, States as OfStates, Ask}
-use Rattle.pf_core.specs.declared.command.Transaction.TheVariants.{Begin, Add, Define, Commit, Rollback}
+use Rattle.pf_core.specs.declared.{durable.change.Item.Item, command.Command.TheVariants.Transact, command.Command.TheVariants.Edit as Change, command.Command.TheVariants.States as OfStates, command.Command.TheVariants.Ask, command.Transaction.TheVariants.Begin, command.Transaction.TheVariants.Add, command.Transaction.TheVariants.Define, command.Transaction.TheVariants.Commit, command.Transaction.TheVariants.Rollback}
 use Rattle.pf_core.specs.Commands.{item_of, items, mentioned, is_accepted}
 use Rattle.pf_core.specs.Durable.Edits.{Kept, Edit, commits, rulesets_in, placed, tables_in, entries_at, applied}
 use Rattle.pf_core.specs.Laws.{tables_offered, AreTablesSwitched, AreSwitched, SwitchesAll, LeaveTheOtherKind, KeepsNoneValid, MentionsTheNamed, LeavesTheOthers, RefusedMentionNothing}

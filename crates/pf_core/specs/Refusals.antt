@@ -1,11 +1,9 @@
 -- What is told where the tickets or a change refuse, and where memory was refused.
 use Rattle.std.specs.Prelude.{◌≡◌, Bool, true, Result, Err}
-use Rattle.pf_core.specs.declared.reply.Refusal.{Refusal}
+use Rattle.pf_core.specs.declared.{reply.Refusal.Refusal, durable.refusal.ChangeRefusal.ChangeRefusal}
 use Rattle.pf_core.specs.declared.reply.Refusal.TheVariants as told
-use Rattle.pf_core.specs.declared.durable.refusal.ChangeRefusal.{ChangeRefusal}
 use Rattle.pf_core.specs.declared.durable.refusal.ChangeRefusal.TheVariants as by_change
-use Rattle.pf_ticket.specs.declared.refusal.TicketRefusal.{TicketRefusal}
-use Rattle.pf_ticket.specs.declared.refusal.TicketRefusal.TheVariants.{BadCount, Twice, Busy, Conflict, RulesetFull, TooManyRulesets, TableFull, TooManyTables, TicketsExhausted, Memory}
+use Rattle.pf_ticket.specs.declared.{refusal.TicketRefusal.TicketRefusal, refusal.TicketRefusal.TheVariants.BadCount, refusal.TicketRefusal.TheVariants.Twice, refusal.TicketRefusal.TheVariants.Busy, refusal.TicketRefusal.TheVariants.Conflict, refusal.TicketRefusal.TheVariants.RulesetFull, refusal.TicketRefusal.TheVariants.TooManyRulesets, refusal.TicketRefusal.TheVariants.TableFull, refusal.TicketRefusal.TheVariants.TooManyTables, refusal.TicketRefusal.TheVariants.TicketsExhausted, refusal.TicketRefusal.TheVariants.Memory}
 
 abbrev pub refusal_of : TicketRefusal → Refusal
 refusal_of BadCount = told.BadCount

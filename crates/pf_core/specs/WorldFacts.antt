@@ -18,12 +18,8 @@ use Rattle.pf_ticket.specs.Laws.{AreOnce}
 use Rattle.pf_ticket.specs.Laws.{IsWithin as AreTicketsWithin}
 use Rattle.pf_ticket.specs.Mentions.{Mention, opened as left_by}
 use Rattle.pf_ticket.specs.Names.{tickets_from, tickets_of}
-use Rattle.pf_core.specs.declared.command.Command.TheVariants.{Ask}
-use Rattle.pf_core.specs.declared.command.Question.TheVariants.{Judge, Test}
-use Rattle.pf_core.specs.declared.durable.verdict.Verdict.TheVariants.{State as Stateful, Rules as ByRules}
+use Rattle.pf_core.specs.declared.{command.Command.TheVariants.Ask, command.Question.TheVariants.Judge, command.Question.TheVariants.Test, durable.verdict.Verdict.TheVariants.State as Stateful, durable.verdict.Verdict.TheVariants.Rules as ByRules, reply.Reply.Reply, reply.Reply.TheVariants.Answer as Answered}
 use Rattle.pf_core.specs.declared.reply.Answer.TheVariants as answer
-use Rattle.pf_core.specs.declared.reply.Reply.{Reply}
-use Rattle.pf_core.specs.declared.reply.Reply.TheVariants.{Answer as Answered}
 use Rattle.pf_core.specs.Calls.{mentions_of}
 use Rattle.pf_core.specs.Durable.Edits.{Kept, entries_at, verdict}
 use Rattle.pf_core.specs.Durable.Laws.{IsWithin}

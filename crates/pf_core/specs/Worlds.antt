@@ -1,12 +1,6 @@
 -- Worlds: lists of events, which of them are legal, and what they leave. Own.
 use Rattle.std.specs.Prelude.{◌≡◌, ℕ, ◌+◌, ◌<◌, ◌⊎◌, Bool, true, if◌then◌else◌, List, [], ◌∷◌, ◌++◌, length, fold, nat_lt, ⊤, Result, Ok, Err}
-use Rattle.pf_core.specs.declared.command.Command.{Command}
-use Rattle.pf_core.specs.declared.reply.Refusal.{Refusal}
-use Rattle.pf_core.specs.declared.reply.Refusal.TheVariants.{HistoryFull, Memory}
-use Rattle.pf_core.specs.declared.reply.Reply.{Reply}
-use Rattle.pf_core.specs.declared.reply.Reply.TheVariants.{Answer, Applied, Refused}
-use Rattle.pf_core.specs.declared.step.Step.{Step}
-use Rattle.pf_core.specs.declared.step.Step.TheVariants.{Done, Wants}
+use Rattle.pf_core.specs.declared.{command.Command.Command, reply.Refusal.Refusal, reply.Refusal.TheVariants.HistoryFull, reply.Refusal.TheVariants.Memory, reply.Reply.Reply, reply.Reply.TheVariants.Answer, reply.Reply.TheVariants.Applied, reply.Reply.TheVariants.Refused, step.Step.Step, step.Step.TheVariants.Done, step.Step.TheVariants.Wants}
 use Rattle.pf_ticket.specs.Tickets.{Open, fresh}
 use Rattle.pf_ticket.specs.Mentions.{after as moved_by}
 use Rattle.pf_core.specs.Calls.{Call, mentions_of}

@@ -6,13 +6,8 @@ use Rattle.std.specs.FinMap.Entries.{where_key}
 use Rattle.std.specs.List.{list_any}
 use Rattle.std.specs.Option.{option_map_or, option_or}
 use Rattle.std.specs.Ordering.{eq_by_cmp}
-use Rattle.pf_table.specs.declared.answer.Addition.{Addition}
-use Rattle.pf_table.specs.declared.answer.Addition.TheVariants.{Added, Same, Conflict}
-use Rattle.pf_table.specs.declared.answer.Deletion.{Deletion}
-use Rattle.pf_table.specs.declared.answer.Deletion.TheVariants.{Deleted, Absent}
-use Rattle.pf_table.specs.declared.refusal.TableRefusal.{TableRefusal}
+use Rattle.pf_table.specs.declared.{answer.Addition.Addition, answer.Addition.TheVariants.Added, answer.Addition.TheVariants.Same, answer.Addition.TheVariants.Conflict, answer.Deletion.Deletion, answer.Deletion.TheVariants.Deleted, answer.Deletion.TheVariants.Absent, refusal.TableRefusal.TableRefusal, limits.TheConstants.TABLE_LIMIT}
 use Rattle.pf_table.specs.declared.refusal.TableRefusal.TheVariants as refusal
-use Rattle.pf_table.specs.declared.limits.TheConstants.{TABLE_LIMIT}
 use Rattle.pf_table.specs.Entries.{Row, net_order}
 use Rattle.pf_table.specs.Tables.{sign_of}
 

@@ -2,8 +2,7 @@
 use Rattle.std.specs.Prelude.{ℕ, ◌-◌, ◌*◌, ◌^◌, Bool}
 use Rattle.std.specs.declared.cmp.Ordering.{Ordering}
 use Rattle.std.specs.Ordering.{ordering_then, nat_cmp}
-use Rattle.pf_addr.specs.declared.addr.Family.{Family}
-use Rattle.pf_addr.specs.declared.addr.Family.TheVariants.{V4, V6}
+use Rattle.pf_addr.specs.declared.{addr.Family.Family, addr.Family.TheVariants.V4, addr.Family.TheVariants.V6}
 use Rattle.pf_addr.specs.Address.{Network, width}
 
 -- An entry: its network, and its sign, which is true where it is negated.

@@ -5,11 +5,7 @@ use Rattle.std.specs.List.{list_any}
 use Rattle.std.specs.Option.{option_or}
 use Rattle.pf_addr.specs.declared.addr.Addr.{Addr}
 use Rattle.pf_addr.specs.Address.{Network, contains, family_of, IsNetwork}
-use Rattle.pf_table.specs.declared.answer.Addition.{Addition}
-use Rattle.pf_table.specs.declared.answer.Addition.TheVariants.{Added, Same, Conflict}
-use Rattle.pf_table.specs.declared.answer.Deletion.{Deletion}
-use Rattle.pf_table.specs.declared.answer.Deletion.TheVariants.{Deleted, Absent}
-use Rattle.pf_table.specs.declared.limits.TheConstants.{TABLE_LIMIT}
+use Rattle.pf_table.specs.declared.{answer.Addition.Addition, answer.Addition.TheVariants.Added, answer.Addition.TheVariants.Same, answer.Addition.TheVariants.Conflict, answer.Deletion.Deletion, answer.Deletion.TheVariants.Deleted, answer.Deletion.TheVariants.Absent, limits.TheConstants.TABLE_LIMIT}
 use Rattle.pf_table.specs.Entries.{Row, net_order}
 use Rattle.pf_table.specs.Tables.{IsTable, sign_of, Decides, deciding, table_holds}
 use Rattle.pf_table.specs.Edits.{added, addition, additions, with_entry, replaced, has_entry, without_entry, deleted, deletions, is_opposite, conflict_in}

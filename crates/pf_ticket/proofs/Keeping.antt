@@ -15,15 +15,7 @@ use Rattle.std.proofs.lemmas.Bool.{cond_both}
 use Rattle.std.proofs.lemmas.Bool.Decides.{nat_tests}
 use Rattle.pf_rule.specs.Rules.{PlainRule}
 use Rattle.pf_anchor.specs.declared.limits.TheConstants.{RULE_LIMIT, RULESET_LIMIT}
-use Rattle.pf_ticket.specs.declared.entry.Entry.{Entry}
-use Rattle.pf_ticket.specs.declared.limits.TheConstants.{LAST_COUNT, OFFERED_TABLE_LIMIT}
-use Rattle.pf_ticket.specs.declared.name.RulesetKind.{RulesetKind}
-use Rattle.pf_ticket.specs.declared.name.RulesetKind.TheVariants.{Filter, Table}
-use Rattle.pf_ticket.specs.declared.name.RulesetName.{RulesetName}
-use Rattle.pf_ticket.specs.declared.refusal.TicketRefusal.{TicketRefusal}
-use Rattle.pf_ticket.specs.declared.refusal.TicketRefusal.TheVariants.{BadCount, Conflict, Busy, RulesetFull, TableFull, TooManyRulesets, TooManyTables, TicketsExhausted}
-use Rattle.pf_ticket.specs.declared.ticket.Ticket.{Ticket}
-use Rattle.pf_ticket.specs.declared.ticket.TicketRange.{TicketRange}
+use Rattle.pf_ticket.specs.declared.{entry.Entry.Entry, limits.TheConstants.LAST_COUNT, limits.TheConstants.OFFERED_TABLE_LIMIT, name.RulesetKind.RulesetKind, name.RulesetKind.TheVariants.Filter, name.RulesetKind.TheVariants.Table, name.RulesetName.RulesetName, refusal.TicketRefusal.TicketRefusal, refusal.TicketRefusal.TheVariants.BadCount, refusal.TicketRefusal.TheVariants.Conflict, refusal.TicketRefusal.TheVariants.Busy, refusal.TicketRefusal.TheVariants.RulesetFull, refusal.TicketRefusal.TheVariants.TableFull, refusal.TicketRefusal.TheVariants.TooManyRulesets, refusal.TicketRefusal.TheVariants.TooManyTables, refusal.TicketRefusal.TheVariants.TicketsExhausted, ticket.Ticket.Ticket, ticket.TicketRange.TicketRange}
 use Rattle.pf_ticket.specs.Laws.{AreGiven, BeginsGive, TellsWhatIsGiven, IsFew, IsWithin, KeepsTheLimits}
 use Rattle.pf_ticket.specs.Mentions.{gave, dropped, load, with_offers, take_out, moved, after, gives, switches, drops}
 use Rattle.pf_ticket.specs.Names.{filter_at, table_ruleset_at, same_name, is_named, is_ticket, tickets_from, tickets_of}

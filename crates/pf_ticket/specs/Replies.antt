@@ -5,13 +5,7 @@ use Rattle.pf_anchor.specs.declared.limits.TheConstants.{RULE_LIMIT, RULESET_LIM
 use Rattle.pf_table.specs.declared.limits.TheConstants.{TABLE_LIMIT}
 use Rattle.pf_table.specs.Edits.{conflict_in, replaced}
 use Rattle.pf_table.specs.Entries.{Row}
-use Rattle.pf_ticket.specs.declared.entry.Entry.{Entry}
-use Rattle.pf_ticket.specs.declared.limits.TheConstants.{ENTRY_LIMIT, LAST_COUNT, OFFERED_TABLE_LIMIT}
-use Rattle.pf_ticket.specs.declared.name.RulesetName.{RulesetName}
-use Rattle.pf_ticket.specs.declared.refusal.TicketRefusal.{TicketRefusal}
-use Rattle.pf_ticket.specs.declared.refusal.TicketRefusal.TheVariants.{BadCount, Twice, Conflict, Busy, RulesetFull, TableFull, TooManyRulesets, TooManyTables, TicketsExhausted, Memory}
-use Rattle.pf_ticket.specs.declared.ticket.Ticket.{Ticket}
-use Rattle.pf_ticket.specs.declared.ticket.TicketRange.{TicketRange}
+use Rattle.pf_ticket.specs.declared.{entry.Entry.Entry, limits.TheConstants.ENTRY_LIMIT, limits.TheConstants.LAST_COUNT, limits.TheConstants.OFFERED_TABLE_LIMIT, name.RulesetName.RulesetName, refusal.TicketRefusal.TicketRefusal, refusal.TicketRefusal.TheVariants.BadCount, refusal.TicketRefusal.TheVariants.Twice, refusal.TicketRefusal.TheVariants.Conflict, refusal.TicketRefusal.TheVariants.Busy, refusal.TicketRefusal.TheVariants.RulesetFull, refusal.TicketRefusal.TheVariants.TableFull, refusal.TicketRefusal.TheVariants.TooManyRulesets, refusal.TicketRefusal.TheVariants.TooManyTables, refusal.TicketRefusal.TheVariants.TicketsExhausted, refusal.TicketRefusal.TheVariants.Memory, ticket.Ticket.Ticket, ticket.TicketRange.TicketRange}
 use Rattle.pf_ticket.specs.Names.{is_named, names_of}
 use Rattle.pf_ticket.specs.Tickets.{rules_in, with_table, Open, next_ticket, loaded, content, is_valid}
 use Rattle.pf_ticket.specs.Mentions.{gives, after}

@@ -14,8 +14,7 @@ use Rattle.pf_anchor.specs.Configurations.{Configuration, nothing, with_rulesets
 use Rattle.pf_anchor.specs.Evaluation.{judged}
 use Rattle.pf_anchor.specs.Rulesets.{Ruled, rules_at}
 use Rattle.pf_anchor.specs.Tables.{Tabled, tabled, table_at}
-use Rattle.pf_state.specs.declared.state.StateName.{StateName}
-use Rattle.pf_state.specs.declared.step.Step.{Step}
+use Rattle.pf_state.specs.declared.{state.StateName.StateName, step.Step.Step}
 use Rattle.pf_state.specs.Flows.{flow_of}
 use Rattle.pf_state.specs.States.{Stated, state_of}
 use Rattle.pf_state.specs.Steps.{after as stepped_on, passes_limit, without_state}
@@ -24,12 +23,8 @@ use Rattle.pf_ticket.specs.declared.name.RulesetName.{RulesetName}
 use Rattle.pf_ticket.specs.Names.{filter_at, table_ruleset_at}
 use Rattle.pf_ticket.specs.NamedTables.{Named}
 use Rattle.pf_ticket.specs.Replies.{twice_behind}
-use Rattle.pf_core.specs.declared.durable.change.Item.{Item}
+use Rattle.pf_core.specs.declared.{durable.change.Item.Item, durable.refusal.ChangeRefusal.ChangeRefusal, durable.refusal.ChangeRefusal.TheVariants.Twice, durable.refusal.ChangeRefusal.TheVariants.Conflict, durable.refusal.ChangeRefusal.TheVariants.TableFull, durable.refusal.ChangeRefusal.TheVariants.TooManyRulesets, durable.refusal.ChangeRefusal.TheVariants.TooManyTables, durable.refusal.ChangeRefusal.TheVariants.StatesFull, durable.verdict.Verdict.Verdict, durable.verdict.Verdict.TheVariants.State as Stateful, durable.verdict.Verdict.TheVariants.Rules}
 use Rattle.pf_core.specs.declared.durable.change.Item.TheVariants as item
-use Rattle.pf_core.specs.declared.durable.refusal.ChangeRefusal.{ChangeRefusal}
-use Rattle.pf_core.specs.declared.durable.refusal.ChangeRefusal.TheVariants.{Twice, Conflict, TableFull, TooManyRulesets, TooManyTables, StatesFull}
-use Rattle.pf_core.specs.declared.durable.verdict.Verdict.{Verdict}
-use Rattle.pf_core.specs.declared.durable.verdict.Verdict.TheVariants.{State as Stateful, Rules}
 
 pub record Kept : Type 0 where
   pub epoch : ℕ

@@ -10,8 +10,7 @@ use Rattle.pf_anchor.specs.Laws.{rules_by}
 use Rattle.pf_table.specs.Map.ListMaps.{list_by}
 use Rattle.pf_anchor.specs.Rulesets.{rules_at}
 use Rattle.pf_anchor.specs.Tables.{table_order, IsTableMap}
-use Rattle.pf_state.specs.declared.state.StateName.{StateName}
-use Rattle.pf_state.specs.declared.step.Step.{Step}
+use Rattle.pf_state.specs.declared.{state.StateName.StateName, step.Step.Step}
 use Rattle.pf_state.specs.States.{Stated, IsStates}
 use Rattle.pf_state.specs.Steps.{after as stepped_on, without_state}
 use Rattle.pf_core.specs.declared.durable.change.Item.{Item}
