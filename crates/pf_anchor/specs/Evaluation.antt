@@ -1,4 +1,5 @@
--- Evaluation of rulesets (pf.conf(5), PACKET FILTERING and ANCHORS): the last rule that matches decides, or the first quick one. Quick anchor rules, the order of children by bytes and the limits of paths are own.
+-- Evaluation of rulesets (pf.conf(5), PACKET FILTERING and ANCHORS): the last rule that matches decides, or the first quick one. Quick
+-- anchor rules, the order of children by bytes and the limits of paths are own.
 use Rattle.std.specs.Prelude.{ℕ, zero, suc, ◌+◌, ◌-◌, Bool, cond, List, [], ◌∷◌, Option, Some, None}
 use Rattle.pf_addr.specs.declared.path.limits.TheConstants.{DEPTH_LIMIT}
 use Rattle.pf_addr.specs.Path.Paths.{main}

@@ -195,7 +195,8 @@ impl Config {
 
     /// The ruleset at a path.
     pub(crate) fn placed_at(&self, path: &Path) -> Option<&Placed>
-        ensures rules { MatchOption result (rules_at path.now self.now.rulesets ≡ []) (λ p. p.now ≡ ruled path.now (rules_at path.now self.now.rulesets)) }
+        ensures rules { MatchOption result (rules_at path.now self.now.rulesets ≡ []) (λ p. p.now
+            ≡ ruled path.now (rules_at path.now self.now.rulesets)) }
         ensures map { IsMap self.now.rulesets }
     {
         self.rulesets.get(path)

@@ -1,4 +1,6 @@
--- What a command means: the step that it is due, what it mentions, and whether it takes memory (pf(4), DIOCXBEGIN to DIOCXROLLBACK, DIOCRADDADDRS to DIOCRTSTADDRS; pf.conf(5); pfctl(8), -k). One line each, by family. The limits, the order of refusals and what peers tell are own.
+-- What a command means: the step that it is due, what it mentions, and whether it takes memory (pf(4), DIOCXBEGIN to DIOCXROLLBACK,
+-- DIOCRADDADDRS to DIOCRTSTADDRS; pf.conf(5); pfctl(8), -k). One line each, by family. The limits, the order of refusals and what peers
+-- tell are own.
 use Rattle.std.specs.Prelude.{ℕ, ◌==◌, Bool, true, false, not, if◌then◌else◌, is_some, List, [], ◌∷◌, length, map, filter, Option, Some, None, Result, Ok, Err}
 use Rattle.pf_table.specs.declared.{answer.Addition.Addition, answer.Deletion.Deletion}
 use Rattle.pf_table.specs.declared.answer.Addition.TheVariants as addition
@@ -82,7 +84,8 @@ same_addition wanted answer = false
 
 -- how many of these are new, how many stand there already, and how many with the other sign
 abbrev pub added_of : List Addition → Outcome
-added_of answers = outcome.Added (length (filter (same_addition addition.Added) answers)) (length (filter (same_addition addition.Same) answers)) (length (filter (same_addition addition.Conflict) answers))
+added_of answers = outcome.Added (length (filter (same_addition addition.Added) answers))
+    (length (filter (same_addition addition.Same) answers)) (length (filter (same_addition addition.Conflict) answers))
 
 abbrev pub same_deletion : Deletion → Deletion → Bool
 same_deletion deletion.Deleted deletion.Deleted = true
@@ -91,7 +94,8 @@ same_deletion wanted answer = false
 
 -- how many of these were there, and how many weren't
 abbrev pub deleted_of : List Deletion → Outcome
-deleted_of answers = outcome.Deleted (length (filter (same_deletion deletion.Deleted) answers)) (length (filter (same_deletion deletion.Absent) answers))
+deleted_of answers = outcome.Deleted (length (filter (same_deletion deletion.Deleted) answers))
+    (length (filter (same_deletion deletion.Absent) answers))
 
 -- what isn't there is refused
 abbrev pub if_there : {A : Type 0} → Bool → Result A Refusal → Result A Refusal
@@ -105,7 +109,8 @@ is_table es = not (length es == 0)
 -- Each change that is accepted is wanted, also where it leaves all as it is. To kill a table is to set it to no entries.
 abbrev pub edit_step : Kept → TableEdit → Result Step Refusal
 edit_step d (AddTo p name xs) = wanting d (adds p name xs) (added_of (additions (entries_at d p name) xs))
-edit_step d (Delete p name xs) = unless_unfit (no_conflict xs) (if_there (is_table (entries_at d p name)) (Ok (Wants (deletes p name xs) (deleted_of (deletions (entries_at d p name) xs)))))
+edit_step d (Delete p name xs) = unless_unfit (no_conflict xs)
+    (if_there (is_table (entries_at d p name)) (Ok (Wants (deletes p name xs) (deleted_of (deletions (entries_at d p name) xs)))))
 edit_step d (Set p name xs) = wanting d (sets p name xs) outcome.Set
 edit_step d (Kill p name) = if_there (is_table (entries_at d p name)) (Ok (Wants (sets p name []) outcome.Killed))
 
@@ -125,7 +130,8 @@ makes_state d NoRule = None
 
 -- it is made under a name that isn't taken
 abbrev pub make_step : Kept → RuleVerdict → Stated → Result Step Refusal
-make_step d by s = if is_some (held_at s.0 d.states) then Ok (Done (answer.Stale by)) else wanting d (acts (step.Insert s ∷ [])) (outcome.Tracked by)
+make_step d by s = if is_some (held_at s.0 d.states) then Ok (Done (answer.Stale by))
+    else wanting d (acts (step.Insert s ∷ [])) (outcome.Tracked by)
 
 abbrev pub tracked : Kept → StateName → PlainPacket → RuleVerdict → Option Bound → Result Step Refusal
 tracked d name packet by None = Ok (Done (answer.Judged (ByRules by)))

@@ -49,7 +49,8 @@ mentions_since world = fold mentions_by [] world
 
 -- the transactions of each opening that a world comes to are what the mentions since it leave
 abbrev pub TicketsAreOfTheCalls : Type 0
-TicketsAreOfTheCalls = (first : Kept) (world : List Event) (h : Held) → IsWorld first world → state_after (down first) world ≡ up h → h.tickets ≡ left_by h.base.epoch (mentions_since world)
+TicketsAreOfTheCalls = (first : Kept) (world : List Event) (h : Held) → IsWorld first world → state_after (down first) world ≡ up h →
+    h.tickets ≡ left_by h.base.epoch (mentions_since world)
 
 -- tickets are numbered from 1 on, and so none is given twice
 pub record AreGivenOnce (epoch : ℕ) (ts : List Ticket) : Type 0 where
@@ -58,7 +59,8 @@ pub record AreGivenOnce (epoch : ℕ) (ts : List Ticket) : Type 0 where
 
 -- of each opening that a world comes to
 abbrev pub GivesEachOnce : Type 0
-GivesEachOnce = (first : Kept) (world : List Event) (h : Held) → IsWorld first world → state_after (down first) world ≡ up h → AreGivenOnce h.base.epoch (tickets_given world)
+GivesEachOnce = (first : Kept) (world : List Event) (h : Held) → IsWorld first world → state_after (down first) world ≡ up h →
+    AreGivenOnce h.base.epoch (tickets_given world)
 
 -- ---- limits
 
@@ -69,7 +71,8 @@ pub record AreWithin (h : Held) : Type 0 where
   pub kept : IsWithin (durable_of h)
 
 abbrev pub KeepsTheLimits : Type 0
-KeepsTheLimits = (first : Kept) (world : List Event) (h : Held) → IsWithin first → IsWorld first world → state_after (down first) world ≡ up h → AreWithin h
+KeepsTheLimits = (first : Kept) (world : List Event) (h : Held) → IsWithin first → IsWorld first world →
+    state_after (down first) world ≡ up h → AreWithin h
 
 -- every change is acknowledged, and every acknowledged change is shown
 pub record AllIsShown (h : Held) : Type 0 where
@@ -89,7 +92,8 @@ pub record TellsTheEntry (h : Held) (p name : List ℕ) (a : Addr) : Type 0 wher
   pub decides : DecidesAbout (entries_at (durable_of h) p name) a
 
 abbrev pub TestsTellTheEntry : Type 0
-TestsTellTheEntry = (first : Kept) (world : List Event) (h : Held) → IsWithin first → IsWorld first world → state_after (down first) world ≡ up h →
+TestsTellTheEntry = (first : Kept) (world : List Event) (h : Held) → IsWithin first → IsWorld first world →
+    state_after (down first) world ≡ up h →
     (p name : List ℕ) (a : Addr) → TellsTheEntry h p name a
 
 -- the one state of its flow decides about a packet, and where there is none the rules do
@@ -103,9 +107,11 @@ pub record IsDecided (d : Kept) (packet : PlainPacket) : Type 0 where
   pub leads : (p : List ℕ) (s : PlainReference) → LeadsThere d.config.rulesets p s
 
 pub record TellsTheVerdict (h : Held) (packet : PlainPacket) : Type 0 where
-  pub told : (r : Reply) (failed : Bool) → LegalReply h (Ask (Judge packet)) r failed → r ≡ Answered (answer.Judged (verdict (durable_of h) packet))
+  pub told : (r : Reply) (failed : Bool) → LegalReply h (Ask (Judge packet)) r failed →
+      r ≡ Answered (answer.Judged (verdict (durable_of h) packet))
   pub decided : IsDecided (durable_of h) packet
 
 abbrev pub JudgesTellTheVerdict : Type 0
-JudgesTellTheVerdict = (first : Kept) (world : List Event) (h : Held) → IsWithin first → IsWorld first world → state_after (down first) world ≡ up h →
+JudgesTellTheVerdict = (first : Kept) (world : List Event) (h : Held) → IsWithin first → IsWorld first world →
+    state_after (down first) world ≡ up h →
     (packet : PlainPacket) → TellsTheVerdict h packet

@@ -128,7 +128,11 @@ acked_by (Applied n o) g = g
 acked_by (Refused e) g = []
 
 abbrev pub heard : Held → Call → Upshot → Held
-heard h c t = record h { tickets = moved_by h.tickets (mentions_of c); acked = h.acked ++ acked_by c.reply (group_in h c.command); shown = t.shown }
+heard h c t = record h {
+  tickets = moved_by h.tickets (mentions_of c);
+  acked = h.acked ++ acked_by c.reply (group_in h c.command);
+  shown = t.shown;
+}
 
 abbrev pub next : State → Event → State
 next (up h) (called c t) = up (heard h c t)

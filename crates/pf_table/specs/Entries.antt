@@ -20,4 +20,5 @@ first_number n = n.front * 2 ^ (width n.family - n.len)
 
 -- V4 before V6, then by the first address, then the shorter front before the longer
 unfoldable pub net_order : Network → Network → Ordering
-net_order x y = ordering_then (nat_cmp (rank x.family) (rank y.family)) (ordering_then (nat_cmp (first_number x) (first_number y)) (nat_cmp x.len y.len))
+net_order x y = ordering_then (nat_cmp (rank x.family) (rank y.family))
+    (ordering_then (nat_cmp (first_number x) (first_number y)) (nat_cmp x.len y.len))

@@ -13,7 +13,8 @@ use Rattle.pf_table.specs.EditLaws.{sign_left}
 
 -- ---- which entry decides
 
--- what decides in a list in order, so one that has no network twice, is what the relation says, and there is none exactly where no entry contains the address
+-- what decides in a list in order, so one that has no network twice, is what the relation says, and there is none exactly where no entry
+-- contains the address
 pub record DecidesAbout (es : List Row) (a : Addr) : Type 0 where
   pub decides : (e : Row) → (deciding es a ≡ Some e) ↔ Decides es a e
   pub none : (deciding es a ≡ None) ↔ ((e : Row) → Contains es e → contains e.0 a ≡ false)
@@ -24,7 +25,8 @@ TableDecides = (es : List Row) (a : Addr) → T (is_sorted net_order es) → Dec
 
 -- a table matches an address exactly where an entry decides about it that isn't negated
 abbrev pub TableMatches : Type 0
-TableMatches = (es : List Row) (a : Addr) → T (is_sorted net_order es) → (table_holds es a ≡ true) ↔ ((e : Row) × Decides es a e × (e.1 ≡ false))
+TableMatches = (es : List Row) (a : Addr) → T (is_sorted net_order es) →
+    (table_holds es a ≡ true) ↔ ((e : Row) × Decides es a e × (e.1 ≡ false))
 
 -- an entry contains addresses of its own family alone
 abbrev pub FamiliesApart : Type 0
@@ -32,7 +34,8 @@ FamiliesApart = (e : Row) (a : Addr) → contains e.0 a ≡ true → e.0.family 
 
 -- two lists in order in which each network has the same sign are one
 abbrev pub OneTable : Type 0
-OneTable = (es fs : List Row) → T (is_sorted net_order es) → T (is_sorted net_order fs) → ((q : Network) → sign_of q es ≡ sign_of q fs) → es ≡ fs
+OneTable = (es fs : List Row) → T (is_sorted net_order es) → T (is_sorted net_order fs) → ((q : Network) → sign_of q es ≡ sign_of q fs) →
+    es ≡ fs
 
 -- ---- what an edit leaves
 
@@ -50,7 +53,8 @@ HoldsTheList = (xs : List Row) (q : Network) → sign_of q (replaced xs) ≡ sig
 
 -- a network that the list doesn't name stays as it is
 abbrev pub AllElseStays : Type 0
-AllElseStays = (es xs : List Row) (q : Network) → sign_of q xs ≡ None → (sign_of q (added es xs) ≡ sign_of q es) × (sign_of q (deleted es xs) ≡ sign_of q es)
+AllElseStays = (es xs : List Row) (q : Network) → sign_of q xs ≡ None →
+    (sign_of q (added es xs) ≡ sign_of q es) × (sign_of q (deleted es xs) ≡ sign_of q es)
 
 -- a table stays one, but for the number of its entries
 pub record LeavesTables (es xs : List Row) : Type 0 where
@@ -92,7 +96,8 @@ is_deleted Absent = false
 -- the table grows by as many entries as are answered Added, and shrinks by as many as are answered Deleted
 abbrev pub CountsWhatChanged : Type 0
 CountsWhatChanged = (es xs : List Row) → T (is_sorted net_order es) →
-    (length (added es xs) ≡ length es + length (filter is_added (additions es xs))) × (length (deleted es xs) + length (filter is_deleted (deletions es xs)) ≡ length es)
+    (length (added es xs) ≡ length es + length (filter is_added (additions es xs)))
+    × (length (deleted es xs) + length (filter is_deleted (deletions es xs)) ≡ length es)
 
 -- An entry that was just added is Same, unless its network is there with the other sign, and one that was just deleted is Absent;
 -- the table stays.
@@ -117,4 +122,5 @@ pub record IsFirstConflict (xs : List Row) (i : ℕ) : Type 0 where
   pub before : (j : ℕ) → j < i → Conflicts xs j false
 
 abbrev pub TellsTheFirstConflict : Type 0
-TellsTheFirstConflict = (xs : List Row) → ((i : ℕ) → conflict_in xs ≡ Some i → IsFirstConflict xs i) × (conflict_in xs ≡ None → (j : ℕ) → Conflicts xs j false)
+TellsTheFirstConflict = (xs : List Row) → ((i : ℕ) → conflict_in xs ≡ Some i → IsFirstConflict xs i)
+    × (conflict_in xs ≡ None → (j : ℕ) → Conflicts xs j false)

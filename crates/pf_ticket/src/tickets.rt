@@ -274,7 +274,8 @@ impl Tickets {
         requires within { place < length self.old.offers }
         requires stands { (o : Offer) → o ≡ get_or self.old.offers place o → IsPlace name.now self.old.offers place o }
         requires room { length (loaded self.old name.now).rules < RULE_LIMIT }
-        ensures ok { OnOk result ((o : Offer) → o ≡ get_or self.old.offers place o → self.new ≡ load self.old name.now o.ticket (with_rule (loaded self.old name.now) rule)) }
+        ensures ok { OnOk result ((o : Offer) → o ≡ get_or self.old.offers place o →
+            self.new ≡ load self.old name.now o.ticket (with_rule (loaded self.old name.now) rule)) }
         ensures err { OnErr result (self.new ≡ self.old) }
     {
         self.slots[place].rules.add(self.alloc, rule)
@@ -290,7 +291,8 @@ impl Tickets {
     ) -> Result<(), AllocError>
         requires within { place < length self.old.offers }
         requires stands { (o : Offer) → o ≡ get_or self.old.offers place o → IsPlace name.now self.old.offers place o }
-        ensures ok { OnOk result ((o : Offer) → o ≡ get_or self.old.offers place o → self.new ≡ load self.old name.now o.ticket (with_table (loaded self.old name.now) table_name.now table)) }
+        ensures ok { OnOk result ((o : Offer) → o ≡ get_or self.old.offers place o →
+            self.new ≡ load self.old name.now o.ticket (with_table (loaded self.old name.now) table_name.now table)) }
         ensures err { OnErr result (self.new ≡ self.old) }
     {
         self.slots[place].tables.define(table_name, table)

@@ -1,4 +1,5 @@
--- What is kept, what a change does to it (pf(4), DIOCXCOMMIT and DIOCRADDADDRS to DIOCRSETADDRS), and what it says of a packet (pf.conf(5), PACKET FILTERING, ANCHORS and TABLES). That an empty table doesn't exist, how a peer's states act, and the limits, are own.
+-- What is kept, what a change does to it (pf(4), DIOCXCOMMIT and DIOCRADDADDRS to DIOCRSETADDRS), and what it says of a packet
+-- (pf.conf(5), PACKET FILTERING, ANCHORS and TABLES). That an empty table doesn't exist, how a peer's states act, and the limits, are own.
 use Rattle.std.specs.Prelude.{ℕ, ◌==◌, ◌&&◌, Bool, true, not, if◌then◌else◌, List, [], ◌∷◌, ◌++◌, fold, length, map, nat_lt, Option, Some, None, Result, Ok, Err}
 use Rattle.std.specs.FinMap.{is_sorted}
 use Rattle.std.specs.List.{list_any, position}
@@ -51,7 +52,9 @@ entries_at d p name = table_at p name d.config.tables
 
 -- ---- changes
 
--- A change: what a commit replaces, in the command's order; or entries, as handed in, that are added to the table at a path under a name, deleted from it, or take its place; or steps that act on the states, in order, those that change nothing too; or the state of a name that is taken out.
+-- A change: what a commit replaces, in the command's order; or entries, as handed in, that are added to the table at a path under a name,
+-- deleted from it, or take its place; or steps that act on the states, in order, those that change nothing too; or the state of a name
+-- that is taken out.
 pub data Edit : Type 0 where
   commits : List Item → Edit
   adds : List ℕ → List ℕ → List Row → Edit
@@ -155,7 +158,8 @@ is_one_more old new = (length old == 0) && not (length new == 0)
 
 -- it isn't made where there would be too many with it
 abbrev pub room_for_table : Kept → List ℕ → List ℕ → List Row → Result (Unit {0}) ChangeRefusal
-room_for_table d p name new = unless (is_one_more (entries_at d p name) new && nat_lt TABLE_COUNT_LIMIT (length (with_entries d p name new).config.tables)) TooManyTables
+room_for_table d p name new = unless (is_one_more (entries_at d p name) new
+    && nat_lt TABLE_COUNT_LIMIT (length (with_entries d p name new).config.tables)) TooManyTables
 
 -- these entries may be the table's
 abbrev pub replaceable : Kept → List ℕ → List ℕ → List Row → Result (Unit {0}) ChangeRefusal
@@ -163,9 +167,11 @@ replaceable d p name new = and_then (holdable new) (room_for_table d p name new)
 
 -- no more rulesets and tables than there may be
 abbrev pub few : Configuration → Result (Unit {0}) ChangeRefusal
-few c = and_then (unless (nat_lt RULESET_LIMIT (length c.rulesets)) TooManyRulesets) (unless (nat_lt TABLE_COUNT_LIMIT (length c.tables)) TooManyTables)
+few c = and_then (unless (nat_lt RULESET_LIMIT (length c.rulesets)) TooManyRulesets)
+    (unless (nat_lt TABLE_COUNT_LIMIT (length c.tables)) TooManyTables)
 
--- Why a change isn't made, where there is a cause. A commit names nothing twice, and its limits are counted once it is whole, those of states behind each step. To delete entries or a state no limit is asked.
+-- Why a change isn't made, where there is a cause. A commit names nothing twice, and its limits are counted once it is whole, those of
+-- states behind each step. To delete entries or a state no limit is asked.
 abbrev pub fits : Kept → Edit → Result (Unit {0}) ChangeRefusal
 fits d (commits items) = and_then (refused_at (λ i. Twice i) (named_again items)) (few (applied d (commits items)).config)
 fits d (adds p name xs) = and_then (no_conflict xs) (replaceable d p name (added (entries_at d p name) xs))
@@ -180,6 +186,7 @@ changed d e = and_then (fits d e) (Ok (applied d e))
 
 -- ---- packets
 
--- a packet passes by the state of its flow; without one it is judged by the main ruleset, and where its anchor rules match by what they lead to
+-- a packet passes by the state of its flow; without one it is judged by the main ruleset, and where its anchor rules match by what they
+-- lead to
 abbrev pub verdict : Kept → PlainPacket → Verdict
 verdict d packet = option_map_or (λ s. Stateful s.0) (state_of (flow_of packet) d.states) (Rules (judged d.config packet))

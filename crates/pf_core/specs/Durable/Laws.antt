@@ -40,15 +40,18 @@ pub record IsEdited (d : Kept) (p name : List ℕ) (es : List Row) (new : Kept) 
 
 -- an edit changes exactly the table at its path under its name
 pub record EditsExactly : Type 0 where
-  pub by_add : (d : Kept) (p name : List ℕ) (xs : List Row) → IsEdited d p name (added (entries_at d p name) xs) (applied d (adds p name xs))
-  pub by_delete : (d : Kept) (p name : List ℕ) (xs : List Row) → IsEdited d p name (deleted (entries_at d p name) xs) (applied d (deletes p name xs))
+  pub by_add : (d : Kept) (p name : List ℕ) (xs : List Row) →
+      IsEdited d p name (added (entries_at d p name) xs) (applied d (adds p name xs))
+  pub by_delete : (d : Kept) (p name : List ℕ) (xs : List Row) →
+      IsEdited d p name (deleted (entries_at d p name) xs) (applied d (deletes p name xs))
   pub by_set : (d : Kept) (p name : List ℕ) (xs : List Row) → IsEdited d p name (replaced xs) (applied d (sets p name xs))
   -- so a table that is killed is there no more
   pub by_kill : (d : Kept) (p name : List ℕ) → IsEdited d p name [] (applied d (sets p name []))
 
 -- to delete entries from a table that isn't there makes none
 abbrev pub DeletesNothing : Type 0
-DeletesNothing = (d : Kept) (p name : List ℕ) (xs : List Row) → entries_at d p name ≡ [] → entries_at (applied d (deletes p name xs)) p name ≡ []
+DeletesNothing = (d : Kept) (p name : List ℕ) (xs : List Row) → entries_at d p name ≡ [] →
+    entries_at (applied d (deletes p name xs)) p name ≡ []
 
 -- ---- changes of states
 

@@ -381,8 +381,8 @@ impl Durable {
     /// they are shared too.
     ///
     /// It is refused for the first of these that holds: `Twice`, where a commit names a ruleset or a table twice; `Conflict`, where a list
-    /// names a network with both signs; `TableFull`; `TooManyRulesets`, `TooManyTables`; `StatesFull`. A change that a command wants of this state is never refused for these. Where memory
-    /// is refused nothing is made.
+    /// names a network with both signs; `TableFull`; `TooManyRulesets`, `TooManyTables`; `StatesFull`. A change that a command wants of
+    /// this state is never refused for these. Where memory is refused nothing is made.
     pub fn apply(&self, alloc: Global, change: &Change) -> Result<Durable, ChangeRefusal>
         ensures { OrMemory result (changed self.now change.now) }
     {
