@@ -1,25 +1,13 @@
--- What checks in turn didn't refuse.
+-- What names nothing twice.
 use Rattle.std.proofs.Common.{◌≡◌, ℕ, not, Bool, true, false, List, [], ◌∷◌, Option, Some, None, Result, Ok, Err, refl, ap, ◌∙◌, cond, length, arith}
 use Rattle.std.specs.Prelude.{map, nat_lt}
 use Rattle.std.proofs.lemmas.Bool.Decides.{nat_tests}
 use Rattle.std.specs.List.{list_all, position, prefix_len}
 use Rattle.std.specs.Option.{option_or}
+use Rattle.pf_addr.specs.Refusing.{refused_at}
 use Rattle.pf_ticket.specs.Replies.{twice_behind}
 use Rattle.pf_core.specs.declared.{durable.change.Item.Item, durable.refusal.ChangeRefusal.ChangeRefusal, durable.refusal.ChangeRefusal.TheVariants.Twice}
-use Rattle.pf_core.specs.Durable.Edits.{and_then, unless, refused_at, name_of, is_in_order, named_again}
-
-pub record AreBothPassed {A : Type 0} (r : Result (Unit {0}) ChangeRefusal) (next : Result A ChangeRefusal) (x : A) : Type 0 where
-  pub first : r ≡ Ok tt
-  pub second : next ≡ Ok x
-
-pub both_passed : {A : Type 0} (r : Result (Unit {0}) ChangeRefusal) (next : Result A ChangeRefusal) (x : A) → and_then r next ≡ Ok x → AreBothPassed r next x
-both_passed (Ok tt) next x h = record { first = refl; second = h }
-both_passed (Err e) next x h = absurd (cc (h))
-
--- what wasn't refused doesn't hold
-pub not_refused : (b : Bool) (why : ChangeRefusal) → unless b why ≡ Ok tt → b ≡ false
-not_refused true why h = absurd (cc (h))
-not_refused false why h = refl
+use Rattle.pf_core.specs.Durable.Edits.{name_of, is_in_order, named_again}
 
 -- where all pass none fails
 all-pass : (is : List Item) → list_all is_in_order is ≡ true → prefix_len (λ (i : Item). not (not (is_in_order i))) is ≡ length is

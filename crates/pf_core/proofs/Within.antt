@@ -24,9 +24,9 @@ use Rattle.pf_state.specs.Steps.{passes_limit}
 use Rattle.pf_state.proofs.Counting.{states_deleted}
 use Rattle.pf_state.proofs.Tables.{stays_states}
 use Rattle.pf_core.specs.declared.{durable.refusal.ChangeRefusal.ChangeRefusal, durable.refusal.ChangeRefusal.TheVariants.Twice, durable.refusal.ChangeRefusal.TheVariants.TableFull, durable.refusal.ChangeRefusal.TheVariants.TooManyRulesets, durable.refusal.ChangeRefusal.TheVariants.TooManyTables, durable.refusal.ChangeRefusal.TheVariants.StatesFull, durable.change.Item.Item}
-use Rattle.pf_core.specs.Durable.Edits.{Kept, commits, deletes, applied, fits, and_then, unless, refused_at, named_again, rulesets_in, tables_in, entries_at, with_entries, is_one_more, no_conflict, holdable, room_for_table, replaceable}
+use Rattle.pf_core.specs.Durable.Edits.{Kept, commits, deletes, applied, fits, named_again, rulesets_in, tables_in, entries_at, with_entries, is_one_more, no_conflict, holdable, room_for_table, replaceable}
 use Rattle.pf_core.specs.Durable.Laws.{IsWithin, AreFew, KeepsWithin}
-use Rattle.pf_core.proofs.Checks.{AreBothPassed, both_passed, not_refused}
+use Rattle.pf_addr.specs.Refusing.{and_then, unless, refused_at, AreBothPassed, both_passed, not_refused}
 use Rattle.pf_core.proofs.Edited.{replaces_exactly}
 use Rattle.pf_core.proofs.TableCounts.{deleted-none, no-table-more}
 

@@ -1,5 +1,6 @@
 -- What is told where the tickets or a change refuse, and where memory was refused.
 use Rattle.std.specs.Prelude.{◌≡◌, Bool, true, Result, Err}
+use Rattle.pf_addr.specs.Refusing.{OrMemory as DueOrMemory}
 use Rattle.pf_core.specs.declared.{reply.Refusal.Refusal, durable.refusal.ChangeRefusal.ChangeRefusal}
 use Rattle.pf_core.specs.declared.reply.Refusal.TheVariants as told
 use Rattle.pf_core.specs.declared.durable.refusal.ChangeRefusal.TheVariants as by_change
@@ -28,4 +29,4 @@ change_refusal_of by_change.Memory = told.Memory
 
 -- this; or memory was refused, where it is taken
 abbrev pub OrMemory : {A : Type 0} → Bool → Result A Refusal → Result A Refusal → Type 0
-OrMemory takes r due = ((r ≡ Err told.Memory → ⊥) → r ≡ due) × (r ≡ Err told.Memory → takes ≡ true)
+OrMemory takes r due = DueOrMemory told.Memory r due × (r ≡ Err told.Memory → takes ≡ true)

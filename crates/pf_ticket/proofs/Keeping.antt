@@ -20,7 +20,8 @@ use Rattle.pf_ticket.specs.Laws.{AreGiven, BeginsGive, TellsWhatIsGiven, IsFew, 
 use Rattle.pf_ticket.specs.Mentions.{gave, dropped, load, with_offers, take_out, moved, after, gives, switches, drops}
 use Rattle.pf_ticket.specs.Names.{filter_at, table_ruleset_at, same_name, is_named, is_ticket, tickets_from, tickets_of}
 use Rattle.pf_ticket.specs.NameLaws.{names_alike, name_is}
-use Rattle.pf_ticket.specs.Replies.{bad_count, refused_at, and_then, range, begin_reply}
+use Rattle.pf_ticket.specs.Replies.{bad_count, range, begin_reply}
+use Rattle.pf_addr.specs.Refusing.{refused_at, both_passed}
 use Rattle.pf_ticket.specs.NamedTables.{Named}
 use Rattle.pf_ticket.specs.Tickets.{Loaded, nothing, with_rule, with_table, offered_as, Offer, offer, offer_at, put, Open, next_ticket, ticket_in, loaded_in, valid_ticket, loaded, is_valid}
 use Rattle.pf_ticket.proofs.Moves.{load-keeps, made_by, reads, leaves_the_others, gives-named}
@@ -155,10 +156,6 @@ not-refused : {A : Type 0} (b : Bool) (x : TicketRefusal) (r : Result A TicketRe
 not-refused true x r a h = absurd (cc (h))
 not-refused false x r a h = (refl, h)
 
-passed : (check next : Result (Unit {0}) TicketRefusal) → and_then check next ≡ Ok tt → next ≡ Ok tt
-passed (Ok u) next h = h
-passed (Err e) next h = absurd (cc (h))
-
 pub keeps_the_limits : KeepsTheLimits
 keeps_the_limits = record {
   first = λ epoch. record { given = omega arith; opened = omega arith; offered = λ q. short-nothing q.kind };
@@ -184,7 +181,7 @@ keeps_the_limits = record {
       let done : Result (Unit {0}) TicketRefusal = Ok tt in
       let limits : Result (Unit {0}) TicketRefusal = cond long (Err TableFull) (cond many (Err TooManyTables) done) in
       let fits : (long ≡ false) × (cond many (Err TooManyTables) done ≡ done) =
-      not-refused long TableFull (cond many (Err TooManyTables) done) tt (not-refused (not (is_valid t n u)) (Busy 0) limits tt (passed (refused_at (λ i. Conflict i) (conflict_in xs)) (cond (not (is_valid t n u)) (Err (Busy 0)) limits) h)).1 in
+      not-refused long TableFull (cond many (Err TooManyTables) done) tt (not-refused (not (is_valid t n u)) (Busy 0) limits tt (both_passed (refused_at (λ i. Conflict i) (conflict_in xs)) (cond (not (is_valid t n u)) (Err (Busy 0)) limits) tt h).second).1 in
       let short = fits.0 in
       let few = (not-refused many TooManyTables done tt fits.1).0 in
       within-loaded t n u new (one-table (loaded t n) name rows (record { sorted = sorted_added [] xs tt; few = grind (arith, nat_tests, short) }) (grind (arith, nat_tests, few)) (w.offered n)) w;

@@ -4,6 +4,7 @@ use Rattle.std.specs.Prelude.{ℕ, ◌==◌, ◌&&◌, Bool, true, not, if◌the
 use Rattle.std.specs.FinMap.{is_sorted}
 use Rattle.std.specs.List.{list_any, position}
 use Rattle.std.specs.Option.{option_map_or, option_or}
+use Rattle.pf_addr.specs.Refusing.{and_then, unless, refused_at}
 use Rattle.pf_addr.specs.Path.Names.{name_order}
 use Rattle.pf_addr.specs.Path.Paths.{same_path}
 use Rattle.pf_rule.specs.Packets.{PlainPacket}
@@ -120,20 +121,6 @@ voided_by (acts steps) = []
 voided_by (removes name) = []
 
 -- ---- which changes fit
-
--- a check, and where it passes another
-abbrev pub and_then : {A : Type 0} → Result (Unit {0}) ChangeRefusal → Result A ChangeRefusal → Result A ChangeRefusal
-and_then (Ok u) next = next
-and_then (Err e) next = Err e
-
--- refused where this holds
-abbrev pub unless : Bool → ChangeRefusal → Result (Unit {0}) ChangeRefusal
-unless b why = if b then Err why else Ok tt
-
--- refused at a place, where there is one
-abbrev pub refused_at : (ℕ → ChangeRefusal) → Option ℕ → Result (Unit {0}) ChangeRefusal
-refused_at why None = Ok tt
-refused_at why (Some i) = Err (why i)
 
 -- no network stands in the list with both signs
 abbrev pub no_conflict : List Row → Result (Unit {0}) ChangeRefusal

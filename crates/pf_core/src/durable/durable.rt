@@ -3,15 +3,15 @@ ghost use Rattle.std.specs.Prelude.{◌≡◌, ◌==◌, ◌++◌, [], T, not, t
 ghost use Rattle.std.specs.FinMap.{is_sorted};
 ghost use Rattle.std.specs.List.{list_all};
 ghost use Rattle.std.specs.Arc.{arc_value};
+ghost use Rattle.pf_addr.specs.Refusing.{refused_at, OrMemory, Meets};
 ghost use Rattle.pf_addr.specs.Path.Names.{name_order};
 ghost use Rattle.pf_anchor.specs.Configurations.{with_rulesets};
 ghost use Rattle.pf_table.specs.Edits.{added, additions, deleted, deletions, replaced};
 ghost use Rattle.pf_table.specs.Tables.{deciding};
 ghost use Rattle.pf_state.specs.Steps.{after, counts, without_state};
 ghost use Rattle.pf_ticket.specs.Replies.{twice_behind};
-ghost use Rattle.pf_core.specs.declared.durable.refusal.ChangeRefusal.TheVariants.{Twice};
-ghost use Rattle.pf_core.specs.Durable.Edits.{refused_at, is_in_order, name_of, kept_nothing, commits, adds, deletes, sets, acts, rulesets_in, replaces_main, placed, tables_in, entries_at, sum_of, main_sum, with_entries, with_states, room_for_table, fits, changed, verdict};
-ghost use Rattle.pf_core.specs.Durable.Refusals.{OrMemory, Meets};
+ghost use Rattle.pf_core.specs.declared.durable.refusal.ChangeRefusal.TheVariants.{Twice, Memory};
+ghost use Rattle.pf_core.specs.Durable.Edits.{is_in_order, name_of, kept_nothing, commits, adds, deletes, sets, acts, rulesets_in, replaces_main, placed, tables_in, entries_at, sum_of, main_sum, with_entries, with_states, room_for_table, fits, changed, verdict};
 
 use crate::durable::change::{Change, Item, Kind, names_of};
 use crate::durable::refusal::ChangeRefusal;
@@ -81,7 +81,7 @@ fn rulesets_in(alloc: Global, items: &[Item]) -> Result<Vec<Placed>, AllocError>
 
 // Refuses a commit that names a ruleset twice.
 fn check_names(alloc: Global, items: &[Item]) -> Result<(), ChangeRefusal>
-    ensures { OrMemory result (refused_at (λ i. Twice i) (twice_behind [] (map name_of items.now))) }
+    ensures { OrMemory Memory result (refused_at (λ i. Twice i) (twice_behind [] (map name_of items.now))) }
 {
     match named_twice(names_of(alloc, items)?.as_slice()) {
         Some(at) => Err(ChangeRefusal::Twice { at }),
@@ -206,7 +206,7 @@ impl Durable {
         name: &TableName,
         new: &Table,
     ) -> Result<(), ChangeRefusal>
-        ensures { OrMemory result (room_for_table self.now path.now name.now new.now) }
+        ensures { OrMemory Memory result (room_for_table self.now path.now name.now new.now) }
     {
         if self.has_table(path, name) || new.entries().is_empty() {
             return Ok(());
@@ -227,7 +227,7 @@ impl Durable {
         name: &TableName,
         entries: &[Entry],
     ) -> Result<(Table, Vec<Addition>), ChangeRefusal>
-        ensures fits { Meets result (fits self.now (adds path.now name.now entries.now)) }
+        ensures fits { Meets Memory result (fits self.now (adds path.now name.now entries.now)) }
         ensures table { IfOk result (λ r. r.0 ≡ added (entries_at self.now path.now name.now) entries.now) }
         ensures answers { IfOk result (λ r. r.1.items ≡ additions (entries_at self.now path.now name.now) entries.now) }
     {
@@ -245,7 +245,7 @@ impl Durable {
         name: &TableName,
         entries: &[Entry],
     ) -> Result<(Table, Vec<Deletion>), ChangeRefusal>
-        ensures fits { Meets result (fits self.now (deletes path.now name.now entries.now)) }
+        ensures fits { Meets Memory result (fits self.now (deletes path.now name.now entries.now)) }
         ensures table { IfOk result (λ r. r.0 ≡ deleted (entries_at self.now path.now name.now) entries.now) }
         ensures answers { IfOk result (λ r. r.1.items ≡ deletions (entries_at self.now path.now name.now) entries.now) }
     {
@@ -263,7 +263,7 @@ impl Durable {
         name: &TableName,
         entries: &[Entry],
     ) -> Result<Table, ChangeRefusal>
-        ensures fits { Meets result (fits self.now (sets path.now name.now entries.now)) }
+        ensures fits { Meets Memory result (fits self.now (sets path.now name.now entries.now)) }
         ensures table { IfOk result (λ t. t ≡ replaced entries.now) }
     {
         let mut table = Table::empty();
@@ -275,7 +275,7 @@ impl Durable {
     /// Refuses a commit that names a ruleset or a table twice, or else would leave more rulesets than there may be, or else more tables:
     /// `Twice`, `TooManyRulesets`, `TooManyTables`.
     pub fn check_commit(&self, alloc: Global, items: &[Item]) -> Result<(), ChangeRefusal>
-        ensures { OrMemory result (fits self.now (commits items.now)) }
+        ensures { OrMemory Memory result (fits self.now (commits items.now)) }
     {
         check_names(alloc, items)?;
         let tables = tables_in(alloc, items)?;
@@ -309,7 +309,7 @@ impl Durable {
 
     // What is kept once these items were replaced.
     fn commit(&self, alloc: Global, items: &[Item]) -> Result<Durable, ChangeRefusal>
-        ensures { OrMemory result (changed self.now (commits items.now)) }
+        ensures { OrMemory Memory result (changed self.now (commits items.now)) }
     {
         self.check_commit(alloc, items)?;
         let rulesets = rulesets_in(alloc, items)?;
@@ -349,7 +349,7 @@ impl Durable {
         alloc: Global,
         steps: &[Step],
     ) -> Result<(StateTable, Counts), ChangeRefusal>
-        ensures fits { Meets result (fits self.now (acts steps.now)) }
+        ensures fits { Meets Memory result (fits self.now (acts steps.now)) }
         ensures states { IfOk result (λ r. r.0 ≡ after self.now.states steps.now) }
         ensures counts { IfOk result (λ r. r.1 ≡ counts self.now.states steps.now) }
     {
@@ -384,7 +384,7 @@ impl Durable {
     /// names a network with both signs; `TableFull`; `TooManyRulesets`, `TooManyTables`; `StatesFull`. A change that a command wants of
     /// this state is never refused for these. Where memory is refused nothing is made.
     pub fn apply(&self, alloc: Global, change: &Change) -> Result<Durable, ChangeRefusal>
-        ensures { OrMemory result (changed self.now change.now) }
+        ensures { OrMemory Memory result (changed self.now change.now) }
     {
         match &change.kind {
             Kind::Commit(items) => self.commit(alloc, items.as_slice()),
