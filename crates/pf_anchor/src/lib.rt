@@ -27,7 +27,7 @@ mod verdict;
 pub use config::Config;
 pub use fault::ConfigFault;
 pub use limits::{RULE_LIMIT, RULESET_LIMIT, TABLE_COUNT_LIMIT};
-pub use pf_addr::path::{COMPONENT_LIMIT, DEPTH_LIMIT, PATH_LIMIT, Path};
+pub use pf_addr::path::Path;
 pub use rule_list::RuleList;
 pub use rulesets::Placed;
 pub use tables::PlacedTable;

@@ -1,4 +1,18 @@
 -- In each opening that a world comes to each ticket was given once, all limits hold, and all is shown.
+use Rattle.std.proofs.Common.{T, ◌&&◌}
+use Rattle.std.specs.Prelude.{map}
+use Rattle.std.specs.FinMap.{is_sorted}
+use Rattle.std.specs.List.{list_all}
+use Rattle.pf_addr.specs.Path.Names.{name_order}
+use Rattle.pf_addr.specs.Refusing.{refused_at, both_passed}
+use Rattle.pf_ticket.specs.declared.refusal.TicketRefusal.TheVariants.{Busy}
+use Rattle.pf_ticket.specs.Replies.{bad_count, twice_in, twice_behind, busy_in}
+use Rattle.pf_core.specs.declared.durable.refusal.ChangeRefusal.TheVariants.{Twice as Again}
+use Rattle.pf_core.specs.Durable.Edits.{name_of, is_in_order}
+use Rattle.pf_core.specs.WorldFacts.{CommitsNameOnce}
+use Rattle.pf_core.specs.WorldLaws.{names-items}
+use Rattle.pf_core.proofs.Checks.{named_once}
+use Rattle.pf_core.proofs.Switching.{not-twice}
 use Rattle.std.proofs.Common.{◌≡◌, ℕ, ◌+◌, ◌≤◌, Bool, true, false, cond, List, [], ◌∷◌, length, refl, sym, ap, ◌∙◌, subst, inl, inr, Option, Some, None, Result, Ok, Err, arith, zero, suc, ◌++◌}
 use Rattle.std.specs.Prelude.{nat_lt, fold, is_some, if◌then◌else◌}
 use Rattle.std.specs.List.{AllByRecursion}
@@ -339,3 +353,23 @@ pub shows_all : ShowsAll
 shows_all first world h legal comes =
     let all : Holds first h (tickets_given world) = holds-after first world h legal comes in
     record { acknowledged = log-is h all.none; shown = all.logged.shown }
+
+-- ---- no name twice
+
+holds-true : (b : Bool) → T b → b ≡ true
+holds-true true h = refl
+holds-true false h = absurd h
+
+item-ordered : (k : RulesetKind) (p : List ℕ) (l : Loaded) → IsFew (offered_as k l) → is_in_order (item_of (record { kind = k; path = p }) (offered_as k l)) ≡ true
+item-ordered Filter p l few = refl
+item-ordered Table p l few = holds-true (is_sorted name_order l.tables) few.order
+
+items-ordered : (t : Open) (es : List Entry) → AreTicketsWithin t → list_all is_in_order (items (content t) es) ≡ true
+items-ordered t [] all = refl
+items-ordered t (e ∷ es) all = ap (λ (b : Bool). b && list_all is_in_order (items (content t) es)) (item-ordered e.name.kind e.name.path (loaded t e.name) (all.offered e.name)) ∙ items-ordered t es all
+
+pub commits_name_once : CommitsNameOnce
+commits_name_once first world h legal comes entries good =
+    let twice : twice_in entries ≡ None = not-twice (bad_count (length entries)) (twice_in entries) (both_passed (list_check entries) (refused_at (λ i. Busy i) (busy_in h.tickets entries)) tt good).first in
+    let once : twice_behind [] (map name_of (items (content h.tickets) entries)) ≡ None = ap (λ (ns : List RulesetName). twice_behind [] ns) (names-items h.tickets entries) ∙ twice in
+    named_once (items (content h.tickets) entries) tt (sym (ap (λ (o : Option ℕ). refused_at (λ i. Again i) o) once)) (items-ordered h.tickets entries (holds-after first world h legal comes).tickets)

@@ -160,7 +160,7 @@ tables-switched t (e ∷ es) p name old =
 
 -- ---- out of the step
 
-not-twice : (b : Bool) (place : Option ℕ) → cond b (Err BadCount) (refused_at (λ i. Twice i) place) ≡ Ok tt → place ≡ None
+pub not-twice : (b : Bool) (place : Option ℕ) → cond b (Err BadCount) (refused_at (λ i. Twice i) place) ≡ Ok tt → place ≡ None
 not-twice true place h = absurd (cc (h))
 not-twice false None h = refl
 not-twice false (Some i) h = absurd (cc (h))

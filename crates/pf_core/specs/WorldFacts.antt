@@ -1,5 +1,5 @@
 -- What holds after every world.
-use Rattle.std.specs.Prelude.{◌≡◌, ℕ, ◌≤◌, Bool, true, List, [], ◌++◌, length, fold}
+use Rattle.std.specs.Prelude.{◌≡◌, ℕ, ◌≤◌, Bool, true, List, [], ◌++◌, length, fold, None, Ok}
 use Rattle.std.specs.List.{list_all}
 use Rattle.pf_addr.specs.declared.addr.Addr.{Addr}
 use Rattle.pf_addr.specs.Path.Paths.{main}
@@ -13,7 +13,9 @@ use Rattle.pf_anchor.specs.Rulesets.{rules_at}
 use Rattle.pf_state.specs.Flows.{flow_of}
 use Rattle.pf_state.specs.Laws.{IsStateOf}
 use Rattle.pf_state.specs.States.{Stated}
-use Rattle.pf_ticket.specs.declared.ticket.Ticket.{Ticket}
+use Rattle.pf_ticket.specs.declared.{entry.Entry.Entry, ticket.Ticket.Ticket}
+use Rattle.pf_ticket.specs.Replies.{commit_check}
+use Rattle.pf_ticket.specs.Tickets.{content}
 use Rattle.pf_ticket.specs.Laws.{AreOnce}
 use Rattle.pf_ticket.specs.Laws.{IsWithin as AreTicketsWithin}
 use Rattle.pf_ticket.specs.Mentions.{Mention, opened as left_by}
@@ -21,7 +23,8 @@ use Rattle.pf_ticket.specs.Names.{tickets_from, tickets_of}
 use Rattle.pf_core.specs.declared.{command.Command.TheVariants.Ask, command.Question.TheVariants.Judge, command.Question.TheVariants.Test, durable.verdict.Verdict.TheVariants.State as Stateful, durable.verdict.Verdict.TheVariants.Rules as ByRules, reply.Reply.Reply, reply.Reply.TheVariants.Answer as Answered}
 use Rattle.pf_core.specs.declared.reply.Answer.TheVariants as answer
 use Rattle.pf_core.specs.Calls.{mentions_of}
-use Rattle.pf_core.specs.Durable.Edits.{Kept, entries_at, verdict}
+use Rattle.pf_core.specs.Commands.{items}
+use Rattle.pf_core.specs.Durable.Edits.{Kept, named_again, entries_at, verdict}
 use Rattle.pf_core.specs.Durable.Laws.{IsWithin}
 use Rattle.pf_core.specs.Worlds.{Held, up, down, Event, called, opened, flat, log_of, durable_of, LegalReply, state_after, IsWorld}
 
@@ -73,6 +76,11 @@ pub record AreWithin (h : Held) : Type 0 where
 abbrev pub KeepsTheLimits : Type 0
 KeepsTheLimits = (first : Kept) (world : List Event) (h : Held) → IsWithin first → IsWorld first world →
     state_after (down first) world ≡ up h → AreWithin h
+
+-- where the tickets of a commit are valid it names nothing twice, and is refused for limits alone
+abbrev pub CommitsNameOnce : Type 0
+CommitsNameOnce = (first : Kept) (world : List Event) (h : Held) → IsWorld first world → state_after (down first) world ≡ up h →
+    (entries : List Entry) → commit_check h.tickets entries ≡ Ok tt → named_again (items (content h.tickets) entries) ≡ None
 
 -- every change is acknowledged, and every acknowledged change is shown
 pub record AllIsShown (h : Held) : Type 0 where

@@ -87,7 +87,7 @@ named-item : (k : RulesetKind) (name : RulesetName) (l : Loaded) → k ≡ name.
 named-item Filter name l is = filter_is name is
 named-item Table name l is = table_is name is
 
-names-items : (t : Open) (entries : List Entry) → map name_of (items (content t) entries) ≡ names_of entries
+pub names-items : (t : Open) (entries : List Entry) → map name_of (items (content t) entries) ≡ names_of entries
 names-items t [] = refl
 names-items t (e ∷ es) = ap (λ (n : RulesetName). n ∷ map name_of (items (content t) es)) (named-item e.name.kind e.name (loaded t e.name) refl) ∙ ap (λ (ns : List RulesetName). e.name ∷ ns) (names-items t es)
 

@@ -2,7 +2,7 @@
 ghost use Rattle.std.specs.Prelude.{◌≡◌};
 ghost use Rattle.pf_core.specs.Worlds.{last_epoch};
 ghost use Rattle.pf_core.specs.Laws.{LeaveTheOtherKind, WantsWhatFits, SwitchesAll, VoidsTheNamed, KeepsNoneValid, LeavesTheOthers, MentionsTheNamed, RefusedMentionNothing, TrackMakesOne};
-ghost use Rattle.pf_core.specs.WorldFacts.{TicketsAreOfTheCalls, GivesEachOnce, KeepsTheLimits, ShowsAll, TestsTellTheEntry, JudgesTellTheVerdict};
+ghost use Rattle.pf_core.specs.WorldFacts.{TicketsAreOfTheCalls, GivesEachOnce, KeepsTheLimits, CommitsNameOnce, ShowsAll, TestsTellTheEntry, JudgesTellTheVerdict};
 
 /// No opening has an epoch past 4,294,967,295.
 pub fn the_last_epoch()
@@ -72,6 +72,11 @@ pub fn gives_each_ticket_once()
 /// and all limits hold, of rules, rulesets, entries, tables, states, tickets and history.
 pub fn keeps_the_limits()
     ensures { KeepsTheLimits }
+{}
+
+/// In each opening that a world comes to a commit whose tickets are valid names nothing twice, so that it is refused for limits alone.
+pub fn commits_name_nothing_twice()
+    ensures { CommitsNameOnce }
 {}
 
 /// In each opening that a world comes to every change is acknowledged, and is shown.

@@ -24,6 +24,7 @@ use Rattle.pf_ticket.specs.Replies.{bad_count, range, begin_reply}
 use Rattle.pf_addr.specs.Refusing.{refused_at, both_passed}
 use Rattle.pf_ticket.specs.NamedTables.{Named}
 use Rattle.pf_ticket.specs.Tickets.{Loaded, nothing, with_rule, with_table, offered_as, Offer, offer, offer_at, put, Open, next_ticket, ticket_in, loaded_in, valid_ticket, loaded, is_valid}
+use Rattle.pf_ticket.proofs.NamedTables.{put_sorted}
 use Rattle.pf_ticket.proofs.Moves.{load-keeps, made_by, reads, leaves_the_others, gives-named}
 use Rattle.pf_ticket.proofs.Offers.{read-put, read-without, length-put, length-without}
 
@@ -90,11 +91,11 @@ abbrev Short : RulesetKind → Loaded → Type 0
 Short k l = IsFew (offered_as k l)
 
 short-nothing : (k : RulesetKind) → Short k nothing
-short-nothing Filter = record { rules = omega arith; tables = omega arith; entries = tt }
-short-nothing Table = record { rules = omega arith; tables = omega arith; entries = tt }
+short-nothing Filter = record { rules = omega arith; tables = omega arith; entries = tt; order = tt }
+short-nothing Table = record { rules = omega arith; tables = omega arith; entries = tt; order = tt }
 
 one-more : (l : Loaded) (r : PlainRule) → length l.rules < RULE_LIMIT → Short Filter (with_rule l r)
-one-more l r room = record { rules = (let k = length-append l.rules (r ∷ []) in omega (arith, k, room)); tables = omega arith; entries = tt }
+one-more l r room = record { rules = (let k = length-append l.rules (r ∷ []) in omega (arith, k, room)); tables = omega arith; entries = tt; order = tt }
 
 abbrev AreShortRows : List Named → Type 0
 AreShortRows ts = AllByRecursion (λ n. AreEntries n.1) ts
@@ -113,6 +114,7 @@ one-table l name new short few old = record {
   rules = omega arith;
   tables = few;
   entries = rows-put name new l.tables short old.entries;
+  order = put_sorted name new l.tables old.order;
 }
 
 abbrev IsShort : RulesetKind → Option Offer → Type 0

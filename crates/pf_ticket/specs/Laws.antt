@@ -153,11 +153,12 @@ pub record BeginsGive : Type 0 where
 
 -- ---- the limits
 
--- so many rules, tables, and entries of each table at most, no network of a table twice
+-- so many rules, tables, and entries of each table at most, no table's name and no network of a table twice
 pub record IsFew (o : Offered) : Type 0 where
   pub rules : length (rules_in o) ≤ RULE_LIMIT
   pub tables : length (tables_in o) ≤ OFFERED_TABLE_LIMIT
   pub entries : AllByRecursion (λ n. AreEntries n.1) (tables_in o)
+  pub order : T (is_sorted name_order (tables_in o))
 
 -- as many rulesets of both kinds at most as there may be, and as much offered for each
 pub record IsWithin (t : Open) : Type 0 where
