@@ -1,5 +1,5 @@
 -- What a commit leaves of each ruleset, and any call of those that it doesn't name.
-use Rattle.std.proofs.Common.{◌≡◌, ℕ, T, Bool, true, false, cond, ◌&&◌, ◌||◌, List, [], ◌∷◌, ◌++◌, length, refl, sym, ap, ◌∙◌, Option, Some, None, Result, Ok, Err, subst}
+use Rattle.std.proofs.Common.{◌≡◌, ℕ, T, Bool, true, false, cond, ◌&&◌, ◌||◌, List, [], ◌∷◌, ◌++◌, length, refl, sym, ap, ◌∙◌, Option, Some, None, Ok, Err, subst}
 use Rattle.std.specs.Prelude.{fold, unwrap_or}
 use Rattle.std.specs.declared.{cmp.Ordering.Ordering, cmp.Ordering.TheVariants.Less, cmp.Ordering.TheVariants.Equal, cmp.Ordering.TheVariants.Greater}
 use Rattle.std.specs.FinMap.{find, is_sorted, slice_cmp-IsAntisymmetric, nat_cmp-IsAntisymmetric}
@@ -21,7 +21,7 @@ use Rattle.pf_anchor.specs.Rulesets.{Ruled, rules_at, with_rules}
 use Rattle.pf_anchor.specs.Tables.{TableKey, Tabled, table_order, with_table}
 use Rattle.pf_anchor.proofs.RulesetMaps.{replaced_in_turn}
 use Rattle.pf_anchor.proofs.TableMaps.{tables_replaced}
-use Rattle.pf_ticket.specs.declared.{entry.Entry.Entry, name.RulesetKind.RulesetKind, name.RulesetKind.TheVariants.Filter, name.RulesetKind.TheVariants.Table, name.RulesetName.RulesetName, refusal.TicketRefusal.TicketRefusal, refusal.TicketRefusal.TheVariants.BadCount, refusal.TicketRefusal.TheVariants.Twice, refusal.TicketRefusal.TheVariants.Busy}
+use Rattle.pf_ticket.specs.declared.{entry.Entry.Entry, name.RulesetKind.RulesetKind, name.RulesetKind.TheVariants.Filter, name.RulesetKind.TheVariants.Table, name.RulesetName.RulesetName, refusal.TicketRefusal.TheVariants.BadCount, refusal.TicketRefusal.TheVariants.Twice, refusal.TicketRefusal.TheVariants.Busy}
 use Rattle.pf_ticket.specs.NameLaws.{paths_alike, name_is}
 use Rattle.pf_ticket.specs.Names.{same_kind, same_name, is_named, names_of, filter_at, table_ruleset_at, IsDistinct}
 use Rattle.pf_ticket.specs.Replies.{bad_count, twice_in, busy_in, list_check, commit_check}
