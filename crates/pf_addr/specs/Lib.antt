@@ -1,3 +1,4 @@
+pub mod Refusing
 pub mod Form
 pub mod Path
 pub mod Address

@@ -5,8 +5,7 @@ use Rattle.std.specs.List.{list_any}
 use Rattle.pf_addr.specs.Path.Paths.{main}
 use Rattle.pf_addr.specs.Path.References.{PlainReference}
 use Rattle.pf_rule.specs.Rules.{PlainRule}
-use Rattle.pf_anchor.specs.declared.evaluated.Evaluated.{Evaluated}
-use Rattle.pf_anchor.specs.declared.evaluated.Evaluated.TheVariants.{Open, Ended}
+use Rattle.pf_anchor.specs.declared.{evaluated.Evaluated.Evaluated, evaluated.Evaluated.TheVariants.Open, evaluated.Evaluated.TheVariants.Ended}
 use Rattle.pf_anchor.specs.Matches.{PlainMatch, found}
 use Rattle.pf_anchor.specs.Rulesets.{Ruled, ruled, targets}
 use Rattle.pf_anchor.specs.Evaluation.{Tests, and_then, settled, in_turn, effected, evaluation, matching, last_of, verdict_by, rules_at_path}

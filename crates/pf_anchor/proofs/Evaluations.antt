@@ -9,11 +9,8 @@ use Rattle.pf_addr.proofs.PathsRead.{same_path_is}
 use Rattle.pf_addr.proofs.Nesting.{leads_deeper, has_one_more}
 use Rattle.pf_rule.specs.Packets.{PlainPacket}
 use Rattle.pf_rule.specs.Rules.{PlainRule}
-use Rattle.pf_rule.specs.declared.rule.Effect.{Effect}
-use Rattle.pf_rule.specs.declared.rule.Effect.TheVariants.{Decide, Evaluate}
-use Rattle.pf_anchor.specs.declared.evaluated.Evaluated.{Evaluated}
-use Rattle.pf_anchor.specs.declared.evaluated.Evaluated.TheVariants.{Open, Ended}
-use Rattle.pf_anchor.specs.declared.verdict.RuleVerdict.TheVariants.{Default}
+use Rattle.pf_rule.specs.declared.{rule.Effect.Effect, rule.Effect.TheVariants.Decide, rule.Effect.TheVariants.Evaluate}
+use Rattle.pf_anchor.specs.declared.{evaluated.Evaluated.Evaluated, evaluated.Evaluated.TheVariants.Open, evaluated.Evaluated.TheVariants.Ended, verdict.RuleVerdict.TheVariants.Default}
 use Rattle.pf_anchor.specs.Matches.{PlainMatch}
 use Rattle.pf_anchor.specs.Rulesets.{Ruled, ruled, rules_at, leads_from, leads_to, targets}
 use Rattle.pf_anchor.specs.Configurations.{Configuration}

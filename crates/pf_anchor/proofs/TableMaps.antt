@@ -1,7 +1,6 @@
 -- The map of tables: what a change leaves of it, and which table answers a rule.
 use Rattle.std.proofs.Common.{◌≡◌, ◌≢◌, ◌⊎◌, inl, inr, ℕ, ◌+◌, ◌≤◌, Bool, true, false, not, cond, List, length, [], ◌∷◌, Option, None, refl, sym, ap, ◌∙◌}
-use Rattle.std.specs.declared.cmp.Ordering.{Ordering}
-use Rattle.std.specs.declared.cmp.Ordering.TheVariants.{Less, Equal, Greater}
+use Rattle.std.specs.declared.{cmp.Ordering.Ordering, cmp.Ordering.TheVariants.Less, cmp.Ordering.TheVariants.Equal, cmp.Ordering.TheVariants.Greater}
 use Rattle.std.specs.Prelude.{fold}
 use Rattle.std.specs.Cmp.{IsTotalOrder}
 use Rattle.std.specs.FinMap.{IsAntisymmetric, slice_cmp-IsAntisymmetric, nat_cmp-IsAntisymmetric}
@@ -19,7 +18,7 @@ use Rattle.pf_rule.specs.declared.host.host.Host.TheVariants.{Table}
 use Rattle.pf_rule.specs.Host.Hosts.{host_holds}
 use Rattle.pf_table.specs.Entries.{Row}
 use Rattle.pf_table.specs.Tables.{table_holds}
-use Rattle.pf_anchor.specs.Tables.{TableKey, Tabled, tabled, table_order, table_found, table_at, with_table, tables_say}
+use Rattle.pf_anchor.specs.Tables.{TableKey, Tabled, tabled, table_order, table_found, with_table, tables_say}
 use Rattle.pf_anchor.specs.TableLaws.{ReplacesTables, HasItsEntries, OtherNamesStay, OtherPathsStay, StaysTableMap, EmptyIsAbsent, OneTableMap, LeavesTheOther, OwnAnswers, OwnHidesMain, MainAnswersElse, NoneElse, OthersAnswerNothing}
 
 -- ---- the order of keys

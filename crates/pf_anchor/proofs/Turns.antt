@@ -15,8 +15,7 @@ use Rattle.pf_addr.specs.Path.References.{PlainReference}
 use Rattle.pf_addr.proofs.PathsRead.{same_path_is}
 use Rattle.pf_addr.proofs.Nesting.{path_few, has_one_more}
 use Rattle.pf_rule.specs.Rules.{PlainRule}
-use Rattle.pf_anchor.specs.declared.evaluated.Evaluated.{Evaluated}
-use Rattle.pf_anchor.specs.declared.evaluated.Evaluated.TheVariants.{Open}
+use Rattle.pf_anchor.specs.declared.{evaluated.Evaluated.Evaluated, evaluated.Evaluated.TheVariants.Open}
 use Rattle.pf_table.specs.Map.Pages.{joined}
 use Rattle.pf_anchor.specs.Rulesets.{Ruled, ruled, rules_in, rules_at, leads_from, targets, children}
 use Rattle.pf_anchor.specs.Evaluation.{and_then, settled, rules_give, in_turn}

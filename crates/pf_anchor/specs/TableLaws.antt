@@ -1,4 +1,5 @@
--- What follows from the definition of tables at paths: what is read after a change, and which table answers a rule (pf.conf(5), TABLES and ANCHORS).
+-- What follows from the definition of tables at paths: what is read after a change, and which table answers a rule (pf.conf(5), TABLES and
+-- ANCHORS).
 use Rattle.std.specs.Prelude.{◌≡◌, ◌≢◌, ◌⊎◌, ℕ, T, Bool, false, List, [], Some, None, fold, map}
 use Rattle.std.specs.FinMap.{find, is_sorted}
 use Rattle.pf_addr.specs.declared.addr.Addr.{Addr}
@@ -17,7 +18,8 @@ use Rattle.pf_anchor.specs.Configurations.{Configuration, with_rulesets, with_ta
 
 -- each named table has the entries that it was given last, and all others stay: of other names, and at other paths
 abbrev pub ReplacesTables : Type 0
-ReplacesTables = (items ts : List Tabled) (p name : List ℕ) → table_at p name (fold with_table ts items) ≡ list_by table_order items (p, name) (table_at p name ts)
+ReplacesTables = (items ts : List Tabled) (p name : List ℕ) →
+    table_at p name (fold with_table ts items) ≡ list_by table_order items (p, name) (table_at p name ts)
 
 -- after a change of one table it has these entries there
 abbrev pub HasItsEntries : Type 0
@@ -25,11 +27,13 @@ HasItsEntries = (ts : List Tabled) (p name : List ℕ) (es : List Row) → table
 
 -- the tables of other names stay, at this path and at every other
 abbrev pub OtherNamesStay : Type 0
-OtherNamesStay = (ts : List Tabled) (p name : List ℕ) (es : List Row) (q other : List ℕ) → other ≢ name → table_at q other (with_table ts (tabled p name es)) ≡ table_at q other ts
+OtherNamesStay = (ts : List Tabled) (p name : List ℕ) (es : List Row) (q other : List ℕ) → other ≢ name →
+    table_at q other (with_table ts (tabled p name es)) ≡ table_at q other ts
 
 -- the tables at other paths stay, those of this name among them
 abbrev pub OtherPathsStay : Type 0
-OtherPathsStay = (ts : List Tabled) (p name : List ℕ) (es : List Row) (q other : List ℕ) → q ≢ p → table_at q other (with_table ts (tabled p name es)) ≡ table_at q other ts
+OtherPathsStay = (ts : List Tabled) (p name : List ℕ) (es : List Row) (q other : List ℕ) → q ≢ p →
+    table_at q other (with_table ts (tabled p name es)) ≡ table_at q other ts
 
 -- what is left is a map, which has no empty table
 abbrev pub StaysTableMap : Type 0
@@ -45,7 +49,8 @@ OneTableMap = (a b : List Tabled) → IsTableMap a → IsTableMap b → ((p name
 
 -- a change of tables leaves all rulesets, and one of rulesets all tables
 abbrev pub LeavesTheOther : Type 0
-LeavesTheOther = (c : Configuration) (rulesets : List Ruled) (tables : List Tabled) → ((with_tables c tables).rulesets ≡ c.rulesets) × ((with_rulesets c rulesets).tables ≡ c.tables)
+LeavesTheOther = (c : Configuration) (rulesets : List Ruled) (tables : List Tabled) →
+    ((with_tables c tables).rulesets ≡ c.rulesets) × ((with_rulesets c rulesets).tables ≡ c.tables)
 
 -- ---- the tables at a path
 
@@ -65,15 +70,18 @@ TablesAtPath = (ts : List Tabled) (p : List ℕ) → IsTableMap ts → AreTables
 
 -- a path's own table answers its rules
 abbrev pub OwnAnswers : Type 0
-OwnAnswers = (ts : List Tabled) (p name : List ℕ) (own : List Row) (a : Addr) → table_found p name ts ≡ Some own → tables_say ts p name a ≡ table_holds own a
+OwnAnswers = (ts : List Tabled) (p name : List ℕ) (own : List Row) (a : Addr) → table_found p name ts ≡ Some own →
+    tables_say ts p name a ≡ table_holds own a
 
 -- it hides main's, also where it has no entry for the address
 abbrev pub OwnHidesMain : Type 0
-OwnHidesMain = (ts : List Tabled) (p name : List ℕ) (own : List Row) (a : Addr) → table_found p name ts ≡ Some own → deciding own a ≡ None → tables_say ts p name a ≡ false
+OwnHidesMain = (ts : List Tabled) (p name : List ℕ) (own : List Row) (a : Addr) → table_found p name ts ≡ Some own → deciding own a ≡ None →
+    tables_say ts p name a ≡ false
 
 -- where the path has none, main's answers
 abbrev pub MainAnswersElse : Type 0
-MainAnswersElse = (ts : List Tabled) (p name : List ℕ) (mains : List Row) (a : Addr) → table_found p name ts ≡ None → table_found main name ts ≡ Some mains → tables_say ts p name a ≡ table_holds mains a
+MainAnswersElse = (ts : List Tabled) (p name : List ℕ) (mains : List Row) (a : Addr) → table_found p name ts ≡ None →
+    table_found main name ts ≡ Some mains → tables_say ts p name a ≡ table_holds mains a
 
 -- where main has none either, a host that names it takes no address, and its negation every one
 abbrev pub NoneElse : Type 0

@@ -1,4 +1,5 @@
--- Tables at paths (pf.conf(5), TABLES and ANCHORS): a finite map, and which table the rules of a ruleset name. That an empty table doesn't exist is own.
+-- Tables at paths (pf.conf(5), TABLES and ANCHORS): a finite map, and which table the rules of a ruleset name. That an empty table doesn't
+-- exist is own.
 use Rattle.std.specs.Prelude.{ℕ, Bool, false, List, Option, filter}
 use Rattle.std.specs.declared.cmp.Ordering.{Ordering}
 use Rattle.std.specs.FinMap.{find}
@@ -48,7 +49,8 @@ tables_at p ts = filter (λ t. same_path p t.0.0) ts
 
 -- ---- the table that a rule names
 
--- the table of a name, as the rules of the ruleset at p name it: the one at p where it exists, else the main ruleset's; no path in between is asked
+-- the table of a name, as the rules of the ruleset at p name it: the one at p where it exists, else the main ruleset's; no path in between
+-- is asked
 abbrev pub named_table : List Tabled → List ℕ → List ℕ → Option (List Row)
 named_table ts p name = option_or (table_found p name ts) (table_found main name ts)
 

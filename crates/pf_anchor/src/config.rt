@@ -5,7 +5,9 @@ ghost use Rattle.pf_anchor.specs.Tables.{tabled, table_found, tables_at, named_t
 ghost use Rattle.pf_table.specs.Map.Pages.{joined};
 ghost use Rattle.pf_anchor.specs.Rulesets.{ruled, rules_at, children, IsMap};
 ghost use Rattle.pf_anchor.specs.Configurations.{nothing, with_rulesets, with_tables};
-ghost use Rattle.pf_anchor.specs.Limits.{ruleset_refusal, table_refusal, Refuses};
+ghost use Rattle.pf_addr.specs.Refusing.{Refuses};
+ghost use Rattle.pf_anchor.specs.declared.fault.ConfigFault.TheVariants.{Memory};
+ghost use Rattle.pf_anchor.specs.Limits.{ruleset_refusal, table_refusal};
 ghost use Rattle.pf_anchor.specs.Evaluation.{judged};
 
 use crate::evaluate::evaluate;
@@ -78,7 +80,7 @@ impl Config {
         rules: &RuleList,
     ) -> Result<Config, ConfigFault>
         ensures whole { IfOk result (λ c. c ≡ with_rulesets self.now (ruled path.now rules.now ∷ [])) }
-        ensures refused { Refuses result (ruleset_refusal (with_rulesets self.now (ruled path.now rules.now ∷ []))) }
+        ensures refused { Refuses Memory result (ruleset_refusal (with_rulesets self.now (ruled path.now rules.now ∷ []))) }
     {
         let items = [Placed::new(alloc, path.copied(), rules.shared()?)?];
         let after = self.with_rulesets(alloc, &items)?;
@@ -123,7 +125,7 @@ impl Config {
         table: &Table,
     ) -> Result<Config, ConfigFault>
         ensures whole { IfOk result (λ c. c ≡ with_tables self.now (tabled path.now name.now table.now ∷ [])) }
-        ensures refused { Refuses result (table_refusal (with_tables self.now (tabled path.now name.now table.now ∷ []))) }
+        ensures refused { Refuses Memory result (table_refusal (with_tables self.now (tabled path.now name.now table.now ∷ []))) }
     {
         let items = [PlacedTable::new(alloc, (path.copied(), *name), table.shared()?)?];
         let after = self.with_tables(alloc, &items)?;
@@ -195,7 +197,8 @@ impl Config {
 
     /// The ruleset at a path.
     pub(crate) fn placed_at(&self, path: &Path) -> Option<&Placed>
-        ensures rules { MatchOption result (rules_at path.now self.now.rulesets ≡ []) (λ p. p.now ≡ ruled path.now (rules_at path.now self.now.rulesets)) }
+        ensures rules { MatchOption result (rules_at path.now self.now.rulesets ≡ []) (λ p. p.now
+            ≡ ruled path.now (rules_at path.now self.now.rulesets)) }
         ensures map { IsMap self.now.rulesets }
     {
         self.rulesets.get(path)

@@ -48,7 +48,8 @@ fn effected<'a>(
     rule: &Rule,
     packet: &Packet,
 ) -> Evaluated<Match<'a>>
-    ensures { result ≡ effected (evaluation config.now.rulesets (matching config.now.tables packet.now)) config.now.rulesets placed.now.0 number rule.now.effect }
+    ensures { result ≡ effected (evaluation config.now.rulesets (matching config.now.tables packet.now))
+        config.now.rulesets placed.now.0 number rule.now.effect }
 {
     match rule.effect() {
         Effect::Decide(action) => Evaluated::Open(Some(Match {
@@ -70,7 +71,8 @@ fn evaluate_targets<'a>(
     reference: &Reference,
     packet: &Packet,
 ) -> Evaluated<Match<'a>>
-    ensures { result ≡ in_turn (evaluation config.now.rulesets (matching config.now.tables packet.now)) (targets config.now.rulesets path.now reference.now) }
+    ensures { result ≡ in_turn (evaluation config.now.rulesets (matching config.now.tables packet.now))
+        (targets config.now.rulesets path.now reference.now) }
 {
     // looked at where it is, since a path is long to move
     let reached = path.joined(reference.names());
@@ -89,7 +91,8 @@ fn evaluate_targets<'a>(
 // The children of a path, in turn.
 #[cycle(evaluate)]
 fn evaluate_children<'a>(config: &'a Config, path: &Path, packet: &Packet) -> Evaluated<Match<'a>>
-    ensures { result ≡ in_turn (evaluation config.now.rulesets (matching config.now.tables packet.now)) (filter (λ e. is_child path.now e.0) config.now.rulesets) }
+    ensures { result ≡ in_turn (evaluation config.now.rulesets (matching config.now.tables packet.now))
+        (filter (λ e. is_child path.now e.0) config.now.rulesets) }
 {
     let mut last = None;
     let pages = config.ruleset_pages();
@@ -111,7 +114,8 @@ fn evaluate_among<'a>(
     path: &Path,
     packet: &Packet,
 ) -> Evaluated<Match<'a>>
-    ensures { result ≡ in_turn (evaluation config.now.rulesets (matching config.now.tables packet.now)) (filter (λ e. is_child path.now e.0) entries.now) }
+    ensures { result ≡ in_turn (evaluation config.now.rulesets (matching config.now.tables packet.now))
+        (filter (λ e. is_child path.now e.0) entries.now) }
 {
     let mut last = None;
     for placed in entries {

@@ -1,7 +1,16 @@
 //! What follows from the definitions that contracts cite: functions that do nothing, whose contracts are the laws.
+ghost use Rattle.std.specs.Prelude.{◌≡◌};
+ghost use Rattle.pf_anchor.specs.declared.limits.TheConstants.{RULE_LIMIT, RULESET_LIMIT, TABLE_COUNT_LIMIT};
 ghost use Rattle.pf_anchor.specs.Laws.{ReplacesInTurn, StaysMap, OneMap, ChildrenHaveRules};
 ghost use Rattle.pf_anchor.specs.TableLaws.{ReplacesTables, HasItsEntries, OtherNamesStay, OtherPathsStay, StaysTableMap, EmptyIsAbsent, OneTableMap, LeavesTheOther, TablesAtPath, OwnAnswers, OwnHidesMain, MainAnswersElse, NoneElse, OthersAnswerNothing};
 ghost use Rattle.pf_anchor.specs.EvaluationLaws.{TellsWhatDecides, Unrolls, IsTheOnly, DepthIsEnough, OwnMatch, EndsOutside, NothingWithin, MatchWithin, InTurn, LeadsToTheseAlone, QuickEnds, EndsTheVerdict, AnchorsNeverDecide, ToldRuleDecides, UnreachedIsNothing, InTwoParts, PassedOver};
+
+/// A ruleset has at most 1,024 rules, and there are at most 1,024 rulesets and 1,024 tables.
+pub fn the_limits_of_rulesets()
+    ensures rules { RULE_LIMIT ≡ 1024 }
+    ensures rulesets { RULESET_LIMIT ≡ 1024 }
+    ensures tables { TABLE_COUNT_LIMIT ≡ 1024 }
+{}
 
 /// After a commit each path has the rules that the commit gives it or else its own, and what has no rules isn't there.
 #[tactic(auto, using(crate::proofs::RulesetMaps::replaced_in_turn))]

@@ -1,4 +1,15 @@
-//! Rulesets and tables at their paths: what is active, and which rule decides on a packet.
+//! Rulesets and tables at their paths: what is active, and which rule decides on a packet (pf.conf(5), ANCHORS and TABLES).
+//!
+//! It knows the rules of pf_rule, and the tables and maps of pf_table. It doesn't know who replaces a ruleset or a table and when, and
+//! nothing of tickets, commands and states.
+//!
+//! A `Config` is two maps, of rulesets by their paths and of tables by path and name, in which nothing is empty. A change gives another
+//! `Config`, which shares with the first what it doesn't change. A packet is judged by the main ruleset, and where its anchor rules match
+//! by the rulesets that they lead to. Read first specs/Rulesets.antt and specs/Tables.antt (the maps), then specs/Evaluation.antt (what
+//! an evaluation finds) and specs/EvaluationLaws.antt, which says it without the recursion.
+//!
+//! `config` is the type, and uses all other modules; `evaluate` is judging, over `config`, and uses `evaluated` (what was found so far)
+//! and `named_tables` (the table that a rule names); `rulesets`, `tables` and `rule_list` are what the maps hold, and use none of them.
 #![tactic(auto)]
 
 mod config;
@@ -16,7 +27,7 @@ mod verdict;
 pub use config::Config;
 pub use fault::ConfigFault;
 pub use limits::{RULE_LIMIT, RULESET_LIMIT, TABLE_COUNT_LIMIT};
-pub use pf_addr::path::{COMPONENT_LIMIT, DEPTH_LIMIT, PATH_LIMIT, Path};
+pub use pf_addr::path::Path;
 pub use rule_list::RuleList;
 pub use rulesets::Placed;
 pub use tables::PlacedTable;

@@ -1,17 +1,30 @@
--- What checks in turn didn't refuse.
-use Rattle.std.proofs.Common.{◌≡◌, Bool, true, false, Result, Ok, Err, refl}
-use Rattle.pf_core.specs.declared.durable.refusal.ChangeRefusal.{ChangeRefusal}
-use Rattle.pf_core.specs.Durable.Edits.{and_then, unless}
+-- What names nothing twice.
+use Rattle.std.proofs.Common.{◌≡◌, ℕ, not, Bool, true, false, List, [], ◌∷◌, Option, Some, None, Ok, refl, ap, ◌∙◌, cond, length, arith}
+use Rattle.std.specs.Prelude.{map, nat_lt}
+use Rattle.std.proofs.lemmas.Bool.Decides.{nat_tests}
+use Rattle.std.specs.List.{list_all, position, prefix_len}
+use Rattle.std.specs.Option.{option_or}
+use Rattle.pf_addr.specs.Refusing.{refused_at}
+use Rattle.pf_ticket.specs.Replies.{twice_behind}
+use Rattle.pf_core.specs.declared.{durable.change.Item.Item, durable.refusal.ChangeRefusal.TheVariants.Twice}
+use Rattle.pf_core.specs.Durable.Edits.{name_of, is_in_order, named_again}
 
-pub record AreBothPassed {A : Type 0} (r : Result (Unit {0}) ChangeRefusal) (next : Result A ChangeRefusal) (x : A) : Type 0 where
-  pub first : r ≡ Ok tt
-  pub second : next ≡ Ok x
+-- where all pass none fails
+all-pass : (is : List Item) → list_all is_in_order is ≡ true → prefix_len (λ (i : Item). not (not (is_in_order i))) is ≡ length is
+all-pass [] h = refl
+all-pass (i ∷ is) h = by (is_in_order i) refl h (all-pass is) where
+  by : (b : Bool) → is_in_order i ≡ b → list_all is_in_order (i ∷ is) ≡ true → (list_all is_in_order is ≡ true → prefix_len (λ (x : Item). not (not (is_in_order x))) is ≡ length is) → prefix_len (λ (x : Item). not (not (is_in_order x))) (i ∷ is) ≡ length (i ∷ is)
+  by true here all rest = let later : list_all is_in_order is ≡ true = rw here at all in rw (here, rest later) (omega arith)
+  by false here all rest = absurd (cc (here, all))
 
-pub both_passed : {A : Type 0} (r : Result (Unit {0}) ChangeRefusal) (next : Result A ChangeRefusal) (x : A) → and_then r next ≡ Ok x → AreBothPassed r next x
-both_passed (Ok tt) next x h = record { first = refl; second = h }
-both_passed (Err e) next x h = absurd (cc (h))
+none-fails : (is : List Item) → list_all is_in_order is ≡ true → position (λ (i : Item). not (is_in_order i)) is ≡ None
+none-fails is h =
+    let past : nat_lt (length is) (length is) ≡ false = grind (arith, nat_tests) in
+    ap (λ (n : ℕ). cond (nat_lt n (length is)) (Some n) None) (all-pass is h) ∙ ap (λ (b : Bool). cond b (Some (length is)) None) past
 
--- what wasn't refused doesn't hold
-pub not_refused : (b : Bool) (why : ChangeRefusal) → unless b why ≡ Ok tt → b ≡ false
-not_refused true why h = absurd (cc (h))
-not_refused false why h = refl
+-- no ruleset is named twice, and each item is in order
+pub named_once : (is : List Item) (u : Unit {0}) → Ok u ≡ refused_at (λ i. Twice i) (twice_behind [] (map name_of is)) → list_all is_in_order is ≡ true → named_again is ≡ None
+named_once is u h all = by (twice_behind [] (map name_of is)) h where
+  by : (o : Option ℕ) → Ok u ≡ refused_at (λ i. Twice i) o → option_or o (position (λ (i : Item). not (is_in_order i)) is) ≡ None
+  by None h = none-fails is all
+  by (Some i) h = absurd (cc (h))

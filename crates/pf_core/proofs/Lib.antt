@@ -7,3 +7,4 @@ pub mod Switching
 pub mod LongerWorlds
 pub mod Limits
 pub mod Tracking
+pub mod Answered

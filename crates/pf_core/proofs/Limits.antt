@@ -1,76 +1,55 @@
 -- In each opening that a world comes to each ticket was given once, all limits hold, and all is shown.
+use Rattle.std.proofs.Common.{T, ◌&&◌}
+use Rattle.std.specs.Prelude.{map}
+use Rattle.std.specs.FinMap.{is_sorted}
+use Rattle.std.specs.List.{list_all}
+use Rattle.pf_addr.specs.Path.Names.{name_order}
+use Rattle.pf_addr.specs.Refusing.{refused_at, both_passed}
+use Rattle.pf_ticket.specs.declared.refusal.TicketRefusal.TheVariants.{Busy}
+use Rattle.pf_ticket.specs.Replies.{bad_count, twice_in, twice_behind, busy_in}
+use Rattle.pf_core.specs.declared.durable.refusal.ChangeRefusal.TheVariants.{Twice as Again}
+use Rattle.pf_core.specs.Durable.Edits.{name_of, is_in_order}
+use Rattle.pf_core.specs.WorldFacts.{CommitsNameOnce}
+use Rattle.pf_core.specs.WorldLaws.{names-items}
+use Rattle.pf_core.proofs.Checks.{named_once}
+use Rattle.pf_core.proofs.Switching.{not-twice}
 use Rattle.std.proofs.Common.{◌≡◌, ℕ, ◌+◌, ◌≤◌, Bool, true, false, cond, List, [], ◌∷◌, length, refl, sym, ap, ◌∙◌, subst, inl, inr, Option, Some, None, Result, Ok, Err, arith, zero, suc, ◌++◌}
 use Rattle.std.specs.Prelude.{nat_lt, fold, is_some, if◌then◌else◌}
 use Rattle.std.specs.List.{AllByRecursion}
-use Rattle.std.specs.Ordering.{eq_by_cmp}
-use Rattle.pf_table.specs.Map.ListMaps.{list_by}
 use Rattle.pf_table.specs.Edits.{additions, deletions}
-use Rattle.pf_table.specs.Entries.{Row}
+use Rattle.pf_table.specs.Tables.{AreEntries}
 use Rattle.std.proofs.lemmas.Bool.Decides.{nat_tests}
-use Rattle.pf_ticket.specs.declared.name.RulesetName.{RulesetName}
-use Rattle.pf_ticket.specs.declared.refusal.TicketRefusal.{TicketRefusal}
-use Rattle.pf_ticket.specs.declared.ticket.Ticket.{Ticket}
-use Rattle.pf_ticket.specs.Laws.{AreGiven, IsWithin as AreTicketsWithin, AreOnce}
+use Rattle.pf_ticket.specs.declared.{name.RulesetName.RulesetName, refusal.TicketRefusal.TicketRefusal, ticket.Ticket.Ticket, name.RulesetKind.RulesetKind, name.RulesetKind.TheVariants.Filter, name.RulesetKind.TheVariants.Table, entry.Entry.Entry}
+use Rattle.pf_ticket.specs.Laws.{AreGiven, IsFew, IsWithin as AreTicketsWithin, AreOnce}
 use Rattle.pf_ticket.specs.Mentions.{Mention, gives, switches, after as moved_by}
-use Rattle.pf_ticket.specs.Names.{filter_at, table_ruleset_at, same_name, names_of, tickets_from, ticket}
-use Rattle.pf_ticket.specs.NameLaws.{name_is}
+use Rattle.pf_ticket.specs.Names.{filter_at, table_ruleset_at, tickets_from, ticket}
 use Rattle.pf_ticket.specs.NamedTables.{Named}
 use Rattle.pf_ticket.specs.Replies.{begin_reply, add_reply, define_reply, list_check, commit_check}
-use Rattle.pf_ticket.specs.Tickets.{Open, loaded, content}
+use Rattle.pf_ticket.specs.Tickets.{Loaded, Open, offered_as, loaded, content}
 use Rattle.pf_ticket.proofs.Keeping.{begins_give, keeps_the_limits as tickets_keep}
-use Rattle.pf_core.specs.declared.command.Command.{Command}
-use Rattle.pf_core.specs.declared.command.Command.TheVariants.{Transact, Edit as Change, States as OfStates, Ask}
+use Rattle.pf_core.specs.declared.{command.Command.Command, durable.change.Item.Item, command.Command.TheVariants.Transact, command.Command.TheVariants.Edit as Change, command.Command.TheVariants.States as OfStates, command.Command.TheVariants.Ask, durable.verdict.Verdict.Verdict, durable.verdict.Verdict.TheVariants.State as Stateful, durable.verdict.Verdict.TheVariants.Rules as ByRules, command.StateCommand.StateCommand, command.StateCommand.TheVariants.Track, command.StateCommand.TheVariants.Peer, command.StateCommand.TheVariants.Kill as KillState, command.TableEdit.TableEdit, command.TableEdit.TheVariants.Add as AddTo, command.TableEdit.TheVariants.Delete, command.TableEdit.TheVariants.Set, command.TableEdit.TheVariants.Kill, command.Question.Question, command.Transaction.TheVariants.Begin, command.Transaction.TheVariants.Add, command.Transaction.TheVariants.Define, command.Transaction.TheVariants.Commit, command.Transaction.TheVariants.Rollback, reply.Answer.Answer, reply.Outcome.Outcome, reply.Refusal.Refusal, reply.Refusal.TheVariants.HistoryFull, durable.refusal.ChangeRefusal.ChangeRefusal, reply.Reply.Reply, reply.Reply.TheVariants.Answer as Answered, reply.Reply.TheVariants.Applied, reply.Reply.TheVariants.Refused, step.Step.Step, step.Step.TheVariants.Done, step.Step.TheVariants.Wants}
 use Rattle.pf_rule.specs.Packets.{PlainPacket}
 use Rattle.pf_anchor.specs.declared.verdict.RuleVerdict.{RuleVerdict}
-use Rattle.pf_state.specs.declared.state.Bound.{Bound}
-use Rattle.pf_state.specs.declared.state.StateName.{StateName}
+use Rattle.pf_state.specs.declared.{state.Bound.Bound, state.StateName.StateName}
 use Rattle.pf_state.specs.declared.step.Step.TheVariants as step
 use Rattle.pf_state.specs.Flows.{flow_of}
 use Rattle.pf_state.specs.States.{Stated, held_at}
 use Rattle.pf_state.specs.Steps.{counts}
-use Rattle.pf_core.specs.declared.durable.verdict.Verdict.{Verdict}
-use Rattle.pf_core.specs.declared.durable.verdict.Verdict.TheVariants.{State as Stateful, Rules as ByRules}
-use Rattle.pf_core.specs.declared.command.StateCommand.{StateCommand}
-use Rattle.pf_core.specs.declared.command.StateCommand.TheVariants.{Track, Peer, Kill as KillState}
-use Rattle.pf_core.specs.declared.command.TableEdit.{TableEdit}
-use Rattle.pf_core.specs.declared.command.TableEdit.TheVariants.{Add as AddTo, Delete, Set, Kill}
-use Rattle.pf_core.specs.declared.command.Question.{Question}
-use Rattle.pf_core.specs.declared.command.Transaction.TheVariants.{Begin, Add, Define, Commit, Rollback}
-use Rattle.pf_core.specs.declared.reply.Answer.{Answer}
 use Rattle.pf_core.specs.declared.reply.Answer.TheVariants as answer
-use Rattle.pf_core.specs.declared.reply.Outcome.{Outcome}
 use Rattle.pf_core.specs.declared.reply.Outcome.TheVariants as outcome
-use Rattle.pf_core.specs.declared.reply.Refusal.{Refusal}
-use Rattle.pf_core.specs.declared.reply.Refusal.TheVariants.{HistoryFull}
-use Rattle.pf_core.specs.declared.durable.refusal.ChangeRefusal.{ChangeRefusal}
-use Rattle.pf_core.specs.declared.durable.refusal.ChangeRefusal.TheVariants.{TooManyRulesets, TooManyTables}
-use Rattle.pf_core.specs.declared.reply.Reply.{Reply}
-use Rattle.pf_core.specs.declared.reply.Reply.TheVariants.{Answer as Answered, Applied, Refused}
-use Rattle.pf_core.specs.declared.step.Step.{Step}
-use Rattle.pf_core.specs.declared.step.Step.TheVariants.{Done, Wants}
 use Rattle.pf_core.specs.Calls.{call, mentions_of, Call}
-use Rattle.pf_core.specs.Commands.{unless_refused, unless_unfit, if_there, is_table, items, wanting, added_of, deleted_of, edit_step, makes_state, tracked, track_step, steps_here, states_step, answer_of, step_by, mentioned}
-use Rattle.pf_core.specs.Durable.Edits.{Kept, Edit, commits, adds, deletes, sets, acts, removes, verdict, rulesets_in, placed, tables_in, entries_at, applied, voided_by, after, unless, no_conflict, fits}
-use Rattle.pf_core.specs.Durable.Laws.{IsWithin}
-use Rattle.pf_core.proofs.Checks.{AreBothPassed, both_passed, not_refused}
-use Rattle.pf_core.proofs.Within.{AreFewEntries, keeps_within}
+use Rattle.pf_core.specs.Commands.{item_of, unless_refused, unless_unfit, if_there, is_table, items, wanting, added_of, deleted_of, edit_step, makes_state, tracked, track_step, steps_here, states_step, answer_of, step_by, mentioned}
+use Rattle.pf_core.specs.Durable.Edits.{Kept, Edit, commits, adds, deletes, sets, acts, removes, verdict, placed, tables_in, entries_at, applied, voided_by, after, no_conflict, fits}
+use Rattle.pf_core.specs.Durable.Laws.{IsWithin, AreFew}
+use Rattle.pf_core.proofs.Within.{keeps_within}
 use Rattle.pf_core.specs.WorldFacts.{tickets_in, given_by, tickets_given, GivesEachOnce, KeepsTheLimits, ShowsAll}
 use Rattle.pf_core.specs.WorldLaws.{unit_is, IsPassed, passed, none-wanted, fit, IsThis, wants_commit, edit_of, wants_edit, IsOfStates, of_steps, of_removal, IsStateChange, wants_states, IsWanted, wants}
 use Rattle.pf_core.specs.Worlds.{Held, log_of, durable_of, step_in, room_for, if_ok, or_refused, due_at, grouped, group_at, LegalReply, State, up, down, Upshot, Event, called, opened, flat, group_in, acked_by, shown_by, heard, next, LegalCall, IsLegal, state_after, IsLegalFrom, IsWorld}
-use Rattle.std.proofs.lemmas.Bool.{cond_both}
 use Rattle.std.proofs.lemmas.List.{append-nil, length-append}
 use Rattle.std.proofs.lemmas.List.Sums.{fold_push}
-use Rattle.pf_rule.specs.Rules.{PlainRule}
-use Rattle.pf_anchor.specs.declared.limits.TheConstants.{RULE_LIMIT, RULESET_LIMIT, TABLE_COUNT_LIMIT}
-use Rattle.pf_anchor.specs.Configurations.{Configuration}
-use Rattle.pf_anchor.specs.Tables.{TableKey, table_order}
-use Rattle.pf_anchor.proofs.TableMaps.{tables_replaced}
-use Rattle.pf_anchor.specs.Rulesets.{rules_at}
-use Rattle.pf_anchor.proofs.RulesetMaps.{replaced_in_turn}
-use Rattle.pf_ticket.specs.declared.entry.Entry.{Entry}
+use Rattle.pf_anchor.specs.Tables.{Tabled}
 use Rattle.pf_ticket.proofs.Twice.{gives_each_once as once_given}
 use Rattle.pf_core.proofs.LongerWorlds.{flat-push}
-use Rattle.pf_core.proofs.Switching.{switched_in, rules_of, rules-switched, entries_of, tables-switched}
 
 -- ---- by the step that was answered
 
@@ -226,37 +205,17 @@ legal-told h c (Refused e) failed legal = none-told h.tickets h.tickets (λ w. w
 
 -- ---- a change keeps what is kept within the limits
 
--- of a value that is switched, whatever switching makes of it
-switched-within : {A : Type 0} (P : A → Type 0) (f : RulesetName → A → A) (ns : List RulesetName) (name : RulesetName) (old : A) → ((x : A) → P x → P (f name x)) → P old → P (switched_in f ns name old)
-switched-within P f [] name old keeps h = h
-switched-within P f (n ∷ ns) name old keeps h =
-    switched-within P f ns name (cond (same_name n name) (f n old) old) keeps (by (same_name n name) refl) where
-      by : (b : Bool) → same_name n name ≡ b → P (cond b (f n old) old)
-      by true is = subst (λ x. P (f x old)) (sym (name_is n name is)) (keeps old h)
-      by false is = h
+placed-few : (p : List ℕ) (named : List Named) (rest : List Tabled) → AllByRecursion (λ n. AreEntries n.1) named → AllByRecursion (λ t. AreEntries t.1) rest → AllByRecursion (λ t. AreEntries t.1) (placed p named ++ rest)
+placed-few p [] rest each few = few
+placed-few p (t ∷ ts) rest each few = (each.0, placed-few p ts rest each.1 few)
 
-placed-within : (p : List ℕ) (named : List Named) (k : TableKey) (old : List Row) → AllByRecursion (λ (n : Named). AreFewEntries n.1) named → AreFewEntries old → AreFewEntries (list_by table_order (placed p named) k old)
-placed-within p [] k old each few = few
-placed-within p (t ∷ ts) k old each few = placed-within p ts k (cond (eq_by_cmp table_order (p, t.0) k) t.1 old) each.1 (cond_both (eq_by_cmp table_order (p, t.0) k) t.1 old AreFewEntries (λ _. each.0) (λ _. few))
+item-few : (k : RulesetKind) (p : List ℕ) (l : Loaded) (rest : List Item) → IsFew (offered_as k l) → AreFew rest → AreFew (item_of (record { kind = k; path = p }) (offered_as k l) ∷ rest)
+item-few Filter p l rest here few = record { rules = (here.rules, few.rules); entries = few.entries }
+item-few Table p l rest here few = record { rules = few.rules; entries = placed-few p l.tables (tables_in rest) here.entries few.entries }
 
-commit-within : (t : Open) (d : Kept) (entries : List Entry) → fits d (commits (items (content t) entries)) ≡ Ok tt → AreTicketsWithin t → IsWithin d → IsWithin (applied d (commits (items (content t) entries)))
-commit-within t d entries h all w =
-    let new : Configuration = (applied d (commits (items (content t) entries))).config in
-    let both : AreBothPassed (unless (nat_lt RULESET_LIMIT (length new.rulesets)) TooManyRulesets) (unless (nat_lt TABLE_COUNT_LIMIT (length new.tables)) TooManyTables) tt =
-    both_passed (unless (nat_lt RULESET_LIMIT (length new.rulesets)) TooManyRulesets) (unless (nat_lt TABLE_COUNT_LIMIT (length new.tables)) TooManyTables) tt h in
-    let rulesets : nat_lt RULESET_LIMIT (length new.rulesets) ≡ false = not_refused (nat_lt RULESET_LIMIT (length new.rulesets)) TooManyRulesets both.first in
-    let tables : nat_lt TABLE_COUNT_LIMIT (length new.tables) ≡ false = not_refused (nat_lt TABLE_COUNT_LIMIT (length new.tables)) TooManyTables both.second in
-    record {
-      rulesets = grind (arith, nat_tests, rulesets);
-      rules = λ p. subst (λ (rs : List PlainRule). length rs ≤ RULE_LIMIT)
-          (sym (replaced_in_turn (rulesets_in (items (content t) entries)) d.config.rulesets p ∙ rules-switched t entries p (rules_at p d.config.rulesets)))
-          (switched-within (λ (rs : List PlainRule). length rs ≤ RULE_LIMIT) (rules_of t) (names_of entries) (filter_at p) (rules_at p d.config.rulesets) (λ x old. (all.offered (filter_at p)).rules) (w.rules p));
-      tables = grind (arith, nat_tests, tables);
-      entries = λ p name. subst AreFewEntries
-          (sym (tables_replaced (tables_in (items (content t) entries)) d.config.tables p name ∙ tables-switched t entries p name (entries_at d p name)))
-          (switched-within AreFewEntries (entries_of t p name) (names_of entries) (table_ruleset_at p) (entries_at d p name) (λ x old. placed-within p (loaded t (table_ruleset_at p)).tables (p, name) x (all.offered (table_ruleset_at p)).entries old) (w.entries p name));
-      states = w.states;
-    }
+items-few : (t : Open) (entries : List Entry) → AreTicketsWithin t → AreFew (items (content t) entries)
+items-few t [] all = record { rules = tt; entries = tt }
+items-few t (e ∷ es) all = item-few e.name.kind e.name.path (loaded t e.name) (items (content t) es) (all.offered e.name) (items-few t es all)
 
 edit-within : (d : Kept) (edit : TableEdit) → fits d (edit_of edit) ≡ Ok tt → IsWithin d → IsWithin (applied d (edit_of edit))
 edit-within d (AddTo p name xs) h w = (keeps_within d w).by_add p name xs h
@@ -274,7 +233,7 @@ change-within t d (Transact (Add p u r)) e o h all w = absurd (none-wanted (add_
 change-within t d (Transact (Define p u name xs)) e o h all w = absurd (none-wanted (define_reply t (table_ruleset_at p) u name xs) (λ _. answer.Done) e o h)
 change-within t d (Transact (Commit entries)) e o h all w =
     let this : IsThis d (commits (items (content t) entries)) e = (wants_commit t d entries e o h).this in
-    subst (λ (x : Edit). IsWithin (applied d x)) this.is (commit-within t d entries this.fits all w)
+    subst (λ (x : Edit). IsWithin (applied d x)) this.is ((keeps_within d w).by_commit (items (content t) entries) (items-few t entries all) this.fits)
 change-within t d (Transact (Rollback entries)) e o h all w = absurd (none-wanted (list_check entries) (λ _. answer.Done) e o h)
 change-within t d (Change edit) e o h all w =
     let this : IsThis d (edit_of edit) e = wants_edit d edit e o h in
@@ -368,7 +327,7 @@ holds-next first (down d) ts (opened setting) legal all = record {
   next = omega arith;
   numbered = refl;
   none = refl;
-  logged = record { room = omega arith; shown = refl; kept = λ within. record { rulesets = (all within).rulesets; rules = (all within).rules; tables = (all within).tables; entries = (all within).entries; states = (all within).states } };
+  logged = record { room = omega arith; shown = refl; kept = λ within. record { maps = (all within).maps; rulesets = (all within).rulesets; rules = (all within).rules; tables = (all within).tables; entries = (all within).entries; states = (all within).states } };
 }
 
 holds-from : (first : Kept) (st : State) (ts : List Ticket) (world : List Event) → IsLegalFrom st world → HoldsOf first st ts → HoldsOf first (state_after st world) (fold given_by ts world)
@@ -394,3 +353,23 @@ pub shows_all : ShowsAll
 shows_all first world h legal comes =
     let all : Holds first h (tickets_given world) = holds-after first world h legal comes in
     record { acknowledged = log-is h all.none; shown = all.logged.shown }
+
+-- ---- no name twice
+
+holds-true : (b : Bool) → T b → b ≡ true
+holds-true true h = refl
+holds-true false h = absurd h
+
+item-ordered : (k : RulesetKind) (p : List ℕ) (l : Loaded) → IsFew (offered_as k l) → is_in_order (item_of (record { kind = k; path = p }) (offered_as k l)) ≡ true
+item-ordered Filter p l few = refl
+item-ordered Table p l few = holds-true (is_sorted name_order l.tables) few.order
+
+items-ordered : (t : Open) (es : List Entry) → AreTicketsWithin t → list_all is_in_order (items (content t) es) ≡ true
+items-ordered t [] all = refl
+items-ordered t (e ∷ es) all = ap (λ (b : Bool). b && list_all is_in_order (items (content t) es)) (item-ordered e.name.kind e.name.path (loaded t e.name) (all.offered e.name)) ∙ items-ordered t es all
+
+pub commits_name_once : CommitsNameOnce
+commits_name_once first world h legal comes entries good =
+    let twice : twice_in entries ≡ None = not-twice (bad_count (length entries)) (twice_in entries) (both_passed (list_check entries) (refused_at (λ i. Busy i) (busy_in h.tickets entries)) tt good).first in
+    let once : twice_behind [] (map name_of (items (content h.tickets) entries)) ≡ None = ap (λ (ns : List RulesetName). twice_behind [] ns) (names-items h.tickets entries) ∙ twice in
+    named_once (items (content h.tickets) entries) tt (sym (ap (λ (o : Option ℕ). refused_at (λ i. Again i) o) once)) (items-ordered h.tickets entries (holds-after first world h legal comes).tickets)

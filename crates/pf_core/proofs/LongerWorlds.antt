@@ -2,10 +2,7 @@
 use Rattle.std.proofs.Common.{◌≡◌, ◌<◌, List, [], ◌∷◌, ◌++◌, refl, sym, ap, ◌∙◌, subst, append_assoc, append-nil, false}
 use Rattle.std.specs.Prelude.{fold, ⊤}
 use Rattle.std.proofs.lemmas.List.Sums.{fold-append, fold_push}
-use Rattle.pf_core.specs.declared.command.Command.{Command}
-use Rattle.pf_core.specs.declared.reply.Refusal.{Refusal}
-use Rattle.pf_core.specs.declared.reply.Reply.{Reply}
-use Rattle.pf_core.specs.declared.reply.Reply.TheVariants.{Refused}
+use Rattle.pf_core.specs.declared.{command.Command.Command, reply.Refusal.Refusal, reply.Reply.Reply, reply.Reply.TheVariants.Refused}
 use Rattle.pf_ticket.specs.Tickets.{Open, fresh}
 use Rattle.pf_ticket.specs.Mentions.{Mention, moved, after, opened as left_by}
 use Rattle.pf_core.specs.Calls.{Call, call, mentions_of}

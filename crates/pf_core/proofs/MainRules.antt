@@ -1,5 +1,5 @@
 -- The main rules, where others are replaced.
-use Rattle.std.proofs.Common.{◌≡◌, ℕ, Bool, true, false, cond, List, [], ◌∷◌, refl, ap, ◌∙◌, subst}
+use Rattle.std.proofs.Common.{◌≡◌, Bool, true, false, cond, List, [], ◌∷◌, refl, ap, ◌∙◌}
 use Rattle.std.specs.List.{list_any}
 use Rattle.pf_addr.specs.Path.Paths.{same_path}
 use Rattle.pf_rule.specs.Rules.{PlainRule}

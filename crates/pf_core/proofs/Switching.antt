@@ -1,8 +1,7 @@
 -- What a commit leaves of each ruleset, and any call of those that it doesn't name.
-use Rattle.std.proofs.Common.{◌≡◌, ℕ, T, Bool, true, false, cond, ◌&&◌, ◌||◌, List, [], ◌∷◌, ◌++◌, length, refl, sym, ap, ◌∙◌, Option, Some, None, Result, Ok, Err, subst}
+use Rattle.std.proofs.Common.{◌≡◌, ℕ, T, Bool, true, false, cond, ◌&&◌, ◌||◌, List, [], ◌∷◌, ◌++◌, length, refl, sym, ap, ◌∙◌, Option, Some, None, Ok, Err, subst}
 use Rattle.std.specs.Prelude.{fold, unwrap_or}
-use Rattle.std.specs.declared.cmp.Ordering.{Ordering}
-use Rattle.std.specs.declared.cmp.Ordering.TheVariants.{Less, Equal, Greater}
+use Rattle.std.specs.declared.{cmp.Ordering.Ordering, cmp.Ordering.TheVariants.Less, cmp.Ordering.TheVariants.Equal, cmp.Ordering.TheVariants.Greater}
 use Rattle.std.specs.FinMap.{find, is_sorted, slice_cmp-IsAntisymmetric, nat_cmp-IsAntisymmetric}
 use Rattle.std.specs.FinMap.Entries.{below_all}
 use Rattle.std.specs.List.{list_all}
@@ -12,6 +11,7 @@ use Rattle.std.proofs.lemmas.Cmp.{eq_by_cmp_equiv, nat_list_cmp_total}
 use Rattle.std.proofs.lemmas.List.{map-id}
 use Rattle.std.proofs.lemmas.Simd.{map-map}
 use Rattle.pf_rule.specs.Rules.{PlainRule}
+use Rattle.pf_addr.specs.Refusing.{refused_at, both_passed}
 use Rattle.pf_addr.specs.Path.Names.{name_order}
 use Rattle.pf_addr.specs.Path.Paths.{same_path}
 use Rattle.pf_table.specs.Entries.{Row}
@@ -21,23 +21,16 @@ use Rattle.pf_anchor.specs.Rulesets.{Ruled, rules_at, with_rules}
 use Rattle.pf_anchor.specs.Tables.{TableKey, Tabled, table_order, with_table}
 use Rattle.pf_anchor.proofs.RulesetMaps.{replaced_in_turn}
 use Rattle.pf_anchor.proofs.TableMaps.{tables_replaced}
-use Rattle.pf_ticket.specs.declared.entry.Entry.{Entry}
-use Rattle.pf_ticket.specs.declared.name.RulesetKind.{RulesetKind}
-use Rattle.pf_ticket.specs.declared.name.RulesetKind.TheVariants.{Filter, Table}
-use Rattle.pf_ticket.specs.declared.name.RulesetName.{RulesetName}
-use Rattle.pf_ticket.specs.declared.refusal.TicketRefusal.{TicketRefusal}
-use Rattle.pf_ticket.specs.declared.refusal.TicketRefusal.TheVariants.{BadCount, Twice, Busy}
+use Rattle.pf_ticket.specs.declared.{entry.Entry.Entry, name.RulesetKind.RulesetKind, name.RulesetKind.TheVariants.Filter, name.RulesetKind.TheVariants.Table, name.RulesetName.RulesetName, refusal.TicketRefusal.TheVariants.BadCount, refusal.TicketRefusal.TheVariants.Twice, refusal.TicketRefusal.TheVariants.Busy}
 use Rattle.pf_ticket.specs.NameLaws.{paths_alike, name_is}
 use Rattle.pf_ticket.specs.Names.{same_kind, same_name, is_named, names_of, filter_at, table_ruleset_at, IsDistinct}
-use Rattle.pf_ticket.specs.Replies.{bad_count, twice_in, busy_in, refused_at, and_then, list_check, commit_check}
+use Rattle.pf_ticket.specs.Replies.{bad_count, twice_in, busy_in, list_check, commit_check}
 use Rattle.pf_ticket.specs.Mentions.{Mention, switched, dropped, named_in, after}
 use Rattle.pf_ticket.specs.NamedTables.{Named}
 use Rattle.pf_ticket.specs.Tickets.{Loaded, Open, offered_as, loaded, offer_at, ticket_in, content}
 use Rattle.pf_ticket.proofs.Moves.{leaves_the_others as mentions_leave, commit_takes_out, gives-named}
 use Rattle.pf_ticket.proofs.Twice.{otherwise_once}
-use Rattle.pf_core.specs.declared.durable.change.Item.{Item}
-use Rattle.pf_core.specs.declared.command.Command.TheVariants.{Transact, Edit as Change, States as OfStates, Ask}
-use Rattle.pf_core.specs.declared.command.Transaction.TheVariants.{Begin, Add, Define, Commit, Rollback}
+use Rattle.pf_core.specs.declared.{durable.change.Item.Item, command.Command.TheVariants.Transact, command.Command.TheVariants.Edit as Change, command.Command.TheVariants.States as OfStates, command.Command.TheVariants.Ask, command.Transaction.TheVariants.Begin, command.Transaction.TheVariants.Add, command.Transaction.TheVariants.Define, command.Transaction.TheVariants.Commit, command.Transaction.TheVariants.Rollback}
 use Rattle.pf_core.specs.Commands.{item_of, items, mentioned, is_accepted}
 use Rattle.pf_core.specs.Durable.Edits.{Kept, Edit, commits, rulesets_in, placed, tables_in, entries_at, applied}
 use Rattle.pf_core.specs.Laws.{tables_offered, AreTablesSwitched, AreSwitched, SwitchesAll, LeaveTheOtherKind, KeepsNoneValid, MentionsTheNamed, LeavesTheOthers, RefusedMentionNothing}
@@ -167,17 +160,13 @@ tables-switched t (e ∷ es) p name old =
 
 -- ---- out of the step
 
-first-good : (a b : Result (Unit {0}) TicketRefusal) → and_then a b ≡ Ok tt → a ≡ Ok tt
-first-good (Ok u) b h = refl
-first-good (Err x) b h = absurd (cc (h))
-
-not-twice : (b : Bool) (place : Option ℕ) → cond b (Err BadCount) (refused_at (λ i. Twice i) place) ≡ Ok tt → place ≡ None
+pub not-twice : (b : Bool) (place : Option ℕ) → cond b (Err BadCount) (refused_at (λ i. Twice i) place) ≡ Ok tt → place ≡ None
 not-twice true place h = absurd (cc (h))
 not-twice false None h = refl
 not-twice false (Some i) h = absurd (cc (h))
 
 named-once : (t : Open) (entries : List Entry) → commit_check t entries ≡ Ok tt → IsDistinct (names_of entries)
-named-once t entries good = otherwise_once entries (not-twice (bad_count (length entries)) (twice_in entries) (first-good (list_check entries) (refused_at (λ i. Busy i) (busy_in t entries)) good))
+named-once t entries good = otherwise_once entries (not-twice (bad_count (length entries)) (twice_in entries) ((both_passed (list_check entries) (refused_at (λ i. Busy i) (busy_in t entries)) tt good).first))
 
 tables-committed : (t : Open) (d new : Kept) (entries : List Entry) → IsDistinct (names_of entries) → ((p name : List ℕ) → entries_at new p name ≡ switched_in (entries_of t p name) (names_of entries) (table_ruleset_at p) (entries_at d p name)) → AreTablesSwitched t entries d new
 tables-committed t d new entries once read = record {

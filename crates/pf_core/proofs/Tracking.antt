@@ -7,20 +7,14 @@ use Rattle.std.specs.Ordering.{eq_by_cmp}
 use Rattle.pf_rule.specs.Packets.{PlainPacket}
 use Rattle.pf_anchor.specs.declared.verdict.RuleVerdict.{RuleVerdict}
 use Rattle.pf_anchor.specs.Evaluation.{judged}
-use Rattle.pf_state.specs.declared.state.Bound.{Bound}
-use Rattle.pf_state.specs.declared.state.Held.{Held}
-use Rattle.pf_state.specs.declared.state.StateName.{StateName}
-use Rattle.pf_state.specs.declared.step.Insertion.TheVariants.{New}
-use Rattle.pf_state.specs.declared.step.Step.TheVariants.{Insert}
+use Rattle.pf_state.specs.declared.{state.Bound.Bound, state.Held.Held, state.StateName.StateName, step.Insertion.TheVariants.New, step.Step.TheVariants.Insert}
 use Rattle.pf_state.specs.Flows.{flow_of, same_flow}
 use Rattle.pf_state.specs.States.{Stated, name_order, held_at, state_of}
 use Rattle.pf_state.specs.Steps.{is_clash, insertion}
-use Rattle.pf_core.specs.declared.durable.verdict.Verdict.TheVariants.{State, Rules}
+use Rattle.pf_core.specs.declared.{durable.verdict.Verdict.TheVariants.State, durable.verdict.Verdict.TheVariants.Rules, reply.Outcome.Outcome, step.Step.TheVariants.Done, step.Step.TheVariants.Wants}
 use Rattle.pf_core.specs.Durable.Edits.{Kept, Edit, acts}
 use Rattle.pf_core.specs.declared.reply.Answer.TheVariants as answer
-use Rattle.pf_core.specs.declared.reply.Outcome.{Outcome}
 use Rattle.pf_core.specs.declared.reply.Outcome.TheVariants as outcome
-use Rattle.pf_core.specs.declared.step.Step.TheVariants.{Done, Wants}
 use Rattle.pf_core.specs.Commands.{wanting, makes_state, tracked, track_step}
 use Rattle.pf_core.specs.Laws.{MakesOne, TrackMakesOne}
 use Rattle.pf_core.specs.WorldLaws.{IsThis, wanted}

@@ -1,36 +1,44 @@
 -- Limits that a change keeps.
-use Rattle.std.proofs.Common.{◌≡◌, ℕ, ◌≤◌, ◌==◌, ◌&&◌, not, Bool, true, false, List, [], ◌∷◌, length, refl, sym, ap, subst, Ok, arith}
+use Rattle.std.proofs.Common.{◌≡◌, T, ℕ, ◌≤◌, ◌==◌, ◌&&◌, not, cond, Bool, true, false, List, [], ◌∷◌, length, refl, sym, ap, subst, Result, Ok, arith}
 use Rattle.std.specs.Prelude.{nat_lt}
+use Rattle.std.specs.declared.cmp.Ordering.{Ordering}
+use Rattle.std.specs.FinMap.{is_sorted}
+use Rattle.std.specs.List.{AllByRecursion}
 use Rattle.std.specs.Ordering.{eq_by_cmp}
 use Rattle.std.proofs.lemmas.Bool.{cond_both}
 use Rattle.std.proofs.lemmas.Bool.Decides.{nat_tests}
 use Rattle.pf_table.specs.declared.limits.TheConstants.{TABLE_LIMIT}
-use Rattle.pf_table.specs.EditLaws.{deleted_fewer}
+use Rattle.pf_addr.specs.Path.Paths.{path_order}
+use Rattle.pf_rule.specs.Rules.{PlainRule}
+use Rattle.pf_table.specs.EditLaws.{deleted_fewer, sorted_added, sorted_deleted}
 use Rattle.pf_table.specs.Edits.{added, deleted, replaced}
-use Rattle.pf_table.specs.Entries.{Row}
-use Rattle.pf_anchor.specs.declared.limits.TheConstants.{TABLE_COUNT_LIMIT}
+use Rattle.pf_table.specs.Entries.{Row, net_order}
+use Rattle.pf_table.specs.Map.ListMaps.{list_by}
+use Rattle.pf_table.specs.Tables.{AreEntries}
+use Rattle.pf_anchor.specs.declared.limits.TheConstants.{RULE_LIMIT, RULESET_LIMIT, TABLE_COUNT_LIMIT}
+use Rattle.pf_anchor.specs.Configurations.{Configuration}
+use Rattle.pf_anchor.specs.Rulesets.{rules_at}
 use Rattle.pf_anchor.specs.Tables.{tabled, table_order}
-use Rattle.pf_anchor.proofs.TableMaps.{tables_replaced}
+use Rattle.pf_anchor.proofs.TableMaps.{tables_replaced, table_maps_stay}
 use Rattle.pf_state.specs.Steps.{passes_limit}
 use Rattle.pf_state.proofs.Counting.{states_deleted}
 use Rattle.pf_state.proofs.Tables.{stays_states}
-use Rattle.pf_core.specs.declared.durable.refusal.ChangeRefusal.TheVariants.{TableFull, TooManyTables, StatesFull}
-use Rattle.pf_core.specs.Durable.Edits.{Kept, adds, deletes, applied, entries_at, with_entries, is_one_more, no_conflict, holdable, room_for_table, replaceable}
-use Rattle.pf_core.specs.Durable.Laws.{IsWithin, KeepsWithin}
-use Rattle.pf_core.proofs.Checks.{AreBothPassed, both_passed, not_refused}
+use Rattle.pf_core.specs.declared.{durable.refusal.ChangeRefusal.ChangeRefusal, durable.refusal.ChangeRefusal.TheVariants.Twice, durable.refusal.ChangeRefusal.TheVariants.TableFull, durable.refusal.ChangeRefusal.TheVariants.TooManyRulesets, durable.refusal.ChangeRefusal.TheVariants.TooManyTables, durable.refusal.ChangeRefusal.TheVariants.StatesFull, durable.change.Item.Item}
+use Rattle.pf_core.specs.Durable.Edits.{Kept, commits, deletes, applied, fits, named_again, rulesets_in, tables_in, entries_at, with_entries, is_one_more, no_conflict, holdable, room_for_table, replaceable}
+use Rattle.pf_core.specs.Durable.Laws.{IsWithin, AreFew, KeepsWithin}
+use Rattle.pf_addr.specs.Refusing.{and_then, unless, refused_at, AreBothPassed, both_passed, not_refused}
+use Rattle.pf_core.proofs.Edited.{replaces_exactly}
 use Rattle.pf_core.proofs.TableCounts.{deleted-none, no-table-more}
 
-abbrev pub AreFewEntries : List Row → Type 0
-AreFewEntries es = length es ≤ TABLE_LIMIT
-
-table-within : (d : Kept) (p name : List ℕ) (es : List Row) → AreFewEntries es → length (with_entries d p name es).config.tables ≤ TABLE_COUNT_LIMIT → IsWithin d → IsWithin (with_entries d p name es)
+table-within : (d : Kept) (p name : List ℕ) (es : List Row) → AreEntries es → length (with_entries d p name es).config.tables ≤ TABLE_COUNT_LIMIT → IsWithin d → IsWithin (with_entries d p name es)
 table-within d p name es few count w = record {
+  maps = record { rulesets = w.maps.rulesets; tables = table_maps_stay (tabled p name es ∷ []) d.config.tables w.maps.tables };
   rulesets = w.rulesets;
   rules = w.rules;
   tables = count;
   states = w.states;
-  entries = λ q other. subst AreFewEntries (sym (tables_replaced (tabled p name es ∷ []) d.config.tables q other))
-      (cond_both (eq_by_cmp table_order (p, name) (q, other)) es (entries_at d q other) AreFewEntries (λ _. few) (λ _. w.entries q other));
+  entries = λ q other. subst AreEntries (sym (tables_replaced (tabled p name es ∷ []) d.config.tables q other))
+      (cond_both (eq_by_cmp table_order (p, name) (q, other)) es (entries_at d q other) AreEntries (λ _. few) (λ _. w.entries q other));
 }
 
 room-within : (d : Kept) (p name : List ℕ) (es : List Row) → room_for_table d p name es ≡ Ok tt → IsWithin d → length (with_entries d p name es).config.tables ≤ TABLE_COUNT_LIMIT
@@ -42,11 +50,11 @@ room-within d p name es h w = by (is_one_more (entries_at d p name) es) refl (no
       let before : length d.config.tables ≤ TABLE_COUNT_LIMIT = w.tables in
       omega (arith, less, before)
 
-replaceable-within : (d : Kept) (p name : List ℕ) (es : List Row) → replaceable d p name es ≡ Ok tt → IsWithin d → IsWithin (with_entries d p name es)
-replaceable-within d p name es h w =
+replaceable-within : (d : Kept) (p name : List ℕ) (es : List Row) → T (is_sorted net_order es) → replaceable d p name es ≡ Ok tt → IsWithin d → IsWithin (with_entries d p name es)
+replaceable-within d p name es order h w =
     let both : AreBothPassed (holdable es) (room_for_table d p name es) tt = both_passed (holdable es) (room_for_table d p name es) tt h in
     let few : nat_lt TABLE_LIMIT (length es) ≡ false = not_refused (nat_lt TABLE_LIMIT (length es)) TableFull both.first in
-    table-within d p name es (grind (arith, nat_tests, few)) (room-within d p name es both.second w) w
+    table-within d p name es (record { sorted = order; few = grind (arith, nat_tests, few) }) (room-within d p name es both.second w) w
 
 -- what is left of a table that isn't there isn't one more
 still-there : (old xs : List Row) → is_one_more old (deleted old xs) ≡ false
@@ -59,24 +67,53 @@ delete-within : (d : Kept) (p name : List ℕ) (xs : List Row) → IsWithin d �
 delete-within d p name xs w =
     let old : List Row = entries_at d p name in
     let fewer : length (deleted old xs) ≤ length old = deleted_fewer old xs in
-    let before : length old ≤ TABLE_LIMIT = w.entries p name in
+    let before : length old ≤ TABLE_LIMIT = (w.entries p name).few in
     let less : length (with_entries d p name (deleted old xs)).config.tables ≤ length d.config.tables = no-table-more d.config.tables p name (deleted old xs) (still-there old xs) in
     let tables : length d.config.tables ≤ TABLE_COUNT_LIMIT = w.tables in
-    table-within d p name (deleted old xs) (omega (arith, fewer, before)) (omega (arith, less, tables)) w
+    table-within d p name (deleted old xs) (record { sorted = sorted_deleted old xs (w.entries p name).sorted; few = omega (arith, fewer, before) }) (omega (arith, less, tables)) w
+
+-- ---- commits
+
+-- of lists that are replaced each is the last one given for its key, or the old one
+listed-within : {K X : Type 0} (R : K → K → Ordering) (P : List X → Type 0) (items : List (K × List X)) (k : K) (old : List X) → AllByRecursion (λ e. P e.1) items → P old → P (list_by R items k old)
+listed-within R P [] k old each h = h
+listed-within R P (e ∷ es) k old each h = listed-within R P es k (cond (eq_by_cmp R e.0 k) e.1 old) each.1 (cond_both (eq_by_cmp R e.0 k) e.1 old P (λ _. each.0) (λ _. h))
+
+commit-within : (d : Kept) (items : List Item) → AreFew items → fits d (commits items) ≡ Ok tt → IsWithin d → IsWithin (applied d (commits items))
+commit-within d items each h w =
+    let new : Configuration = (applied d (commits items)).config in
+    let rulesets-few : Result (Unit {0}) ChangeRefusal = unless (nat_lt RULESET_LIMIT (length new.rulesets)) TooManyRulesets in
+    let tables-few : Result (Unit {0}) ChangeRefusal = unless (nat_lt TABLE_COUNT_LIMIT (length new.tables)) TooManyTables in
+    let both : AreBothPassed rulesets-few tables-few tt =
+    both_passed rulesets-few tables-few tt (both_passed (refused_at (λ i. Twice i) (named_again items)) (and_then rulesets-few tables-few) tt h).second in
+    let rulesets : nat_lt RULESET_LIMIT (length new.rulesets) ≡ false = not_refused (nat_lt RULESET_LIMIT (length new.rulesets)) TooManyRulesets both.first in
+    let tables : nat_lt TABLE_COUNT_LIMIT (length new.tables) ≡ false = not_refused (nat_lt TABLE_COUNT_LIMIT (length new.tables)) TooManyTables both.second in
+    record {
+      maps = (replaces_exactly d items w.maps).maps;
+      rulesets = grind (arith, nat_tests, rulesets);
+      rules = λ p. subst (λ (rs : List PlainRule). length rs ≤ RULE_LIMIT) (sym ((replaces_exactly d items w.maps).rules p))
+          (listed-within path_order (λ (rs : List PlainRule). length rs ≤ RULE_LIMIT) (rulesets_in items) p (rules_at p d.config.rulesets) each.rules (w.rules p));
+      tables = grind (arith, nat_tests, tables);
+      entries = λ p name. subst AreEntries (sym ((replaces_exactly d items w.maps).tables p name))
+          (listed-within table_order AreEntries (tables_in items) (p, name) (entries_at d p name) each.entries (w.entries p name));
+      states = w.states;
+    }
 
 pub keeps_within : KeepsWithin
 keeps_within d w = record {
+  by_commit = λ items each h. commit-within d items each h w;
   by_add = λ p name xs h.
       let new : List Row = added (entries_at d p name) xs in
-      replaceable-within d p name new (both_passed (no_conflict xs) (replaceable d p name new) tt h).second w;
+      replaceable-within d p name new (sorted_added (entries_at d p name) xs (w.entries p name).sorted) (both_passed (no_conflict xs) (replaceable d p name new) tt h).second w;
   by_delete = λ p name xs. delete-within d p name xs w;
-  by_set = λ p name xs h. replaceable-within d p name (replaced xs) (both_passed (no_conflict xs) (replaceable d p name (replaced xs)) tt h).second w;
+  by_set = λ p name xs h. replaceable-within d p name (replaced xs) (sorted_added [] xs tt) (both_passed (no_conflict xs) (replaceable d p name (replaced xs)) tt h).second w;
   by_steps = λ steps h. record {
+    maps = w.maps;
     rulesets = w.rulesets;
     rules = w.rules;
     tables = w.tables;
     entries = w.entries;
     states = (stays_states d.states steps).table w.states (not_refused (passes_limit d.states steps) StatesFull h);
   };
-  by_removal = λ name. record { rulesets = w.rulesets; rules = w.rules; tables = w.tables; entries = w.entries; states = states_deleted d.states name w.states };
+  by_removal = λ name. record { maps = w.maps; rulesets = w.rulesets; rules = w.rules; tables = w.tables; entries = w.entries; states = states_deleted d.states name w.states };
 }

@@ -1,8 +1,9 @@
--- What a command means: the step that it is due, what it mentions, and whether it takes memory (pf(4), DIOCXBEGIN to DIOCXROLLBACK, DIOCRADDADDRS to DIOCRTSTADDRS; pf.conf(5); pfctl(8), -k). One line each, by family. The limits, the order of refusals and what peers tell are own.
+-- What a command means: the step that it is due, what it mentions, and whether it takes memory (pf(4), DIOCXBEGIN to DIOCXROLLBACK,
+-- DIOCRADDADDRS to DIOCRTSTADDRS; pf.conf(5); pfctl(8), -k). One line each, by family. The limits, the order of refusals and what peers
+-- tell are own.
 use Rattle.std.specs.Prelude.{ℕ, ◌==◌, Bool, true, false, not, if◌then◌else◌, is_some, List, [], ◌∷◌, length, map, filter, Option, Some, None, Result, Ok, Err}
-use Rattle.pf_table.specs.declared.answer.Addition.{Addition}
+use Rattle.pf_table.specs.declared.{answer.Addition.Addition, answer.Deletion.Deletion}
 use Rattle.pf_table.specs.declared.answer.Addition.TheVariants as addition
-use Rattle.pf_table.specs.declared.answer.Deletion.{Deletion}
 use Rattle.pf_table.specs.declared.answer.Deletion.TheVariants as deletion
 use Rattle.pf_table.specs.Edits.{additions, deletions}
 use Rattle.pf_table.specs.Entries.{Row}
@@ -11,54 +12,26 @@ use Rattle.pf_anchor.specs.Rulesets.{ruled, rules_at}
 use Rattle.pf_anchor.specs.Tables.{tables_at}
 use Rattle.pf_rule.specs.declared.rule.Action.TheVariants.{Pass, Block}
 use Rattle.pf_rule.specs.Packets.{PlainPacket}
-use Rattle.pf_anchor.specs.declared.verdict.RuleVerdict.{RuleVerdict}
-use Rattle.pf_anchor.specs.declared.verdict.RuleVerdict.TheVariants.{Rule as Deciding, Default as NoRule}
-use Rattle.pf_state.specs.declared.state.Bound.{Bound}
+use Rattle.pf_anchor.specs.declared.{verdict.RuleVerdict.RuleVerdict, verdict.RuleVerdict.TheVariants.Rule as Deciding, verdict.RuleVerdict.TheVariants.Default as NoRule}
+use Rattle.pf_state.specs.declared.{state.Bound.Bound, state.StateName.StateName, step.Step.Step as StateStep, peer.message.Message.Message}
 use Rattle.pf_state.specs.declared.state.Bound.TheVariants as bound
-use Rattle.pf_state.specs.declared.state.StateName.{StateName}
-use Rattle.pf_state.specs.declared.step.Step.{Step as StateStep}
 use Rattle.pf_state.specs.declared.step.Step.TheVariants as step
 use Rattle.pf_state.specs.Flows.{flow_of}
 use Rattle.pf_state.specs.States.{Stated, held_at}
 use Rattle.pf_state.specs.Steps.{counts}
-use Rattle.pf_state.specs.declared.peer.message.Message.{Message}
 use Rattle.pf_state.specs.Peer.Written.{message_bytes}
 use Rattle.pf_state.specs.Failover.Incoming.{steps_of}
 use Rattle.pf_state.specs.Failover.Outgoing.{exported_messages}
-use Rattle.pf_ticket.specs.declared.entry.Entry.{Entry}
-use Rattle.pf_ticket.specs.declared.name.RulesetName.{RulesetName}
-use Rattle.pf_ticket.specs.declared.offered.Offered.{Offered}
+use Rattle.pf_ticket.specs.declared.{entry.Entry.Entry, name.RulesetName.RulesetName, offered.Offered.Offered, refusal.TicketRefusal.TicketRefusal}
 use Rattle.pf_ticket.specs.declared.offered.Offered.TheVariants as offered
-use Rattle.pf_ticket.specs.declared.refusal.TicketRefusal.{TicketRefusal}
 use Rattle.pf_ticket.specs.Names.{filter_at, table_ruleset_at, names_of}
 use Rattle.pf_ticket.specs.Mentions.{Mention, added, defined, gives, switches, drops}
 use Rattle.pf_ticket.specs.Tickets.{Open, content}
 use Rattle.pf_ticket.specs.Replies.{begin_reply, add_reply, define_reply, list_check, commit_check}
-use Rattle.pf_core.specs.declared.durable.change.Item.{Item}
+use Rattle.pf_core.specs.declared.{durable.change.Item.Item, command.Command.Command, command.Command.TheVariants.Transact, command.Command.TheVariants.Edit as Change, command.Command.TheVariants.States as OfStates, command.Command.TheVariants.Ask, command.Question.Question, command.Question.TheVariants.Judge, command.Question.TheVariants.Test, command.Question.TheVariants.ShowRules, command.Question.TheVariants.ShowTables, command.Question.TheVariants.ShowStates, command.Question.TheVariants.Sum, command.Question.TheVariants.Export, command.StateCommand.StateCommand, command.StateCommand.TheVariants.Track, command.StateCommand.TheVariants.Peer, command.StateCommand.TheVariants.Kill as KillState, command.TableEdit.TableEdit, command.TableEdit.TheVariants.Add as AddTo, command.TableEdit.TheVariants.Delete, command.TableEdit.TheVariants.Set, command.TableEdit.TheVariants.Kill, command.Transaction.Transaction, command.Transaction.TheVariants.Begin, command.Transaction.TheVariants.Add, command.Transaction.TheVariants.Define, command.Transaction.TheVariants.Commit, command.Transaction.TheVariants.Rollback, reply.Answer.Answer, reply.Outcome.Outcome, reply.Refusal.Refusal, reply.Refusal.TheVariants.Absent, reply.Reply.Reply, reply.Reply.TheVariants.Answer as Answered, reply.Reply.TheVariants.Applied, reply.Reply.TheVariants.Refused, step.Step.Step, step.Step.TheVariants.Done, step.Step.TheVariants.Wants, durable.refusal.ChangeRefusal.ChangeRefusal, durable.verdict.Verdict.Verdict, durable.verdict.Verdict.TheVariants.State as Stateful, durable.verdict.Verdict.TheVariants.Rules as ByRules}
 use Rattle.pf_core.specs.declared.durable.change.Item.TheVariants as item
-use Rattle.pf_core.specs.declared.command.Command.{Command}
-use Rattle.pf_core.specs.declared.command.Command.TheVariants.{Transact, Edit as Change, States as OfStates, Ask}
-use Rattle.pf_core.specs.declared.command.Question.{Question}
-use Rattle.pf_core.specs.declared.command.Question.TheVariants.{Judge, Test, ShowRules, ShowTables, ShowStates, Sum, Export}
-use Rattle.pf_core.specs.declared.command.StateCommand.{StateCommand}
-use Rattle.pf_core.specs.declared.command.StateCommand.TheVariants.{Track, Peer, Kill as KillState}
-use Rattle.pf_core.specs.declared.command.TableEdit.{TableEdit}
-use Rattle.pf_core.specs.declared.command.TableEdit.TheVariants.{Add as AddTo, Delete, Set, Kill}
-use Rattle.pf_core.specs.declared.command.Transaction.{Transaction}
-use Rattle.pf_core.specs.declared.command.Transaction.TheVariants.{Begin, Add, Define, Commit, Rollback}
-use Rattle.pf_core.specs.declared.reply.Answer.{Answer}
 use Rattle.pf_core.specs.declared.reply.Answer.TheVariants as answer
-use Rattle.pf_core.specs.declared.reply.Outcome.{Outcome}
 use Rattle.pf_core.specs.declared.reply.Outcome.TheVariants as outcome
-use Rattle.pf_core.specs.declared.reply.Refusal.{Refusal}
-use Rattle.pf_core.specs.declared.reply.Refusal.TheVariants.{Absent}
-use Rattle.pf_core.specs.declared.reply.Reply.{Reply}
-use Rattle.pf_core.specs.declared.reply.Reply.TheVariants.{Answer as Answered, Applied, Refused}
-use Rattle.pf_core.specs.declared.step.Step.{Step}
-use Rattle.pf_core.specs.declared.step.Step.TheVariants.{Done, Wants}
-use Rattle.pf_core.specs.declared.durable.refusal.ChangeRefusal.{ChangeRefusal}
-use Rattle.pf_core.specs.declared.durable.verdict.Verdict.{Verdict}
-use Rattle.pf_core.specs.declared.durable.verdict.Verdict.TheVariants.{State as Stateful, Rules as ByRules}
 use Rattle.pf_core.specs.Durable.Edits.{Kept, Edit, commits, adds, deletes, sets, acts, removes, entries_at, main_sum, no_conflict, fits, verdict}
 use Rattle.pf_core.specs.Refusals.{refusal_of, change_refusal_of}
 
@@ -111,7 +84,8 @@ same_addition wanted answer = false
 
 -- how many of these are new, how many stand there already, and how many with the other sign
 abbrev pub added_of : List Addition → Outcome
-added_of answers = outcome.Added (length (filter (same_addition addition.Added) answers)) (length (filter (same_addition addition.Same) answers)) (length (filter (same_addition addition.Conflict) answers))
+added_of answers = outcome.Added (length (filter (same_addition addition.Added) answers))
+    (length (filter (same_addition addition.Same) answers)) (length (filter (same_addition addition.Conflict) answers))
 
 abbrev pub same_deletion : Deletion → Deletion → Bool
 same_deletion deletion.Deleted deletion.Deleted = true
@@ -120,7 +94,8 @@ same_deletion wanted answer = false
 
 -- how many of these were there, and how many weren't
 abbrev pub deleted_of : List Deletion → Outcome
-deleted_of answers = outcome.Deleted (length (filter (same_deletion deletion.Deleted) answers)) (length (filter (same_deletion deletion.Absent) answers))
+deleted_of answers = outcome.Deleted (length (filter (same_deletion deletion.Deleted) answers))
+    (length (filter (same_deletion deletion.Absent) answers))
 
 -- what isn't there is refused
 abbrev pub if_there : {A : Type 0} → Bool → Result A Refusal → Result A Refusal
@@ -134,7 +109,8 @@ is_table es = not (length es == 0)
 -- Each change that is accepted is wanted, also where it leaves all as it is. To kill a table is to set it to no entries.
 abbrev pub edit_step : Kept → TableEdit → Result Step Refusal
 edit_step d (AddTo p name xs) = wanting d (adds p name xs) (added_of (additions (entries_at d p name) xs))
-edit_step d (Delete p name xs) = unless_unfit (no_conflict xs) (if_there (is_table (entries_at d p name)) (Ok (Wants (deletes p name xs) (deleted_of (deletions (entries_at d p name) xs)))))
+edit_step d (Delete p name xs) = unless_unfit (no_conflict xs)
+    (if_there (is_table (entries_at d p name)) (Ok (Wants (deletes p name xs) (deleted_of (deletions (entries_at d p name) xs)))))
 edit_step d (Set p name xs) = wanting d (sets p name xs) outcome.Set
 edit_step d (Kill p name) = if_there (is_table (entries_at d p name)) (Ok (Wants (sets p name []) outcome.Killed))
 
@@ -154,7 +130,8 @@ makes_state d NoRule = None
 
 -- it is made under a name that isn't taken
 abbrev pub make_step : Kept → RuleVerdict → Stated → Result Step Refusal
-make_step d by s = if is_some (held_at s.0 d.states) then Ok (Done (answer.Stale by)) else wanting d (acts (step.Insert s ∷ [])) (outcome.Tracked by)
+make_step d by s = if is_some (held_at s.0 d.states) then Ok (Done (answer.Stale by))
+    else wanting d (acts (step.Insert s ∷ [])) (outcome.Tracked by)
 
 abbrev pub tracked : Kept → StateName → PlainPacket → RuleVerdict → Option Bound → Result Step Refusal
 tracked d name packet by None = Ok (Done (answer.Judged (ByRules by)))

@@ -1,11 +1,10 @@
 -- What is told where the tickets or a change refuse, and where memory was refused.
 use Rattle.std.specs.Prelude.{◌≡◌, Bool, true, Result, Err}
-use Rattle.pf_core.specs.declared.reply.Refusal.{Refusal}
+use Rattle.pf_addr.specs.Refusing.{OrMemory as DueOrMemory}
+use Rattle.pf_core.specs.declared.{reply.Refusal.Refusal, durable.refusal.ChangeRefusal.ChangeRefusal}
 use Rattle.pf_core.specs.declared.reply.Refusal.TheVariants as told
-use Rattle.pf_core.specs.declared.durable.refusal.ChangeRefusal.{ChangeRefusal}
 use Rattle.pf_core.specs.declared.durable.refusal.ChangeRefusal.TheVariants as by_change
-use Rattle.pf_ticket.specs.declared.refusal.TicketRefusal.{TicketRefusal}
-use Rattle.pf_ticket.specs.declared.refusal.TicketRefusal.TheVariants.{BadCount, Twice, Busy, Conflict, RulesetFull, TooManyRulesets, TableFull, TooManyTables, TicketsExhausted, Memory}
+use Rattle.pf_ticket.specs.declared.{refusal.TicketRefusal.TicketRefusal, refusal.TicketRefusal.TheVariants.BadCount, refusal.TicketRefusal.TheVariants.Twice, refusal.TicketRefusal.TheVariants.Busy, refusal.TicketRefusal.TheVariants.Conflict, refusal.TicketRefusal.TheVariants.RulesetFull, refusal.TicketRefusal.TheVariants.TooManyRulesets, refusal.TicketRefusal.TheVariants.TableFull, refusal.TicketRefusal.TheVariants.TooManyTables, refusal.TicketRefusal.TheVariants.TicketsExhausted, refusal.TicketRefusal.TheVariants.Memory}
 
 abbrev pub refusal_of : TicketRefusal → Refusal
 refusal_of BadCount = told.BadCount
@@ -20,6 +19,7 @@ refusal_of TicketsExhausted = told.TicketsExhausted
 refusal_of Memory = told.Memory
 
 abbrev pub change_refusal_of : ChangeRefusal → Refusal
+change_refusal_of (by_change.Twice i) = told.Twice i
 change_refusal_of (by_change.Conflict i) = told.Conflict i
 change_refusal_of by_change.TableFull = told.TableFull
 change_refusal_of by_change.TooManyRulesets = told.TooManyRulesets
@@ -29,4 +29,4 @@ change_refusal_of by_change.Memory = told.Memory
 
 -- this; or memory was refused, where it is taken
 abbrev pub OrMemory : {A : Type 0} → Bool → Result A Refusal → Result A Refusal → Type 0
-OrMemory takes r due = ((r ≡ Err told.Memory → ⊥) → r ≡ due) × (r ≡ Err told.Memory → takes ≡ true)
+OrMemory takes r due = DueOrMemory told.Memory r due × (r ≡ Err told.Memory → takes ≡ true)

@@ -1,48 +1,26 @@
 -- What is wanted, and what it mentions: lemmas, for the crates above too.
 use Rattle.std.specs.Prelude.{◌≡◌, ℕ, ◌==◌, ◌&&◌, Bool, true, false, if◌then◌else◌, not, is_some, List, [], ◌∷◌, length, map, nat_lt, Option, Some, None, Result, Ok, Err}
 use Rattle.std.proofs.Common.{refl, sym, ap, subst, ◌∙◌}
+use Rattle.pf_addr.specs.Refusing.{unless}
 use Rattle.pf_table.specs.Edits.{added, additions, deletions, conflict_behind}
-use Rattle.pf_anchor.specs.declared.limits.TheConstants.{TABLE_COUNT_LIMIT}
-use Rattle.pf_ticket.specs.declared.entry.Entry.{Entry}
-use Rattle.pf_ticket.specs.declared.name.RulesetKind.{RulesetKind}
-use Rattle.pf_ticket.specs.declared.name.RulesetKind.TheVariants.{Filter, Table}
-use Rattle.pf_ticket.specs.declared.name.RulesetName.{RulesetName}
-use Rattle.pf_ticket.specs.declared.refusal.TicketRefusal.{TicketRefusal}
+use Rattle.pf_anchor.specs.declared.{limits.TheConstants.TABLE_COUNT_LIMIT, verdict.RuleVerdict.RuleVerdict}
+use Rattle.pf_ticket.specs.declared.{entry.Entry.Entry, name.RulesetKind.RulesetKind, name.RulesetKind.TheVariants.Filter, name.RulesetKind.TheVariants.Table, name.RulesetName.RulesetName, refusal.TicketRefusal.TicketRefusal}
 use Rattle.pf_ticket.specs.Names.{filter_at, table_ruleset_at, names_of}
 use Rattle.pf_ticket.specs.NameLaws.{filter_is, table_is}
 use Rattle.pf_ticket.specs.Mentions.{switches}
 use Rattle.pf_ticket.specs.Replies.{begin_reply, add_reply, define_reply, list_check, commit_check}
 use Rattle.pf_ticket.specs.Tickets.{Open, Loaded, offered_as, loaded, content}
-use Rattle.pf_core.specs.declared.command.Command.{Command}
-use Rattle.pf_core.specs.declared.command.Command.TheVariants.{Transact, Edit as Change, States as OfStates, Ask}
+use Rattle.pf_core.specs.declared.{command.Command.Command, command.Command.TheVariants.Transact, command.Command.TheVariants.Edit as Change, command.Command.TheVariants.States as OfStates, command.Command.TheVariants.Ask, durable.refusal.ChangeRefusal.ChangeRefusal, durable.verdict.Verdict.Verdict, durable.verdict.Verdict.TheVariants.State as Stateful, durable.verdict.Verdict.TheVariants.Rules as ByRules, command.StateCommand.StateCommand, command.StateCommand.TheVariants.Track, command.StateCommand.TheVariants.Peer, command.StateCommand.TheVariants.Kill as KillState, command.TableEdit.TableEdit, command.TableEdit.TheVariants.Add as AddTo, command.TableEdit.TheVariants.Delete, command.TableEdit.TheVariants.Set, command.TableEdit.TheVariants.Kill, command.Transaction.TheVariants.Begin, command.Transaction.TheVariants.Add, command.Transaction.TheVariants.Define, command.Transaction.TheVariants.Commit, command.Transaction.TheVariants.Rollback, reply.Answer.Answer, reply.Outcome.Outcome, reply.Outcome.TheVariants.Committed, reply.Refusal.Refusal, durable.refusal.ChangeRefusal.TheVariants.TooManyTables, step.Step.Step, step.Step.TheVariants.Done, step.Step.TheVariants.Wants}
 use Rattle.pf_rule.specs.Packets.{PlainPacket}
-use Rattle.pf_anchor.specs.declared.verdict.RuleVerdict.{RuleVerdict}
-use Rattle.pf_state.specs.declared.state.Bound.{Bound}
-use Rattle.pf_state.specs.declared.state.StateName.{StateName}
-use Rattle.pf_state.specs.declared.step.Step.{Step as StateStep}
+use Rattle.pf_state.specs.declared.{state.Bound.Bound, state.StateName.StateName, step.Step.Step as StateStep}
 use Rattle.pf_state.specs.declared.step.Step.TheVariants as step
 use Rattle.pf_state.specs.Flows.{flow_of}
 use Rattle.pf_state.specs.States.{Stated, held_at}
 use Rattle.pf_state.specs.Steps.{counts}
-use Rattle.pf_core.specs.declared.durable.refusal.ChangeRefusal.{ChangeRefusal}
-use Rattle.pf_core.specs.declared.durable.verdict.Verdict.{Verdict}
-use Rattle.pf_core.specs.declared.durable.verdict.Verdict.TheVariants.{State as Stateful, Rules as ByRules}
-use Rattle.pf_core.specs.declared.command.StateCommand.{StateCommand}
-use Rattle.pf_core.specs.declared.command.StateCommand.TheVariants.{Track, Peer, Kill as KillState}
-use Rattle.pf_core.specs.declared.command.TableEdit.{TableEdit}
-use Rattle.pf_core.specs.declared.command.TableEdit.TheVariants.{Add as AddTo, Delete, Set, Kill}
-use Rattle.pf_core.specs.declared.command.Transaction.TheVariants.{Begin, Add, Define, Commit, Rollback}
-use Rattle.pf_core.specs.declared.reply.Answer.{Answer}
 use Rattle.pf_core.specs.declared.reply.Answer.TheVariants as answer
-use Rattle.pf_core.specs.declared.reply.Outcome.{Outcome}
 use Rattle.pf_core.specs.declared.reply.Outcome.TheVariants as outcome
-use Rattle.pf_core.specs.declared.reply.Outcome.TheVariants.{Committed}
-use Rattle.pf_core.specs.declared.reply.Refusal.{Refusal}
-use Rattle.pf_core.specs.declared.durable.refusal.ChangeRefusal.TheVariants.{TooManyTables}
-use Rattle.pf_core.specs.declared.step.Step.{Step}
-use Rattle.pf_core.specs.declared.step.Step.TheVariants.{Done, Wants}
 use Rattle.pf_core.specs.Commands.{unless_refused, unless_unfit, if_there, is_table, item_of, items, wanting, commit_step, added_of, deleted_of, edit_step, makes_state, tracked, track_step, steps_here, states_step, step_by, mentioned, edits_in_memory, is_done, changes_states_in_memory, takes_memory}
-use Rattle.pf_core.specs.Durable.Edits.{Kept, Edit, commits, adds, deletes, sets, acts, removes, entries_at, with_entries, name_of, voided_by, unless, no_conflict, fits, verdict}
+use Rattle.pf_core.specs.Durable.Edits.{Kept, Edit, commits, adds, deletes, sets, acts, removes, entries_at, with_entries, name_of, voided_by, no_conflict, fits, verdict}
 
 -- what the tickets didn't refuse
 pub record IsPassed {A B : Type 0} (r : Result A TicketRefusal) (f : A → Result B Refusal) (x : B) : Type 0 where
@@ -109,7 +87,7 @@ named-item : (k : RulesetKind) (name : RulesetName) (l : Loaded) → k ≡ name.
 named-item Filter name l is = filter_is name is
 named-item Table name l is = table_is name is
 
-names-items : (t : Open) (entries : List Entry) → map name_of (items (content t) entries) ≡ names_of entries
+pub names-items : (t : Open) (entries : List Entry) → map name_of (items (content t) entries) ≡ names_of entries
 names-items t [] = refl
 names-items t (e ∷ es) = ap (λ (n : RulesetName). n ∷ map name_of (items (content t) es)) (named-item e.name.kind e.name (loaded t e.name) refl) ∙ ap (λ (ns : List RulesetName). e.name ∷ ns) (names-items t es)
 

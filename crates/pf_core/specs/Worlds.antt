@@ -1,12 +1,6 @@
 -- Worlds: lists of events, which of them are legal, and what they leave. Own.
 use Rattle.std.specs.Prelude.{◌≡◌, ℕ, ◌+◌, ◌<◌, ◌⊎◌, Bool, true, if◌then◌else◌, List, [], ◌∷◌, ◌++◌, length, fold, nat_lt, ⊤, Result, Ok, Err}
-use Rattle.pf_core.specs.declared.command.Command.{Command}
-use Rattle.pf_core.specs.declared.reply.Refusal.{Refusal}
-use Rattle.pf_core.specs.declared.reply.Refusal.TheVariants.{HistoryFull, Memory}
-use Rattle.pf_core.specs.declared.reply.Reply.{Reply}
-use Rattle.pf_core.specs.declared.reply.Reply.TheVariants.{Answer, Applied, Refused}
-use Rattle.pf_core.specs.declared.step.Step.{Step}
-use Rattle.pf_core.specs.declared.step.Step.TheVariants.{Done, Wants}
+use Rattle.pf_core.specs.declared.{command.Command.Command, reply.Refusal.Refusal, reply.Refusal.TheVariants.HistoryFull, reply.Refusal.TheVariants.Memory, reply.Reply.Reply, reply.Reply.TheVariants.Answer, reply.Reply.TheVariants.Applied, reply.Reply.TheVariants.Refused, step.Step.Step, step.Step.TheVariants.Done, step.Step.TheVariants.Wants}
 use Rattle.pf_ticket.specs.Tickets.{Open, fresh}
 use Rattle.pf_ticket.specs.Mentions.{after as moved_by}
 use Rattle.pf_core.specs.Calls.{Call, mentions_of}
@@ -134,7 +128,11 @@ acked_by (Applied n o) g = g
 acked_by (Refused e) g = []
 
 abbrev pub heard : Held → Call → Upshot → Held
-heard h c t = record h { tickets = moved_by h.tickets (mentions_of c); acked = h.acked ++ acked_by c.reply (group_in h c.command); shown = t.shown }
+heard h c t = record h {
+  tickets = moved_by h.tickets (mentions_of c);
+  acked = h.acked ++ acked_by c.reply (group_in h c.command);
+  shown = t.shown;
+}
 
 abbrev pub next : State → Event → State
 next (up h) (called c t) = up (heard h c t)

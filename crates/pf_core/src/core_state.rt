@@ -139,7 +139,8 @@ fn transact(
 fn answer(alloc: Global, durable: &Durable, question: &Question) -> Result<Answer, AllocError>
     ensures value { IfOk result (λ a. a ≡ answer_of durable.now question.now) }
     ensures memory { OnErr result (asks_for_memory question.now ≡ true) }
-    ensures judged { (packet : PlainPacket) → question.now ≡ Question.Judge packet → result ≡ Ok (answer.Judged (verdict durable.now packet)) }
+    ensures judged { (packet : PlainPacket) → question.now ≡ Question.Judge packet →
+        result ≡ Ok (answer.Judged (verdict durable.now packet)) }
 {
     match question {
         Question::Judge(packet) => Ok(Answer::Judged(durable.verdict(packet))),
@@ -202,10 +203,13 @@ impl Core {
     /// The history's limit isn't the core's: whoever keeps the history answers `HistoryFull` to a change that is wanted,
     /// and doesn't accept it.
     pub fn step(&mut self, command: &Command) -> Result<Step, Refusal>
-        ensures reply { OrMemory (takes_memory self.old.durable command.now) result (step_by self.old.tickets self.old.durable command.now) }
+        ensures reply { OrMemory (takes_memory self.old.durable command.now) result
+            (step_by self.old.tickets self.old.durable command.now) }
         ensures left { self.new ≡ stepped self.old command.now result }
-        ensures judged { (packet : PlainPacket) → command.now ≡ Command.Ask (Question.Judge packet) → result ≡ Ok (Step.Done (answer.Judged (verdict self.old.durable packet))) }
-        ensures rolled_back { (entries : List Entry) → command.now ≡ Command.Transact (Transaction.Rollback entries) → result ≡ rollback_step entries }
+        ensures judged { (packet : PlainPacket) → command.now ≡ Command.Ask (Question.Judge packet) →
+            result ≡ Ok (Step.Done (answer.Judged (verdict self.old.durable packet))) }
+        ensures rolled_back { (entries : List Entry) → command.now ≡ Command.Transact (Transaction.Rollback entries) →
+            result ≡ rollback_step entries }
     {
         match command {
             Command::Transact(transaction) => transact(

@@ -1,6 +1,13 @@
 //! What follows from the definitions that contracts cite: functions that do nothing, whose contracts are the laws.
+ghost use Rattle.std.specs.Prelude.{◌≡◌};
+ghost use Rattle.pf_core.specs.Worlds.{last_epoch};
 ghost use Rattle.pf_core.specs.Laws.{LeaveTheOtherKind, WantsWhatFits, SwitchesAll, VoidsTheNamed, KeepsNoneValid, LeavesTheOthers, MentionsTheNamed, RefusedMentionNothing, TrackMakesOne};
-ghost use Rattle.pf_core.specs.WorldFacts.{TicketsAreOfTheCalls, GivesEachOnce, KeepsTheLimits, ShowsAll};
+ghost use Rattle.pf_core.specs.WorldFacts.{TicketsAreOfTheCalls, GivesEachOnce, KeepsTheLimits, CommitsNameOnce, ShowsAll, TestsTellTheEntry, JudgesTellTheVerdict};
+
+/// No opening has an epoch past 4,294,967,295.
+pub fn the_last_epoch()
+    ensures { last_epoch ≡ 4294967295 }
+{}
 
 /// A commit of filter rulesets leaves all tables, and a commit of table rulesets leaves all rulesets.
 pub fn commits_leave_the_other_kind()
@@ -20,7 +27,6 @@ pub fn track_makes_one_state()
 
 /// A commit that isn't refused switches all rulesets that it names, each to what was offered for it, and no other. Of
 /// the tables at a path those that were defined are switched, and the others stay.
-#[tactic(auto, using(crate::proofs::Switching::switches_all))]
 pub fn switches_all()
     ensures { SwitchesAll }
 {}
@@ -61,13 +67,27 @@ pub fn gives_each_ticket_once()
     ensures { GivesEachOnce }
 {}
 
-/// In each opening that a world comes to, where what was held first is within the limits, all of them hold: of rules,
-/// rulesets, entries, tables, states, tickets and history.
+/// In each opening that a world comes to, where what was held first is so: what is kept are maps of rulesets and of tables, in which
+/// none is empty and no path, no name at a path and no network of a table stands twice, and states of which no name and no flow does;
+/// and all limits hold, of rules, rulesets, entries, tables, states, tickets and history.
 pub fn keeps_the_limits()
     ensures { KeepsTheLimits }
+{}
+
+/// In each opening that a world comes to a commit whose tickets are valid names nothing twice, so that it is refused for limits alone.
+pub fn commits_name_nothing_twice()
+    ensures { CommitsNameOnce }
 {}
 
 /// In each opening that a world comes to every change is acknowledged, and is shown.
 pub fn shows_all()
     ensures { ShowsAll }
+{}
+
+/// So a test is told of the table that it names the one entry that contains the address with the most specific network, or none where
+/// none contains it; and a packet is judged by the one state of its flow, and where there is none by the rules: where the main ruleset
+/// has no anchor rule by the last rule that matches or the first quick one, and an anchor rule leads to the rulesets that there are.
+pub fn answers_rest_on_what_is_kept()
+    ensures tests { TestsTellTheEntry }
+    ensures judges { JudgesTellTheVerdict }
 {}

@@ -1,4 +1,17 @@
 //! Commands and replies: the decisions of the control plane, apart from texts and disks.
+//!
+//! It knows tickets, rulesets, tables and states by the crates below, and what a peer's message is. It doesn't know how a command is
+//! spelled or a reply written (pf_line), nor who keeps the changes and publishes them (pfd).
+//!
+//! A `Core` is what is kept, a `Durable`, and the open transactions. `Core::step` answers a command, refuses it, or says which `Change` it
+//! wants kept; `Core::prepare` makes what the change leaves, and `Core::accept` puts it in place. Read first specs/Durable/Edits.antt
+//! (what is kept, what a change does to it, which change fits) and specs/Commands.antt (the one step that a command is due), then
+//! specs/Worlds.antt: lists of calls and openings, and which replies are legal in them. What holds in every such world, as that no limit
+//! is passed, nothing stands twice and no ticket is given twice, says specs/WorldFacts.antt; specs/Laws.antt says what one step does.
+//!
+//! `durable` is what is kept and its changes. It uses no other module, and knows of tickets only the names of rulesets and the lists of
+//! defined tables. `command` and `reply` are values over it; `table_edit` and `state_command` are the steps of their commands, and
+//! `core_state` uses all. specs/Pages.antt and specs/WorldLaws.antt are for the crate above.
 #![tactic(auto)]
 
 mod command;
@@ -12,6 +25,6 @@ mod table_edit;
 
 pub use command::{Command, Question, StateCommand, TableEdit, Transaction};
 pub use core_state::{Core, Next};
-pub use durable::{Change, Durable, EntryList, Item, Verdict};
+pub use durable::{Change, ChangeRefusal, Durable, EntryList, Item, Verdict};
 pub use reply::{Answer, NamedTables, Outcome, Refusal, Reply, StateList};
 pub use step::Step;

@@ -215,6 +215,7 @@ impl From<ChangeRefusal> for Refusal {
 
     fn from(refusal: ChangeRefusal) -> Refusal {
         match refusal {
+            ChangeRefusal::Twice { at } => Refusal::Twice { at },
             ChangeRefusal::Conflict { at } => Refusal::Conflict { at },
             ChangeRefusal::TableFull => Refusal::TableFull,
             ChangeRefusal::TooManyRulesets => Refusal::TooManyRulesets,

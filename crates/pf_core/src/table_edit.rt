@@ -10,45 +10,18 @@ use crate::step::Step;
 use pf_table::{Addition, Deletion};
 use std::alloc::Global;
 
-fn same_addition(wanted: Addition, answer: Addition) -> bool
-    ensures { result ≡ same_addition wanted answer }
-{
-    match (wanted, answer) {
-        (Addition::Added, Addition::Added) => true,
-        (Addition::Same, Addition::Same) => true,
-        (Addition::Conflict, Addition::Conflict) => true,
-        _ => false,
-    }
-}
-
-fn same_deletion(wanted: Deletion, answer: Deletion) -> bool
-    ensures { result ≡ same_deletion wanted answer }
-{
-    match (wanted, answer) {
-        (Deletion::Deleted, Deletion::Deleted) => true,
-        (Deletion::Absent, Deletion::Absent) => true,
-        _ => false,
-    }
-}
-
 // How many entries had this answer.
 fn count_additions(answers: &[Addition], wanted: Addition) -> usize
     ensures { result ≡ length (filter (same_addition wanted) answers.now) }
 {
-    answers
-        .iter()
-        .filter(|answer| same_addition(wanted, **answer))
-        .count()
+    answers.iter().filter(|answer| wanted == **answer).count()
 }
 
 // How many entries had this answer.
 fn count_deletions(answers: &[Deletion], wanted: Deletion) -> usize
     ensures { result ≡ length (filter (same_deletion wanted) answers.now) }
 {
-    answers
-        .iter()
-        .filter(|answer| same_deletion(wanted, **answer))
-        .count()
+    answers.iter().filter(|answer| wanted == **answer).count()
 }
 
 fn added_of(answers: &[Addition]) -> Outcome

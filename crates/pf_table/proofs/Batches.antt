@@ -8,8 +8,7 @@ use Rattle.std.specs.Bool.{beq}
 use Rattle.std.specs.List.{list_any, AllByRecursion, fold}
 use Rattle.std.specs.Option.{option_or}
 use Rattle.pf_addr.specs.Address.{Network, IsNetwork}
-use Rattle.pf_table.specs.declared.answer.Addition.{Addition}
-use Rattle.pf_table.specs.declared.answer.Deletion.{Deletion}
+use Rattle.pf_table.specs.declared.{answer.Addition.Addition, answer.Deletion.Deletion}
 use Rattle.pf_table.specs.Entries.{Row}
 use Rattle.pf_table.specs.Tables.{sign_of}
 use Rattle.pf_table.specs.Edits.{with_entry, added, addition, additions, is_sign, has_entry, without_entry, deleted, deletion, deletions, same_entry, is_opposite, conflict_behind, conflict_in}

@@ -1,8 +1,7 @@
 -- Entries in order, and where a network stands among them.
 use Rattle.std.proofs.Common.{◌≡◌, ℕ, zero, suc, T, Bool, true, false, not, cond, ◌&&◌, List, [], ◌∷◌, ◌++◌, take, drop, length, Option, Some, None, is_some, refl, sym, ap, ◌∙◌, subst, true≢false, ◌<◌, ◌≤◌, get_or, ◌-◌, arith}
 use Rattle.std.proofs.lemmas.List.{take_rest}
-use Rattle.std.specs.declared.cmp.Ordering.{Ordering}
-use Rattle.std.specs.declared.cmp.Ordering.TheVariants.{Less, Equal, Greater}
+use Rattle.std.specs.declared.{cmp.Ordering.Ordering, cmp.Ordering.TheVariants.Less, cmp.Ordering.TheVariants.Equal, cmp.Ordering.TheVariants.Greater}
 use Rattle.std.specs.FinMap.{put, is_sorted}
 use Rattle.std.specs.FinMap.Entries.{by_order, below_all, where_key}
 use Rattle.std.specs.List.Sorted.{IsPartitionedBy, IsPartitionPoint}

@@ -10,10 +10,7 @@ use Rattle.std.specs.List.{list_any}
 use Rattle.std.specs.Option.{option_or, option_map_or}
 use Rattle.std.specs.Ordering.{eq_by_cmp, is_eq}
 use Rattle.pf_addr.specs.Address.{Network, contains, IsNetwork}
-use Rattle.pf_table.specs.declared.answer.Addition.{Addition}
-use Rattle.pf_table.specs.declared.answer.Addition.TheVariants.{Same, Conflict}
-use Rattle.pf_table.specs.declared.answer.Deletion.{Deletion}
-use Rattle.pf_table.specs.declared.answer.Deletion.TheVariants.{Absent}
+use Rattle.pf_table.specs.declared.{answer.Addition.Addition, answer.Addition.TheVariants.Same, answer.Addition.TheVariants.Conflict, answer.Deletion.Deletion, answer.Deletion.TheVariants.Absent}
 use Rattle.pf_table.specs.Entries.{Row, net_order}
 use Rattle.pf_table.specs.OrderLaws.{net_total}
 use Rattle.pf_table.specs.Tables.{sign_of, Decides, deciding, table_holds}
@@ -26,9 +23,9 @@ use Rattle.pf_table.proofs.Lookups.{none_contains, decides, decided, contains_fa
 
 pub table_decides : Laws.TableDecides
 table_decides es a is = record {
-  decides = λ e. (decides es a e is.sorted, decided es a e is.sorted);
+  decides = λ e. (decides es a e is, decided es a e is);
   none = (none_contains es a, λ none. by none (deciding es a) refl);
-  one = λ e f p q. inside e f (sym (decided es a e is.sorted p) ∙ decided es a f is.sorted q);
+  one = λ e f p q. inside e f (sym (decided es a e is p) ∙ decided es a f is q);
 }
   where
     inside : {A : Type 0} (x y : A) → Some x ≡ Some y → x ≡ y
@@ -36,24 +33,24 @@ table_decides es a is = record {
 
     by : ((e : Row) → Contains es e → contains e.0 a ≡ false) → (o : Option Row) → deciding es a ≡ o → o ≡ None
     by none None found = refl
-    by none (Some e) found = let d = decides es a e is.sorted found in absurd (true≢false (sym d.holds ∙ none e d.member))
+    by none (Some e) found = let d = decides es a e is found in absurd (true≢false (sym d.holds ∙ none e d.member))
 
 pub table_matches : Laws.TableMatches
 unfolding table_holds
-table_matches es a is = (by (deciding es a) refl, λ d. ap (λ o. option_map_or (λ (e : Row). not e.1) o false) (decided es a d.0 is.sorted d.1) ∙ ap not d.2) where
+table_matches es a is = (by (deciding es a) refl, λ d. ap (λ o. option_map_or (λ (e : Row). not e.1) o false) (decided es a d.0 is d.1) ∙ ap not d.2) where
   plain : (s : Bool) → not s ≡ true → s ≡ false
   plain true e = absurd (true≢false (sym e))
   plain false e = refl
 
   by : (o : Option Row) → deciding es a ≡ o → option_map_or (λ (e : Row). not e.1) (deciding es a) false ≡ true → (e : Row) × Decides es a e × (e.1 ≡ false)
   by None none holds = absurd (true≢false (sym holds ∙ ap (λ o. option_map_or (λ (e : Row). not e.1) o false) none))
-  by (Some e) some holds = (e, decides es a e is.sorted some, plain e.1 (sym (ap (λ o. option_map_or (λ (f : Row). not f.1) o false) some) ∙ holds))
+  by (Some e) some holds = (e, decides es a e is some, plain e.1 (sym (ap (λ o. option_map_or (λ (f : Row). not f.1) o false) some) ∙ holds))
 
 pub families_apart : Laws.FamiliesApart
 families_apart e a is = contains_family e.0 a is
 
 pub one_table_law : Laws.OneTable
-one_table_law es fs p q same = one_table es fs p.sorted q.sorted same
+one_table_law = one_table
 
 pub holds_the_list : Laws.HoldsTheList
 holds_the_list xs q = sign_added [] xs q
@@ -166,7 +163,7 @@ counts_deleted es (x ∷ xs) is = by (Laws.is_deleted answer) (shrinks es x is) 
   by false e f = omega (arith, e, f)
 
 pub counts_what_changed : Laws.CountsWhatChanged
-counts_what_changed es xs is = (counts_added es xs is.sorted, counts_deleted es xs is.sorted)
+counts_what_changed es xs is = (counts_added es xs is, counts_deleted es xs is)
 
 own_sign : (s : Bool) → beq s s ≡ true
 own_sign true = refl

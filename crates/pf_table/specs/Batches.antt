@@ -2,10 +2,7 @@
 use Rattle.std.specs.Prelude.{◌≡◌, ◌≢◌, ℕ, Bool, true, false, cond, List, [], ◌∷◌, ◌++◌, is_none, All, Option, Some, None, Result, Ok, Err}
 use Rattle.std.specs.Bool.{beq}
 use Rattle.pf_addr.specs.Address.{IsNetwork}
-use Rattle.pf_table.specs.declared.answer.Addition.{Addition}
-use Rattle.pf_table.specs.declared.answer.Addition.TheVariants.{Added, Same, Conflict}
-use Rattle.pf_table.specs.declared.batch.Batch.{Batch}
-use Rattle.pf_table.specs.declared.refusal.TableRefusal.{TableRefusal}
+use Rattle.pf_table.specs.declared.{answer.Addition.Addition, answer.Addition.TheVariants.Added, answer.Addition.TheVariants.Same, answer.Addition.TheVariants.Conflict, batch.Batch.Batch, refusal.TableRefusal.TableRefusal}
 use Rattle.pf_table.specs.declared.refusal.TableRefusal.TheVariants as refusal
 use Rattle.pf_table.specs.Entries.{Row}
 use Rattle.pf_table.specs.Tables.{sign_of}

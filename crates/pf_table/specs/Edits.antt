@@ -1,18 +1,13 @@
 -- Edits of tables (pfctl(8), -T add, delete, replace). What they answer of each entry, and when they refuse, is own.
-use Rattle.std.specs.Prelude.{◌≡◌, ◌≢◌, ℕ, nat_lt, Bool, true, false, not, ◌&&◌, cond, List, [], ◌∷◌, ◌++◌, length, fold, is_some, option_map, Option, Some, None, Result, Ok, Err}
+use Rattle.std.specs.Prelude.{ℕ, nat_lt, Bool, true, false, not, ◌&&◌, cond, List, [], ◌∷◌, ◌++◌, length, fold, is_some, option_map, Option, Some, None}
 use Rattle.std.specs.Bool.{beq}
 use Rattle.std.specs.FinMap.{put}
 use Rattle.std.specs.FinMap.Entries.{where_key}
 use Rattle.std.specs.List.{list_any}
 use Rattle.std.specs.Option.{option_map_or, option_or}
 use Rattle.std.specs.Ordering.{eq_by_cmp}
-use Rattle.pf_table.specs.declared.answer.Addition.{Addition}
-use Rattle.pf_table.specs.declared.answer.Addition.TheVariants.{Added, Same, Conflict}
-use Rattle.pf_table.specs.declared.answer.Deletion.{Deletion}
-use Rattle.pf_table.specs.declared.answer.Deletion.TheVariants.{Deleted, Absent}
-use Rattle.pf_table.specs.declared.refusal.TableRefusal.{TableRefusal}
+use Rattle.pf_table.specs.declared.{answer.Addition.Addition, answer.Addition.TheVariants.Added, answer.Addition.TheVariants.Same, answer.Addition.TheVariants.Conflict, answer.Deletion.Deletion, answer.Deletion.TheVariants.Deleted, answer.Deletion.TheVariants.Absent, refusal.TableRefusal.TableRefusal, limits.TheConstants.TABLE_LIMIT}
 use Rattle.pf_table.specs.declared.refusal.TableRefusal.TheVariants as refusal
-use Rattle.pf_table.specs.declared.limits.TheConstants.{TABLE_LIMIT}
 use Rattle.pf_table.specs.Entries.{Row, net_order}
 use Rattle.pf_table.specs.Tables.{sign_of}
 
@@ -92,8 +87,3 @@ conflict_refusal xs = option_map refusal.Conflict (conflict_in xs)
 -- An edit is refused for a conflict in its list, else for a table with too many entries after it.
 abbrev pub edit_refusal : List Row → List Row → Option TableRefusal
 edit_refusal xs after = option_or (conflict_refusal xs) (cond (nat_lt TABLE_LIMIT (length after)) (Some refusal.TableFull) None)
-
--- An edit is done only where nothing refuses it, and refused only for what does, but that memory may be refused anywhere.
-abbrev pub Refuses : {X : Type 0} → Result X TableRefusal → Option TableRefusal → Type 0
-Refuses (Ok x) due = due ≡ None
-Refuses (Err e) due = e ≢ refusal.Memory → due ≡ Some e

@@ -2,8 +2,7 @@
 use Rattle.std.specs.Prelude.{ℕ, ◌-◌, ◌*◌, ◌^◌, Bool}
 use Rattle.std.specs.declared.cmp.Ordering.{Ordering}
 use Rattle.std.specs.Ordering.{ordering_then, nat_cmp}
-use Rattle.pf_addr.specs.declared.addr.Family.{Family}
-use Rattle.pf_addr.specs.declared.addr.Family.TheVariants.{V4, V6}
+use Rattle.pf_addr.specs.declared.{addr.Family.Family, addr.Family.TheVariants.V4, addr.Family.TheVariants.V6}
 use Rattle.pf_addr.specs.Address.{Network, width}
 
 -- An entry: its network, and its sign, which is true where it is negated.
@@ -21,4 +20,5 @@ first_number n = n.front * 2 ^ (width n.family - n.len)
 
 -- V4 before V6, then by the first address, then the shorter front before the longer
 unfoldable pub net_order : Network → Network → Ordering
-net_order x y = ordering_then (nat_cmp (rank x.family) (rank y.family)) (ordering_then (nat_cmp (first_number x) (first_number y)) (nat_cmp x.len y.len))
+net_order x y = ordering_then (nat_cmp (rank x.family) (rank y.family))
+    (ordering_then (nat_cmp (first_number x) (first_number y)) (nat_cmp x.len y.len))

@@ -1,41 +1,41 @@
 -- What follows from the definitions of tables, as law functions promise it.
-use Rattle.std.specs.Prelude.{◌≡◌, ◌≢◌, ℕ, ◌+◌, ◌<◌, ◌≤◌, ◌↔◌, Bool, true, false, not, List, length, slice_get, take, filter, Some, None, All, Contains}
+use Rattle.std.specs.Prelude.{◌≡◌, ◌≢◌, ℕ, ◌+◌, ◌<◌, ◌≤◌, ◌↔◌, T, Bool, true, false, not, List, length, slice_get, take, filter, Some, None, All, Contains}
+use Rattle.std.specs.FinMap.{is_sorted}
 use Rattle.std.specs.List.{list_any}
 use Rattle.std.specs.Option.{option_or}
 use Rattle.pf_addr.specs.declared.addr.Addr.{Addr}
 use Rattle.pf_addr.specs.Address.{Network, contains, family_of, IsNetwork}
-use Rattle.pf_table.specs.declared.answer.Addition.{Addition}
-use Rattle.pf_table.specs.declared.answer.Addition.TheVariants.{Added, Same, Conflict}
-use Rattle.pf_table.specs.declared.answer.Deletion.{Deletion}
-use Rattle.pf_table.specs.declared.answer.Deletion.TheVariants.{Deleted, Absent}
-use Rattle.pf_table.specs.declared.limits.TheConstants.{TABLE_LIMIT}
-use Rattle.pf_table.specs.Entries.{Row}
+use Rattle.pf_table.specs.declared.{answer.Addition.Addition, answer.Addition.TheVariants.Added, answer.Addition.TheVariants.Same, answer.Addition.TheVariants.Conflict, answer.Deletion.Deletion, answer.Deletion.TheVariants.Deleted, answer.Deletion.TheVariants.Absent, limits.TheConstants.TABLE_LIMIT}
+use Rattle.pf_table.specs.Entries.{Row, net_order}
 use Rattle.pf_table.specs.Tables.{IsTable, sign_of, Decides, deciding, table_holds}
 use Rattle.pf_table.specs.Edits.{added, addition, additions, with_entry, replaced, has_entry, without_entry, deleted, deletions, is_opposite, conflict_in}
 use Rattle.pf_table.specs.EditLaws.{sign_left}
 
 -- ---- which entry decides
 
--- what decides is what the relation says, and there is none exactly where no entry contains the address
+-- what decides in a list in order, so one that has no network twice, is what the relation says, and there is none exactly where no entry
+-- contains the address
 pub record DecidesAbout (es : List Row) (a : Addr) : Type 0 where
   pub decides : (e : Row) → (deciding es a ≡ Some e) ↔ Decides es a e
   pub none : (deciding es a ≡ None) ↔ ((e : Row) → Contains es e → contains e.0 a ≡ false)
   pub one : (e f : Row) → Decides es a e → Decides es a f → e ≡ f
 
 abbrev pub TableDecides : Type 0
-TableDecides = (es : List Row) (a : Addr) → IsTable es → DecidesAbout es a
+TableDecides = (es : List Row) (a : Addr) → T (is_sorted net_order es) → DecidesAbout es a
 
 -- a table matches an address exactly where an entry decides about it that isn't negated
 abbrev pub TableMatches : Type 0
-TableMatches = (es : List Row) (a : Addr) → IsTable es → (table_holds es a ≡ true) ↔ ((e : Row) × Decides es a e × (e.1 ≡ false))
+TableMatches = (es : List Row) (a : Addr) → T (is_sorted net_order es) →
+    (table_holds es a ≡ true) ↔ ((e : Row) × Decides es a e × (e.1 ≡ false))
 
 -- an entry contains addresses of its own family alone
 abbrev pub FamiliesApart : Type 0
 FamiliesApart = (e : Row) (a : Addr) → contains e.0 a ≡ true → e.0.family ≡ family_of a
 
--- two tables in which each network has the same sign are one
+-- two lists in order in which each network has the same sign are one
 abbrev pub OneTable : Type 0
-OneTable = (es fs : List Row) → IsTable es → IsTable fs → ((q : Network) → sign_of q es ≡ sign_of q fs) → es ≡ fs
+OneTable = (es fs : List Row) → T (is_sorted net_order es) → T (is_sorted net_order fs) → ((q : Network) → sign_of q es ≡ sign_of q fs) →
+    es ≡ fs
 
 -- ---- what an edit leaves
 
@@ -53,7 +53,8 @@ HoldsTheList = (xs : List Row) (q : Network) → sign_of q (replaced xs) ≡ sig
 
 -- a network that the list doesn't name stays as it is
 abbrev pub AllElseStays : Type 0
-AllElseStays = (es xs : List Row) (q : Network) → sign_of q xs ≡ None → (sign_of q (added es xs) ≡ sign_of q es) × (sign_of q (deleted es xs) ≡ sign_of q es)
+AllElseStays = (es xs : List Row) (q : Network) → sign_of q xs ≡ None →
+    (sign_of q (added es xs) ≡ sign_of q es) × (sign_of q (deleted es xs) ≡ sign_of q es)
 
 -- a table stays one, but for the number of its entries
 pub record LeavesTables (es xs : List Row) : Type 0 where
@@ -94,7 +95,9 @@ is_deleted Absent = false
 
 -- the table grows by as many entries as are answered Added, and shrinks by as many as are answered Deleted
 abbrev pub CountsWhatChanged : Type 0
-CountsWhatChanged = (es xs : List Row) → IsTable es → (length (added es xs) ≡ length es + length (filter is_added (additions es xs))) × (length (deleted es xs) + length (filter is_deleted (deletions es xs)) ≡ length es)
+CountsWhatChanged = (es xs : List Row) → T (is_sorted net_order es) →
+    (length (added es xs) ≡ length es + length (filter is_added (additions es xs)))
+    × (length (deleted es xs) + length (filter is_deleted (deletions es xs)) ≡ length es)
 
 -- An entry that was just added is Same, unless its network is there with the other sign, and one that was just deleted is Absent;
 -- the table stays.
@@ -119,4 +122,5 @@ pub record IsFirstConflict (xs : List Row) (i : ℕ) : Type 0 where
   pub before : (j : ℕ) → j < i → Conflicts xs j false
 
 abbrev pub TellsTheFirstConflict : Type 0
-TellsTheFirstConflict = (xs : List Row) → ((i : ℕ) → conflict_in xs ≡ Some i → IsFirstConflict xs i) × (conflict_in xs ≡ None → (j : ℕ) → Conflicts xs j false)
+TellsTheFirstConflict = (xs : List Row) → ((i : ℕ) → conflict_in xs ≡ Some i → IsFirstConflict xs i)
+    × (conflict_in xs ≡ None → (j : ℕ) → Conflicts xs j false)

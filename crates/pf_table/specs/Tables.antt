@@ -7,7 +7,12 @@ use Rattle.pf_addr.specs.Address.{Network, contains, IsNetwork}
 use Rattle.pf_table.specs.declared.limits.TheConstants.{TABLE_LIMIT}
 use Rattle.pf_table.specs.Entries.{Row, net_order}
 
--- Entries in order, so no network twice; each a network; and at most as many as a table may have.
+-- Entries in order, so no network twice; and at most as many as a table may have.
+pub record AreEntries (es : List Row) : Type 0 where
+  pub sorted : T (is_sorted net_order es)
+  pub few : length es ≤ TABLE_LIMIT
+
+-- so with a table, each of them a network
 pub record IsTable (es : List Row) : Type 0 where
   pub sorted : T (is_sorted net_order es)
   pub networks : All (λ e. IsNetwork e.0) es

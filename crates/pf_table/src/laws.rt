@@ -1,8 +1,15 @@
 //! What follows from the definitions that contracts cite: functions that do nothing, whose contracts are the laws.
+ghost use Rattle.std.specs.Prelude.{◌≡◌};
 ghost use Rattle.std.specs.Cmp.{IsTotalOrder};
 ghost use Rattle.std.specs.FinMap.{IsAntisymmetric};
+ghost use Rattle.pf_table.specs.declared.limits.TheConstants.{TABLE_LIMIT};
 ghost use Rattle.pf_table.specs.Entries.{net_order};
 ghost use Rattle.pf_table.specs.Laws.{TableDecides, TableMatches, FamiliesApart, OneTable, AddsWhatIsNamed, DeletesWhatIsNamed, HoldsTheList, AllElseStays, StaysTable, OneAnswerEach, AnswersInOrder, CountsWhatChanged, RepeatsChangeNothing, TellsTheFirstConflict};
+
+/// A table has at most 65,536 entries.
+pub fn the_limit_of_entries()
+    ensures { TABLE_LIMIT ≡ 65536 }
+{}
 
 /// Networks are in a total order, in which only equal ones tie.
 #[tactic(auto, using(crate::specs::OrderLaws::net_total, crate::specs::OrderLaws::net_same))]

@@ -1,9 +1,11 @@
 //! Tables.
 ghost use Rattle.std.specs.Prelude.{◌≡◌, false, [], cond, is_ok, Contains, IfOk, IfSome, Some, None};
+ghost use Rattle.pf_addr.specs.Refusing.{Refuses};
+ghost use Rattle.pf_table.specs.declared.refusal.TableRefusal.TheVariants.{Memory};
 ghost use Rattle.pf_addr.specs.Address.{contains};
 ghost use Rattle.pf_table.specs.Entries.{Row};
 ghost use Rattle.pf_table.specs.Tables.{IsTable, Decides, deciding, longer, table_holds};
-ghost use Rattle.pf_table.specs.Edits.{added, additions, deleted, deletions, replaced, conflict_refusal, edit_refusal, Refuses};
+ghost use Rattle.pf_table.specs.Edits.{added, additions, deleted, deletions, replaced, conflict_refusal, edit_refusal};
 
 use crate::answer::{Addition, Deletion};
 use crate::batch::gather;
@@ -111,7 +113,7 @@ impl Table {
     /// The refusal is the first in this order: [`TableRefusal::Conflict`], [`TableRefusal::TableFull`] by how many entries there
     /// would be after it; [`TableRefusal::Memory`] may come before any of them. After a refusal the table is as before.
     pub fn add(&mut self, alloc: Global, entries: &[Entry]) -> Result<Vec<Addition>, TableRefusal>
-        ensures refused { Refuses result (edit_refusal entries.now (added self.old entries.now)) }
+        ensures refused { Refuses Memory result (edit_refusal entries.now (added self.old entries.now)) }
         ensures answers { IfOk result (λ v. v.items ≡ additions self.old entries.now) }
         ensures after { self.new ≡ cond (is_ok result) (added self.old entries.now) self.old }
     {
@@ -134,7 +136,7 @@ impl Table {
         alloc: Global,
         entries: &[Entry],
     ) -> Result<Vec<Deletion>, TableRefusal>
-        ensures refused { Refuses result (conflict_refusal entries.now) }
+        ensures refused { Refuses Memory result (conflict_refusal entries.now) }
         ensures answers { IfOk result (λ v. v.items ≡ deletions self.old entries.now) }
         ensures after { self.new ≡ cond (is_ok result) (deleted self.old entries.now) self.old }
     {
@@ -147,7 +149,7 @@ impl Table {
 
     /// Has the table hold these entries alone. The refusals are those of [`Table::add`]; after one the table is as before.
     pub fn replace(&mut self, alloc: Global, entries: &[Entry]) -> Result<(), TableRefusal>
-        ensures refused { Refuses result (edit_refusal entries.now (replaced entries.now)) }
+        ensures refused { Refuses Memory result (edit_refusal entries.now (replaced entries.now)) }
         ensures after { self.new ≡ cond (is_ok result) (replaced entries.now) self.old }
     {
         let batch = gather(alloc, entries)?;

@@ -8,27 +8,23 @@ use Rattle.std.specs.FinMap.Entries.{by_order}
 use Rattle.pf_addr.specs.Path.Names.{name_order}
 use Rattle.pf_table.specs.declared.limits.TheConstants.{TABLE_LIMIT}
 use Rattle.pf_table.specs.Edits.{conflict_in, replaced}
+use Rattle.pf_table.specs.EditLaws.{sorted_added}
 use Rattle.pf_table.specs.Entries.{Row}
+use Rattle.pf_table.specs.Tables.{AreEntries}
 use Rattle.std.proofs.lemmas.Bool.{cond_both}
 use Rattle.std.proofs.lemmas.Bool.Decides.{nat_tests}
 use Rattle.pf_rule.specs.Rules.{PlainRule}
 use Rattle.pf_anchor.specs.declared.limits.TheConstants.{RULE_LIMIT, RULESET_LIMIT}
-use Rattle.pf_ticket.specs.declared.entry.Entry.{Entry}
-use Rattle.pf_ticket.specs.declared.limits.TheConstants.{LAST_COUNT, OFFERED_TABLE_LIMIT}
-use Rattle.pf_ticket.specs.declared.name.RulesetKind.{RulesetKind}
-use Rattle.pf_ticket.specs.declared.name.RulesetKind.TheVariants.{Filter, Table}
-use Rattle.pf_ticket.specs.declared.name.RulesetName.{RulesetName}
-use Rattle.pf_ticket.specs.declared.refusal.TicketRefusal.{TicketRefusal}
-use Rattle.pf_ticket.specs.declared.refusal.TicketRefusal.TheVariants.{BadCount, Conflict, Busy, RulesetFull, TableFull, TooManyRulesets, TooManyTables, TicketsExhausted}
-use Rattle.pf_ticket.specs.declared.ticket.Ticket.{Ticket}
-use Rattle.pf_ticket.specs.declared.ticket.TicketRange.{TicketRange}
+use Rattle.pf_ticket.specs.declared.{entry.Entry.Entry, limits.TheConstants.LAST_COUNT, limits.TheConstants.OFFERED_TABLE_LIMIT, name.RulesetKind.RulesetKind, name.RulesetKind.TheVariants.Filter, name.RulesetKind.TheVariants.Table, name.RulesetName.RulesetName, refusal.TicketRefusal.TicketRefusal, refusal.TicketRefusal.TheVariants.BadCount, refusal.TicketRefusal.TheVariants.Conflict, refusal.TicketRefusal.TheVariants.Busy, refusal.TicketRefusal.TheVariants.RulesetFull, refusal.TicketRefusal.TheVariants.TableFull, refusal.TicketRefusal.TheVariants.TooManyRulesets, refusal.TicketRefusal.TheVariants.TooManyTables, refusal.TicketRefusal.TheVariants.TicketsExhausted, ticket.Ticket.Ticket, ticket.TicketRange.TicketRange}
 use Rattle.pf_ticket.specs.Laws.{AreGiven, BeginsGive, TellsWhatIsGiven, IsFew, IsWithin, KeepsTheLimits}
 use Rattle.pf_ticket.specs.Mentions.{gave, dropped, load, with_offers, take_out, moved, after, gives, switches, drops}
 use Rattle.pf_ticket.specs.Names.{filter_at, table_ruleset_at, same_name, is_named, is_ticket, tickets_from, tickets_of}
 use Rattle.pf_ticket.specs.NameLaws.{names_alike, name_is}
-use Rattle.pf_ticket.specs.Replies.{bad_count, refused_at, and_then, range, begin_reply}
+use Rattle.pf_ticket.specs.Replies.{bad_count, range, begin_reply}
+use Rattle.pf_addr.specs.Refusing.{refused_at, both_passed}
 use Rattle.pf_ticket.specs.NamedTables.{Named}
 use Rattle.pf_ticket.specs.Tickets.{Loaded, nothing, with_rule, with_table, offered_as, Offer, offer, offer_at, put, Open, next_ticket, ticket_in, loaded_in, valid_ticket, loaded, is_valid}
+use Rattle.pf_ticket.proofs.NamedTables.{put_sorted}
 use Rattle.pf_ticket.proofs.Moves.{load-keeps, made_by, reads, leaves_the_others, gives-named}
 use Rattle.pf_ticket.proofs.Offers.{read-put, read-without, length-put, length-without}
 
@@ -95,16 +91,16 @@ abbrev Short : RulesetKind → Loaded → Type 0
 Short k l = IsFew (offered_as k l)
 
 short-nothing : (k : RulesetKind) → Short k nothing
-short-nothing Filter = record { rules = omega arith; tables = omega arith; entries = tt }
-short-nothing Table = record { rules = omega arith; tables = omega arith; entries = tt }
+short-nothing Filter = record { rules = omega arith; tables = omega arith; entries = tt; order = tt }
+short-nothing Table = record { rules = omega arith; tables = omega arith; entries = tt; order = tt }
 
 one-more : (l : Loaded) (r : PlainRule) → length l.rules < RULE_LIMIT → Short Filter (with_rule l r)
-one-more l r room = record { rules = (let k = length-append l.rules (r ∷ []) in omega (arith, k, room)); tables = omega arith; entries = tt }
+one-more l r room = record { rules = (let k = length-append l.rules (r ∷ []) in omega (arith, k, room)); tables = omega arith; entries = tt; order = tt }
 
 abbrev AreShortRows : List Named → Type 0
-AreShortRows ts = AllByRecursion (λ n. length n.1 ≤ TABLE_LIMIT) ts
+AreShortRows ts = AllByRecursion (λ n. AreEntries n.1) ts
 
-rows-put : (name : List ℕ) (new : List Row) (ts : List Named) → length new ≤ TABLE_LIMIT → AreShortRows ts → AreShortRows (put_entry name_order name new ts)
+rows-put : (name : List ℕ) (new : List Row) (ts : List Named) → AreEntries new → AreShortRows ts → AreShortRows (put_entry name_order name new ts)
 rows-put name new [] short all = (short, tt)
 rows-put name new (t ∷ ts) short all =
     elim (name_order name t.0) as (λ o. AreShortRows (by_order o ((name, new) ∷ t ∷ ts) ((t.0, new) ∷ ts) (t ∷ put_entry name_order name new ts))) [
@@ -113,11 +109,12 @@ rows-put name new (t ∷ ts) short all =
       | Greater ↦ (all.0, rows-put name new ts short all.1)
     ]
 
-one-table : (l : Loaded) (name : List ℕ) (new : List Row) → length new ≤ TABLE_LIMIT → length (with_table l name new).tables ≤ OFFERED_TABLE_LIMIT → Short Table l → Short Table (with_table l name new)
+one-table : (l : Loaded) (name : List ℕ) (new : List Row) → AreEntries new → length (with_table l name new).tables ≤ OFFERED_TABLE_LIMIT → Short Table l → Short Table (with_table l name new)
 one-table l name new short few old = record {
   rules = omega arith;
   tables = few;
   entries = rows-put name new l.tables short old.entries;
+  order = put_sorted name new l.tables old.order;
 }
 
 abbrev IsShort : RulesetKind → Option Offer → Type 0
@@ -161,10 +158,6 @@ not-refused : {A : Type 0} (b : Bool) (x : TicketRefusal) (r : Result A TicketRe
 not-refused true x r a h = absurd (cc (h))
 not-refused false x r a h = (refl, h)
 
-passed : (check next : Result (Unit {0}) TicketRefusal) → and_then check next ≡ Ok tt → next ≡ Ok tt
-passed (Ok u) next h = h
-passed (Err e) next h = absurd (cc (h))
-
 pub keeps_the_limits : KeepsTheLimits
 keeps_the_limits = record {
   first = λ epoch. record { given = omega arith; opened = omega arith; offered = λ q. short-nothing q.kind };
@@ -190,10 +183,10 @@ keeps_the_limits = record {
       let done : Result (Unit {0}) TicketRefusal = Ok tt in
       let limits : Result (Unit {0}) TicketRefusal = cond long (Err TableFull) (cond many (Err TooManyTables) done) in
       let fits : (long ≡ false) × (cond many (Err TooManyTables) done ≡ done) =
-      not-refused long TableFull (cond many (Err TooManyTables) done) tt (not-refused (not (is_valid t n u)) (Busy 0) limits tt (passed (refused_at (λ i. Conflict i) (conflict_in xs)) (cond (not (is_valid t n u)) (Err (Busy 0)) limits) h)).1 in
+      not-refused long TableFull (cond many (Err TooManyTables) done) tt (not-refused (not (is_valid t n u)) (Busy 0) limits tt (both_passed (refused_at (λ i. Conflict i) (conflict_in xs)) (cond (not (is_valid t n u)) (Err (Busy 0)) limits) tt h).second).1 in
       let short = fits.0 in
       let few = (not-refused many TooManyTables done tt fits.1).0 in
-      within-loaded t n u new (one-table (loaded t n) name rows (grind (arith, nat_tests, short)) (grind (arith, nat_tests, few)) (w.offered n)) w;
+      within-loaded t n u new (one-table (loaded t n) name rows (record { sorted = sorted_added [] xs tt; few = grind (arith, nat_tests, short) }) (grind (arith, nat_tests, few)) (w.offered n)) w;
   commit = switches-keep IsWithin within-out;
   rollback = drops-keep IsWithin within-out;
 }

@@ -12,8 +12,7 @@ use Rattle.pf_addr.specs.Path.Names.{name_order, same_name as same_table}
 use Rattle.pf_rule.specs.Rules.{PlainRule}
 use Rattle.pf_table.specs.Edits.{replaced}
 use Rattle.pf_table.specs.Entries.{Row}
-use Rattle.pf_ticket.specs.declared.name.RulesetName.{RulesetName}
-use Rattle.pf_ticket.specs.declared.ticket.Ticket.{Ticket}
+use Rattle.pf_ticket.specs.declared.{name.RulesetName.RulesetName, ticket.Ticket.Ticket}
 use Rattle.pf_ticket.specs.Laws.{touches, AreQuiet, IsGivenLast, ValidIsGivenLast, GivenLastIsValid, rules_added, OffersTheAdded, tables_defined, OffersTheDefined}
 use Rattle.pf_ticket.specs.Mentions.{Mention, gave, added, defined, switched, dropped, named_in, moved, after}
 use Rattle.pf_ticket.specs.Names.{filter_at, table_ruleset_at, same_name, ticket, same_ticket, is_ticket}

@@ -1,9 +1,9 @@
 -- Where a table comes among those that are offered, and how many there are then.
-use Rattle.std.proofs.Common.{◌≡◌, ℕ, ◌<◌, List, [], ◌∷◌, length, set, get_or, refl, sym, ap, ◌∙◌, arith, zero, suc}
-use Rattle.std.specs.declared.cmp.Ordering.{Ordering}
-use Rattle.std.specs.declared.cmp.Ordering.TheVariants.{Less, Equal, Greater}
-use Rattle.std.specs.FinMap.{put, slice_cmp-IsAntisymmetric, nat_cmp-IsAntisymmetric}
-use Rattle.std.specs.FinMap.Entries.{by_order}
+use Rattle.std.proofs.Common.{◌≡◌, T, ℕ, ◌<◌, List, [], ◌∷◌, length, set, get_or, refl, sym, ap, ◌∙◌, arith, zero, suc}
+use Rattle.std.specs.declared.{cmp.Ordering.Ordering, cmp.Ordering.TheVariants.Less, cmp.Ordering.TheVariants.Equal, cmp.Ordering.TheVariants.Greater}
+use Rattle.std.proofs.lemmas.Cmp.{nat_list_cmp_total}
+use Rattle.std.specs.FinMap.{put, is_sorted, slice_cmp-IsAntisymmetric, nat_cmp-IsAntisymmetric}
+use Rattle.std.specs.FinMap.Entries.{by_order, is_sorted-put}
 use Rattle.std.specs.List.{insert}
 use Rattle.pf_addr.specs.Path.Names.{name_order}
 use Rattle.pf_table.specs.Entries.{Row}
@@ -11,6 +11,10 @@ use Rattle.pf_ticket.specs.NamedTables.{Named}
 
 pub order_is : (x y : List ℕ) → name_order x y ≡ Equal → x ≡ y
 order_is x y h = slice_cmp-IsAntisymmetric nat_cmp-IsAntisymmetric x y h
+
+-- and with one table more they stand in order
+pub put_sorted : (name : List ℕ) (rows : List Row) (ts : List Named) → T (is_sorted name_order ts) → T (is_sorted name_order (put name_order name rows ts))
+put_sorted name rows ts is = is_sorted-put name_order nat_list_cmp_total name rows ts is
 
 -- all tables at places below this one come before the name
 abbrev pub AreBefore : List ℕ → List Named → ℕ → Type 0

@@ -3,32 +3,37 @@ use Rattle.std.proofs.Common.{◌≡◌, ℕ, suc, zero, ◌+◌, ◌<◌, ◌==
 use Rattle.std.specs.List.{list_any}
 use Rattle.std.proofs.Math.Seq.{take-suc, drop-cons}
 use Rattle.std.proofs.lemmas.Bool.{eqb-true, or_parts, or_from, and_right, false_from_ne_true, cond_both}
-use Rattle.std.proofs.lemmas.List.{map-append, length-map, length-take-le}
+use Rattle.std.proofs.lemmas.List.{get_or-map, length-map, length-take-le, take-map}
 use Rattle.std.proofs.lemmas.List.Folds.{list_any-append}
-use Rattle.pf_ticket.specs.declared.entry.Entry.{Entry}
-use Rattle.pf_ticket.specs.declared.name.RulesetName.{RulesetName}
-use Rattle.pf_ticket.specs.declared.ticket.Ticket.{Ticket}
+use Rattle.pf_ticket.specs.declared.{entry.Entry.Entry, name.RulesetName.RulesetName, ticket.Ticket.Ticket}
 use Rattle.pf_ticket.specs.Laws.{IsFirstAgain, TwiceIsFirstAgain, OtherwiseOnce, GivesEachOnce}
 use Rattle.pf_ticket.specs.Names.{same_name, is_named, names_of, ticket, same_ticket, tickets_from, IsDistinct}
 use Rattle.pf_ticket.specs.NameLaws.{names_alike}
 use Rattle.pf_ticket.specs.Replies.{twice_behind}
 use Rattle.pf_ticket.proofs.Offers.{any-of}
 
--- ---- one entry more
+-- ---- one name more
+
+pub twice-on : (ns : List RulesetName) (p : ℕ) (n : RulesetName) (b : Bool) → p < length ns → n ≡ get_or ns p n → is_named (take p ns) n ≡ b →
+    twice_behind (take p ns) (drop p ns) ≡ cond b (Some p) (twice_behind (take (p + 1) ns) (drop (p + 1) ns))
+twice-on ns p n b l h k =
+    let next : suc p ≡ p + 1 = omega arith in
+    let rest : List RulesetName = drop (p + 1) ns in
+    let here : drop p ns ≡ n ∷ rest = drop-cons ns p n l ∙ ap (λ (x : RulesetName). x ∷ drop (suc p) ns) (sym h) ∙ ap (λ (m : ℕ). n ∷ drop m ns) next in
+    let more : take p ns ++ n ∷ [] ≡ take (p + 1) ns = ap (λ (x : RulesetName). take p ns ++ x ∷ []) h ∙ sym (take-suc ns p n l) ∙ ap (λ (m : ℕ). take m ns) next in
+    let long : length (take p ns) ≡ p = length-take-le p ns (omega (arith, l)) in
+    ap (λ (xs : List RulesetName). twice_behind (take p ns) xs) here
+    ∙ ap (λ (x : Bool). cond x (Some (length (take p ns))) (twice_behind (take p ns ++ n ∷ []) rest)) k
+    ∙ ap (λ (m : ℕ). cond b (Some m) (twice_behind (take p ns ++ n ∷ []) rest)) long
+    ∙ ap (λ (ms : List RulesetName). cond b (Some p) (twice_behind ms rest)) more
 
 pub twice-at : (es : List Entry) (p : ℕ) (e : Entry) (b : Bool) → p < length es → e ≡ get_or es p e → list_any (λ x. same_name x.name e.name) (take p es) ≡ b →
-    twice_behind (names_of (take p es)) (names_of (drop p es)) ≡ cond b (Some p) (twice_behind (names_of (take (p + 1) es)) (names_of (drop (p + 1) es)))
+    twice_behind (take p (names_of es)) (drop p (names_of es)) ≡ cond b (Some p) (twice_behind (take (p + 1) (names_of es)) (drop (p + 1) (names_of es)))
 twice-at es p e b l h k =
-    let next : suc p ≡ p + 1 = omega arith in
-    let front : List RulesetName = names_of (take p es) in
-    let here : drop p es ≡ e ∷ drop (p + 1) es = drop-cons es p e l ∙ ap (λ (x : Entry). x ∷ drop (suc p) es) (sym h) ∙ ap (λ (n : ℕ). e ∷ drop n es) next in
-    let more : front ++ e.name ∷ [] ≡ names_of (take (p + 1) es) =
-    sym (map-append (λ (x : Entry). x.name) (take p es) (e ∷ [])) ∙ ap (λ (x : Entry). names_of (take p es ++ x ∷ [])) h ∙ ap (λ (xs : List Entry). names_of xs) (sym (take-suc es p e l)) ∙ ap (λ (n : ℕ). names_of (take n es)) next in
-    let long : length front ≡ p = length-map (take p es) (λ (x : Entry). x.name) ∙ length-take-le p es (omega (arith, l)) in
-    ap (λ (xs : List Entry). twice_behind front (names_of xs)) here
-    ∙ ap (λ (x : Bool). cond x (Some (length front)) (twice_behind (front ++ e.name ∷ []) (names_of (drop (p + 1) es)))) (any-of (λ (x : Entry). x.name) (take p es) e.name ∙ k)
-    ∙ ap (λ (n : ℕ). cond b (Some n) (twice_behind (front ++ e.name ∷ []) (names_of (drop (p + 1) es)))) long
-    ∙ ap (λ (ns : List RulesetName). cond b (Some p) (twice_behind ns (names_of (drop (p + 1) es)))) more
+    let name : Entry → RulesetName = λ x. x.name in
+    let long : length (names_of es) ≡ length es = length-map es name in
+    twice-on (names_of es) p e.name b (omega (arith, l, long)) (ap name h ∙ sym (get_or-map name es p e e.name l))
+    (ap (λ (ns : List RulesetName). is_named ns e.name) (take-map name p es) ∙ any-of name (take p es) e.name ∙ k)
 
 -- ---- what is found
 

@@ -4,9 +4,7 @@ use Rattle.std.proofs.Common.{refl, ap, ◌∙◌}
 use Rattle.std.proofs.lemmas.Cmp.{eq_by_cmp_equiv, nat_list_cmp_total, and_equiv, on_equiv}
 use Rattle.std.proofs.lemmas.Bool.{and_parts}
 use Rattle.std.specs.Cmp.{IsEquivalence}
-use Rattle.pf_ticket.specs.declared.name.RulesetKind.{RulesetKind}
-use Rattle.pf_ticket.specs.declared.name.RulesetKind.TheVariants.{Filter, Table}
-use Rattle.pf_ticket.specs.declared.name.RulesetName.{RulesetName}
+use Rattle.pf_ticket.specs.declared.{name.RulesetKind.RulesetKind, name.RulesetKind.TheVariants.Filter, name.RulesetKind.TheVariants.Table, name.RulesetName.RulesetName}
 use Rattle.pf_ticket.specs.Names.{filter_at, table_ruleset_at, same_kind, same_name}
 use Rattle.pf_addr.specs.Path.Paths.{same_path}
 use Rattle.pf_addr.proofs.PathsRead.{same_path_is}

@@ -1,17 +1,13 @@
--- What each step of a transaction is told, and the order of refusals (pf(4), DIOCXBEGIN to DIOCXROLLBACK). The limits and the order of refusals are own.
-use Rattle.std.specs.Prelude.{◌≡◌, ℕ, ◌+◌, ◌-◌, ◌==◌, Bool, not, cond, if◌then◌else◌, ◌||◌, List, [], ◌∷◌, ◌++◌, length, Option, Some, None, Result, Ok, Err, nat_lt, nat_le}
+-- What each step of a transaction is told, and the order of refusals (pf(4), DIOCXBEGIN to DIOCXROLLBACK). The limits and the order of
+-- refusals are own.
+use Rattle.std.specs.Prelude.{ℕ, ◌+◌, ◌-◌, ◌==◌, Bool, not, cond, if◌then◌else◌, ◌||◌, List, [], ◌∷◌, ◌++◌, length, Option, Some, None, Result, Ok, Err, nat_lt, nat_le}
 use Rattle.std.specs.List.{position}
+use Rattle.pf_addr.specs.Refusing.{and_then, refused_at}
 use Rattle.pf_anchor.specs.declared.limits.TheConstants.{RULE_LIMIT, RULESET_LIMIT}
 use Rattle.pf_table.specs.declared.limits.TheConstants.{TABLE_LIMIT}
 use Rattle.pf_table.specs.Edits.{conflict_in, replaced}
 use Rattle.pf_table.specs.Entries.{Row}
-use Rattle.pf_ticket.specs.declared.entry.Entry.{Entry}
-use Rattle.pf_ticket.specs.declared.limits.TheConstants.{ENTRY_LIMIT, LAST_COUNT, OFFERED_TABLE_LIMIT}
-use Rattle.pf_ticket.specs.declared.name.RulesetName.{RulesetName}
-use Rattle.pf_ticket.specs.declared.refusal.TicketRefusal.{TicketRefusal}
-use Rattle.pf_ticket.specs.declared.refusal.TicketRefusal.TheVariants.{BadCount, Twice, Conflict, Busy, RulesetFull, TableFull, TooManyRulesets, TooManyTables, TicketsExhausted, Memory}
-use Rattle.pf_ticket.specs.declared.ticket.Ticket.{Ticket}
-use Rattle.pf_ticket.specs.declared.ticket.TicketRange.{TicketRange}
+use Rattle.pf_ticket.specs.declared.{entry.Entry.Entry, limits.TheConstants.ENTRY_LIMIT, limits.TheConstants.LAST_COUNT, limits.TheConstants.OFFERED_TABLE_LIMIT, name.RulesetName.RulesetName, refusal.TicketRefusal.TicketRefusal, refusal.TicketRefusal.TheVariants.BadCount, refusal.TicketRefusal.TheVariants.Twice, refusal.TicketRefusal.TheVariants.Conflict, refusal.TicketRefusal.TheVariants.Busy, refusal.TicketRefusal.TheVariants.RulesetFull, refusal.TicketRefusal.TheVariants.TableFull, refusal.TicketRefusal.TheVariants.TooManyRulesets, refusal.TicketRefusal.TheVariants.TooManyTables, refusal.TicketRefusal.TheVariants.TicketsExhausted, ticket.Ticket.Ticket, ticket.TicketRange.TicketRange}
 use Rattle.pf_ticket.specs.Names.{is_named, names_of}
 use Rattle.pf_ticket.specs.Tickets.{rules_in, with_table, Open, next_ticket, loaded, content, is_valid}
 use Rattle.pf_ticket.specs.Mentions.{gives, after}
@@ -34,16 +30,6 @@ twice_in entries = twice_behind [] (names_of entries)
 -- the first entry whose ticket isn't valid
 abbrev pub busy_in : Open → List Entry → Option ℕ
 busy_in t entries = position (λ e. not (is_valid t e.name e.ticket)) entries
-
--- a refusal at a place, where there is one
-abbrev pub refused_at : (ℕ → TicketRefusal) → Option ℕ → Result (Unit {0}) TicketRefusal
-refused_at why None = Ok tt
-refused_at why (Some i) = Err (why i)
-
--- a check, and where it passes another
-abbrev pub and_then : Result (Unit {0}) TicketRefusal → Result (Unit {0}) TicketRefusal → Result (Unit {0}) TicketRefusal
-and_then (Ok u) next = next
-and_then (Err e) next = Err e
 
 -- ---- one small reply for each step. Each line is one refusal with its condition, in their order
 
@@ -84,9 +70,3 @@ list_check entries = if bad_count (length entries) then Err BadCount else refuse
 -- and then with their tickets
 abbrev pub commit_check : Open → List Entry → Result (Unit {0}) TicketRefusal
 commit_check t entries = and_then (list_check entries) (refused_at (λ i. Busy i) (busy_in t entries))
-
--- ---- memory
-
--- a reply is the one that is due, or memory was refused
-abbrev pub IsReply : {A : Type 0} → Result A TicketRefusal → Result A TicketRefusal → Type 0
-IsReply r due = (r ≡ Err Memory → ⊥) → r ≡ due

@@ -6,12 +6,7 @@ use Rattle.std.specs.List.{find}
 use Rattle.pf_addr.specs.Path.Names.{name_order}
 use Rattle.pf_rule.specs.Rules.{PlainRule}
 use Rattle.pf_table.specs.Entries.{Row}
-use Rattle.pf_ticket.specs.declared.name.RulesetKind.{RulesetKind}
-use Rattle.pf_ticket.specs.declared.name.RulesetKind.TheVariants.{Filter, Table}
-use Rattle.pf_ticket.specs.declared.name.RulesetName.{RulesetName}
-use Rattle.pf_ticket.specs.declared.offered.Offered.{Offered}
-use Rattle.pf_ticket.specs.declared.offered.Offered.TheVariants.{Rules, Tables}
-use Rattle.pf_ticket.specs.declared.ticket.Ticket.{Ticket}
+use Rattle.pf_ticket.specs.declared.{name.RulesetKind.RulesetKind, name.RulesetKind.TheVariants.Filter, name.RulesetKind.TheVariants.Table, name.RulesetName.RulesetName, offered.Offered.Offered, offered.Offered.TheVariants.Rules, offered.Offered.TheVariants.Tables, ticket.Ticket.Ticket}
 use Rattle.pf_ticket.specs.NamedTables.{Named}
 use Rattle.pf_ticket.specs.Names.{same_name, ticket, is_ticket}
 

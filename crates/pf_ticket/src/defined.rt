@@ -1,6 +1,6 @@
 //! Tables that are offered.
-ghost use Rattle.std.specs.Prelude.{◌≡◌, ◌<◌, ◌≤◌, [], length, set, nat_lt, List, IfOk, IfErr, OnOk, OnErr};
-ghost use Rattle.std.specs.FinMap.{put};
+ghost use Rattle.std.specs.Prelude.{◌≡◌, ◌<◌, ◌≤◌, T, [], length, set, nat_lt, List, IfOk, IfErr, OnOk, OnErr};
+ghost use Rattle.std.specs.FinMap.{put, is_sorted};
 ghost use Rattle.std.specs.List.{insert};
 ghost use Rattle.pf_addr.specs.Path.Names.{name_order};
 ghost use Rattle.pf_table.specs.Entries.{Row};
@@ -63,12 +63,16 @@ pub struct Defined {
 }
 
 impl Model for Defined {
-    ghost use Rattle.std.specs.Prelude.{List};
+    ghost use Rattle.std.specs.Prelude.{List, T};
+    ghost use Rattle.std.specs.FinMap.{is_sorted};
+    ghost use Rattle.pf_addr.specs.Path.Names.{name_order};
     ghost use Rattle.pf_ticket.specs.NamedTables.{Named};
 
     ghost Value = { List Named };
 
     ghost view = { λ d. d.tables.items };
+
+    ghost invariant = { λ d. T (is_sorted name_order d.tables.items) };
 }
 
 // The place of the table of this name, or else the one where it would come.
@@ -98,9 +102,10 @@ impl Defined {
         }
     }
 
-    /// The tables, in the order of their names.
+    /// The tables, in the order of their names, none of them twice.
     pub fn as_slice(&self) -> &[DefinedTable]
-        ensures { result.now ≡ self.now }
+        ensures value { result.now ≡ self.now }
+        ensures order { T (is_sorted name_order self.now) }
     {
         self.tables.as_slice()
     }
@@ -123,6 +128,7 @@ impl Defined {
     }
 
     // Sets the table of this name. Where memory is refused all is as before.
+    #[tactic(auto, using(crate::proofs::NamedTables::put_sorted))]
     pub(crate) fn define(&mut self, name: &TableName, table: Table) -> Result<(), AllocError>
         ensures ok { OnOk result (self.new ≡ put name_order name.now table self.old) }
         ensures err { OnErr result (self.new ≡ self.old) }

@@ -1,6 +1,6 @@
 //! Names of rulesets.
 ghost use Rattle.std.specs.Prelude.{◌≡◌};
-ghost use Rattle.pf_ticket.specs.Names.{filter_at, table_ruleset_at, same_kind, same_name};
+ghost use Rattle.pf_ticket.specs.Names.{filter_at, table_ruleset_at, same_name};
 
 use pf_anchor::Path;
 use std::marker::Model;
@@ -21,17 +21,6 @@ pub struct RulesetName {
     pub kind: RulesetKind,
     /// Where it is; the main ruleset's path has no bytes.
     pub path: Path,
-}
-
-impl RulesetKind {
-    fn is(self, other: RulesetKind) -> bool
-        ensures { result ≡ same_kind self other }
-    {
-        match self {
-            RulesetKind::Filter => matches!(other, RulesetKind::Filter),
-            RulesetKind::Table => matches!(other, RulesetKind::Table),
-        }
-    }
 }
 
 impl RulesetName {
@@ -69,7 +58,7 @@ impl RulesetName {
     pub fn same(&self, other: &RulesetName) -> bool
         ensures { result ≡ same_name self.now other.now }
     {
-        self.kind.is(other.kind) && self.path.same(&other.path)
+        self.kind == other.kind && self.path.same(&other.path)
     }
 }
 

@@ -3,9 +3,11 @@ ghost use Rattle.std.specs.Prelude.{◌≡◌, ◌<◌, ◌≤◌, ◌+◌, ◌|
 ghost use Rattle.std.specs.List.{list_any};
 ghost use Rattle.pf_anchor.specs.declared.limits.TheConstants.{RULE_LIMIT};
 ghost use Rattle.pf_table.specs.Edits.{conflict_in, replaced};
+ghost use Rattle.pf_addr.specs.Refusing.{OrMemory};
+ghost use Rattle.pf_ticket.specs.declared.refusal.TicketRefusal.TheVariants.{Memory};
 ghost use Rattle.pf_ticket.specs.Mentions.{added, defined, load, moved, take_out, after, gives, switches, drops};
 ghost use Rattle.pf_ticket.specs.Names.{filter_at, table_ruleset_at, is_named, same_name, names_of};
-ghost use Rattle.pf_ticket.specs.Replies.{bad_count, twice_in, busy_in, list_check, commit_check, begin_reply, add_reply, table_reply, define_reply, IsReply};
+ghost use Rattle.pf_ticket.specs.Replies.{bad_count, twice_behind, twice_in, busy_in, list_check, commit_check, begin_reply, add_reply, table_reply, define_reply};
 ghost use Rattle.pf_ticket.specs.Tickets.{Offer, offer, offer_at, nothing, loaded, with_rule, with_table, offered_as, put, without, IsPlace, fresh, open_with, content, is_valid};
 
 use crate::defined::Defined;
@@ -100,6 +102,18 @@ fn is_named(names: &[RulesetName], name: &RulesetName) -> bool
     names.iter().any(|other| other.same(name))
 }
 
+/// The first of these rulesets, from 0, that is named before it. It takes no memory.
+pub fn named_twice(names: &[RulesetName]) -> Option<usize>
+    ensures { result ≡ twice_behind [] names.now }
+{
+    for (place, name) in names.iter().enumerate() {
+        if is_named(&names[..place], name) {
+            return Some(place);
+        }
+    }
+    None
+}
+
 // Whether one of these entries names the ruleset.
 fn names_it(entries: &[Entry], name: &RulesetName) -> bool
     ensures { result ≡ list_any (λ e. same_name e.name name.now) entries.now }
@@ -161,7 +175,7 @@ fn is_new(slots: &[Slot], before: &[RulesetName], name: &RulesetName) -> bool
 
 // The table that entries make, where it has no more than there may be; `Conflict` at the first that contradicts one before it.
 fn table_of(alloc: Global, entries: &[pf_table::Entry]) -> Result<Option<Table>, TicketRefusal>
-    ensures { IsReply result (table_reply (conflict_in entries.now) (replaced entries.now)) }
+    ensures { OrMemory Memory result (table_reply (conflict_in entries.now) (replaced entries.now)) }
 {
     let mut table = Table::empty();
     match table.replace(alloc, entries) {
@@ -262,7 +276,8 @@ impl Tickets {
         requires within { place < length self.old.offers }
         requires stands { (o : Offer) → o ≡ get_or self.old.offers place o → IsPlace name.now self.old.offers place o }
         requires room { length (loaded self.old name.now).rules < RULE_LIMIT }
-        ensures ok { OnOk result ((o : Offer) → o ≡ get_or self.old.offers place o → self.new ≡ load self.old name.now o.ticket (with_rule (loaded self.old name.now) rule)) }
+        ensures ok { OnOk result ((o : Offer) → o ≡ get_or self.old.offers place o →
+            self.new ≡ load self.old name.now o.ticket (with_rule (loaded self.old name.now) rule)) }
         ensures err { OnErr result (self.new ≡ self.old) }
     {
         self.slots[place].rules.add(self.alloc, rule)
@@ -278,7 +293,8 @@ impl Tickets {
     ) -> Result<(), AllocError>
         requires within { place < length self.old.offers }
         requires stands { (o : Offer) → o ≡ get_or self.old.offers place o → IsPlace name.now self.old.offers place o }
-        ensures ok { OnOk result ((o : Offer) → o ≡ get_or self.old.offers place o → self.new ≡ load self.old name.now o.ticket (with_table (loaded self.old name.now) table_name.now table)) }
+        ensures ok { OnOk result ((o : Offer) → o ≡ get_or self.old.offers place o →
+            self.new ≡ load self.old name.now o.ticket (with_table (loaded self.old name.now) table_name.now table)) }
         ensures err { OnErr result (self.new ≡ self.old) }
     {
         self.slots[place].tables.define(table_name, table)
@@ -289,7 +305,7 @@ impl Tickets {
     /// The refusal is the first in this order: `BadCount`; `TooManyRulesets`; `TicketsExhausted`. `Memory` may come before any of
     /// them. After a refusal all is as before.
     pub fn begin(&mut self, names: &[RulesetName]) -> Result<TicketRange, TicketRefusal>
-        ensures reply { IsReply result (begin_reply self.old names.now) }
+        ensures reply { OrMemory Memory result (begin_reply self.old names.now) }
         ensures ok { OnOk result (self.new ≡ after self.old (gives names.now)) }
         ensures err { OnErr result (self.new ≡ self.old) }
     {
@@ -325,7 +341,7 @@ impl Tickets {
     /// The refusal is the first in this order: `Busy` at 0; `RulesetFull`. `Memory` may come before any of them. After a refusal
     /// all is as before.
     pub fn add_rule(&mut self, path: &Path, ticket: Ticket, rule: Rule) -> Result<(), TicketRefusal>
-        ensures reply { IsReply result (add_reply self.old (filter_at path.now) ticket) }
+        ensures reply { OrMemory Memory result (add_reply self.old (filter_at path.now) ticket) }
         ensures ok { OnOk result (self.new ≡ moved self.old (added (filter_at path.now) ticket rule)) }
         ensures err { OnErr result (self.new ≡ self.old) }
     {
@@ -352,7 +368,7 @@ impl Tickets {
         name: &TableName,
         entries: &[pf_table::Entry],
     ) -> Result<(), TicketRefusal>
-        ensures reply { IsReply result (define_reply self.old (table_ruleset_at path.now) ticket name.now entries.now) }
+        ensures reply { OrMemory Memory result (define_reply self.old (table_ruleset_at path.now) ticket name.now entries.now) }
         ensures ok { OnOk result (self.new ≡ moved self.old (defined (table_ruleset_at path.now) ticket name.now entries.now)) }
         ensures err { OnErr result (self.new ≡ self.old) }
     {

@@ -1,7 +1,11 @@
--- What is kept, what a change does to it (pf(4), DIOCXCOMMIT and DIOCRADDADDRS to DIOCRSETADDRS), and what it says of a packet (pf.conf(5), PACKET FILTERING, ANCHORS and TABLES). That an empty table doesn't exist, how a peer's states act, and the limits, are own.
-use Rattle.std.specs.Prelude.{ℕ, ◌==◌, ◌&&◌, Bool, not, if◌then◌else◌, List, [], ◌∷◌, ◌++◌, fold, length, map, nat_lt, Option, Some, None, Result, Ok, Err}
-use Rattle.std.specs.List.{list_any}
-use Rattle.std.specs.Option.{option_map_or}
+-- What is kept, what a change does to it (pf(4), DIOCXCOMMIT and DIOCRADDADDRS to DIOCRSETADDRS), and what it says of a packet
+-- (pf.conf(5), PACKET FILTERING, ANCHORS and TABLES). That an empty table doesn't exist, how a peer's states act, and the limits, are own.
+use Rattle.std.specs.Prelude.{ℕ, ◌==◌, ◌&&◌, Bool, true, not, List, [], ◌∷◌, ◌++◌, fold, length, map, nat_lt, Option, Result, Ok}
+use Rattle.std.specs.FinMap.{is_sorted}
+use Rattle.std.specs.List.{list_any, position}
+use Rattle.std.specs.Option.{option_map_or, option_or}
+use Rattle.pf_addr.specs.Refusing.{and_then, unless, refused_at}
+use Rattle.pf_addr.specs.Path.Names.{name_order}
 use Rattle.pf_addr.specs.Path.Paths.{same_path}
 use Rattle.pf_rule.specs.Packets.{PlainPacket}
 use Rattle.pf_table.specs.declared.limits.TheConstants.{TABLE_LIMIT}
@@ -12,8 +16,7 @@ use Rattle.pf_anchor.specs.Configurations.{Configuration, nothing, with_rulesets
 use Rattle.pf_anchor.specs.Evaluation.{judged}
 use Rattle.pf_anchor.specs.Rulesets.{Ruled, rules_at}
 use Rattle.pf_anchor.specs.Tables.{Tabled, tabled, table_at}
-use Rattle.pf_state.specs.declared.state.StateName.{StateName}
-use Rattle.pf_state.specs.declared.step.Step.{Step}
+use Rattle.pf_state.specs.declared.{state.StateName.StateName, step.Step.Step}
 use Rattle.pf_state.specs.Flows.{flow_of}
 use Rattle.pf_state.specs.States.{Stated, state_of}
 use Rattle.pf_state.specs.Steps.{after as stepped_on, passes_limit, without_state}
@@ -21,12 +24,9 @@ use Rattle.pf_rule.specs.Sum.Forms.{ruleset_sum}
 use Rattle.pf_ticket.specs.declared.name.RulesetName.{RulesetName}
 use Rattle.pf_ticket.specs.Names.{filter_at, table_ruleset_at}
 use Rattle.pf_ticket.specs.NamedTables.{Named}
-use Rattle.pf_core.specs.declared.durable.change.Item.{Item}
+use Rattle.pf_ticket.specs.Replies.{twice_behind}
+use Rattle.pf_core.specs.declared.{durable.change.Item.Item, durable.refusal.ChangeRefusal.ChangeRefusal, durable.refusal.ChangeRefusal.TheVariants.Twice, durable.refusal.ChangeRefusal.TheVariants.Conflict, durable.refusal.ChangeRefusal.TheVariants.TableFull, durable.refusal.ChangeRefusal.TheVariants.TooManyRulesets, durable.refusal.ChangeRefusal.TheVariants.TooManyTables, durable.refusal.ChangeRefusal.TheVariants.StatesFull, durable.verdict.Verdict.Verdict, durable.verdict.Verdict.TheVariants.State as Stateful, durable.verdict.Verdict.TheVariants.Rules}
 use Rattle.pf_core.specs.declared.durable.change.Item.TheVariants as item
-use Rattle.pf_core.specs.declared.durable.refusal.ChangeRefusal.{ChangeRefusal}
-use Rattle.pf_core.specs.declared.durable.refusal.ChangeRefusal.TheVariants.{Conflict, TableFull, TooManyRulesets, TooManyTables, StatesFull}
-use Rattle.pf_core.specs.declared.durable.verdict.Verdict.{Verdict}
-use Rattle.pf_core.specs.declared.durable.verdict.Verdict.TheVariants.{State as Stateful, Rules}
 
 pub record Kept : Type 0 where
   pub epoch : ℕ
@@ -53,7 +53,9 @@ entries_at d p name = table_at p name d.config.tables
 
 -- ---- changes
 
--- A change: what a commit replaces, in the command's order; or entries, as handed in, that are added to the table at a path under a name, deleted from it, or take its place; or steps that act on the states, in order, those that change nothing too; or the state of a name that is taken out.
+-- A change: what a commit replaces, in the command's order; or entries, as handed in, that are added to the table at a path under a name,
+-- deleted from it, or take its place; or steps that act on the states, in order, those that change nothing too; or the state of a name
+-- that is taken out.
 pub data Edit : Type 0 where
   commits : List Item → Edit
   adds : List ℕ → List ℕ → List Row → Edit
@@ -120,22 +122,18 @@ voided_by (removes name) = []
 
 -- ---- which changes fit
 
--- a check, and where it passes another
-abbrev pub and_then : {A : Type 0} → Result (Unit {0}) ChangeRefusal → Result A ChangeRefusal → Result A ChangeRefusal
-and_then (Ok u) next = next
-and_then (Err e) next = Err e
-
--- refused where this holds
-abbrev pub unless : Bool → ChangeRefusal → Result (Unit {0}) ChangeRefusal
-unless b why = if b then Err why else Ok tt
-
-abbrev pub conflict_at : Option ℕ → Result (Unit {0}) ChangeRefusal
-conflict_at None = Ok tt
-conflict_at (Some i) = Err (Conflict i)
-
 -- no network stands in the list with both signs
 abbrev pub no_conflict : List Row → Result (Unit {0}) ChangeRefusal
-no_conflict xs = conflict_at (conflict_in xs)
+no_conflict xs = refused_at (λ i. Conflict i) (conflict_in xs)
+
+-- an item has its tables in the order of their names, so none of them twice
+abbrev pub is_in_order : Item → Bool
+is_in_order (item.Rules r) = true
+is_in_order (item.Tables p named) = is_sorted name_order named
+
+-- the first item that names a ruleset named before it, else the first that names a table twice
+abbrev pub named_again : List Item → Option ℕ
+named_again items = option_or (twice_behind [] (map name_of items)) (position (λ i. not (is_in_order i)) items)
 
 -- entries that a table can hold
 abbrev pub holdable : List Row → Result (Unit {0}) ChangeRefusal
@@ -147,7 +145,8 @@ is_one_more old new = (length old == 0) && not (length new == 0)
 
 -- it isn't made where there would be too many with it
 abbrev pub room_for_table : Kept → List ℕ → List ℕ → List Row → Result (Unit {0}) ChangeRefusal
-room_for_table d p name new = unless (is_one_more (entries_at d p name) new && nat_lt TABLE_COUNT_LIMIT (length (with_entries d p name new).config.tables)) TooManyTables
+room_for_table d p name new = unless (is_one_more (entries_at d p name) new
+    && nat_lt TABLE_COUNT_LIMIT (length (with_entries d p name new).config.tables)) TooManyTables
 
 -- these entries may be the table's
 abbrev pub replaceable : Kept → List ℕ → List ℕ → List Row → Result (Unit {0}) ChangeRefusal
@@ -155,11 +154,13 @@ replaceable d p name new = and_then (holdable new) (room_for_table d p name new)
 
 -- no more rulesets and tables than there may be
 abbrev pub few : Configuration → Result (Unit {0}) ChangeRefusal
-few c = and_then (unless (nat_lt RULESET_LIMIT (length c.rulesets)) TooManyRulesets) (unless (nat_lt TABLE_COUNT_LIMIT (length c.tables)) TooManyTables)
+few c = and_then (unless (nat_lt RULESET_LIMIT (length c.rulesets)) TooManyRulesets)
+    (unless (nat_lt TABLE_COUNT_LIMIT (length c.tables)) TooManyTables)
 
--- Why a change isn't made, where there is a cause. A commit's limits are counted once it is whole, those of states behind each step. To delete entries or a state no limit is asked.
+-- Why a change isn't made, where there is a cause. A commit names nothing twice, and its limits are counted once it is whole, those of
+-- states behind each step. To delete entries or a state no limit is asked.
 abbrev pub fits : Kept → Edit → Result (Unit {0}) ChangeRefusal
-fits d (commits items) = few (applied d (commits items)).config
+fits d (commits items) = and_then (refused_at (λ i. Twice i) (named_again items)) (few (applied d (commits items)).config)
 fits d (adds p name xs) = and_then (no_conflict xs) (replaceable d p name (added (entries_at d p name) xs))
 fits d (deletes p name xs) = no_conflict xs
 fits d (sets p name xs) = and_then (no_conflict xs) (replaceable d p name (replaced xs))
@@ -172,6 +173,7 @@ changed d e = and_then (fits d e) (Ok (applied d e))
 
 -- ---- packets
 
--- a packet passes by the state of its flow; without one it is judged by the main ruleset, and where its anchor rules match by what they lead to
+-- a packet passes by the state of its flow; without one it is judged by the main ruleset, and where its anchor rules match by what they
+-- lead to
 abbrev pub verdict : Kept → PlainPacket → Verdict
 verdict d packet = option_map_or (λ s. Stateful s.0) (state_of (flow_of packet) d.states) (Rules (judged d.config packet))

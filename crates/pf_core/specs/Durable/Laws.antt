@@ -1,20 +1,20 @@
 -- What follows from the definitions, as law functions promise it.
 use Rattle.std.specs.Prelude.{◌≡◌, ◌≢◌, ◌⊎◌, ℕ, ◌≤◌, List, [], length, Ok}
-use Rattle.pf_table.specs.declared.limits.TheConstants.{TABLE_LIMIT}
+use Rattle.std.specs.List.{AllByRecursion}
 use Rattle.pf_table.specs.Edits.{added, deleted, replaced}
 use Rattle.pf_table.specs.Entries.{Row}
+use Rattle.pf_table.specs.Tables.{AreEntries}
 use Rattle.pf_anchor.specs.declared.limits.TheConstants.{RULE_LIMIT, RULESET_LIMIT, TABLE_COUNT_LIMIT}
 use Rattle.pf_anchor.specs.Configurations.{IsConfiguration}
 use Rattle.pf_anchor.specs.Laws.{rules_by}
 use Rattle.pf_table.specs.Map.ListMaps.{list_by}
 use Rattle.pf_anchor.specs.Rulesets.{rules_at}
 use Rattle.pf_anchor.specs.Tables.{table_order, IsTableMap}
-use Rattle.pf_state.specs.declared.state.StateName.{StateName}
-use Rattle.pf_state.specs.declared.step.Step.{Step}
+use Rattle.pf_state.specs.declared.{state.StateName.StateName, step.Step.Step}
 use Rattle.pf_state.specs.States.{Stated, IsStates}
 use Rattle.pf_state.specs.Steps.{after as stepped_on, without_state}
 use Rattle.pf_core.specs.declared.durable.change.Item.{Item}
-use Rattle.pf_core.specs.Durable.Edits.{Kept, Edit, commits, adds, deletes, sets, acts, removes, rulesets_in, tables_in, entries_at, applied, fits}
+use Rattle.pf_core.specs.Durable.Edits.{Kept, commits, adds, deletes, sets, acts, removes, rulesets_in, tables_in, entries_at, applied, fits}
 
 -- what is kept after a commit, whole
 pub record IsReplaced (d : Kept) (items : List Item) (new : Kept) : Type 0 where
@@ -40,15 +40,18 @@ pub record IsEdited (d : Kept) (p name : List ℕ) (es : List Row) (new : Kept) 
 
 -- an edit changes exactly the table at its path under its name
 pub record EditsExactly : Type 0 where
-  pub by_add : (d : Kept) (p name : List ℕ) (xs : List Row) → IsEdited d p name (added (entries_at d p name) xs) (applied d (adds p name xs))
-  pub by_delete : (d : Kept) (p name : List ℕ) (xs : List Row) → IsEdited d p name (deleted (entries_at d p name) xs) (applied d (deletes p name xs))
+  pub by_add : (d : Kept) (p name : List ℕ) (xs : List Row) →
+      IsEdited d p name (added (entries_at d p name) xs) (applied d (adds p name xs))
+  pub by_delete : (d : Kept) (p name : List ℕ) (xs : List Row) →
+      IsEdited d p name (deleted (entries_at d p name) xs) (applied d (deletes p name xs))
   pub by_set : (d : Kept) (p name : List ℕ) (xs : List Row) → IsEdited d p name (replaced xs) (applied d (sets p name xs))
   -- so a table that is killed is there no more
   pub by_kill : (d : Kept) (p name : List ℕ) → IsEdited d p name [] (applied d (sets p name []))
 
 -- to delete entries from a table that isn't there makes none
 abbrev pub DeletesNothing : Type 0
-DeletesNothing = (d : Kept) (p name : List ℕ) (xs : List Row) → entries_at d p name ≡ [] → entries_at (applied d (deletes p name xs)) p name ≡ []
+DeletesNothing = (d : Kept) (p name : List ℕ) (xs : List Row) → entries_at d p name ≡ [] →
+    entries_at (applied d (deletes p name xs)) p name ≡ []
 
 -- ---- changes of states
 
@@ -65,16 +68,23 @@ pub record StepsExactly : Type 0 where
 
 -- ---- limits
 
--- what is kept is within the limits
+-- what is kept is a configuration, tables and states in which nothing stands twice, all within the limits
 pub record IsWithin (d : Kept) : Type 0 where
+  pub maps : IsConfiguration d.config
   pub rulesets : length d.config.rulesets ≤ RULESET_LIMIT
   pub rules : (p : List ℕ) → length (rules_at p d.config.rulesets) ≤ RULE_LIMIT
   pub tables : length d.config.tables ≤ TABLE_COUNT_LIMIT
-  pub entries : (p name : List ℕ) → length (entries_at d p name) ≤ TABLE_LIMIT
+  pub entries : (p name : List ℕ) → AreEntries (entries_at d p name)
   pub states : IsStates d.states
 
--- an edit of a table and a change of states that fit leave what is kept within the limits
+-- what a commit replaces is so long, and in order
+pub record AreFew (items : List Item) : Type 0 where
+  pub rules : AllByRecursion (λ r. length r.1 ≤ RULE_LIMIT) (rulesets_in items)
+  pub entries : AllByRecursion (λ t. AreEntries t.1) (tables_in items)
+
+-- a change that fits leaves what is kept within the limits
 pub record StaysWithin (d : Kept) : Type 0 where
+  pub by_commit : (items : List Item) → AreFew items → fits d (commits items) ≡ Ok tt → IsWithin (applied d (commits items))
   pub by_add : (p name : List ℕ) (xs : List Row) → fits d (adds p name xs) ≡ Ok tt → IsWithin (applied d (adds p name xs))
   pub by_delete : (p name : List ℕ) (xs : List Row) → IsWithin (applied d (deletes p name xs))
   pub by_set : (p name : List ℕ) (xs : List Row) → fits d (sets p name xs) ≡ Ok tt → IsWithin (applied d (sets p name xs))

@@ -152,7 +152,7 @@ fn name_of(item: &Item) -> RulesetName
 }
 
 // The rulesets that a commit replaces.
-fn names_of(alloc: Global, items: &[Item]) -> Result<Vec<RulesetName>, AllocError>
+pub(crate) fn names_of(alloc: Global, items: &[Item]) -> Result<Vec<RulesetName>, AllocError>
     ensures { IfOk result (λ v. v.items ≡ map name_of items.now) }
 {
     let mut names = Vec::with_capacity(alloc, items.len())?;

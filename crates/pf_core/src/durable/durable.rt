@@ -1,14 +1,19 @@
 //! What is kept.
-ghost use Rattle.std.specs.Prelude.{◌≡◌, ◌==◌, ◌++◌, [], not, true, length, IfOk, OnOk};
+ghost use Rattle.std.specs.Prelude.{◌≡◌, ◌==◌, ◌++◌, [], T, not, true, map, length, IfOk, OnOk};
+ghost use Rattle.std.specs.FinMap.{is_sorted};
+ghost use Rattle.std.specs.List.{list_all};
 ghost use Rattle.std.specs.Arc.{arc_value};
+ghost use Rattle.pf_addr.specs.Refusing.{refused_at, OrMemory, Meets};
+ghost use Rattle.pf_addr.specs.Path.Names.{name_order};
 ghost use Rattle.pf_anchor.specs.Configurations.{with_rulesets};
 ghost use Rattle.pf_table.specs.Edits.{added, additions, deleted, deletions, replaced};
 ghost use Rattle.pf_table.specs.Tables.{deciding};
 ghost use Rattle.pf_state.specs.Steps.{after, counts, without_state};
-ghost use Rattle.pf_core.specs.Durable.Edits.{kept_nothing, commits, adds, deletes, sets, acts, rulesets_in, replaces_main, placed, tables_in, entries_at, sum_of, main_sum, with_entries, with_states, room_for_table, fits, changed, verdict};
-ghost use Rattle.pf_core.specs.Durable.Refusals.{OrMemory, Meets};
+ghost use Rattle.pf_ticket.specs.Replies.{twice_behind};
+ghost use Rattle.pf_core.specs.declared.durable.refusal.ChangeRefusal.TheVariants.{Twice, Memory};
+ghost use Rattle.pf_core.specs.Durable.Edits.{is_in_order, name_of, kept_nothing, commits, adds, deletes, sets, acts, rulesets_in, replaces_main, placed, tables_in, entries_at, sum_of, main_sum, with_entries, with_states, room_for_table, fits, changed, verdict};
 
-use crate::durable::change::{Change, Item, Kind};
+use crate::durable::change::{Change, Item, Kind, names_of};
 use crate::durable::refusal::ChangeRefusal;
 use crate::durable::verdict::Verdict;
 use pf_addr::Addr;
@@ -18,7 +23,7 @@ use pf_rule::Packet;
 use pf_rule::sum::ruleset_sum;
 use pf_state::{Counts, StateName, StateTable, Step};
 use pf_table::{Addition, Deletion, Entry, Table};
-use pf_ticket::Defined;
+use pf_ticket::{Defined, named_twice};
 use std::alloc::{AllocError, Global};
 use std::marker::Model;
 use std::sync::Arc;
@@ -74,6 +79,16 @@ fn rulesets_in(alloc: Global, items: &[Item]) -> Result<Vec<Placed>, AllocError>
     Ok(rulesets)
 }
 
+// Refuses a commit that names a ruleset twice.
+fn check_names(alloc: Global, items: &[Item]) -> Result<(), ChangeRefusal>
+    ensures { OrMemory Memory result (refused_at (λ i. Twice i) (twice_behind [] (map name_of items.now))) }
+{
+    match named_twice(names_of(alloc, items)?.as_slice()) {
+        Some(at) => Err(ChangeRefusal::Twice { at }),
+        None => Ok(()),
+    }
+}
+
 // Puts tables at a path behind the others, shared.
 fn push_placed(
     alloc: Global,
@@ -81,7 +96,8 @@ fn push_placed(
     path: &Path,
     tables: &Defined,
 ) -> Result<(), AllocError>
-    ensures { OnOk result (found.new.items ≡ found.old.items ++ placed path.now tables.now) }
+    ensures found { OnOk result (found.new.items ≡ found.old.items ++ placed path.now tables.now) }
+    ensures order { T (is_sorted name_order tables.now) }
 {
     let named_tables = tables.as_slice();
     for named in named_tables {
@@ -91,9 +107,10 @@ fn push_placed(
     Ok(())
 }
 
-// The tables that are replaced, shared.
+// The tables that are replaced, shared. No item names one twice: what is defined stands in the order of its names.
 fn tables_in(alloc: Global, items: &[Item]) -> Result<Vec<PlacedTable>, AllocError>
-    ensures { IfOk result (λ v. v.items ≡ tables_in items.now) }
+    ensures value { IfOk result (λ v. v.items ≡ tables_in items.now) }
+    ensures order { IfOk result (λ v. list_all is_in_order items.now ≡ true) }
 {
     let mut found = Vec::new(alloc);
     for item in items {
@@ -189,7 +206,7 @@ impl Durable {
         name: &TableName,
         new: &Table,
     ) -> Result<(), ChangeRefusal>
-        ensures { OrMemory result (room_for_table self.now path.now name.now new.now) }
+        ensures { OrMemory Memory result (room_for_table self.now path.now name.now new.now) }
     {
         if self.has_table(path, name) || new.entries().is_empty() {
             return Ok(());
@@ -210,7 +227,7 @@ impl Durable {
         name: &TableName,
         entries: &[Entry],
     ) -> Result<(Table, Vec<Addition>), ChangeRefusal>
-        ensures fits { Meets result (fits self.now (adds path.now name.now entries.now)) }
+        ensures fits { Meets Memory result (fits self.now (adds path.now name.now entries.now)) }
         ensures table { IfOk result (λ r. r.0 ≡ added (entries_at self.now path.now name.now) entries.now) }
         ensures answers { IfOk result (λ r. r.1.items ≡ additions (entries_at self.now path.now name.now) entries.now) }
     {
@@ -228,7 +245,7 @@ impl Durable {
         name: &TableName,
         entries: &[Entry],
     ) -> Result<(Table, Vec<Deletion>), ChangeRefusal>
-        ensures fits { Meets result (fits self.now (deletes path.now name.now entries.now)) }
+        ensures fits { Meets Memory result (fits self.now (deletes path.now name.now entries.now)) }
         ensures table { IfOk result (λ r. r.0 ≡ deleted (entries_at self.now path.now name.now) entries.now) }
         ensures answers { IfOk result (λ r. r.1.items ≡ deletions (entries_at self.now path.now name.now) entries.now) }
     {
@@ -246,7 +263,7 @@ impl Durable {
         name: &TableName,
         entries: &[Entry],
     ) -> Result<Table, ChangeRefusal>
-        ensures fits { Meets result (fits self.now (sets path.now name.now entries.now)) }
+        ensures fits { Meets Memory result (fits self.now (sets path.now name.now entries.now)) }
         ensures table { IfOk result (λ t. t ≡ replaced entries.now) }
     {
         let mut table = Table::empty();
@@ -255,16 +272,17 @@ impl Durable {
         Ok(table)
     }
 
-    /// Refuses a commit that would leave more rulesets than there may be, or else more tables: `TooManyRulesets`,
-    /// `TooManyTables`.
+    /// Refuses a commit that names a ruleset or a table twice, or else would leave more rulesets than there may be, or else more tables:
+    /// `Twice`, `TooManyRulesets`, `TooManyTables`.
     pub fn check_commit(&self, alloc: Global, items: &[Item]) -> Result<(), ChangeRefusal>
-        ensures { OrMemory result (fits self.now (commits items.now)) }
+        ensures { OrMemory Memory result (fits self.now (commits items.now)) }
     {
+        check_names(alloc, items)?;
+        let tables = tables_in(alloc, items)?;
         let rulesets = rulesets_in(alloc, items)?;
         if self.config.would_be_too_many(alloc, rulesets.as_slice())? {
             return Err(ChangeRefusal::TooManyRulesets);
         }
-        let tables = tables_in(alloc, items)?;
         if self
             .config
             .would_be_too_many_tables(alloc, tables.as_slice())?
@@ -291,7 +309,7 @@ impl Durable {
 
     // What is kept once these items were replaced.
     fn commit(&self, alloc: Global, items: &[Item]) -> Result<Durable, ChangeRefusal>
-        ensures { OrMemory result (changed self.now (commits items.now)) }
+        ensures { OrMemory Memory result (changed self.now (commits items.now)) }
     {
         self.check_commit(alloc, items)?;
         let rulesets = rulesets_in(alloc, items)?;
@@ -331,7 +349,7 @@ impl Durable {
         alloc: Global,
         steps: &[Step],
     ) -> Result<(StateTable, Counts), ChangeRefusal>
-        ensures fits { Meets result (fits self.now (acts steps.now)) }
+        ensures fits { Meets Memory result (fits self.now (acts steps.now)) }
         ensures states { IfOk result (λ r. r.0 ≡ after self.now.states steps.now) }
         ensures counts { IfOk result (λ r. r.1 ≡ counts self.now.states steps.now) }
     {
@@ -362,11 +380,11 @@ impl Durable {
     /// What is kept after a change. Rulesets and tables that stay are shared, and no rule is copied; where a change isn't of states
     /// they are shared too.
     ///
-    /// It is refused for the first of these that holds: `Conflict`, where a list names a network with both signs; `TableFull`;
-    /// `TooManyRulesets`, `TooManyTables`; `StatesFull`. A change that a command wants of this state is never refused for these. Where memory
-    /// is refused nothing is made.
+    /// It is refused for the first of these that holds: `Twice`, where a commit names a ruleset or a table twice; `Conflict`, where a list
+    /// names a network with both signs; `TableFull`; `TooManyRulesets`, `TooManyTables`; `StatesFull`. A change that a command wants of
+    /// this state is never refused for these. Where memory is refused nothing is made.
     pub fn apply(&self, alloc: Global, change: &Change) -> Result<Durable, ChangeRefusal>
-        ensures { OrMemory result (changed self.now change.now) }
+        ensures { OrMemory Memory result (changed self.now change.now) }
     {
         match &change.kind {
             Kind::Commit(items) => self.commit(alloc, items.as_slice()),

@@ -19,7 +19,7 @@ pub fn changes_of_states_change_states_alone()
     ensures { StepsExactly }
 {}
 
-/// An edit of a table or a change of states that fits leaves what is kept within all limits.
+/// A change that fits leaves what is kept within all limits, and nothing of it twice.
 pub fn what_fits_keeps_the_limits()
     ensures { KeepsWithin }
 {}

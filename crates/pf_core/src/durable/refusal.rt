@@ -10,6 +10,8 @@ use std::alloc::AllocError;
 /// Why a change isn't made. After each of these all is as before.
 #[derive(Clone, Copy, Debug, PartialEq, Eq)]
 pub enum ChangeRefusal {
+    /// The first item of a commit, from 0, that names a ruleset named before it; where none does, the first that names a table twice.
+    Twice { at: usize },
     /// The first entry of a list, from 0, whose network stands before it with the other sign.
     Conflict { at: usize },
     /// A table would have more than 65,536 entries.

@@ -7,7 +7,8 @@ use Rattle.pf_table.specs.Map.Maps.{with_value, with_entry, IsMap}
 
 -- a key that was replaced has the new value, or none, and all else stays
 abbrev pub ReplacesTheKey : {K : Type 0} → (X : Type 0) → (K → K → Ordering) → Type 0
-ReplacesTheKey {K} X R = (es : List (K × X)) (k : K) (v : Option X) (q : K) → find R q (with_value R es k v) ≡ cond (eq_by_cmp R q k) v (find R q es)
+ReplacesTheKey {K} X R = (es : List (K × X)) (k : K) (v : Option X) (q : K) →
+    find R q (with_value R es k v) ≡ cond (eq_by_cmp R q k) v (find R q es)
 
 -- what is left has its keys in order
 abbrev pub StaysSorted : {K : Type 0} → (X : Type 0) → (K → K → Ordering) → Type 0

@@ -49,4 +49,5 @@ module _ {K : Type 0} (X : Type 0) (R : K → K → Ordering) where
 
   -- two maps of which the same is read at each key are one, where only equal keys tie
   abbrev pub OneListMap : Type 0
-  OneListMap = IsAntisymmetric R → (a b : List (K × List X)) → IsListMap R a → IsListMap R b → ((k : K) → list_at R k a ≡ list_at R k b) → a ≡ b
+  OneListMap = IsAntisymmetric R → (a b : List (K × List X)) → IsListMap R a → IsListMap R b → ((k : K) → list_at R k a ≡ list_at R k b) →
+      a ≡ b

@@ -1,8 +1,7 @@
 -- Pairs in order: the first parts decide, and where these tie the second do. Own.
 use Rattle.std.specs.Prelude.{◌≡◌, T}
 use Rattle.std.proofs.Common.{sym, subst}
-use Rattle.std.specs.declared.cmp.Ordering.{Ordering}
-use Rattle.std.specs.declared.cmp.Ordering.TheVariants.{Less, Equal, Greater}
+use Rattle.std.specs.declared.{cmp.Ordering.Ordering, cmp.Ordering.TheVariants.Less, cmp.Ordering.TheVariants.Equal, cmp.Ordering.TheVariants.Greater}
 use Rattle.std.specs.FinMap.{IsAntisymmetric}
 use Rattle.std.specs.Ordering.{ordering_then, is_eq}
 

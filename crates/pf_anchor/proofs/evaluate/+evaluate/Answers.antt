@@ -4,8 +4,7 @@ use Rattle.std.proofs.lemmas.Grind.{common_steps}
 use Rattle.pf_addr.specs.Path.Nested.{depth, path_within, is_child}
 use Rattle.pf_addr.proofs.Nesting.{leads_deeper}
 use Rattle.pf_rule.specs.Rules.{PlainRule}
-use Rattle.pf_anchor.specs.declared.evaluated.Evaluated.{Evaluated}
-use Rattle.pf_anchor.specs.declared.evaluated.Evaluated.TheVariants.{Open, Ended}
+use Rattle.pf_anchor.specs.declared.{evaluated.Evaluated.Evaluated, evaluated.Evaluated.TheVariants.Open, evaluated.Evaluated.TheVariants.Ended}
 use Rattle.pf_anchor.specs.Matches.{PlainMatch}
 use Rattle.pf_table.specs.Map.Pages.{joined}
 use Rattle.pf_anchor.specs.Rulesets.{Ruled, ruled}

@@ -5,4 +5,4 @@ use Rattle.pf_ticket.proofs.tickets.first_twice.Given as goal
 
 -- no entry so far names a ruleset named before it
 abbrev pub invariant-loop-place : goal.invariant-loop-place
-invariant-loop-place l = twice_in l.entries ≡ twice_behind (names_of (take l.place l.entries)) (names_of (drop l.place l.entries))
+invariant-loop-place l = twice_in l.entries ≡ twice_behind (take l.place (names_of l.entries)) (drop l.place (names_of l.entries))

@@ -1,5 +1,4 @@
-use Rattle.std.proofs.Common.{◌≡◌, ap, sym, ◌∙◌}
-use Rattle.pf_anchor.specs.Configurations.{Configuration}
+use Rattle.std.proofs.Common.{ap, sym, ◌∙◌}
 use Rattle.pf_rule.specs.Sum.Forms.{ruleset_sum}
 use Rattle.pf_core.specs.Durable.Edits.{Kept, sum_of}
 use Rattle.pf_core.proofs.MainRules.{stays}

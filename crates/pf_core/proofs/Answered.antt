@@ -1,0 +1,55 @@
+-- What tests and judges are told, of what any legal world holds.
+use Rattle.std.proofs.Common.{◌≡◌, Bool, false, Option, Some, None, refl, ap, inl, inr}
+use Rattle.std.specs.Option.{option_map_or}
+use Rattle.pf_rule.specs.Packets.{PlainPacket}
+use Rattle.pf_table.proofs.TableLaws.{table_decides}
+use Rattle.pf_anchor.specs.Evaluation.{judged}
+use Rattle.pf_anchor.proofs.PlainRules.{tells_what_decides}
+use Rattle.pf_anchor.proofs.Leading.{leads_to_these_alone}
+use Rattle.pf_state.proofs.Tables.{one_state_a_flow}
+use Rattle.pf_state.specs.Flows.{flow_of}
+use Rattle.pf_state.specs.Laws.{IsStateOf, FindsTheState}
+use Rattle.pf_state.specs.States.{Stated, state_of}
+use Rattle.pf_core.specs.declared.{command.Command.Command, command.Command.TheVariants.Ask, command.Question.TheVariants.Judge, command.Question.TheVariants.Test, durable.verdict.Verdict.TheVariants.State as Stateful, durable.verdict.Verdict.TheVariants.Rules as ByRules, reply.Refusal.TheVariants.Memory, reply.Reply.Reply, reply.Reply.TheVariants.Refused}
+use Rattle.pf_core.specs.Commands.{takes_memory}
+use Rattle.pf_core.specs.Durable.Edits.{Kept, entries_at, verdict}
+use Rattle.pf_core.specs.Durable.Laws.{IsWithin}
+use Rattle.pf_core.specs.WorldFacts.{IsDecided, TestsTellTheEntry, JudgesTellTheVerdict}
+use Rattle.pf_core.specs.Worlds.{Held, durable_of, due, StandsIn, LegalReply}
+use Rattle.pf_core.proofs.Limits.{keeps_the_limits}
+
+none-stands-in : (h : Held) (c : Command) (failed : Bool) (due r : Reply) → takes_memory (durable_of h) c ≡ false → StandsIn h c failed due r → ⊥
+none-stands-in h c failed due (Refused Memory) none stands = cc (none, stands)
+none-stands-in h c failed due r none stands = stands
+
+-- to a command that takes no memory the one reply is legal that is due
+only-due : (h : Held) (c : Command) (r : Reply) (failed : Bool) → takes_memory (durable_of h) c ≡ false → LegalReply h c r failed → r ≡ due h c
+only-due h c r failed none (inl is) = is
+only-due h c r failed none (inr stands) = absurd (none-stands-in h c failed (due h c) r none stands)
+
+pub tests_tell_the_entry : TestsTellTheEntry
+tests_tell_the_entry first world h within legal comes p name a = record {
+  told = λ r failed legal. only-due h (Ask (Test p name a)) r failed refl legal;
+  decides = table_decides (entries_at (durable_of h) p name) a (((keeps_the_limits first world h within legal comes).kept.entries p name).sorted);
+}
+
+unheld : (d : Kept) (packet : PlainPacket) → FindsTheState d.states (flow_of packet) → ((s : Stated) → IsStateOf d.states (flow_of packet) s → ⊥) → (o : Option Stated) → state_of (flow_of packet) d.states ≡ o → verdict d packet ≡ ByRules (judged d.config packet)
+unheld d packet finds none None is = ap (λ (o : Option Stated). option_map_or (λ s. Stateful s.0) o (ByRules (judged d.config packet))) is
+unheld d packet finds none (Some s) is = absurd (none s ((finds.found s).0 is))
+
+decided : (d : Kept) (packet : PlainPacket) → IsWithin d → IsDecided d packet
+decided d packet w =
+    let finds : FindsTheState d.states (flow_of packet) = one_state_a_flow d.states (flow_of packet) w.states.names in
+    record {
+      by_state = λ s is. ap (λ (o : Option Stated). option_map_or (λ t. Stateful t.0) o (ByRules (judged d.config packet))) ((finds.found s).1 is);
+      one = finds.one;
+      by_rules = λ none. unheld d packet finds none (state_of (flow_of packet) d.states) refl;
+      last = tells_what_decides d.config packet;
+      leads = λ p s. leads_to_these_alone d.config.rulesets p s w.maps.rulesets;
+    }
+
+pub judges_tell_the_verdict : JudgesTellTheVerdict
+judges_tell_the_verdict first world h within legal comes packet = record {
+  told = λ r failed legal. only-due h (Ask (Judge packet)) r failed refl legal;
+  decided = decided (durable_of h) packet (keeps_the_limits first world h within legal comes).kept;
+}
