@@ -6,3 +6,4 @@ pub mod SpelledTickets
 pub mod SpelledEntries
 pub mod SpelledStates
 pub mod Choices
+mod ExportedLines

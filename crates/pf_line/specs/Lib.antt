@@ -4,3 +4,4 @@ pub mod Entries
 pub mod States
 pub mod Grammar
 pub mod Lines
+pub mod Exports
