@@ -1,3 +1,7 @@
+pub use Rattle.pf_state.specs.Peer
+pub use Rattle.pf_state.specs.Failover
+pub use Rattle.pf_state.specs.States as StateTables
+pub use Rattle.pf_state.specs.Steps
 pub mod Reply
 pub mod Tickets
 pub mod Entries

@@ -3,6 +3,7 @@
 
 mod book;
 mod engine;
+pub mod laws;
 pub mod line_engine;
 mod program;
 
