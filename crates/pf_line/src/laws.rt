@@ -58,7 +58,8 @@ pub fn a_line_has_one_meaning()
 
 /// The words of a line are refused at one place, and for one reason.
 pub fn a_refusal_is_one()
-    ensures { (ws : List Word) (m n : ℕ) (j k : Kind) → RefusedAt Spoken the_grammar ws m j → RefusedAt Spoken the_grammar ws n k → (m ≡ n) × (j ≡ k) }
+    ensures { (ws : List Word) (m n : ℕ) (j k : Kind) → RefusedAt Spoken the_grammar ws m j →
+        RefusedAt Spoken the_grammar ws n k → (m ≡ n) × (j ≡ k) }
 {}
 
 /// A line that is too long is bad, whatever its bytes are.
@@ -85,7 +86,8 @@ pub fn written_bytes_are_read_again()
 /// export is no longer than a line may be, and means to act on its message.
 pub fn exported_message_is_read_again()
     ensures lines { ExportsAreRead }
-    ensures words { (m : Message) → CanBeWritten m → IsBytes (message_bytes m) → SpellsLine (States (Peer m)) (codes "peer" ∷ encode_lower (message_bytes m) ∷ []) }
+    ensures words { (m : Message) → CanBeWritten m → IsBytes (message_bytes m) →
+        SpellsLine (States (Peer m)) (codes "peer" ∷ encode_lower (message_bytes m) ∷ []) }
 {}
 
 /// A line has at most 4,096 bytes, a ticket's epoch and its count have 1 to 10 digits each, and a state's number 1 to 20.

@@ -65,7 +65,8 @@ fn print<W: Write>(error: &Error, writer: &mut W) -> io::Result<()> {
 // Help and the version are written and are no fault; refused words are told to the faults.
 fn explain<W: Write, F: Write>(error: &Error, writer: &mut W, faults: &mut F) -> u8
     ensures status { result ≤ 2 }
-    ensures memory { kind_of error.now ≡ ErrorKind.OutOfMemory → (result ≡ 1) × Keeps (W.contents writer.old) (W.contents writer.new) }
+    ensures memory { kind_of error.now ≡ ErrorKind.OutOfMemory →
+        (result ≡ 1) × Keeps (W.contents writer.old) (W.contents writer.new) }
     ensures refused { result ≡ 2 → Keeps (W.contents writer.old) (W.contents writer.new) }
 {
     if error.kind() == ErrorKind::OutOfMemory {
@@ -100,9 +101,12 @@ pub fn start<R: Read, W: Write, F: Write>(
     faults: &mut F,
 ) -> u8
     ensures status { result ≤ 2 }
-    ensures run { IsRun (map string_bytes words.now) → RanWith result (R.remaining reader.old) (R.remaining reader.new) (W.contents writer.old) (W.contents writer.new) }
-    ensures others { RanWith result (R.remaining reader.old) (R.remaining reader.new) (W.contents writer.old) (W.contents writer.new) ⊎ Keeps (R.remaining reader.old) (R.remaining reader.new) }
-    ensures refused { result ≡ 2 → Keeps (R.remaining reader.old) (R.remaining reader.new) × Keeps (W.contents writer.old) (W.contents writer.new) }
+    ensures run { IsRun (map string_bytes words.now) →
+        RanWith result (R.remaining reader.old) (R.remaining reader.new) (W.contents writer.old) (W.contents writer.new) }
+    ensures others { RanWith result (R.remaining reader.old) (R.remaining reader.new) (W.contents writer.old) (W.contents writer.new) ⊎
+        Keeps (R.remaining reader.old) (R.remaining reader.new) }
+    ensures refused { result ≡ 2 → Keeps (R.remaining reader.old) (R.remaining reader.new) ×
+        Keeps (W.contents writer.old) (W.contents writer.new) }
 {
     match check_words(alloc, words) {
         Ok(()) => match run(alloc, reader, writer) {
