@@ -1,3 +1,4 @@
+pub use Rattle.pf_state.proofs.TakenOver
 pub mod Writers
 pub mod Newlines
 pub mod StateTexts
@@ -6,3 +7,4 @@ pub mod SpelledTickets
 pub mod SpelledEntries
 pub mod SpelledStates
 pub mod Choices
+pub mod ExportedLines

@@ -1,6 +1,6 @@
 -- What bytes are written as is read again.
 use Rattle.std.proofs.Common.{◌≡◌, ℕ, List, [], ◌∷◌, Ok, inl, refl, ap}
-use Rattle.std.specs.Prelude.{codes}
+use Rattle.std.specs.Prelude.{codes, Some}
 use Rattle.hex.specs.Hex.{IsBytes, encode_lower, encode_upper}
 use Rattle.hex.proofs.HexLemmas.{decode_of-encode_lower, decode_of-encode_upper}
 use Rattle.pf_state.specs.declared.peer.message.Message.{Message}
@@ -10,8 +10,9 @@ use Rattle.pf_state.proofs.RoundTrip.{message_again}
 use Rattle.pf_core.specs.declared.command.Command.TheVariants.{States}
 use Rattle.pf_core.specs.declared.command.StateCommand.TheVariants.{Peer}
 use Rattle.pf_line.specs.States.{as_word, bytes_of}
-use Rattle.pf_line.specs.Grammar.{Tells}
-use Rattle.pf_line.specs.Lines.{SpellsLine}
+use Rattle.pf_addr.specs.Form.Forms.{Spells}
+use Rattle.pf_line.specs.Grammar.{Tells, line as grammar}
+use Rattle.pf_line.specs.Lines.{Means, SpellsLine}
 
 -- ---- bytes in hexadecimal
 
@@ -23,8 +24,13 @@ upper_bytes_again bytes are = ap as_word (decode_of-encode_upper bytes are)
 
 -- ---- a peer's message
 
+pub message_spelled : (m : Message) → IsBytes (message_bytes m) → Spells grammar (Tells (message_bytes m)) (codes "peer" ∷ encode_lower (message_bytes m) ∷ [])
+message_spelled m are =
+    let text = encode_lower (message_bytes m) in
+    inl (text ∷ [], (message_bytes m, (text, bytes_again (message_bytes m) are, refl), refl), refl)
+
+pub message_meant : (m : Message) → CanBeWritten m → Means (Ok (Some (Tells (message_bytes m)))) (Ok (Some (States (Peer m))))
+message_meant m can = (Ok m, (message_alone (message_bytes m) m).1 (message_again m can), refl)
+
 pub message_said : (m : Message) → CanBeWritten m → IsBytes (message_bytes m) → SpellsLine (States (Peer m)) (codes "peer" ∷ encode_lower (message_bytes m) ∷ [])
-message_said m can are =
-    let bytes = message_bytes m in
-    let text = encode_lower bytes in
-    (Tells bytes, inl (text ∷ [], (bytes, (text, bytes_again bytes are, refl), refl), refl), (Ok m, (message_alone bytes m).1 (message_again m can), refl))
+message_said m can are = (Tells (message_bytes m), message_spelled m are, message_meant m can)

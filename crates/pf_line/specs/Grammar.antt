@@ -192,7 +192,8 @@ tested = making (λ x. Ok (Ask (Test x.0.0 x.0.1 x.1))) (pair table address)
 
 -- "rules" PATH | "tables" PATH | "states"
 unfoldable pub shown : Form (Result Command Mistake)
-shown = or (codes "rules") (making (λ p. Ok (Ask (ShowRules p))) path) (or (codes "tables") (making (λ p. Ok (Ask (ShowTables p))) path) (key (codes "states") (nothing (Ok (Ask ShowStates)))))
+shown = or (codes "rules") (making (λ p. Ok (Ask (ShowRules p))) path)
+    (or (codes "tables") (making (λ p. Ok (Ask (ShowTables p))) path) (key (codes "states") (nothing (Ok (Ask ShowStates)))))
 
 -- ---- lines
 
@@ -210,11 +211,14 @@ state_or_question = or (codes "track") tracked (or (codes "kill") state_killed q
 
 -- "tadd" PATH NAME ENTRY .. | "tdel" PATH NAME ENTRY .. | "tset" PATH NAME [ENTRY ..] | "tkill" PATH NAME | of states, or a question
 unfoldable pub edit_or_question : Form (Result Command Mistake)
-edit_or_question = or (codes "tadd") entries_added (or (codes "tdel") entries_deleted (or (codes "tset") entries_set (or (codes "tkill") killed state_or_question)))
+edit_or_question = or (codes "tadd") entries_added (or (codes "tdel") entries_deleted
+    (or (codes "tset") entries_set (or (codes "tkill") killed state_or_question)))
 
--- "begin" KIND PATH .. | "add" PATH T RULE | "define" PATH T NAME [ENTRY ..] | "commit" KIND PATH T .. | "rollback" KIND PATH T .. | an edit, of states, or a question
+-- "begin" KIND PATH .. | "add" PATH T RULE | "define" PATH T NAME [ENTRY ..] | "commit" KIND PATH T .. | "rollback" KIND PATH T ..
+-- | an edit, of states, or a question
 unfoldable pub command : Form (Result Command Mistake)
-command = or (codes "begin") begun (or (codes "add") added (or (codes "define") defined (or (codes "commit") committed (or (codes "rollback") rolled_back edit_or_question))))
+command = or (codes "begin") begun (or (codes "add") added (or (codes "define") defined
+    (or (codes "commit") committed (or (codes "rollback") rolled_back edit_or_question))))
 
 -- what the words of a line say
 pub data Spoken : Type 0 where

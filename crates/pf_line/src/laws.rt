@@ -21,6 +21,9 @@ ghost use Rattle.pf_line.specs.Reply.Texts.{ticket_text, entry_text};
 ghost use Rattle.pf_line.specs.Tickets.{part_of, ticket_of, IsPart, SpellsTicket};
 ghost use Rattle.pf_line.specs.States.{id_of, IsId, bytes_of};
 ghost use Rattle.pf_line.specs.Entries.{entry_of, SpellsEntry};
+ghost use Rattle.pf_line.specs.Exports.{ExportsAreRead};
+ghost use Rattle.pf_line.specs.declared.ticket.TheConstants.{DIGIT_LIMIT};
+ghost use Rattle.pf_line.specs.declared.state.TheConstants.{ID_DIGIT_LIMIT};
 
 /// A ticket is read from a word exactly where the word spells it.
 #[tactic(auto, using(crate::proofs::SpelledTickets::read_is_spelled))]
@@ -55,7 +58,8 @@ pub fn a_line_has_one_meaning()
 
 /// The words of a line are refused at one place, and for one reason.
 pub fn a_refusal_is_one()
-    ensures { (ws : List Word) (m n : ℕ) (j k : Kind) → RefusedAt Spoken the_grammar ws m j → RefusedAt Spoken the_grammar ws n k → (m ≡ n) × (j ≡ k) }
+    ensures { (ws : List Word) (m n : ℕ) (j k : Kind) → RefusedAt Spoken the_grammar ws m j →
+        RefusedAt Spoken the_grammar ws n k → (m ≡ n) × (j ≡ k) }
 {}
 
 /// A line that is too long is bad, whatever its bytes are.
@@ -78,7 +82,17 @@ pub fn written_bytes_are_read_again()
     ensures upper { (bytes : List ℕ) → IsBytes bytes → bytes_of (encode_upper bytes) ≡ Ok bytes }
 {}
 
-/// The words that a message is exported as say to act on that message.
+/// The words that a message is exported as say to act on that message. Of a table's states, under a checksum of 16 bytes, each line of the
+/// export is no longer than a line may be, and means to act on its message.
 pub fn exported_message_is_read_again()
-    ensures { (m : Message) → CanBeWritten m → IsBytes (message_bytes m) → SpellsLine (States (Peer m)) (codes "peer" ∷ encode_lower (message_bytes m) ∷ []) }
+    ensures lines { ExportsAreRead }
+    ensures words { (m : Message) → CanBeWritten m → IsBytes (message_bytes m) →
+        SpellsLine (States (Peer m)) (codes "peer" ∷ encode_lower (message_bytes m) ∷ []) }
+{}
+
+/// A line has at most 4,096 bytes, a ticket's epoch and its count have 1 to 10 digits each, and a state's number 1 to 20.
+pub fn the_limits_of_lines()
+    ensures line { LINE_LIMIT ≡ 4096 }
+    ensures ticket { DIGIT_LIMIT ≡ 10 }
+    ensures state { ID_DIGIT_LIMIT ≡ 20 }
 {}

@@ -92,8 +92,8 @@ fn refusal_for(mistake: Mistake) -> Refusal
 /// other line one without words, or whose first word begins with `#`, says nothing. `BadWord`, `NameTooLong` and
 /// `BadProto` stand at the first word at which no line can go on; words are counted from 0, and a missing word is at
 /// the number of words. `MixedFamily` and then `PortNeedsProto` come after the last word, and so do `BadPeer` and `PeerCount`, of the
-/// bytes that a line has for a peer's message. `Memory` comes only where memory was refused, and never for a bad line or one that says
-/// nothing.
+/// bytes that a line has for a peer's message. In place of any of these answers there may be `Memory`, but not for a bad line or one
+/// that says nothing.
 pub fn parse_line(alloc: Global, line: &[u8]) -> Result<Option<Command>, Refusal>
     ensures bad { is_bad_line line.now ≡ true → result ≡ Err BadLine }
     ensures silent { is_bad_line line.now ≡ false → is_silent line.now ≡ true → result ≡ Ok None }

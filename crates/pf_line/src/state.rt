@@ -11,7 +11,7 @@ use pf_addr::form::{Kind, Unread, Words, bad_word, end, read_number};
 use std::alloc::Global;
 
 /// How many digits a state's number may have, leading zeros among them.
-pub const ID_DIGIT_LIMIT: usize = 20;
+pub(crate) const ID_DIGIT_LIMIT: usize = 20;
 
 /// The state's number that a word spells: 1 to 20 decimal digits, below 2^64.
 pub(crate) fn read_id(word: &[u8]) -> Result<u64, Kind>

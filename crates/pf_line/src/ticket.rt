@@ -8,7 +8,7 @@ use pf_addr::form::{Kind, read_number};
 use pf_ticket::Ticket;
 
 /// How many digits an epoch or a count may have, leading zeros among them.
-pub const DIGIT_LIMIT: usize = 10;
+pub(crate) const DIGIT_LIMIT: usize = 10;
 
 /// The ticket that a word spells: two numbers of 1 to 10 decimal digits, each below 2^32, with a dot between them.
 pub(crate) fn read_ticket(word: &[u8]) -> Result<Ticket, Kind>

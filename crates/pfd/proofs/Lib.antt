@@ -3,3 +3,4 @@ pub mod Answering
 pub mod Booking
 pub mod Calling
 pub mod Limits
+mod TakingOver

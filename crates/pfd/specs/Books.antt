@@ -27,7 +27,15 @@ singles es = map (λ e. e ∷ []) es
 
 -- in memory every change is acknowledged
 abbrev pub page_in : Inside → Page
-page_in b = record { base = arc_value b.base; whole = b.core; acked = singles (map arc_value b.log.items); pending = []; limit = b.limit; shown = b.shown_len; published = arc_value b.shown }
+page_in b = record {
+  base = arc_value b.base;
+  whole = b.core;
+  acked = singles (map arc_value b.log.items);
+  pending = [];
+  limit = b.limit;
+  shown = b.shown_len;
+  published = arc_value b.shown;
+}
 
 -- ---- replies
 
@@ -76,4 +84,5 @@ told fit = unless_unfit fit (Ok tt)
 
 -- why a change is not kept: memory was refused, the history is full, or it doesn't fit
 abbrev pub IsUnkept : Page → Edit → Refusal → Type 0
-IsUnkept b e why = (why ≡ Memory) ⊎ (((why ≡ HistoryFull) × (b.limit ≤ length (flat b.acked))) ⊎ (told (fits b.whole.durable e) ≡ Err why))
+IsUnkept b e why =
+    (why ≡ Memory) ⊎ (((why ≡ HistoryFull) × (b.limit ≤ length (flat b.acked))) ⊎ (told (fits b.whole.durable e) ≡ Err why))

@@ -3,3 +3,4 @@ pub mod Books
 pub mod Serving
 pub mod ServingLaws
 pub mod Program
+pub mod Takeover

@@ -30,7 +30,8 @@ pub record Unbegun (result : Result (Unit {0}) EngineFault) (unread unread' held
   pub unread_still : Keeps unread unread'
   pub held_still : Keeps held held'
 
-abbrev pub Runs : Result (Unit {0}) EngineFault → Option (List ℕ) → Option (List ℕ) → Option (List ℕ) → Option (List ℕ) → Type 0
+abbrev pub Runs : Result (Unit {0}) EngineFault
+    → Option (List ℕ) → Option (List ℕ) → Option (List ℕ) → Option (List ℕ) → Type 0
 Runs result unread unread' held held' = Ran result unread unread' held held' ⊎ Unbegun result unread unread' held held'
 
 abbrev pub status_of : Result (Unit {0}) EngineFault → ℕ
@@ -39,7 +40,8 @@ status_of (Err fault) = 1
 
 -- The same, and the status says whether it came to the input's end.
 abbrev pub RanWith : ℕ → Option (List ℕ) → Option (List ℕ) → Option (List ℕ) → Option (List ℕ) → Type 0
-RanWith status unread unread' held held' = (result : Result (Unit {0}) EngineFault) × (status ≡ status_of result) × Runs result unread unread' held held'
+RanWith status unread unread' held held' =
+    (result : Result (Unit {0}) EngineFault) × (status ≡ status_of result) × Runs result unread unread' held held'
 
 -- The status where the words couldn't be had: 1 for want of memory, else 2.
 abbrev pub status_without_words : ErrorKind → ℕ

@@ -27,7 +27,8 @@ pub record HasNoMemory (line : List ℕ) (events : List Event) (text : List ℕ)
 
 -- A line is told what it means; one that is neither bad nor silent may be told that memory was refused.
 abbrev pub IsTold : List ℕ → List Event → List ℕ → Type 0
-IsTold line events text = ((meant : Result (Option Command) Refusal) × Means (line_at line) meant × Says meant events text) ⊎ HasNoMemory line events text
+IsTold line events text =
+    ((meant : Result (Option Command) Refusal) × Means (line_at line) meant × Says meant events text) ⊎ HasNoMemory line events text
 
 -- These events and this text are those of the lines, one after the other.
 abbrev pub Served : List (List ℕ) → List Event → List ℕ → Type 0

@@ -41,9 +41,9 @@ impl Model for Book {
 }
 
 impl Book {
-    /// No rulesets, no tables and no states, in epoch 1, and no history yet: an opening of what never held anything. The history will have at most
-    /// so many changes; the caller sees to it that these are from 1 to 1,048,576. `Err`: memory was refused, and nothing
-    /// is left of what was made.
+    /// No rulesets, no tables and no states, in epoch 1, and no history yet: an opening of what never held anything. The history
+    /// will have at most so many changes; the caller sees to it that these are from 1 to 1,048,576. `Err`: memory was refused,
+    /// and nothing is left of what was made.
     pub fn fresh(alloc: Global, history_limit: usize) -> Result<Book, AllocError>
         requires low { 1 ≤ history_limit }
         requires high { history_limit ≤ 1_048_576 }
@@ -109,10 +109,11 @@ impl Book {
     /// One call. A change is kept and shown before it is answered, and is answered with its number, from 1.
     ///
     /// The core's refusals come first, then `HistoryFull`, where the history has as many changes as it may have. `Memory`
-    /// may come instead of any reply but that to a judge, a test or a rollback, which take none. After every refusal all is as
-    /// before.
+    /// may come instead of any reply but that to a judge, a test or a rollback, for which it is never refused. After every refusal
+    /// all is as before.
     pub fn run(&mut self, command: Command) -> Reply
-        ensures worlds { (first : Kept) (world : List Event) → StandsFor first self.old world → StandsFor first self.new (world ++ called (call command result) (upshot self.new.shown false) ∷ []) }
+        ensures worlds { (first : Kept) (world : List Event) → StandsFor first self.old world →
+            StandsFor first self.new (world ++ called (call command result) (upshot self.new.shown false) ∷ []) }
         ensures legal { (h : Held) → IsAt h self.old → LegalReply h command result false }
         ensures fold { self.new.whole.durable ≡ after self.new.base (flat self.new.acked) }
         ensures numbered { IsNumbered result self.new }
@@ -129,7 +130,8 @@ impl Book {
         reply
     }
 
-    /// What happens to a packet by the copy that is shown: what the first so many changes left. It takes no memory.
+    /// What happens to a packet by the copy that is shown: what the first so many changes left. Memory is never refused
+    /// for it.
     pub fn shown_judge(&self, packet: &Packet) -> Verdict
         ensures verdict { result ≡ verdict self.now.published packet.now }
         ensures folded { IsFolded self.now }

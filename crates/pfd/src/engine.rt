@@ -47,9 +47,8 @@ impl AnswerLine for Book {
 /// Answers the lines of a reader, each with at most one reply, until the reader is at its end.
 ///
 /// The writer is flushed before each read and at the end. A read that was interrupted is made again; there are fewer
-/// than 2^62 reads. Memory doesn't grow with the number of lines: the line buffer, which is taken before anything is
-/// read, is all that the engine itself takes. Where memory is refused for a line or a command, that is its reply. The
-/// Book's history limit stays.
+/// than 2^62 reads. The line buffer is taken before anything is read. Where memory is refused for a line or a command, that
+/// is its reply. The Book's history limit stays.
 ///
 /// `Err(Read)`: a read failed, or there were too many; the whole lines before are answered. `Err(Write)`: a write or a
 /// flush failed; of the last reply some front may be out. `Err(Memory)`: the line buffer was refused, and nothing was
@@ -60,7 +59,8 @@ pub fn serve_alone<R: Read, W: Write>(
     writer: &mut W,
     book: &mut Book,
 ) -> Result<(), EngineFault>
-    ensures session { IsSession Serves result (R.remaining reader.old) (R.remaining reader.new) book.old book.new (W.contents writer.old) (W.contents writer.new) }
+    ensures session { IsSession Serves result (R.remaining reader.old) (R.remaining reader.new)
+        book.old book.new (W.contents writer.old) (W.contents writer.new) }
     ensures limit { book.new.limit ≡ book.old.limit }
 {
     serve(alloc, reader, writer, book)

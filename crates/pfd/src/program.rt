@@ -17,6 +17,9 @@ use std::io::{self, BufWriter, Read, Write};
 /// How many changes the history of a session may have. Definitions cite it.
 pub const HISTORY_LIMIT: usize = 65_536;
 
+/// The program's version, which `pfd --version` tells behind its name.
+const VERSION: &str = "0.1.0";
+
 // What the words ask: a session, or else why not. `run` is the only subcommand, and there has to be one.
 fn check_words(alloc: Global, words: &[String]) -> Result<(), Error>
     ensures { IsRun (map string_bytes words.now) → IfErr result (λ e. kind_of e ≡ ErrorKind.OutOfMemory) }
@@ -26,6 +29,7 @@ fn check_words(alloc: Global, words: &[String]) -> Result<(), Error>
     );
     let program = Command::new(alloc, "pfd")
         .about("A control plane for rulesets of pf")
+        .version(VERSION)
         .subcommand_required(true)
         .subcommand(run)?;
     match program.try_get_matches_from(words) {
@@ -58,10 +62,11 @@ fn print<W: Write>(error: &Error, writer: &mut W) -> io::Result<()> {
     writer.flush()
 }
 
-// Help is written and is no fault; refused words are told to the faults.
+// Help and the version are written and are no fault; refused words are told to the faults.
 fn explain<W: Write, F: Write>(error: &Error, writer: &mut W, faults: &mut F) -> u8
     ensures status { result ≤ 2 }
-    ensures memory { kind_of error.now ≡ ErrorKind.OutOfMemory → (result ≡ 1) × Keeps (W.contents writer.old) (W.contents writer.new) }
+    ensures memory { kind_of error.now ≡ ErrorKind.OutOfMemory →
+        (result ≡ 1) × Keeps (W.contents writer.old) (W.contents writer.new) }
     ensures refused { result ≡ 2 → Keeps (W.contents writer.old) (W.contents writer.new) }
 {
     if error.kind() == ErrorKind::OutOfMemory {
@@ -80,14 +85,14 @@ fn explain<W: Write, F: Write>(error: &Error, writer: &mut W, faults: &mut F) ->
 /// The program, with its words as `env::args` gives them, the program's own name first.
 ///
 /// `pfd run` serves the reader's lines to the writer from a fresh book whose history may have `HISTORY_LIMIT` changes.
-/// Status 0: the input ended, or help was asked for, whose text goes to the writer. Status 1: a read, a write, a flush or a growth
-/// of memory failed, also one for the words; one line on the faults says `pfd: input`, `pfd: output` or `pfd: memory`.
+/// Status 0: the input ended, or help or the version was asked for, whose text goes to the writer. Status 1: a read, a write, a flush
+/// or a growth of memory failed, also one for the words; one line on the faults says `pfd: input`, `pfd: output` or `pfd: memory`.
 /// Status 2: the words were refused, as where there are none; the faults have clap's text, and nothing was read or
 /// written. Where the faults can't be written, the status alone tells. Words that aren't text don't come here but to
 /// `without_words`.
 ///
-/// Whatever the words are, it is such a session, or nothing is read. What the texts are, and which other words are help
-/// and which are refused, is only tested.
+/// Whatever the words are, it is such a session, or nothing is read. What the texts are, and which other words are help or the
+/// version and which are refused, is only tested.
 pub fn start<R: Read, W: Write, F: Write>(
     alloc: Global,
     words: &[String],
@@ -96,9 +101,12 @@ pub fn start<R: Read, W: Write, F: Write>(
     faults: &mut F,
 ) -> u8
     ensures status { result ≤ 2 }
-    ensures run { IsRun (map string_bytes words.now) → RanWith result (R.remaining reader.old) (R.remaining reader.new) (W.contents writer.old) (W.contents writer.new) }
-    ensures others { RanWith result (R.remaining reader.old) (R.remaining reader.new) (W.contents writer.old) (W.contents writer.new) ⊎ Keeps (R.remaining reader.old) (R.remaining reader.new) }
-    ensures refused { result ≡ 2 → Keeps (R.remaining reader.old) (R.remaining reader.new) × Keeps (W.contents writer.old) (W.contents writer.new) }
+    ensures run { IsRun (map string_bytes words.now) →
+        RanWith result (R.remaining reader.old) (R.remaining reader.new) (W.contents writer.old) (W.contents writer.new) }
+    ensures others { RanWith result (R.remaining reader.old) (R.remaining reader.new) (W.contents writer.old) (W.contents writer.new) ⊎
+        Keeps (R.remaining reader.old) (R.remaining reader.new) }
+    ensures refused { result ≡ 2 → Keeps (R.remaining reader.old) (R.remaining reader.new) ×
+        Keeps (W.contents writer.old) (W.contents writer.new) }
 {
     match check_words(alloc, words) {
         Ok(()) => match run(alloc, reader, writer) {

@@ -24,7 +24,8 @@ pub(crate) struct Tally {
 // What is written for an input, where that isn't what is wanted. There is nothing to tell only where a session over the
 // input came to its end and wrote just the wanted bytes.
 fn written_instead(alloc: Global, book: &mut Book, input: &[u8], wanted: &[u8]) -> Option<Vec<u8>>
-    ensures { result ≡ None → (unread : Option (List ℕ)) × IsSession Serves (Ok tt) (Some input.now) unread book.old book.new (Some []) (Some wanted.now) }
+    ensures { result ≡ None → (unread : Option (List ℕ)) ×
+        IsSession Serves (Ok tt) (Some input.now) unread book.old book.new (Some []) (Some wanted.now) }
 {
     let mut reader = input;
     let mut written = Vec::new(alloc);

@@ -5,32 +5,31 @@ use std::alloc::Global;
 use std::process::Abort;
 use std::test::*;
 
-/// One rule.
-fn rules(alloc: Global) -> Result<RuleList, Fail> {
+/// With a rule at `a/b/c` alone.
+fn nested(alloc: Global) -> Result<Config, Fail> {
     let rule = Rule::parse(alloc, "pass all")?;
     let mut rules = RuleList::none();
     rules.add(alloc, rule)?;
-    Ok(rules)
-}
-
-/// With these rules at `a/b/c` alone.
-fn nested(alloc: Global, rules: &RuleList) -> Result<Config, Fail> {
     let path = Path::from_ascii(b"a/b/c")?;
     let empty = Config::empty(alloc);
-    Ok(empty.with_ruleset(alloc, &path, rules)?)
+    Ok(empty.with_ruleset(alloc, &path, &rules)?)
 }
 
-/// How many children a path has.
-fn child_count(alloc: Global, config: &Config, path: &[u8]) -> Result<usize, Fail> {
+/// The children of a path, each with a space behind it.
+fn children(alloc: Global, config: &Config, path: &[u8]) -> Result<Vec<u8>, Fail> {
     let path = Path::from_ascii(path)?;
-    let children = config.children(alloc, &path)?;
-    Ok(children.len())
+    let mut text = Vec::new(alloc);
+    for child in &config.children(alloc, &path)? {
+        text.extend_from_slice(child.as_bytes())?;
+        text.push(b' ')?;
+    }
+    Ok(text)
 }
 
-fn count_children(rt: &impl Abort, alloc: Global, config: &Config) -> Result<(), Fail> {
-    for (path, count) in [("a", 0), ("a/b", 1), ("a/b/c", 0)] {
-        let found = child_count(alloc, config, path.as_bytes())?;
-        assert!(rt; found == count, "at {path}");
+fn show_children(rt: &impl Abort, alloc: Global, config: &Config) -> Result<(), Fail> {
+    for (path, wanted) in [("a", ""), ("a/b", "a/b/c "), ("a/b/c", "")] {
+        let found = children(alloc, config, path.as_bytes())?;
+        assert!(rt; found.as_slice() == wanted.as_bytes(), "at {path}");
     }
     Ok(())
 }
@@ -38,7 +37,6 @@ fn count_children(rt: &impl Abort, alloc: Global, config: &Config) -> Result<(),
 #[test]
 fn children_have_one_component_more(rt: HostRuntime) -> Result<(), Fail> {
     let alloc = rt.alloc();
-    let rules = rules(alloc)?;
-    let config = nested(alloc, &rules)?;
-    count_children(&rt, alloc, &config)
+    let config = nested(alloc)?;
+    show_children(&rt, alloc, &config)
 }

@@ -69,6 +69,9 @@ const STARTS: &[(Case, (u8, &str, &str))] = &[
         ("pfd run --help", "frob", 9_999, 9),
         (0, "Answers the lines", ""),
     ),
+    (("pfd --version", "frob", 99, 9), (0, "pfd 0.1.0\n", "")),
+    (("pfd -V", "frob", 99, 9), (0, "pfd 0.1.0\n", "")),
+    (("pfd --version", "", 9, 9), (1, "pfd 0.1", "pfd: output\n")),
     (
         ("pfd", "frob", 99, 9),
         (2, "", "error: 'pfd' requires a subcommand"),

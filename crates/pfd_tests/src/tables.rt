@@ -3,7 +3,7 @@ use pf_addr::path::TableName;
 use pf_addr::{Addr, Net};
 use pf_anchor::Path;
 use pf_core::{Command, EntryList, TableEdit, Transaction};
-use pf_line::reply::write_reply;
+use pf_line::write_reply;
 use pf_table::{Entry, TABLE_LIMIT};
 use pf_ticket::{RulesetName, RulesetNames, Ticket};
 use pfd::{Book, HISTORY_LIMIT};

@@ -20,7 +20,8 @@ pub record HasLines (n : ℕ) (text : List ℕ) : Type 0 where
   pub count : newlines text ≡ n
 
 -- Behind what was written so far this text is written, which has no newline.
-pub record GoesOn {A B : Type 0} (so_far : Result A Error) (mid : Option (List ℕ)) (r : Result B Error) (new : Option (List ℕ)) (text : List ℕ) : Type 0 where
+pub record GoesOn {A B : Type 0} (so_far : Result A Error) (mid : Option (List ℕ)) (r : Result B Error)
+    (new : Option (List ℕ)) (text : List ℕ) : Type 0 where
   pub written : Continues so_far mid r new text
   pub one_line : newlines text ≡ 0
 

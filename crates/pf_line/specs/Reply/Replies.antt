@@ -1,4 +1,5 @@
--- The text of each reply: one line, before which a shown ruleset has a line for each rule, shown tables and states one for each of them, and an export one for each message. Own; rules and entries as pfctl(8) shows them.
+-- The text of each reply: one line, before which a shown ruleset has a line for each rule, shown tables and states one for each of them,
+-- and an export one for each message. Own; rules and entries as pfctl(8) shows them.
 use Rattle.std.specs.Prelude.{ℕ, ◌+◌, ◌==◌, Bool, true, false, List, [], ◌∷◌, ◌++◌, length, map, codes, decimal, if◌then◌else◌, Option, Some, None}
 use Rattle.pf_rule.specs.declared.rule.Action.{Action}
 use Rattle.pf_rule.specs.declared.rule.Action.TheVariants.{Pass, Block}
@@ -68,10 +69,12 @@ answer_text (answers.States states) = codes "end " ++ decimal (length states)
 answer_text (answers.Sum sum) = encode_lower sum
 answer_text (answers.Exported messages) = codes "end " ++ decimal (length messages)
 
--- what is told behind a change's number: of an edit what became of the entries, of a message what became of its records, and of a packet that was tracked what happens to it
+-- what is told behind a change's number: of an edit what became of the entries, of a message what became of its records, and of a packet
+-- that was tracked what happens to it
 abbrev pub outcome_text : Outcome → List ℕ
 outcome_text outcomes.Committed = []
-outcome_text (outcomes.Added added same conflict) = codes " added " ++ decimal added ++ (codes " same " ++ decimal same ++ (codes " conflict " ++ decimal conflict))
+outcome_text (outcomes.Added added same conflict) =
+    codes " added " ++ decimal added ++ (codes " same " ++ decimal same ++ (codes " conflict " ++ decimal conflict))
 outcome_text (outcomes.Deleted deleted absent) = codes " deleted " ++ decimal deleted ++ (codes " absent " ++ decimal absent)
 outcome_text outcomes.Set = []
 outcome_text outcomes.Killed = []

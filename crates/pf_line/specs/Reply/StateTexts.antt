@@ -29,7 +29,8 @@ end_text a port = 32 ∷ addr_text a ++ 32 ∷ decimal port
 
 -- which way the first packet went, its protocol, where it came from and where it went
 abbrev pub flow_text : PlainFlow → List ℕ
-flow_text f = way_text f.direction ++ (protocol_word f.protocol ++ (end_text f.source f.source_port ++ end_text f.destination f.destination_port))
+flow_text f = way_text f.direction ++ (protocol_word f.protocol
+    ++ (end_text f.source f.source_port ++ end_text f.destination f.destination_port))
 
 -- the main rule that a state is bound to, with the checksum of the rules then
 abbrev pub bound_text : Bound → List ℕ

@@ -1,6 +1,6 @@
 //! The parts that a text is made of.
 //!
-//! Each call is given what became of the writes so far, and writes behind them. It takes no memory.
+//! Each call is given what became of the writes so far, and writes behind them. It has no allocator.
 ghost use Rattle.std.specs.Prelude.{◌≡◌, [], ◌∷◌, ◌++◌, decimal};
 ghost use Rattle.pf_addr.specs.Writing.{Continues};
 ghost use Rattle.pf_line.specs.Reply.Parts.{newlines, GoesOn};

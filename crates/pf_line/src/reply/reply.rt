@@ -1,6 +1,6 @@
 //! Replies.
 //!
-//! A call that fails has written some front of its text, and no more. None of these calls takes memory.
+//! A call that fails has written some front of its text, and no more. None of these calls has an allocator.
 ghost use Rattle.std.specs.Prelude.{◌≡◌, ◌≢◌, IfErr};
 ghost use Rattle.std.specs.IoError.{error_kind};
 ghost use Rattle.pf_addr.specs.Writing.{Writes};

@@ -148,7 +148,8 @@ fn write_rule_bound<W: Write>(
     number: u32,
     sum: &[u8],
 ) -> io::Result<()>
-    ensures { GoesOn so_far (W.contents out.old) result (W.contents out.new) (codes " rule " ++ decimal number ++ 32 ∷ encode_lower sum.now) }
+    ensures { GoesOn so_far (W.contents out.old) result (W.contents out.new)
+        (codes " rule " ++ decimal number ++ 32 ∷ encode_lower sum.now) }
 {
     let so_far = write_numbered(out, so_far, b" rule ", number as u64);
     let so_far = write_part(out, so_far, b" ");

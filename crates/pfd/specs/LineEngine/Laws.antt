@@ -6,4 +6,5 @@ abbrev pub IsAlwaysCut : Type 0
 IsAlwaysCut = (text : List ℕ) → (lines : List (List ℕ)) × (rest : List ℕ) × IsCut text lines rest
 
 abbrev pub CutsOneWay : Type 0
-CutsOneWay = (text : List ℕ) (lines others : List (List ℕ)) (rest more : List ℕ) → IsCut text lines rest → IsCut text others more → (lines ≡ others) × (rest ≡ more)
+CutsOneWay = (text : List ℕ) (lines others : List (List ℕ)) (rest more : List ℕ)
+    → IsCut text lines rest → IsCut text others more → (lines ≡ others) × (rest ≡ more)

@@ -4,12 +4,14 @@ use Rattle.pfd.specs.LineEngine.Lines.{IsCut, seen}
 use Rattle.pfd.specs.LineEngine.Sessions.{Answered, CutOff}
 
 -- the lines were answered, or a failed write cut them off
-abbrev pub Answers : {S A E : Type 0} → (S → S → List (List ℕ) → List ℕ → Type 0) → Result A E → List (List ℕ) → S → S → Option (List ℕ) → Option (List ℕ) → Type 0
+abbrev pub Answers : {S A E : Type 0} → (S → S → List (List ℕ) → List ℕ → Type 0)
+    → Result A E → List (List ℕ) → S → S → Option (List ℕ) → Option (List ℕ) → Type 0
 Answers Serves (Ok x) lines old new held held' = Answered Serves lines old new held held'
 Answers Serves (Err e) lines old new held held' = CutOff Serves lines old new held held'
 
 -- the whole lines of the input were answered, and as much as is looked at is kept of the rest
-pub record SoFar {S : Type 0} (Serves : S → S → List (List ℕ) → List ℕ → Type 0) (input kept : List ℕ) (old new : S) (held held' : Option (List ℕ)) : Type 0 where
+pub record SoFar {S : Type 0} (Serves : S → S → List (List ℕ) → List ℕ → Type 0)
+    (input kept : List ℕ) (old new : S) (held held' : Option (List ℕ)) : Type 0 where
   pub lines : List (List ℕ)
   pub rest : List ℕ
   pub cut : IsCut input lines rest
@@ -17,7 +19,8 @@ pub record SoFar {S : Type 0} (Serves : S → S → List (List ℕ) → List ℕ
   pub answered : Answered Serves lines old new held held'
 
 -- a failed write cut off the whole lines of the input
-pub record Failed {S : Type 0} (Serves : S → S → List (List ℕ) → List ℕ → Type 0) (input : List ℕ) (old new : S) (held held' : Option (List ℕ)) : Type 0 where
+pub record Failed {S : Type 0} (Serves : S → S → List (List ℕ) → List ℕ → Type 0)
+    (input : List ℕ) (old new : S) (held held' : Option (List ℕ)) : Type 0 where
   pub lines : List (List ℕ)
   pub rest : List ℕ
   pub cut : IsCut input lines rest

@@ -8,14 +8,16 @@ use Rattle.pfd.specs.declared.line_engine.fault.EngineFault.TheVariants as fault
 use Rattle.pfd.specs.LineEngine.Lines.{IsCut, last_line}
 
 -- These lines were answered, and every reply was written.
-pub record Answered {S : Type 0} (Serves : S → S → List (List ℕ) → List ℕ → Type 0) (lines : List (List ℕ)) (old new : S) (held held' : Option (List ℕ)) : Type 0 where
+pub record Answered {S : Type 0} (Serves : S → S → List (List ℕ) → List ℕ → Type 0)
+    (lines : List (List ℕ)) (old new : S) (held held' : Option (List ℕ)) : Type 0 where
   pub text : List ℕ
   pub served : Serves old new lines text
   pub written : Appends held held' text
 
 -- Some of these lines, from the front on, were answered, and then a write failed: every reply was written but that to
 -- the last one, and some front of it was.
-pub record CutOff {S : Type 0} (Serves : S → S → List (List ℕ) → List ℕ → Type 0) (lines : List (List ℕ)) (old new : S) (held held' : Option (List ℕ)) : Type 0 where
+pub record CutOff {S : Type 0} (Serves : S → S → List (List ℕ) → List ℕ → Type 0)
+    (lines : List (List ℕ)) (old new : S) (held held' : Option (List ℕ)) : Type 0 where
   pub earlier : List (List ℕ)
   pub last : List (List ℕ)
   pub others : List (List ℕ)
@@ -31,15 +33,18 @@ pub record CutOff {S : Type 0} (Serves : S → S → List (List ℕ) → List �
 -- What was done for an input that is cut into these whole lines and this rest. At its end all its lines are answered,
 -- and where no more could be read all its whole lines. Where a write failed, some lines from the front on are, and the
 -- rest is one only at the input's end. Where the line buffer was refused, nothing is.
-abbrev pub Ends : {S : Type 0} → (S → S → List (List ℕ) → List ℕ → Type 0) → Result (Unit {0}) EngineFault → List ℕ → List (List ℕ) → List ℕ → Option (List ℕ) → S → S → Option (List ℕ) → Option (List ℕ) → Type 0
-Ends Serves (Ok u) input lines rest unread old new held held' = Answered Serves (lines ++ last_line rest) old new held held' × IsAtEnd unread
+abbrev pub Ends : {S : Type 0} → (S → S → List (List ℕ) → List ℕ → Type 0)
+    → Result (Unit {0}) EngineFault → List ℕ → List (List ℕ) → List ℕ → Option (List ℕ) → S → S → Option (List ℕ) → Option (List ℕ) → Type 0
+Ends Serves (Ok u) input lines rest unread old new held held' =
+    Answered Serves (lines ++ last_line rest) old new held held' × IsAtEnd unread
 Ends Serves (Err fault.Read) input lines rest unread old new held held' = Answered Serves lines old new held held'
 Ends Serves (Err fault.Write) input lines rest unread old new held held' =
     CutOff Serves lines old new held held' ⊎ (CutOff Serves (lines ++ last_line rest) old new held held' × IsAtEnd unread)
 Ends Serves (Err fault.Memory) input lines rest unread old new held held' = (input ≡ []) × (new ≡ old) × Keeps held held'
 
 -- What was read, and what was done for it.
-pub record IsSession {S : Type 0} (Serves : S → S → List (List ℕ) → List ℕ → Type 0) (result : Result (Unit {0}) EngineFault) (unread unread' : Option (List ℕ)) (old new : S) (held held' : Option (List ℕ)) : Type 0 where
+pub record IsSession {S : Type 0} (Serves : S → S → List (List ℕ) → List ℕ → Type 0)
+    (result : Result (Unit {0}) EngineFault) (unread unread' : Option (List ℕ)) (old new : S) (held held' : Option (List ℕ)) : Type 0 where
   pub input : List ℕ
   pub lines : List (List ℕ)
   pub rest : List ℕ

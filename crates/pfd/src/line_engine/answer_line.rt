@@ -23,7 +23,8 @@ pub trait AnswerLine {
         line: &[u8],
         writer: &mut W,
     ) -> io::Result<()>
-        ensures { (text : List ℕ) × Serves self.old self.new (line.now ∷ []) text × Writes result (W.contents writer.old) (W.contents writer.new) text };
+        ensures { (text : List ℕ) × Serves self.old self.new (line.now ∷ []) text ×
+            Writes result (W.contents writer.old) (W.contents writer.new) text };
 
     // No lines have no reply, and change nothing.
     ghost serves_none: { (state : Self) → Serves state state [] [] };
@@ -33,5 +34,6 @@ pub trait AnswerLine {
         Serves old mid lines text → Serves mid new others more → Serves old new (lines ++ others) (text ++ more) };
 
     // What isn't looked at of a line makes no difference.
-    ghost serves_seen: { (old new : Self) (line text : List ℕ) → Serves old new (seen line ∷ []) text → Serves old new (line ∷ []) text };
+    ghost serves_seen: { (old new : Self) (line text : List ℕ) → Serves old new (seen line ∷ []) text →
+        Serves old new (line ∷ []) text };
 }

@@ -25,7 +25,8 @@ fn serve_lines<A: AnswerLine, R: Read, W: Write>(
 ) -> Result<(), EngineFault>
     requires line { length line.old ≡ LOOKED_AT }
     requires piece { 0 < length piece.old }
-    ensures { IsSession A.Serves result (R.remaining reader.old) (R.remaining reader.new) answerer.old answerer.new (W.contents writer.old) (W.contents writer.new) }
+    ensures { IsSession A.Serves result (R.remaining reader.old) (R.remaining reader.new)
+        answerer.old answerer.new (W.contents writer.old) (W.contents writer.new) }
 {
     let mut kept = 0;
     for _ in 1..MOST_READS {
@@ -58,8 +59,8 @@ fn serve_lines<A: AnswerLine, R: Read, W: Write>(
 /// Has the lines of a reader answered, one after the other, until the reader is at its end.
 ///
 /// A line ends at a newline (10), and the last one also at the input's end. The writer is flushed before each read and
-/// at the end. A read that was interrupted is made again; there are fewer than 2^62 reads. Memory doesn't grow with the
-/// number of lines: the line buffer, which is taken before anything is read, is all that the engine itself takes.
+/// at the end. A read that was interrupted is made again; there are fewer than 2^62 reads. The line buffer is taken before
+/// anything is read.
 ///
 /// `Err(Read)`: a read failed, or there were too many; the whole lines before are answered. `Err(Write)`: a write or a
 /// flush failed; of the last reply some front may be out. `Err(Memory)`: the line buffer was refused, and nothing was
@@ -70,7 +71,8 @@ pub fn serve<A: AnswerLine, R: Read, W: Write>(
     writer: &mut W,
     answerer: &mut A,
 ) -> Result<(), EngineFault>
-    ensures { IsSession A.Serves result (R.remaining reader.old) (R.remaining reader.new) answerer.old answerer.new (W.contents writer.old) (W.contents writer.new) }
+    ensures { IsSession A.Serves result (R.remaining reader.old) (R.remaining reader.new)
+        answerer.old answerer.new (W.contents writer.old) (W.contents writer.new) }
 {
     let Ok(mut buffer) = Vec::from_elem(alloc, 0, BUFFER_LEN) else {
         return Err(EngineFault::Memory);

@@ -21,8 +21,10 @@ pub fn answer_piece<A: AnswerLine, W: Write>(
     requires room { LOOKED_AT ≤ length line.old }
     requires few { kept ≤ LOOKED_AT }
     ensures few { IfOk result (λ kept. kept ≤ LOOKED_AT) }
-    ensures session { (input : List ℕ) (start : A) (held : Option (List ℕ)) → SoFar A.Serves input (take kept line.old) start answerer.old held (W.contents writer.old) →
-        MatchResult result (λ kept. SoFar A.Serves (input ++ piece.now) (take kept line.new) start answerer.new held (W.contents writer.new))
+    ensures session { (input : List ℕ) (start : A) (held : Option (List ℕ)) →
+        SoFar A.Serves input (take kept line.old) start answerer.old held (W.contents writer.old) →
+        MatchResult result
+        (λ kept. SoFar A.Serves (input ++ piece.now) (take kept line.new) start answerer.new held (W.contents writer.new))
         (λ e. Failed A.Serves (input ++ piece.now) start answerer.new held (W.contents writer.new)) }
 {
     let mut len = kept;
@@ -46,7 +48,8 @@ pub fn answer_rest<A: AnswerLine, W: Write>(
     writer: &mut W,
     answerer: &mut A,
 ) -> io::Result<()>
-    ensures { (lines : List (List ℕ)) (line : List ℕ) (start : A) (held : Option (List ℕ)) → rest.now ≡ seen line → Answered A.Serves lines start answerer.old held (W.contents writer.old) →
+    ensures { (lines : List (List ℕ)) (line : List ℕ) (start : A) (held : Option (List ℕ)) →
+        rest.now ≡ seen line → Answered A.Serves lines start answerer.old held (W.contents writer.old) →
         Answers A.Serves result (lines ++ last_line line) start answerer.new held (W.contents writer.new) }
 {
     if !rest.is_empty() {

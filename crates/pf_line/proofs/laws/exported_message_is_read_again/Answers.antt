@@ -1,5 +1,9 @@
+use Rattle.pf_line.proofs.ExportedLines.{exports_are_read}
 use Rattle.pf_line.proofs.SpelledStates.{message_said}
 use Rattle.pf_line.proofs.laws.exported_message_is_read_again.Goals as goal
 
-pub returns : goal.returns
-returns c = message_said
+pub returns-clause-words : goal.returns-clause-words
+returns-clause-words c = message_said
+
+pub returns-clause-lines : goal.returns-clause-lines
+returns-clause-lines c = exports_are_read

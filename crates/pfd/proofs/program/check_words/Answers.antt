@@ -5,7 +5,7 @@ use Rattle.clap.proofs.OnLiterals.{clap_on_literals}
 use Rattle.pfd.proofs.program.check_words.Goals as goal
 
 abbrev pfd : App
-pfd = on_top (λ s. record s { subcommand_required = true }) (new_app (codes "pfd"))
+pfd = on_top (λ s. record s { has_version = true; subcommand_required = true }) (new_app (codes "pfd"))
 
 abbrev program : App
 program = with_subcommand pfd (new_app (codes "run")).top

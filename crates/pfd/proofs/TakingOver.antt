@@ -1,0 +1,228 @@
+-- The lines of an export, given to a Book one by one.
+use Rattle.std.proofs.Common.{◌≡◌, ◌⊎◌, ◌+◌, ◌<◌, ◌≤◌, ◌||◌, ℕ, suc, Bool, true, false, cond, List, [], ◌∷◌, ◌++◌, length, length-append, map, Option, Some, None, Result, Ok, Err, inl, inr, refl, sym, subst, ap, ◌∙◌, append_assoc, arith}
+use Rattle.std.specs.Prelude.{fold, nat_lt}
+use Rattle.std.specs.List.{flat_map}
+use Rattle.std.proofs.lemmas.Bool.Decides.{nat_tests}
+use Rattle.std.proofs.lemmas.List.{length-map}
+use Rattle.std.proofs.lemmas.List.Sums.{fold-append, fold_push}
+use Rattle.pf_core.specs.declared.command.Command.{Command}
+use Rattle.pf_core.specs.declared.command.Command.TheVariants.{States}
+use Rattle.pf_core.specs.declared.command.StateCommand.TheVariants.{Peer}
+use Rattle.pf_core.specs.declared.reply.Outcome.{Outcome}
+use Rattle.pf_core.specs.declared.reply.Outcome.TheVariants.{Peered}
+use Rattle.pf_core.specs.declared.reply.Refusal.{Refusal}
+use Rattle.pf_core.specs.declared.reply.Refusal.TheVariants.{HistoryFull, Memory}
+use Rattle.pf_core.specs.declared.reply.Reply.{Reply}
+use Rattle.pf_core.specs.declared.reply.Reply.TheVariants.{Answer, Applied, Refused}
+use Rattle.pf_core.specs.declared.step.Step.{Step}
+use Rattle.pf_core.specs.declared.step.Step.TheVariants.{Wants}
+use Rattle.pf_core.specs.declared.durable.refusal.ChangeRefusal.TheVariants.{StatesFull}
+use Rattle.pf_core.specs.Calls.{call}
+use Rattle.pf_core.specs.Commands.{steps_here, states_step, unless_unfit}
+use Rattle.pf_core.specs.Durable.Edits.{Kept, Edit, main_sum, kept_nothing, acts, applied, after, unless}
+use Rattle.pf_core.specs.Pages.{Page, IsAt, StandsFor}
+use Rattle.pf_core.specs.Worlds.{Held, State, up, down, flat, log_of, durable_of, step_in, due, due_at, group_in, group_at, or_refused, if_ok, grouped, Upshot, Event, called, opened, setting_with, begun, raised, heard, next, StandsIn, LegalCall, state_after, IsLegalFrom, IsWorld}
+use Rattle.pf_core.proofs.LongerWorlds.{flat-push}
+use Rattle.pf_line.specs.Exports.{Message, Step as StateStep, message_text, main_count, exported_lines, TellsOf, ExportsAreRead, CanBeExported, states_there}
+use Rattle.pf_line.specs.Failover.Outgoing.{exported_messages}
+use Rattle.pf_line.specs.Lines.{line_at, Means}
+use Rattle.pf_line.specs.Peer.Written.{Each}
+use Rattle.pf_line.specs.Reply.Replies.{reply_text}
+use Rattle.pf_line.specs.StateTables.{Stated}
+use Rattle.pf_line.specs.Steps.{after as stepped_on, stepped, is_over, passes_limit, counts}
+use Rattle.pf_line.proofs.ExportedLines.{exports_are_read}
+use Rattle.pf_line.proofs.Lines.{one_meaning}
+use Rattle.pf_line.proofs.TakenOver.{takes_over as states_taken}
+use Rattle.pfd.specs.Serving.{Says, IsTold, Served, Serves}
+use Rattle.pfd.specs.Takeover.{held_in, IsReadyFor, WantedMemory, TakesOver, FreshTakesOver}
+
+-- ---- steps in two parts
+
+both-false : (a b : Bool) → (a || b) ≡ false → (a ≡ false) × (b ≡ false)
+both-false false b h = (refl, h)
+both-false true b h = absurd (cc (h))
+
+fit-apart : (es : List Stated) (xs ys : List StateStep) → passes_limit es (xs ++ ys) ≡ false → (passes_limit es xs ≡ false) × (passes_limit (stepped_on es xs) ys ≡ false)
+unfolding passes_limit
+fit-apart es [] ys h = (refl, h)
+fit-apart es (x ∷ xs) ys h =
+    let apart = both-false (is_over (stepped es x)) (passes_limit (stepped es x) (xs ++ ys)) h in
+    let rest = fit-apart (stepped es x) xs ys apart.1 in
+    (rw (apart.0, rest.0) refl, rest.1)
+
+-- ---- one message
+
+flat-both : (xs ys : List (List Edit)) → flat (xs ++ ys) ≡ flat xs ++ flat ys
+flat-both [] ys = refl
+flat-both (x ∷ xs) ys = ap (λ (es : List Edit). x ++ es) (flat-both xs ys) ∙ sym (append_assoc x (flat xs) (flat ys))
+
+abbrev change : Kept → Message → Edit
+change d m = acts (steps_here d m)
+
+-- it is due, and leaves what was changed by its steps
+record IsTaken (h : Held) (d : Kept) (m : Message) : Type 0 where
+  number : ℕ
+  outcome : Outcome
+  reply : due h (States (Peer m)) ≡ Applied number outcome
+  group : group_in h (States (Peer m)) ≡ (change d m ∷ []) ∷ []
+
+taken : (h : Held) (d : Kept) (m : Message) → durable_of h ≡ d → passes_limit d.states (steps_here d m) ≡ false → length (log_of h) < h.setting.limit → IsTaken h d m
+taken h d m is fits room =
+    let told : Outcome = Peered (counts d.states (steps_here d m)) in
+    let one : Result Step Refusal = Ok (Wants (change d m) told) in
+    let step : step_in h (States (Peer m)) ≡ one =
+    ap (λ (k : Kept). states_step k (Peer m)) is ∙ ap (λ (b : Bool). unless_unfit (unless b StatesFull) one) fits in
+    let low : nat_lt h.setting.limit (length (log_of h) + 1) ≡ false = grind (arith, nat_tests, room) in
+    record {
+      number = length (log_of h) + 1;
+      outcome = told;
+      reply = ap (due_at h) step ∙ ap (λ (b : Bool). or_refused (cond b (Err HistoryFull) (Ok tt)) (Applied (length (log_of h) + 1) told)) low;
+      group = ap (group_at h) step ∙ ap (λ (b : Bool). if_ok (cond b (Err HistoryFull) (Ok tt)) (grouped (change d m ∷ [])) []) low;
+    }
+
+-- the opening then
+abbrev then : Held → Message → Reply → Upshot → Held
+then h m r t = heard h (call (States (Peer m)) r) t
+
+now-held : (h : Held) (d : Kept) (m : Message) (r : Reply) (t : Upshot) → durable_of h ≡ d → (to : IsTaken h d m) → r ≡ due h (States (Peer m)) → durable_of (then h m r t) ≡ applied d (change d m)
+now-held h d m r t is to due_is =
+    rw (due_is ∙ to.reply)
+    (ap (λ (g : List (List Edit)). after h.base (flat (h.acked ++ g))) to.group ∙ ap (after h.base) (flat-push h.acked (change d m)) ∙ fold_push applied h.base (flat h.acked) (change d m)
+    ∙ ap (λ (k : Kept). applied k (change d m)) is)
+
+now-long : (h : Held) (d : Kept) (m : Message) (r : Reply) (t : Upshot) → (to : IsTaken h d m) → r ≡ due h (States (Peer m)) → length (log_of (then h m r t)) ≡ length (log_of h) + 1
+now-long h d m r t to due_is =
+    rw (due_is ∙ to.reply)
+    (ap (λ (g : List (List Edit)). length (flat ((h.acked ++ g) ++ h.pending))) to.group
+    ∙ omega (arith, ap length (flat-both (h.acked ++ (change d m ∷ []) ∷ []) h.pending), ap length (flat-push h.acked (change d m)), ap length (flat-both h.acked h.pending), length-append {A = Edit}))
+
+only-memory : (h : Held) (c : Command) (b : Bool) (due r : Reply) → StandsIn h c b due r → r ≡ Refused Memory
+only-memory h c b due (Refused Memory) stands = refl
+only-memory h c b due r stands = absurd stands
+
+-- ---- all of them
+
+-- the events lead to an opening with the states that the steps leave
+record Comes (h : Held) (d : Kept) (steps : List StateStep) (events : List Event) : Type 0 where
+  held : Held
+  comes : state_after (up h) events ≡ up held
+  states : (durable_of held).states ≡ stepped_on d.states steps
+
+wanted-first : (reply replies text : List ℕ) → text ≡ reply ++ replies → reply ≡ reply_text (Refused Memory) → WantedMemory text
+wanted-first reply replies text is told = ([], replies, is ∙ ap (λ (l : List ℕ). l ++ replies) told)
+
+wanted-later : (reply replies text : List ℕ) → text ≡ reply ++ replies → WantedMemory replies → WantedMemory text
+wanted-later reply replies text is (front, behind, told) =
+    (reply ++ front, behind, is ∙ ap (λ (l : List ℕ). reply ++ l) told ∙ sym (append_assoc reply front (reply_text (Refused Memory) ++ behind)))
+
+abbrev Told : Held → Kept → List Message → List Event → List ℕ → Type 0
+Told h d ms events text = Comes h d (flat_map (steps_here d) ms) events ⊎ WantedMemory text
+
+-- one line, where what follows it is told too
+one-line : (m : Message) (ms : List Message) (h : Held) (d : Kept) (events : List Event) (text : List ℕ) → durable_of h ≡ d → TellsOf m (message_text m) → passes_limit d.states (flat_map (steps_here d) (m ∷ ms)) ≡ false →
+    length (log_of h) + length (m ∷ ms) ≤ h.setting.limit → Served (map message_text (m ∷ ms)) events text → IsLegalFrom (up h) events
+    → ((r : Reply) (t : Upshot) (rest : List Event) (replies : List ℕ) → durable_of (then h m r t) ≡ applied d (change d m) → passes_limit (applied d (change d m)).states (flat_map (steps_here d) ms) ≡ false
+    → length (log_of (then h m r t)) + length ms ≤ h.setting.limit → Served (map message_text ms) rest replies → IsLegalFrom (up (then h m r t)) rest → Told (then h m r t) (applied d (change d m)) ms rest replies) → Told h d (m ∷ ms) events text
+one-line m ms h d events text is told fits room (first, rest, reply, replies, by, more, events_are, text_is) legal on = of by where
+  c : Command
+  c = States (Peer m)
+
+  apart : (passes_limit d.states (steps_here d m) ≡ false) × (passes_limit (stepped_on d.states (steps_here d m)) (flat_map (steps_here d) ms) ≡ false)
+  apart = fit-apart d.states (steps_here d m) (flat_map (steps_here d) ms) fits
+
+  to : IsTaken h d m
+  to = taken h d m is apart.0 (omega (arith, room))
+
+  by_reply : (r : Reply) (t : Upshot) → first ≡ called (call c r) t ∷ [] → reply ≡ reply_text r → Told h d (m ∷ ms) events text
+  by_reply r t first_is reply_is = judged here.0.reply where
+    all : events ≡ called (call c r) t ∷ rest
+    all = events_are ∙ ap (λ (l : List Event). l ++ rest) first_is
+
+    here : LegalCall h (call c r) t × IsLegalFrom (up (then h m r t)) rest
+    here = subst (IsLegalFrom (up h)) all legal
+
+    longer : Told (then h m r t) (applied d (change d m)) ms rest replies → Told h d (m ∷ ms) events text
+    longer (inl come) = inl (record {
+      held = come.held;
+      comes = ap (state_after (up h)) all ∙ come.comes;
+      states = come.states ∙ sym (fold-append stepped d.states (steps_here d m) (flat_map (steps_here d) ms));
+    })
+    longer (inr wanted) = inr (wanted-later reply replies text text_is wanted)
+
+    judged : (r ≡ due h c) ⊎ StandsIn h c t.failed (due h c) r → Told h d (m ∷ ms) events text
+    judged (inl due_is) =
+        longer (on r t rest replies (now-held h d m r t is to due_is) apart.1 (omega (arith, room, now-long h d m r t to due_is)) more here.1)
+    judged (inr stands) = inr (wanted-first reply replies text text_is (reply_is ∙ ap reply_text (only-memory h c t.failed (due h c) r stands)))
+
+  of : IsTold (message_text m) first reply → Told h d (m ∷ ms) events text
+  of (inl (meant, means, says)) =
+      let same = one_meaning (line_at (message_text m)) meant (Ok (Some c)) means told.means in
+      let (r, t, first_is, reply_is) = subst (λ (x : Result (Option Command) Refusal). Says x first reply) same says in
+      by_reply r t first_is reply_is
+  of (inr none) = inr (wanted-first reply replies text text_is none.told)
+
+given : (ms : List Message) (h : Held) (d : Kept) (events : List Event) (text : List ℕ) → durable_of h ≡ d → Each (λ m. TellsOf m (message_text m)) ms
+    → passes_limit d.states (flat_map (steps_here d) ms) ≡ false → length (log_of h) + length ms ≤ h.setting.limit → Served (map message_text ms) events text → IsLegalFrom (up h) events → Told h d ms events text
+given [] h d events text is told fits room served legal = inl (record { held = h; comes = ap (state_after (up h)) served.0; states = ap (λ (k : Kept). k.states) is })
+given (m ∷ ms) h d events text is told fits room served legal =
+    one-line m ms h d events text is told.0 fits room served legal
+    (λ r t rest replies next_is next_fits next_room more next_legal. given ms (then h m r t) (applied d (change d m)) rest replies next_is told.1 next_fits next_room more next_legal)
+
+-- ---- a Book
+
+legal-behind : (st : State) (xs ys : List Event) → IsLegalFrom st (xs ++ ys) → IsLegalFrom (state_after st xs) ys
+legal-behind st [] ys legal = legal
+legal-behind st (x ∷ xs) ys legal = legal-behind (next st x) xs ys legal.1
+
+up-is : (h k : Held) → up h ≡ up k → h ≡ k
+up-is h k e = cc (e)
+
+held-at : (h : Held) (b : Page) → IsAt h b → held_in b ≡ durable_of h
+held-at h b at = ap (λ (k : Kept). after k (flat b.acked)) at.base ∙ ap (λ (l : List (List Edit)). after h.base (flat l)) at.acked
+
+-- what it comes to where it is ready for the lines
+arrived : (ours : List ℕ) (es : List Stated) (first : Kept) (world : List Event) (old new : Page) (text : List ℕ) (stands : StandsFor first old world) → IsReadyFor (length (exported_lines ours es)) old →
+    (served : Serves old new (exported_lines ours es) text) → CanBeExported ours es → Told stands.held (held_in old) (exported_messages ours es) served.events text
+arrived ours es first world old new text stands ready served can =
+    let ms = exported_messages ours es in
+    let all : StandsFor first new (world ++ served.events) = served.book.worlds first world stands in
+    let at = stands.at in
+    let left = states_taken ours (main_sum (held_in old)) (main_count (held_in old)) es can.table ready.rules in
+    let fits : passes_limit (held_in old).states (flat_map (steps_here (held_in old)) ms) ≡ false =
+    ap (λ (ss : List Stated). passes_limit ss (flat_map (steps_here (held_in old)) ms)) ready.no_states ∙ left.fits in
+    let log : length (log_of stands.held) ≡ length (flat (old.acked ++ old.pending)) = sym (ap (λ (l : List (List Edit)). length (flat (l ++ old.pending))) at.acked ∙ ap (λ (l : List (List Edit)). length (flat (stands.held.acked ++ l))) at.pending) in
+    given ms stands.held (held_in old) served.events text (sym (held-at stands.held old at)) (exports_are_read ours es can.sum can.bytes can.numbers) fits
+    (omega (arith, log, ready.room, at.limit, length-map ms message_text)) served.served (subst (λ (st : State). IsLegalFrom st served.events) stands.comes (legal-behind (down first) world served.events all.legal))
+
+pub takes_over : TakesOver
+takes_over ours es first world old new text can stands ready served = of (arrived ours es first world old new text stands ready served can) where
+  ms : List Message
+  ms = exported_messages ours es
+
+  all : StandsFor first new (world ++ served.events)
+  all = served.book.worlds first world stands
+
+  of : Told stands.held (held_in old) ms served.events text → ((held_in new).states ≡ states_there (held_in old) ours es) ⊎ WantedMemory text
+  of (inl come) =
+      let same : all.held ≡ come.held =
+      up-is all.held come.held (sym all.comes ∙ fold-append next (down first) world served.events ∙ ap (λ (st : State). state_after st served.events) stands.comes ∙ come.comes) in
+      let left = states_taken ours (main_sum (held_in old)) (main_count (held_in old)) es can.table ready.rules in
+      inl (ap (λ (k : Kept). k.states) (held-at all.held new all.at ∙ ap durable_of same) ∙ come.states
+      ∙ ap (λ (ss : List Stated). stepped_on ss (flat_map (steps_here (held_in old)) ms)) ready.no_states ∙ left.left)
+  of (inr wanted) = inr wanted
+
+begun-held : (limit : ℕ) (old : Page) (stands : StandsFor (kept_nothing 0) old (opened (setting_with limit) ∷ [])) → stands.held ≡ begun (setting_with limit) (raised (kept_nothing 0))
+begun-held limit old stands = up-is stands.held (begun (setting_with limit) (raised (kept_nothing 0))) (sym stands.comes)
+
+pub fresh_takes_over : FreshTakesOver
+fresh_takes_over ours es limit old new text can stands room served =
+    let is = begun-held limit old stands in
+    let at : IsAt (begun (setting_with limit) (raised (kept_nothing 0))) old = subst (λ (h : Held). IsAt h old) is stands.at in
+    let held : held_in old ≡ kept_nothing 1 = held-at (begun (setting_with limit) (raised (kept_nothing 0))) old at in
+    let none : length (flat (old.acked ++ old.pending)) ≡ 0 = ap (λ (l : List (List Edit)). length (flat (l ++ old.pending))) at.acked ∙ ap (λ (l : List (List Edit)). length (flat l)) at.pending in
+    let ready : IsReadyFor (length (exported_lines ours es)) old = record {
+      no_states = ap (λ (k : Kept). k.states) held;
+      room = omega (arith, none, room, at.limit);
+      rules = omega (arith, ap main_count held);
+    } in
+    subst (λ (k : Kept). ((held_in new).states ≡ states_there k ours es) ⊎ WantedMemory text) held (takes_over ours es (kept_nothing 0) (opened (setting_with limit) ∷ []) old new text can stands ready served)

@@ -1,0 +1,8 @@
+use Rattle.pfd.proofs.TakingOver.{takes_over, fresh_takes_over}
+use Rattle.pfd.proofs.laws.takes_over.Goals as goal
+
+pub returns-clause-any : goal.returns-clause-any
+returns-clause-any c = takes_over
+
+pub returns-clause-fresh : goal.returns-clause-fresh
+returns-clause-fresh c = fresh_takes_over

@@ -1,0 +1,20 @@
+//! Laws of a Book. Each function does nothing; its contract is the law.
+ghost use Rattle.std.specs.Prelude.{◌≡◌};
+ghost use Rattle.pfd.specs.declared.line_engine.answer_line.TheConstants.{LOOKED_AT};
+ghost use Rattle.pfd.specs.declared.program.TheConstants.{HISTORY_LIMIT};
+ghost use Rattle.pfd.specs.Takeover.{TakesOver, FreshTakesOver};
+
+/// A Book without states that is given the lines of a peer's export, one by one, holds the states that were exported, unless a line
+/// was told that memory was refused: each with its name, its generation and its flow, and bound to its rule only where the main
+/// rules there and here have one checksum, else to the default rule. So does a fresh Book, whose history has room for as many
+/// changes.
+pub fn takes_over()
+    ensures any { TakesOver }
+    ensures fresh { FreshTakesOver }
+{}
+
+/// The history of a session may have 65,536 changes, and 4,097 bytes of a line are looked at.
+pub fn the_limits_of_sessions()
+    ensures history { HISTORY_LIMIT ≡ 65536 }
+    ensures line { LOOKED_AT ≡ 4097 }
+{}
