@@ -1,32 +1,30 @@
 -- The lines of an export are short, and are read as the commands to act on its messages.
-use Rattle.std.proofs.Common.{◌≡◌, ◌<◌, ◌≤◌, ◌^◌, ◌/◌, ◌%◌, ℕ, zero, suc, Bool, true, false, cond, not, List, [], ◌∷◌, ◌++◌, length, length-append, map, take, drop, replicate, refl, sym, subst, ap, ◌∙◌, arith}
+use Rattle.std.proofs.Common.{◌≡◌, ◌<◌, ◌≤◌, ◌/◌, ◌%◌, ℕ, zero, suc, Bool, true, false, not, List, [], ◌∷◌, ◌++◌, length, length-append, map, take, drop, replicate, refl, sym, subst, ap, ◌∙◌, arith}
 use Rattle.std.specs.Prelude.{codes, nat_lt, slice_index, Option, Some, Result, Ok}
 use Rattle.std.specs.Int.{byte_at, bytes_high_first}
 use Rattle.std.specs.List.{list_all, slice_split, flat_map}
-use Rattle.std.specs.Str.{bytes_eq}
 use Rattle.std.proofs.lemmas.Bool.{and_parts, lt-ltb}
 use Rattle.std.proofs.lemmas.Bool.Decides.{nat_tests}
 use Rattle.std.proofs.lemmas.List.{length-take, take-append-drop}
 use Rattle.hex.specs.Hex.{IsBytes, encode_with, encode_lower, lower_digits}
 use Rattle.hex.proofs.HexLemmas.{length-encode_with}
+use Rattle.pf_addr.specs.Address.{family_of}
 use Rattle.pf_addr.specs.declared.addr.Addr.{Addr}
 use Rattle.pf_addr.specs.declared.addr.Addr.TheVariants.{V4, V6}
 use Rattle.pf_addr.specs.Form.Words.{Word, words_of, is_blank}
 use Rattle.pf_addr.specs.Form.TextLaws.{only}
 use Rattle.pf_rule.specs.declared.value.direction.Direction.{Direction}
 use Rattle.pf_rule.specs.declared.value.direction.Direction.TheVariants.{In, Out}
-use Rattle.pf_state.specs.declared.binding.TheConstants.{ALL_ONES}
 use Rattle.pf_state.specs.declared.peer.message.Message.{Message}
-use Rattle.pf_state.specs.declared.state.Bound.{Bound}
-use Rattle.pf_state.specs.declared.state.Bound.TheVariants.{Rule, Default}
-use Rattle.pf_state.specs.Bindings.{exported}
-use Rattle.pf_state.specs.Peer.Records.{PlainInsert, IsInsert, insert_bytes, address_bytes, direction_byte, family_byte}
+use Rattle.pf_rule.specs.Bytes.{addr_bytes, direction_byte, family_byte}
+use Rattle.pf_state.specs.Peer.Records.{PlainInsert, insert_bytes}
 use Rattle.pf_state.specs.Peer.Written.{Each, message_length, message_bytes, CanBeWritten}
 use Rattle.pf_state.specs.States.{Stated}
-use Rattle.pf_state.specs.Failover.Outgoing.{insert_of as exported_insert, told as exported_message}
-use Rattle.pf_state.specs.Failover.Laws.{IsBound, IsState}
+use Rattle.pf_state.specs.Failover.Outgoing.{exported_insert, exported_message}
+use Rattle.pf_state.specs.Failover.Laws.{IsState}
 use Rattle.pf_state.proofs.Cut.{by_parts}
 use Rattle.pf_state.proofs.Parts.{told_long}
+use Rattle.pf_state.proofs.ReadBack.{are_inserts}
 use Rattle.pf_addr.specs.Form.Forms.{Spells}
 use Rattle.pf_core.specs.declared.command.Command.TheVariants.{States}
 use Rattle.pf_core.specs.declared.command.StateCommand.TheVariants.{Peer}
@@ -72,7 +70,7 @@ zeros : (n : ℕ) → AreBytes (replicate n 0)
 zeros zero = none
 zeros (suc n) = one_more (omega arith) (zeros n)
 
-address : (a : Addr) → AreBytes (address_bytes a)
+address : (a : Addr) → AreBytes (addr_bytes a)
 address (V4 n) = joined (number 4 n) (zeros 12)
 address (V6 n) = number 16 n
 
@@ -80,7 +78,7 @@ way_low : (way : Direction) → direction_byte way < 256
 way_low In = omega arith
 way_low Out = omega arith
 
-family_low : (a : Addr) → family_byte a < 256
+family_low : (a : Addr) → family_byte (family_of a) < 256
 family_low (V4 n) = omega arith
 family_low (V6 n) = omega arith
 
@@ -101,32 +99,6 @@ message_is_bytes current es are each =
     let group = one_more {b = 1} (omega arith) (one_more {b = 0} (omega arith) (joined counted (inserts_are_bytes current es each))) in
     let sum : AreBytes current = record { each = are } in
     one_more {b = 5} (omega arith) (one_more {b = 0} (omega arith) (joined (number 2 (message_length (exported_message current es))) (joined sum (joined group none))))
-
--- ---- and can be written
-
-rule_fits : (current : List ℕ) (b : Bound) → IsBound b → exported b current < 2 ^ 32
-rule_fits current Default is = omega arith
-rule_fits current (Rule number sum) is = elim (bytes_eq sum current) as (λ t. cond t number ALL_ONES < 2 ^ 32) [ true ↦ is | false ↦ omega arith ]
-
-is_insert : (current : List ℕ) (s : Stated) → IsState s → IsInsert (exported_insert current s)
-is_insert current s is = record {
-  id = is.id;
-  creator = is.creator;
-  generation = is.generation;
-  protocol = is.flow.protocol;
-  source = is.flow.addresses.0;
-  destination = is.flow.addresses.1;
-  families = is.flow.families;
-  source_port = is.flow.ports.0;
-  destination_port = is.flow.ports.1;
-  no_ports = is.flow.no_ports;
-  rule = rule_fits current s.1.bound is.bound;
-  anchor = omega arith;
-}
-
-are_inserts : (current : List ℕ) (es : List Stated) → Each IsState es → Each IsInsert (map (exported_insert current) es)
-are_inserts current [] each = tt
-are_inserts current (s ∷ es) each = (is_insert current s each.0, are_inserts current es each.1)
 
 -- ---- a line in hexadecimal
 
