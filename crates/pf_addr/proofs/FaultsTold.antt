@@ -19,7 +19,7 @@ use Rattle.pf_addr.specs.declared.fault.AddrFault.TheVariants.{Empty, BadDigit, 
 use Rattle.pf_addr.specs.Address.{width, family_of, network_from, network_of}
 use Rattle.pf_addr.specs.DigitLaws.{digits_all, all_digits}
 use Rattle.pf_addr.specs.FaultCases.{FirstAt, Faulty, IsPieceFault, empty, no_digit, too_big, IsPartFault, IsGroupFault, place_behind, where_last, IsFirstFault, IsV4Fault, bad_part, wrong_number, IsEndFault, end_v4, end_group, IsInnerFault, IsOuterFault, NoGap, FirstGap, IsV6Fault, bad_piece, bad_before, bad_behind, too_many, IsAddressFault, no_text, as_v6, as_v4, IsAddrFault, IsNetFault, no_slash, bad_address, bad_length}
-use Rattle.pf_addr.specs.Grammar.{is_other, is_small, is_short, pieces, IsNumber, IsGroup, two_groups, v6_number}
+use Rattle.pf_addr.specs.Grammar.{is_other, is_small, is_short, pieces, IsNumber, IsGroup, two_groups, v4_number, v6_number}
 use Rattle.pf_addr.specs.GapLaws.{gap_cut}
 use Rattle.pf_addr.specs.PieceLaws.{all_read, all_found}
 use Rattle.pf_addr.specs.PlaceLaws.{without, first_none, no_place, place_after, cut_there}
@@ -43,11 +43,12 @@ refused : (o : Option ℕ) (g f : AddrFault) → ok_or o g ≡ Err f → (o ≡ 
 refused (Some n) g f e = absurd cc
 refused None g f e = let same : f ≡ g = cc in (refl, same)
 
-pub small_none : (most : ℕ) (text : List ℕ) → ((n : ℕ) → IsNumber most text n → ⊥) → small_number most text ≡ None
-small_none most text never = by (small_number most text) refl where
-  by : (o : Option ℕ) → small_number most text ≡ o → o ≡ None
-  by None e = refl
-  by (Some n) e = absurd (never n (small_found most text n e))
+none_if : {A : Type 0} (o : Option A) → ((x : A) → o ≡ Some x → ⊥) → o ≡ None
+none_if None never = refl
+none_if (Some x) never = absurd (never x refl)
+
+small_none : (most : ℕ) (text : List ℕ) → ((n : ℕ) → IsNumber most text n → ⊥) → small_number most text ≡ None
+small_none most text never = none_if (small_number most text) (λ n e. never n (small_found most text n e))
 
 pub length_none : (text : List ℕ) → length text ≡ 0 → text ≡ []
 length_none [] e = refl
@@ -149,19 +150,16 @@ single_tells inner one tells at p f = (
 parts_tell : Tells parts_at (λ at text f. IsFirstFault (IsNumber 255) IsPartFault IsPartFault at (pieces 46 text) f)
 parts_tell = row_tells (IsNumber 255) IsPartFault IsPartFault part_at (single part_at) (record { found = part_found; read = part_read; one_tells = part_tells; end_tells = single_tells IsPartFault part_at part_tells }) 46
 
+outside : (m n : ℕ) → (nat_le m n && nat_le n 4) ≡ false → (n < m) ⊎ (4 < n)
+outside m n e = elim (leb_tells m n) [ inr few ↦ inl few.1 | inl enough ↦ inr (let test = rw enough.0 at e in grind (arith, nat_tests)) ]
+
 v4_told : (fewest at : ℕ) (text : List ℕ) (f : AddrFault) → v4_at fewest at text ≡ Err f → IsV4Fault fewest at text f
 unfolding v4_at
 v4_told fewest at text f e = elim (bind_err (parts_at at text) (v4_of fewest at) f e) [
   | inl fault ↦ bad_part ((parts_tell at text f).0 fault)
   | inr (numbers, read, made) ↦
-      let good = all_found (IsNumber 255) part_at part_found at (pieces 46 text) numbers read in
-      elim (leb_tells fewest (length numbers)) [
-        | inr missing ↦ let is : f ≡ BadGroups at = let m = rw missing.0 at made in cc in wrong_number numbers good (inl missing.1) is
-        | inl enough ↦ elim (leb_tells (length numbers) 4) [
-          | inr many ↦ let is : f ≡ BadGroups at = let m = rw (enough.0, many.0) at made in cc in wrong_number numbers good (inr many.1) is
-          | inl few ↦ let no = rw (enough.0, few.0) at made in absurd cc
-        ]
-      ]
+      let no = if_err (nat_le fewest (length numbers) && nat_le (length numbers) 4) (v4_number numbers) (BadGroups at) f made in
+      wrong_number numbers (all_found (IsNumber 255) part_at part_found at (pieces 46 text) numbers read) (outside fewest (length numbers) no.0) no.1
 ]
 
 v4_only : (fewest at : ℕ) (text : List ℕ) (f : AddrFault) → IsV4Fault fewest at text f → v4_at fewest at text ≡ Err f
@@ -223,10 +221,7 @@ gap_first text i e = record {
 }
 
 none_gap : (text : List ℕ) → NoGap text → gap text ≡ None
-none_gap text never = by (gap text) refl where
-  by : (o : Option ℕ) → gap text ≡ o → o ≡ None
-  by None e = refl
-  by (Some i) e = absurd (never (take i text) (drop (i + 2) text) (gap_cut text i e))
+none_gap text never = none_if (gap text) (λ i e. never (take i text) (drop (i + 2) text) (gap_cut text i e))
 
 first_gap : (text front back : List ℕ) → FirstGap text front back → gap text ≡ Some (length front)
 first_gap text front back h =
