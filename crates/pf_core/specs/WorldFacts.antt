@@ -50,7 +50,7 @@ mentions_by ms (opened setting) = []
 abbrev pub mentions_since : List Event → List Mention
 mentions_since world = fold mentions_by [] world
 
--- the transactions of each opening that a world comes to are what the mentions since it leave
+-- the transactions of the opening that a world comes to are what the mentions since it leave
 abbrev pub TicketsAreOfTheCalls : Type 0
 TicketsAreOfTheCalls = (first : Kept) (world : List Event) (h : Held) → IsWorld first world → state_after (down first) world ≡ up h →
     h.tickets ≡ left_by h.base.epoch (mentions_since world)
@@ -60,7 +60,7 @@ pub record AreGivenOnce (epoch : ℕ) (ts : List Ticket) : Type 0 where
   pub numbered : ts ≡ tickets_from epoch 1 (length ts)
   pub once : AreOnce ts
 
--- of each opening that a world comes to
+-- of the opening that a world comes to
 abbrev pub GivesEachOnce : Type 0
 GivesEachOnce = (first : Kept) (world : List Event) (h : Held) → IsWorld first world → state_after (down first) world ≡ up h →
     AreGivenOnce h.base.epoch (tickets_given world)

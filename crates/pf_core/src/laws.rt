@@ -56,30 +56,30 @@ pub fn leaves_the_others()
     ensures named { MentionsTheNamed }
 {}
 
-/// In each opening that a world comes to the open transactions are what the mentions of the calls since leave.
+/// In the opening that a world comes to the open transactions are what the mentions of the calls since leave.
 #[tactic(auto, using(crate::proofs::LongerWorlds::tickets_are_of_the_calls))]
 pub fn tickets_are_of_the_calls()
     ensures { TicketsAreOfTheCalls }
 {}
 
-/// In each opening that a world comes to the tickets given are numbered from 1 on, and none is given twice.
+/// In the opening that a world comes to the tickets given are numbered from 1 on, and none is given twice.
 pub fn gives_each_ticket_once()
     ensures { GivesEachOnce }
 {}
 
-/// In each opening that a world comes to, where what was held first is so: what is kept are maps of rulesets and of tables, in which
+/// In the opening that a world comes to, where what was held first is so: what is kept are maps of rulesets and of tables, in which
 /// none is empty and no path, no name at a path and no network of a table stands twice, and states of which no name and no flow does;
 /// and all limits hold, of rules, rulesets, entries, tables, states, tickets and history.
 pub fn keeps_the_limits()
     ensures { KeepsTheLimits }
 {}
 
-/// In each opening that a world comes to a commit whose tickets are valid names nothing twice, so that it is refused for limits alone.
+/// In the opening that a world comes to a commit whose tickets are valid names nothing twice, so that it is refused for limits alone.
 pub fn commits_name_nothing_twice()
     ensures { CommitsNameOnce }
 {}
 
-/// In each opening that a world comes to every change is acknowledged, and is shown.
+/// In the opening that a world comes to every change is acknowledged, and is shown.
 pub fn shows_all()
     ensures { ShowsAll }
 {}
