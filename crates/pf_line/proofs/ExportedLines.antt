@@ -1,5 +1,5 @@
 -- The lines of an export are short, and are read as the commands to act on its messages.
-use Rattle.std.proofs.Common.{◌≡◌, ◌<◌, ◌≤◌, ◌/◌, ◌%◌, ℕ, zero, suc, Bool, true, false, not, List, [], ◌∷◌, ◌++◌, length, length-append, map, take, drop, replicate, refl, sym, subst, ap, ◌∙◌, arith}
+use Rattle.std.proofs.Common.{◌≡◌, ◌<◌, ◌≤◌, ◌/◌, ◌%◌, ℕ, zero, suc, Bool, true, false, not, List, [], ◌∷◌, ◌++◌, length, length-append, map, take, drop, replicate, refl, sym, subst, ap, arith}
 use Rattle.std.specs.Prelude.{codes, nat_lt, slice_index, Option, Some, Result, Ok}
 use Rattle.std.specs.Int.{byte_at, bytes_high_first}
 use Rattle.std.specs.List.{list_all, slice_split, flat_map}
@@ -11,7 +11,7 @@ use Rattle.hex.proofs.HexLemmas.{length-encode_with}
 use Rattle.pf_addr.specs.Address.{family_of}
 use Rattle.pf_addr.specs.declared.addr.Addr.{Addr}
 use Rattle.pf_addr.specs.declared.addr.Addr.TheVariants.{V4, V6}
-use Rattle.pf_addr.specs.Form.Words.{Word, words_of, is_blank}
+use Rattle.pf_addr.specs.Form.Words.{words_of, is_blank}
 use Rattle.pf_addr.specs.Form.TextLaws.{only}
 use Rattle.pf_rule.specs.declared.value.direction.Direction.{Direction}
 use Rattle.pf_rule.specs.declared.value.direction.Direction.TheVariants.{In, Out}

@@ -1,6 +1,6 @@
 -- The lines of an export, given to a Book one by one.
-use Rattle.std.proofs.Common.{◌≡◌, ◌⊎◌, ◌+◌, ◌<◌, ◌≤◌, ◌||◌, ℕ, suc, Bool, true, false, cond, List, [], ◌∷◌, ◌++◌, length, length-append, map, Option, Some, None, Result, Ok, Err, inl, inr, refl, sym, subst, ap, ◌∙◌, append_assoc, arith}
-use Rattle.std.specs.Prelude.{fold, nat_lt}
+use Rattle.std.proofs.Common.{◌≡◌, ◌⊎◌, ◌+◌, ◌<◌, ◌≤◌, ◌||◌, ℕ, Bool, true, false, cond, List, [], ◌∷◌, ◌++◌, length, length-append, map, Option, Some, Result, Ok, Err, inl, inr, refl, sym, subst, ap, ◌∙◌, append_assoc, arith}
+use Rattle.std.specs.Prelude.{nat_lt}
 use Rattle.std.specs.List.{flat_map}
 use Rattle.std.proofs.lemmas.Bool.Decides.{nat_tests}
 use Rattle.std.proofs.lemmas.List.{length-map}
@@ -13,7 +13,7 @@ use Rattle.pf_core.specs.declared.reply.Outcome.TheVariants.{Peered}
 use Rattle.pf_core.specs.declared.reply.Refusal.{Refusal}
 use Rattle.pf_core.specs.declared.reply.Refusal.TheVariants.{HistoryFull, Memory}
 use Rattle.pf_core.specs.declared.reply.Reply.{Reply}
-use Rattle.pf_core.specs.declared.reply.Reply.TheVariants.{Answer, Applied, Refused}
+use Rattle.pf_core.specs.declared.reply.Reply.TheVariants.{Applied, Refused}
 use Rattle.pf_core.specs.declared.step.Step.{Step}
 use Rattle.pf_core.specs.declared.step.Step.TheVariants.{Wants}
 use Rattle.pf_core.specs.declared.durable.refusal.ChangeRefusal.TheVariants.{StatesFull}
@@ -21,11 +21,11 @@ use Rattle.pf_core.specs.Calls.{call}
 use Rattle.pf_core.specs.Commands.{steps_here, states_step, unless_unfit}
 use Rattle.pf_core.specs.Durable.Edits.{Kept, Edit, main_sum, kept_nothing, acts, applied, after, unless}
 use Rattle.pf_core.specs.Pages.{Page, IsAt, StandsFor}
-use Rattle.pf_core.specs.Worlds.{Held, State, up, down, flat, log_of, durable_of, step_in, due, due_at, group_in, group_at, or_refused, if_ok, grouped, Upshot, Event, called, opened, setting_with, begun, raised, heard, next, StandsIn, LegalCall, state_after, IsLegalFrom, IsWorld}
+use Rattle.pf_core.specs.Worlds.{Held, State, up, down, flat, log_of, durable_of, step_in, due, due_at, group_in, group_at, or_refused, if_ok, grouped, Upshot, Event, called, opened, setting_with, begun, raised, heard, next, StandsIn, LegalCall, state_after, IsLegalFrom}
 use Rattle.pf_core.proofs.LongerWorlds.{flat-push}
-use Rattle.pf_line.specs.Exports.{Message, Step as StateStep, message_text, main_count, exported_lines, TellsOf, ExportsAreRead, CanBeExported, states_there}
+use Rattle.pf_line.specs.Exports.{Message, Step as StateStep, message_text, main_count, exported_lines, TellsOf, CanBeExported, states_there}
 use Rattle.pf_line.specs.Failover.Outgoing.{exported_messages}
-use Rattle.pf_line.specs.Lines.{line_at, Means}
+use Rattle.pf_line.specs.Lines.{line_at}
 use Rattle.pf_line.specs.Peer.Written.{Each}
 use Rattle.pf_line.specs.Reply.Replies.{reply_text}
 use Rattle.pf_line.specs.StateTables.{Stated}
