@@ -1,18 +1,15 @@
--- Words that stand for a table's entries, and for addresses (pf.conf(5), TABLES).
+-- Words that stand for a table's entries (pf.conf(5), TABLES).
 use Rattle.std.specs.Prelude.{◌≡◌, ◌==◌, Bool, true, false, [], ◌∷◌, codes, Result, Ok, Err, if◌then◌else◌}
 use Rattle.std.proofs.Common.{refl}
 use Rattle.pf_addr.specs.declared.form.fault.Kind.{Kind}
 use Rattle.pf_addr.specs.declared.form.fault.Kind.TheVariants.{BadWord}
 use Rattle.pf_addr.specs.Form.Words.{Word}
-use Rattle.pf_addr.specs.declared.addr.Addr.{Addr}
 use Rattle.pf_addr.specs.declared.addr.Addr.TheVariants as addr
 use Rattle.pf_addr.specs.declared.fault.AddrFault.{AddrFault}
 use Rattle.pf_addr.specs.Address.{Network, network_of}
 use Rattle.pf_addr.specs.Grammar.{SpellsNet}
-use Rattle.pf_addr.specs.Reading.{part_at, pieces_at, v4_at, address_at, addr_at, net_at}
+use Rattle.pf_addr.specs.Reading.{part_at, pieces_at, v4_at, address_at, net_at}
 use Rattle.pf_table.specs.Entries.{Row}
-
--- ---- an entry
 
 -- A network, with an exclamation mark (33) joined to it where it is negated.
 abbrev pub SpellsEntry : Word → Row → Type 0
@@ -32,17 +29,3 @@ entry_of (b ∷ bs) = if b == 33 then signed true (net_at bs) else signed false 
 pub entry_taken : entry_of (codes "0.0.0.0") ≡ Ok (network_of (addr.V4 0), false)
 unfolding entry_of part_at pieces_at v4_at address_at
 entry_taken = refl
-
--- ---- an address
-
-abbrev pub plain : Result Addr AddrFault → Result Addr Kind
-plain (Ok a) = Ok a
-plain (Err e) = Err BadWord
-
--- the address that a word spells
-abbrev pub address_of : Word → Result Addr Kind
-address_of w = plain (addr_at w)
-
-pub address_taken : address_of (codes "0.0.0.0") ≡ Ok (addr.V4 0)
-unfolding part_at pieces_at v4_at address_at
-address_taken = refl

@@ -5,7 +5,6 @@ use Rattle.pf_addr.specs.declared.form.fault.Kind.{Kind}
 use Rattle.pf_addr.specs.declared.form.fault.Kind.TheVariants.{BadWord}
 use Rattle.pf_addr.specs.Form.Words.{Word}
 use Rattle.pf_addr.specs.Form.Forms.{Form, nothing, word, key, or, pair, making, any_number, one_or_more, is_decided}
-use Rattle.pf_addr.specs.declared.addr.Addr.{Addr}
 use Rattle.pf_addr.specs.declared.addr.Addr.TheVariants as addr
 use Rattle.pf_addr.specs.Address.{network_of}
 use Rattle.pf_rule.specs.declared.fault.Mistake.{Mistake}
@@ -31,7 +30,8 @@ use Rattle.pf_addr.specs.Path.Names.{table_name_of}
 use Rattle.pf_addr.specs.Path.Paths.{path_of, main}
 use Rattle.pf_line.specs.Tickets.{part_of, ticket_of}
 use Rattle.pf_line.specs.States.{id_of, bytes_of, a_byte}
-use Rattle.pf_line.specs.Entries.{entry_of, entry_taken, address_of, address_taken}
+use Rattle.pf_line.specs.Entries.{entry_of, entry_taken}
+use Rattle.pf_rule.specs.Value.Values.{an_address}
 
 -- ---- words that stand for values
 
@@ -65,10 +65,6 @@ table_name = word (record { of = table_name_of; sample = codes "a"; value = code
 -- ENTRY, of a table
 abbrev pub row : Form Row
 row = word (record { of = entry_of; sample = codes "0.0.0.0"; value = (network_of (addr.V4 0), false); takes = entry_taken })
-
--- ADDRESS
-abbrev pub address : Form Addr
-address = word (record { of = address_of; sample = codes "0.0.0.0"; value = addr.V4 0; takes = address_taken })
 
 -- ID, of a state
 abbrev pub id : Form ℕ
@@ -188,7 +184,7 @@ judged = making (as_command (λ p. Ask (Judge p))) packet
 
 -- PATH NAME ADDRESS
 unfoldable pub tested : Form (Result Command Mistake)
-tested = making (λ x. Ok (Ask (Test x.0.0 x.0.1 x.1))) (pair table address)
+tested = making (λ x. Ok (Ask (Test x.0.0 x.0.1 x.1))) (pair table an_address)
 
 -- "rules" PATH | "tables" PATH | "states"
 unfoldable pub shown : Form (Result Command Mistake)

@@ -4,11 +4,12 @@ ghost use Rattle.pf_line.specs.Grammar.{begun, added, defined, committed, rolled
 
 use crate::lists::{read_rows, read_some_rows};
 use crate::words::{
-    address_word, path_word, read_entry, read_name, read_offered, read_state, read_table,
+    path_word, read_entry, read_name, read_offered, read_state, read_table,
     ticket_word,
 };
 use pf_addr::form::{Stop, Unread, Words, each, end, expect, takes};
 use pf_core::{Command, Question, StateCommand, TableEdit, Transaction};
+use pf_rule::value::address_word;
 use pf_rule::{Mistake, Packet, Rule};
 use pf_ticket::{Entries, RulesetNames};
 use std::alloc::Global;

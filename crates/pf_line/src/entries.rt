@@ -1,10 +1,10 @@
-//! Words of a table's entries, and of addresses.
+//! Words of a table's entries.
 ghost use Rattle.std.specs.Prelude.{◌≡◌};
 ghost use Rattle.pf_addr.specs.Reading.{net_at};
-ghost use Rattle.pf_line.specs.Entries.{entry_of, signed, address_of};
+ghost use Rattle.pf_line.specs.Entries.{entry_of, signed};
 
 use pf_addr::form::Kind;
-use pf_addr::{Addr, Net};
+use pf_addr::Net;
 use pf_table::Entry;
 
 /// The entry that a word spells: a network, with a `!` joined to it where it is negated. A lone `!`, or a second one, is a
@@ -25,16 +25,6 @@ fn signed(is_negated: bool, network: &[u8]) -> Result<Entry, Kind>
 {
     match Net::from_ascii(network) {
         Ok(net) => Ok(Entry::new(net, is_negated)),
-        Err(_) => Err(Kind::BadWord),
-    }
-}
-
-/// The address that a word spells.
-pub(crate) fn address_of(word: &[u8]) -> Result<Addr, Kind>
-    ensures { result ≡ address_of word.now }
-{
-    match Addr::from_ascii(word) {
-        Ok(address) => Ok(address),
         Err(_) => Err(Kind::BadWord),
     }
 }

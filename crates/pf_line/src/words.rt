@@ -1,32 +1,16 @@
 //! Reading the words that stand for values, each from the front of those that are left.
 ghost use Rattle.pf_addr.specs.Form.Readers.{Moves};
-ghost use Rattle.pf_line.specs.Grammar.{kind, path, ticket_text, table_name, row, address, name, entry, table, offered_table, id, creator, state};
+ghost use Rattle.pf_line.specs.Grammar.{kind, path, ticket_text, table_name, row, name, entry, table, offered_table, id, creator, state};
 
-use crate::entries::{address_of, entry_of};
+use crate::entries::entry_of;
 use crate::state::{read_creator, read_id};
 use crate::ticket::read_ticket;
-use pf_addr::Addr;
-use pf_addr::form::{Stop, Words, bad_word, expect, stop, takes};
+use pf_addr::form::{Stop, Words, expect, takes};
 use pf_addr::path::TableName;
 use pf_anchor::Path;
+use pf_rule::take_word;
 use pf_state::StateName;
 use pf_ticket::{Entry, RulesetKind, RulesetName, Ticket};
-
-/// Takes the first word where it reads as a value.
-macro_rules! take_word {
-    ($words:ident, $word:ident => $read:expr) => {
-        match *$words {
-            [$word, rest @ ..] => match $read {
-                Ok(value) => {
-                    *$words = rest;
-                    Ok(value)
-                }
-                Err(kind) => Err(stop(kind, $words)),
-            },
-            [] => Err(bad_word($words)),
-        }
-    };
-}
 
 fn read_kind<'a>(words: &mut Words<'a>) -> Result<RulesetKind, Stop>
     ensures { Moves kind result words.old.now words.new.now }
@@ -61,12 +45,6 @@ pub(crate) fn row_word<'a>(words: &mut Words<'a>) -> Result<pf_table::Entry, Sto
     ensures { Moves row result words.old.now words.new.now }
 {
     take_word!(words, word => entry_of(word))
-}
-
-pub(crate) fn address_word<'a>(words: &mut Words<'a>) -> Result<Addr, Stop>
-    ensures { Moves address result words.old.now words.new.now }
-{
-    take_word!(words, word => address_of(word))
 }
 
 fn id_word<'a>(words: &mut Words<'a>) -> Result<u64, Stop>
