@@ -19,7 +19,8 @@ use Rattle.pf_core.specs.declared.step.Step.TheVariants.{Wants}
 use Rattle.pf_core.specs.declared.durable.refusal.ChangeRefusal.TheVariants.{StatesFull}
 use Rattle.pf_core.specs.Calls.{call}
 use Rattle.pf_core.specs.Commands.{steps_here, states_step, unless_unfit}
-use Rattle.pf_core.specs.Durable.Edits.{Kept, Edit, main_sum, kept_nothing, acts, applied, after, unless}
+use Rattle.pf_addr.specs.Refusing.{unless}
+use Rattle.pf_core.specs.Durable.Edits.{Kept, Edit, main_sum, kept_nothing, acts, applied, after}
 use Rattle.pf_core.specs.Pages.{Page, IsAt, StandsFor}
 use Rattle.pf_core.specs.Worlds.{Held, State, up, down, flat, log_of, durable_of, step_in, due, due_at, group_in, group_at, or_refused, if_ok, grouped, Upshot, Event, called, opened, setting_with, begun, raised, heard, next, StandsIn, LegalCall, state_after, IsLegalFrom}
 use Rattle.pf_core.proofs.LongerWorlds.{flat-push}
