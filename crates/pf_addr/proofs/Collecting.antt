@@ -10,8 +10,8 @@ use Rattle.pf_addr.specs.declared.form.fault.Unread.TheVariants.{Stopped}
 use Rattle.pf_addr.specs.Form.Words.{Word, texts}
 use Rattle.pf_addr.specs.Form.Forms.{Reader, Read, ◌>>=◌, any_by, onto, one_or_more_by}
 use Rattle.pf_addr.specs.Form.Readers.{Fails, GivesAll, Shrinks, each_by}
-use Rattle.pf_addr.specs.Form.Laws.{leaves}
-use Rattle.pf_addr.specs.Form.ListLaws.{in_front, one_more, one_failed}
+use Rattle.pf_addr.specs.Laws.Form.Decided.{leaves}
+use Rattle.pf_addr.specs.Laws.Form.Lists.{in_front, one_more, one_failed}
 
 -- these, and then what the others gave
 abbrev pub after : {A : Type 0} → List A → Read (List A) → Read (List A)

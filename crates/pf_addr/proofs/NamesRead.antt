@@ -6,7 +6,7 @@ use Rattle.std.proofs.lemmas.Bool.{and_parts}
 use Rattle.std.proofs.lemmas.Bool.Decides.{nat_tests}
 use Rattle.std.proofs.lemmas.List.Sums.{AllPass-from_list_all, list_all-from_AllPass}
 use Rattle.pf_addr.specs.Path.Names.{is_name_byte, IsName}
-use Rattle.pf_addr.specs.Path.NameLaws.{ReadsANameAlone, ReadsEachName}
+use Rattle.pf_addr.specs.Laws.Path.Names.{ReadsANameAlone, ReadsEachName}
 
 pub name_found : ReadsANameAlone
 name_found limit w n e = grind (arith, nat_tests, and_parts)

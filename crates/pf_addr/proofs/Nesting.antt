@@ -12,7 +12,7 @@ use Rattle.pf_addr.specs.declared.form.fault.Kind.{Kind}
 use Rattle.pf_addr.specs.declared.path.limits.TheConstants.{DEPTH_LIMIT}
 use Rattle.pf_addr.specs.Path.Paths.{is_slash, components, first_fault, depth_fault, path_fault}
 use Rattle.pf_addr.specs.Path.Nested.{depth, front, within, path_within, is_single, is_child}
-use Rattle.pf_addr.specs.Path.NestedLaws.{NoDeeper, LeadsDeeper, ChildHasOneMore, EachIsAChild}
+use Rattle.pf_addr.specs.Laws.Path.Nested.{NoDeeper, LeadsDeeper, ChildHasOneMore, EachIsAChild}
 use Rattle.pf_addr.proofs.PathTexts.{count_components}
 use Rattle.pf_addr.proofs.PathsRead.{none_parts, none_of}
 

@@ -10,7 +10,7 @@ use Rattle.pf_addr.specs.declared.reading.Parts.{Parts}
 use Rattle.pf_addr.specs.Collected.{parts_of, eight_groups, groups_of}
 use Rattle.pf_addr.specs.Grammar.{pieces, four_bytes}
 use Rattle.pf_addr.specs.Reading.{One, Last, pieces_at}
-use Rattle.pf_addr.specs.PlaceLaws.{split_some, split_none}
+use Rattle.pf_addr.specs.Laws.Places.{split_some, split_none}
 
 -- what is read, and kept by `make`, where these numbers stand before the rest, which begins at `at`
 abbrev pub behind : {S : Type 0} → One → Last → ℕ → (List ℕ → S) → List ℕ → ℕ → List ℕ → Result S AddrFault

@@ -15,7 +15,7 @@ use Rattle.pf_addr.specs.Form.Words.{Word}
 use Rattle.pf_addr.specs.declared.path.limits.TheConstants.{PATH_LIMIT}
 use Rattle.pf_addr.specs.Path.Paths.{is_slash, components, component_fault, first_fault, depth_fault, fault_within, path_fault, path_of, path_text, is_path, main}
 use Rattle.pf_addr.specs.Path.PathGrammar.{IsComponent, IsNames, IsPathText, SpellsPath}
-use Rattle.pf_addr.specs.Path.PathLaws.{SamePathIsEqual}
+use Rattle.pf_addr.specs.Laws.Path.Paths.{SamePathIsEqual}
 
 -- ---- components
 

@@ -19,7 +19,7 @@ use Rattle.pf_addr.specs.Path.Paths.{is_slash}
 use Rattle.pf_addr.specs.Path.PathGrammar.{IsComponent, IsNames}
 use Rattle.pf_addr.specs.Path.References.{PlainReference, refers, quote, ending, behind, before, unquoted, split_wildcard, reference_fault, reference_in, reference_text, quoted}
 use Rattle.pf_addr.specs.Path.ReferenceGrammar.{IsReference, SpellsReference}
-use Rattle.pf_addr.specs.Path.ReferenceLaws.{ReferenceIsSpelled, SpelledReferenceIsRead}
+use Rattle.pf_addr.specs.Laws.Path.References.{ReferenceIsSpelled, SpelledReferenceIsRead}
 use Rattle.pf_addr.proofs.PathsRead.{names_only, names_found}
 
 -- ---- fronts and ends

@@ -1,15 +1,7 @@
 pub mod Words
 pub mod Cuts
 pub mod Numbers
-pub mod NumberLaws
 pub mod Forms
 pub mod Readers
 pub mod Told
-pub mod Laws
-pub mod WordLaws
-pub mod PairLaws
-pub mod ListLaws
-pub mod StepLaws
-pub mod FormLaws
-pub mod TextLaws
 pub mod Lists

@@ -1,13 +1,9 @@
 pub mod Names
-pub mod NameLaws
 pub mod KeptNames
 pub mod Paths
 pub mod PathGrammar
 pub mod FaultCases
-pub mod PathLaws
 pub mod References
 pub mod ReferenceGrammar
-pub mod ReferenceLaws
 pub mod KeptReferences
 pub mod Nested
-pub mod NestedLaws

@@ -61,7 +61,7 @@ impl Addr {
     /// The fault is the first in this order: no text ([`AddrFault::Empty`]); the parts or groups from left to right, in each
     /// [`AddrFault::BadDigit`] before [`AddrFault::TooBig`]; their number ([`AddrFault::BadGroups`]). A V4 address that
     /// ends a V6 address has all its faults in that piece's turn. It takes no memory.
-    #[tactic(auto, using(crate::specs::ReadingLaws::addr_if_ok, crate::specs::ReadingLaws::addr_only))]
+    #[tactic(auto, using(crate::specs::Laws::Reading::addr_if_ok, crate::specs::Laws::Reading::addr_only))]
     pub fn from_ascii(text: &[u8]) -> Result<Addr, AddrFault>
         ensures found { IfOk result (λ a. SpellsAddr text.now a) }
         ensures only { (a : Addr) → SpellsAddr text.now a → result ≡ Ok a }

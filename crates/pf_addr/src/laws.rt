@@ -10,12 +10,12 @@ ghost use Rattle.pf_addr.specs.Form.Told.{TellsFaults};
 ghost use Rattle.pf_addr.specs.Grammar.{SpellsAddr, SpellsNet};
 ghost use Rattle.pf_addr.specs.Reading.{addr_at, net_at};
 ghost use Rattle.pf_addr.specs.Spelling.{addr_text, net_text};
-ghost use Rattle.pf_addr.specs.SpellingLaws.{IsNetwork, IsNetWord};
+ghost use Rattle.pf_addr.specs.Laws.Spelling.{IsNetwork, IsNetWord};
 
 use crate::addr::Addr;
 
 /// A network contains exactly the addresses of its family whose first bits are its own, bit by bit.
-#[tactic(auto, using(crate::specs::BitLaws::contains_by_bits, crate::specs::BitLaws::network_agrees))]
+#[tactic(auto, using(crate::specs::Laws::Bits::contains_by_bits, crate::specs::Laws::Bits::network_agrees))]
 pub fn networks_contain_by_bits()
     ensures bits { (net : Network) (a : Addr) → IsNetwork net → IsAddr a → (contains net a ≡ true) ↔ BeginsAs net a }
     // an address with its length is the network of those that agree with it in so many first bits
@@ -24,33 +24,33 @@ pub fn networks_contain_by_bits()
 {}
 
 /// The text that an address is written as spells it.
-#[tactic(auto, using(crate::specs::SpellingLaws::addr_text_spells))]
+#[tactic(auto, using(crate::specs::Laws::Spelling::addr_text_spells))]
 pub fn written_addr_is_read_again()
     ensures { (a : Addr) → IsAddr a → SpellsAddr (addr_text a) a }
 {}
 
 /// The text that a network is written as spells it.
-#[tactic(auto, using(crate::specs::SpellingLaws::net_text_spells))]
+#[tactic(auto, using(crate::specs::Laws::Spelling::net_text_spells))]
 pub fn written_net_is_read_again()
     ensures { (net : Network) → IsNetwork net → SpellsNet (net_text net) net }
 {}
 
 /// An address is read from a text exactly where the text spells it. So a text spells at most one.
-#[tactic(auto, using(crate::specs::ReadingLaws::addr_found, crate::specs::ReadingLaws::addr_only))]
+#[tactic(auto, using(crate::specs::Laws::Reading::addr_found, crate::specs::Laws::Reading::addr_only))]
 pub fn addrs_are_read_as_spelled()
     ensures read { (text : List ℕ) (a : Addr) → addr_at text ≡ Ok a → SpellsAddr text a }
     ensures spelled { (text : List ℕ) (a : Addr) → SpellsAddr text a → addr_at text ≡ Ok a }
 {}
 
 /// A network is read from a text exactly where the text spells it. So a text spells at most one.
-#[tactic(auto, using(crate::specs::ReadingLaws::net_found, crate::specs::ReadingLaws::net_only))]
+#[tactic(auto, using(crate::specs::Laws::Reading::net_found, crate::specs::Laws::Reading::net_only))]
 pub fn nets_are_read_as_spelled()
     ensures read { (text : List ℕ) (net : Network) → net_at text ≡ Ok net → SpellsNet text net }
     ensures spelled { (text : List ℕ) (net : Network) → SpellsNet text net → net_at text ≡ Ok net }
 {}
 
 /// Two addresses that are written as one text are one.
-#[tactic(auto, using(crate::specs::SpellingLaws::own_addr_text))]
+#[tactic(auto, using(crate::specs::Laws::Spelling::own_addr_text))]
 pub fn addrs_have_texts_of_their_own()
     ensures { (a b : Addr) → IsAddr a → IsAddr b → addr_text a ≡ addr_text b → a ≡ b }
 {}
@@ -61,7 +61,7 @@ pub fn nets_have_texts_of_their_own()
 {}
 
 /// A network's text is one word: one to 43 digits, letters from a to f, dots, colons and slashes.
-#[tactic(auto, using(crate::specs::SpellingLaws::net_text_is_word))]
+#[tactic(auto, using(crate::specs::Laws::Spelling::net_text_is_word))]
 pub fn net_text_is_one_word()
     ensures { (net : Network) → IsNetwork net → IsNetWord 43 (net_text net) }
 {}

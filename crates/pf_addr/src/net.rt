@@ -114,7 +114,7 @@ impl Net {
     ///
     /// The fault is the first in this order: [`AddrFault::Empty`] where nothing stands before the slash; those of the
     /// address, as [`Addr::from_ascii`] answers them; [`AddrFault::BadLength`]. It takes no memory.
-    #[tactic(auto, using(crate::specs::ReadingLaws::net_if_ok, crate::specs::ReadingLaws::net_only))]
+    #[tactic(auto, using(crate::specs::Laws::Reading::net_if_ok, crate::specs::Laws::Reading::net_only))]
     pub fn from_ascii(text: &[u8]) -> Result<Net, AddrFault>
         ensures found { IfOk result (λ n. SpellsNet text.now n) }
         ensures only { (n : Network) → SpellsNet text.now n → result ≡ Ok n }

@@ -9,7 +9,7 @@ use Rattle.pf_anchor.specs.declared.{evaluated.Evaluated.Evaluated, evaluated.Ev
 use Rattle.pf_anchor.specs.Matches.{PlainMatch, found}
 use Rattle.pf_anchor.specs.Rulesets.{Ruled, ruled, targets}
 use Rattle.pf_anchor.specs.Evaluation.{Tests, and_then, settled, in_turn, effected, evaluation, matching, last_of, verdict_by, rules_at_path}
-use Rattle.pf_anchor.specs.EvaluationLaws.{IsAnchor, OwnMatch, EndsOutside, NothingWithin, MatchWithin, QuickEnds, EndsTheVerdict, InTwoParts, PassedOver}
+use Rattle.pf_anchor.specs.Laws.Evaluation.{IsAnchor, OwnMatch, EndsOutside, NothingWithin, MatchWithin, QuickEnds, EndsTheVerdict, InTwoParts, PassedOver}
 use Rattle.pf_anchor.proofs.Evaluations.{none_and_then, and_then_assoc, unrolled}
 
 rule_is : (f : Ruled → Evaluated PlainMatch) (c : List Ruled) (tests : Tests) (p : List ℕ) (n : ℕ) (r : PlainRule) (rs : List PlainRule) (x : Evaluated PlainMatch) →

@@ -10,7 +10,7 @@ use Rattle.pf_anchor.specs.declared.verdict.RuleVerdict.TheVariants as by
 use Rattle.pf_anchor.specs.Matches.{PlainMatch, found}
 use Rattle.pf_anchor.specs.Rulesets.{Ruled, ruled, rules_in, rules_at, targets, leads_to}
 use Rattle.pf_anchor.specs.Evaluation.{Tests, and_then, settled, in_turn, effected, evaluate_with, levels, evaluation, matching, verdict_by, last_of, judged, rules_at_path}
-use Rattle.pf_anchor.specs.EvaluationLaws.{IsIn, rule_numbered, IsDecidedBy, Holds, AnchorsNeverDecide, ToldRuleDecides}
+use Rattle.pf_anchor.specs.Laws.Evaluation.{IsIn, rule_numbered, IsDecidedBy, Holds, AnchorsNeverDecide, ToldRuleDecides}
 use Rattle.pf_anchor.proofs.Evaluations.{default_judged}
 use Rattle.pf_anchor.proofs.Entries.{found_is_in, entry_is}
 

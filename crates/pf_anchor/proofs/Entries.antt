@@ -7,7 +7,7 @@ use Rattle.pf_addr.specs.Path.Paths.{path_order, same_path}
 use Rattle.pf_addr.proofs.PathsRead.{same_path_is}
 use Rattle.pf_rule.specs.Rules.{PlainRule}
 use Rattle.pf_anchor.specs.Rulesets.{Ruled, ruled, rules_in, rules_at}
-use Rattle.pf_anchor.specs.EvaluationLaws.{IsIn}
+use Rattle.pf_anchor.specs.Laws.Evaluation.{IsIn}
 use Rattle.pf_anchor.proofs.Turns.{alone, one_there}
 
 pub found_is_in : (p : List ℕ) (c : List Ruled) (rs : List PlainRule) → find path_order p c ≡ Some rs → IsIn (ruled p rs) c

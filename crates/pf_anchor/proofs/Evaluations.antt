@@ -15,7 +15,7 @@ use Rattle.pf_anchor.specs.Matches.{PlainMatch}
 use Rattle.pf_anchor.specs.Rulesets.{Ruled, ruled, rules_at, leads_from, leads_to, targets}
 use Rattle.pf_anchor.specs.Configurations.{Configuration}
 use Rattle.pf_anchor.specs.Evaluation.{Tests, and_then, in_turn, last_of, effected, rules_give, evaluate_with, levels, evaluation, matching, verdict_by, judged}
-use Rattle.pf_anchor.specs.EvaluationLaws.{Unrolls, IsTheOnly, DepthIsEnough}
+use Rattle.pf_anchor.specs.Laws.Evaluation.{Unrolls, IsTheOnly, DepthIsEnough}
 
 -- ---- evaluations one after the other
 

@@ -8,7 +8,7 @@ use Rattle.pf_addr.specs.Path.Nested.{path_within, is_child}
 use Rattle.pf_addr.specs.Path.References.{PlainReference}
 use Rattle.pf_rule.specs.Rules.{PlainRule}
 use Rattle.pf_anchor.specs.Rulesets.{Ruled, ruled, rules_in, rules_at, children, targets, IsMap}
-use Rattle.pf_anchor.specs.EvaluationLaws.{IsIn, InTurn, rulesets_at, LeadsToTheseAlone}
+use Rattle.pf_anchor.specs.Laws.Evaluation.{IsIn, InTurn, rulesets_at, LeadsToTheseAlone}
 use Rattle.pf_anchor.proofs.Evaluations.{and_then_none}
 use Rattle.pf_anchor.proofs.Entries.{entry_is}
 use Rattle.pf_anchor.proofs.RulesetMaps.{paths_kept}

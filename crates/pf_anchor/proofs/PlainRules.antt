@@ -8,7 +8,7 @@ use Rattle.pf_anchor.specs.declared.{evaluated.Evaluated.Evaluated, evaluated.Ev
 use Rattle.pf_anchor.specs.Matches.{PlainMatch, found}
 use Rattle.pf_anchor.specs.Rulesets.{Ruled, ruled, rules_at}
 use Rattle.pf_anchor.specs.Evaluation.{and_then, settled, effected, rules_give, evaluation, matching, last_of, verdict_by}
-use Rattle.pf_anchor.specs.EvaluationLaws.{IsDeciding, TellsWhatDecides, decides}
+use Rattle.pf_anchor.specs.Laws.Evaluation.{IsDeciding, TellsWhatDecides, decides}
 use Rattle.pf_anchor.proofs.Evaluations.{none_and_then, unrolled}
 
 -- what rules give from a number on: nothing, or the rule that decides

@@ -19,7 +19,7 @@ use Rattle.pf_rule.specs.Host.Hosts.{host_holds}
 use Rattle.pf_table.specs.Entries.{Row}
 use Rattle.pf_table.specs.Tables.{table_holds}
 use Rattle.pf_anchor.specs.Tables.{TableKey, Tabled, tabled, table_order, table_found, with_table, tables_say}
-use Rattle.pf_anchor.specs.TableLaws.{ReplacesTables, HasItsEntries, OtherNamesStay, OtherPathsStay, StaysTableMap, EmptyIsAbsent, OneTableMap, LeavesTheOther, OwnAnswers, OwnHidesMain, MainAnswersElse, NoneElse, OthersAnswerNothing}
+use Rattle.pf_anchor.specs.Laws.Tables.{ReplacesTables, HasItsEntries, OtherNamesStay, OtherPathsStay, StaysTableMap, EmptyIsAbsent, OneTableMap, LeavesTheOther, OwnAnswers, OwnHidesMain, MainAnswersElse, NoneElse, OthersAnswerNothing}
 
 -- ---- the order of keys
 

@@ -9,7 +9,7 @@ use Rattle.pf_addr.specs.Path.Paths.{path_order, same_path}
 use Rattle.pf_addr.proofs.PathsRead.{same_path_is}
 use Rattle.pf_table.specs.Entries.{Row}
 use Rattle.pf_anchor.specs.Tables.{Tabled, table_order, table_found, tables_at}
-use Rattle.pf_anchor.specs.TableLaws.{by_name, TablesAtPath}
+use Rattle.pf_anchor.specs.Laws.Tables.{by_name, TablesAtPath}
 use Rattle.pf_anchor.proofs.RulesetMaps.{both_hold, first_holds, second_holds}
 
 both_tie : (r s : Ordering) → is_eq (ordering_then r s) ≡ (is_eq r && is_eq s)

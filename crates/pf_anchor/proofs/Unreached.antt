@@ -14,7 +14,7 @@ use Rattle.pf_table.specs.Map.Maps.{without}
 use Rattle.pf_anchor.specs.Matches.{PlainMatch}
 use Rattle.pf_anchor.specs.Rulesets.{Ruled, ruled, rules_in, rules_at, with_rules, leads_to, targets}
 use Rattle.pf_anchor.specs.Evaluation.{Tests, in_turn, effected, evaluate_with, levels, evaluation, matching, verdict_by, last_of, rules_at_path}
-use Rattle.pf_anchor.specs.EvaluationLaws.{IsIn, rule_numbered, NoneLeadsTo, UnreachedIsNothing}
+use Rattle.pf_anchor.specs.Laws.Evaluation.{IsIn, rule_numbered, NoneLeadsTo, UnreachedIsNothing}
 use Rattle.pf_anchor.proofs.RulesetMaps.{replaced_in_turn}
 use Rattle.pf_anchor.proofs.Entries.{found_is_in}
 

@@ -2,8 +2,6 @@ pub mod Rulesets
 pub mod Tables
 pub mod Configurations
 pub mod Limits
-pub mod Laws
-pub mod TableLaws
 pub mod Matches
 pub mod Evaluation
-pub mod EvaluationLaws
+pub mod Laws

@@ -13,7 +13,7 @@ use Rattle.pf_anchor.specs.Tables.{tabled, table_order}
 use Rattle.pf_anchor.proofs.RulesetMaps.{map_all, replaced_in_turn}
 use Rattle.pf_anchor.proofs.TableMaps.{table_order_total, tables_replaced, table_maps_stay}
 use Rattle.pf_core.specs.Durable.Edits.{Kept, rulesets_in, tables_in, entries_at, with_entries}
-use Rattle.pf_core.specs.Durable.Laws.{ReplacesExactly, IsEdited, EditsExactly, DeletesNothing, StepsExactly}
+use Rattle.pf_core.specs.Laws.Durable.{ReplacesExactly, IsEdited, EditsExactly, DeletesNothing, StepsExactly}
 use Rattle.pf_core.proofs.TableCounts.{deleted-none}
 
 pub replaces_exactly : ReplacesExactly

@@ -9,8 +9,8 @@ use Rattle.pf_ticket.specs.declared.refusal.TicketRefusal.TheVariants.{Busy}
 use Rattle.pf_ticket.specs.Replies.{bad_count, twice_in, twice_behind, busy_in}
 use Rattle.pf_core.specs.declared.durable.refusal.ChangeRefusal.TheVariants.{Twice as Again}
 use Rattle.pf_core.specs.Durable.Edits.{name_of, is_in_order}
-use Rattle.pf_core.specs.WorldFacts.{CommitsNameOnce}
-use Rattle.pf_core.specs.WorldLaws.{names-items}
+use Rattle.pf_core.specs.Laws.Worlds.{CommitsNameOnce}
+use Rattle.pf_core.specs.Laws.Wanted.{names-items}
 use Rattle.pf_core.proofs.Checks.{named_once}
 use Rattle.pf_core.proofs.Switching.{not-twice}
 use Rattle.std.proofs.Common.{◌≡◌, ℕ, ◌+◌, ◌≤◌, Bool, true, false, cond, List, [], ◌∷◌, length, refl, sym, ap, ◌∙◌, subst, inl, inr, Option, Some, None, Result, Ok, Err, arith, zero, suc, ◌++◌}
@@ -20,7 +20,7 @@ use Rattle.pf_table.specs.Edits.{additions, deletions}
 use Rattle.pf_table.specs.Tables.{AreEntries}
 use Rattle.std.proofs.lemmas.Bool.Decides.{nat_tests}
 use Rattle.pf_ticket.specs.declared.{name.RulesetName.RulesetName, refusal.TicketRefusal.TicketRefusal, ticket.Ticket.Ticket, name.RulesetKind.RulesetKind, name.RulesetKind.TheVariants.Filter, name.RulesetKind.TheVariants.Table, entry.Entry.Entry}
-use Rattle.pf_ticket.specs.Laws.{AreGiven, IsFew, IsWithin as AreTicketsWithin, AreOnce}
+use Rattle.pf_ticket.specs.Laws.Tickets.{AreGiven, IsFew, IsWithin as AreTicketsWithin, AreOnce}
 use Rattle.pf_ticket.specs.Mentions.{Mention, gives, switches, after as moved_by}
 use Rattle.pf_ticket.specs.Names.{filter_at, table_ruleset_at, tickets_from, ticket}
 use Rattle.pf_ticket.specs.NamedTables.{Named}
@@ -40,10 +40,10 @@ use Rattle.pf_core.specs.declared.reply.Outcome.TheVariants as outcome
 use Rattle.pf_core.specs.Calls.{call, mentions_of, Call}
 use Rattle.pf_core.specs.Commands.{item_of, unless_refused, unless_unfit, if_there, is_table, items, wanting, added_of, deleted_of, edit_step, makes_state, tracked, track_step, steps_here, states_step, answer_of, step_by, mentioned}
 use Rattle.pf_core.specs.Durable.Edits.{Kept, Edit, commits, adds, deletes, sets, acts, removes, verdict, placed, tables_in, entries_at, applied, voided_by, after, no_conflict, fits}
-use Rattle.pf_core.specs.Durable.Laws.{IsWithin, AreFew}
+use Rattle.pf_core.specs.Laws.Durable.{IsWithin, AreFew}
 use Rattle.pf_core.proofs.Within.{keeps_within}
-use Rattle.pf_core.specs.WorldFacts.{tickets_in, given_by, tickets_given, GivesEachOnce, KeepsTheLimits, ShowsAll}
-use Rattle.pf_core.specs.WorldLaws.{unit_is, IsPassed, passed, none-wanted, fit, IsThis, wants_commit, edit_of, wants_edit, IsOfStates, of_steps, of_removal, IsStateChange, wants_states, IsWanted, wants}
+use Rattle.pf_core.specs.Laws.Worlds.{tickets_in, given_by, tickets_given, GivesEachOnce, KeepsTheLimits, ShowsAll}
+use Rattle.pf_core.specs.Laws.Wanted.{unit_is, IsPassed, passed, none-wanted, fit, IsThis, wants_commit, edit_of, wants_edit, IsOfStates, of_steps, of_removal, IsStateChange, wants_states, IsWanted, wants}
 use Rattle.pf_core.specs.Worlds.{Held, log_of, durable_of, step_in, room_for, if_ok, or_refused, due_at, grouped, group_at, LegalReply, State, up, down, Upshot, Event, called, opened, flat, group_in, acked_by, shown_by, heard, next, LegalCall, IsLegal, state_after, IsLegalFrom, IsWorld}
 use Rattle.std.proofs.lemmas.List.{append-nil, length-append}
 use Rattle.std.proofs.lemmas.List.Sums.{fold_push}

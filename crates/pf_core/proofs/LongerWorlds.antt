@@ -9,7 +9,7 @@ use Rattle.pf_core.specs.Calls.{Call, call, mentions_of}
 use Rattle.pf_core.specs.Durable.Edits.{Kept, Edit}
 use Rattle.pf_core.specs.Pages.{Page, IsAt, StandsFor, Leads}
 use Rattle.pf_core.specs.Wholes.{Whole}
-use Rattle.pf_core.specs.WorldFacts.{mentions_by, mentions_since, TicketsAreOfTheCalls}
+use Rattle.pf_core.specs.Laws.Worlds.{mentions_by, mentions_since, TicketsAreOfTheCalls}
 use Rattle.pf_core.specs.Worlds.{Setting, Held, State, up, down, begun, raised, flat, group_in, Upshot, upshot, Event, called, opened, acked_by, shown_by, heard, next, LegalReply, last_epoch, IsLegal, state_after, IsLegalFrom, IsWorld}
 
 -- a group of one change more

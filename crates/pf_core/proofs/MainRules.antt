@@ -4,7 +4,7 @@ use Rattle.std.specs.List.{list_any}
 use Rattle.pf_addr.specs.Path.Paths.{same_path}
 use Rattle.pf_rule.specs.Rules.{PlainRule}
 use Rattle.pf_anchor.specs.Configurations.{Configuration, with_rulesets}
-use Rattle.pf_anchor.specs.Laws.{rules_by}
+use Rattle.pf_anchor.specs.Laws.Configurations.{rules_by}
 use Rattle.pf_anchor.specs.Rulesets.{Ruled, rules_at}
 use Rattle.pf_anchor.proofs.RulesetMaps.{replaced_in_turn}
 

@@ -15,14 +15,14 @@ use Rattle.pf_addr.specs.Refusing.{refused_at, both_passed}
 use Rattle.pf_addr.specs.Path.Names.{name_order}
 use Rattle.pf_addr.specs.Path.Paths.{same_path}
 use Rattle.pf_table.specs.Entries.{Row}
-use Rattle.pf_anchor.specs.Laws.{rules_by}
+use Rattle.pf_anchor.specs.Laws.Configurations.{rules_by}
 use Rattle.pf_table.specs.Map.ListMaps.{list_by}
 use Rattle.pf_anchor.specs.Rulesets.{Ruled, rules_at, with_rules}
 use Rattle.pf_anchor.specs.Tables.{TableKey, Tabled, table_order, with_table}
 use Rattle.pf_anchor.proofs.RulesetMaps.{replaced_in_turn}
 use Rattle.pf_anchor.proofs.TableMaps.{tables_replaced}
 use Rattle.pf_ticket.specs.declared.{entry.Entry.Entry, name.RulesetKind.RulesetKind, name.RulesetKind.TheVariants.Filter, name.RulesetKind.TheVariants.Table, name.RulesetName.RulesetName, refusal.TicketRefusal.TheVariants.BadCount, refusal.TicketRefusal.TheVariants.Twice, refusal.TicketRefusal.TheVariants.Busy}
-use Rattle.pf_ticket.specs.NameLaws.{paths_alike, name_is}
+use Rattle.pf_ticket.specs.Laws.Names.{paths_alike, name_is}
 use Rattle.pf_ticket.specs.Names.{same_kind, same_name, is_named, names_of, filter_at, table_ruleset_at, IsDistinct}
 use Rattle.pf_ticket.specs.Replies.{bad_count, twice_in, busy_in, list_check, commit_check}
 use Rattle.pf_ticket.specs.Mentions.{Mention, switched, dropped, named_in, after}
@@ -33,8 +33,8 @@ use Rattle.pf_ticket.proofs.Twice.{otherwise_once}
 use Rattle.pf_core.specs.declared.{durable.change.Item.Item, command.Command.TheVariants.Transact, command.Command.TheVariants.Edit as Change, command.Command.TheVariants.States as OfStates, command.Command.TheVariants.Ask, command.Transaction.TheVariants.Begin, command.Transaction.TheVariants.Add, command.Transaction.TheVariants.Define, command.Transaction.TheVariants.Commit, command.Transaction.TheVariants.Rollback}
 use Rattle.pf_core.specs.Commands.{item_of, items, mentioned, is_accepted}
 use Rattle.pf_core.specs.Durable.Edits.{Kept, Edit, commits, rulesets_in, placed, tables_in, entries_at, applied}
-use Rattle.pf_core.specs.Laws.{tables_offered, AreTablesSwitched, AreSwitched, SwitchesAll, LeaveTheOtherKind, KeepsNoneValid, MentionsTheNamed, LeavesTheOthers, RefusedMentionNothing}
-use Rattle.pf_core.specs.WorldLaws.{IsCommitted, wants_commit}
+use Rattle.pf_core.specs.Laws.Commands.{tables_offered, AreTablesSwitched, AreSwitched, SwitchesAll, LeaveTheOtherKind, KeepsNoneValid, MentionsTheNamed, LeavesTheOthers, RefusedMentionNothing}
+use Rattle.pf_core.specs.Laws.Wanted.{IsCommitted, wants_commit}
 use Rattle.pf_core.proofs.Edited.{same-keys, equal-is}
 
 first_holds : (a b : Bool) → T (a && b) → T a

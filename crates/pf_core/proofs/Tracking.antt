@@ -16,8 +16,8 @@ use Rattle.pf_core.specs.Durable.Edits.{Kept, Edit, acts}
 use Rattle.pf_core.specs.declared.reply.Answer.TheVariants as answer
 use Rattle.pf_core.specs.declared.reply.Outcome.TheVariants as outcome
 use Rattle.pf_core.specs.Commands.{wanting, makes_state, tracked, track_step}
-use Rattle.pf_core.specs.Laws.{MakesOne, TrackMakesOne}
-use Rattle.pf_core.specs.WorldLaws.{IsThis, wanted}
+use Rattle.pf_core.specs.Laws.Commands.{MakesOne, TrackMakesOne}
+use Rattle.pf_core.specs.Laws.Wanted.{IsThis, wanted}
 
 -- where none passes a test none passes it and another
 none-of-both : {X : Type 0} (p q : X → Bool) (xs : List X) → first_where p xs ≡ None → list_any (λ x. q x && p x) xs ≡ false

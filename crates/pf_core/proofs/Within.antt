@@ -10,7 +10,7 @@ use Rattle.std.proofs.lemmas.Bool.Decides.{nat_tests}
 use Rattle.pf_table.specs.declared.limits.TheConstants.{TABLE_LIMIT}
 use Rattle.pf_addr.specs.Path.Paths.{path_order}
 use Rattle.pf_rule.specs.Rules.{PlainRule}
-use Rattle.pf_table.specs.EditLaws.{deleted_fewer, sorted_added, sorted_deleted}
+use Rattle.pf_table.specs.Laws.Edits.{deleted_fewer, sorted_added, sorted_deleted}
 use Rattle.pf_table.specs.Edits.{added, deleted, replaced}
 use Rattle.pf_table.specs.Entries.{Row, net_order}
 use Rattle.pf_table.specs.Map.ListMaps.{list_by}
@@ -25,7 +25,7 @@ use Rattle.pf_state.proofs.Counting.{states_deleted}
 use Rattle.pf_state.proofs.Tables.{stays_states}
 use Rattle.pf_core.specs.declared.{durable.refusal.ChangeRefusal.ChangeRefusal, durable.refusal.ChangeRefusal.TheVariants.Twice, durable.refusal.ChangeRefusal.TheVariants.TableFull, durable.refusal.ChangeRefusal.TheVariants.TooManyRulesets, durable.refusal.ChangeRefusal.TheVariants.TooManyTables, durable.refusal.ChangeRefusal.TheVariants.StatesFull, durable.change.Item.Item}
 use Rattle.pf_core.specs.Durable.Edits.{Kept, commits, deletes, applied, fits, named_again, rulesets_in, tables_in, entries_at, with_entries, is_one_more, no_conflict, holdable, room_for_table, replaceable}
-use Rattle.pf_core.specs.Durable.Laws.{IsWithin, AreFew, KeepsWithin}
+use Rattle.pf_core.specs.Laws.Durable.{IsWithin, AreFew, KeepsWithin}
 use Rattle.pf_addr.specs.Refusing.{and_then, unless, refused_at, AreBothPassed, both_passed, not_refused}
 use Rattle.pf_core.proofs.Edited.{replaces_exactly}
 use Rattle.pf_core.proofs.TableCounts.{deleted-none, no-table-more}

@@ -1,4 +1,3 @@
 pub mod Refusals
 pub mod Edits
 pub mod EditViews
-pub mod Laws

@@ -5,6 +5,4 @@ pub mod Calls
 pub mod Wholes
 pub mod Worlds
 pub mod Pages
-pub mod WorldLaws
 pub mod Laws
-pub mod WorldFacts

@@ -1,8 +1,8 @@
 //! What follows from the definitions that contracts cite: functions that do nothing, whose contracts are the laws.
 ghost use Rattle.std.specs.Prelude.{◌≡◌};
 ghost use Rattle.pf_core.specs.Worlds.{last_epoch};
-ghost use Rattle.pf_core.specs.Laws.{LeaveTheOtherKind, WantsWhatFits, SwitchesAll, VoidsTheNamed, KeepsNoneValid, LeavesTheOthers, MentionsTheNamed, RefusedMentionNothing, TrackMakesOne};
-ghost use Rattle.pf_core.specs.WorldFacts.{TicketsAreOfTheCalls, GivesEachOnce, KeepsTheLimits, CommitsNameOnce, ShowsAll, TestsTellTheEntry, JudgesTellTheVerdict};
+ghost use Rattle.pf_core.specs.Laws.Commands.{LeaveTheOtherKind, WantsWhatFits, SwitchesAll, VoidsTheNamed, KeepsNoneValid, LeavesTheOthers, MentionsTheNamed, RefusedMentionNothing, TrackMakesOne};
+ghost use Rattle.pf_core.specs.Laws.Worlds.{TicketsAreOfTheCalls, GivesEachOnce, KeepsTheLimits, CommitsNameOnce, ShowsAll, TestsTellTheEntry, JudgesTellTheVerdict};
 
 /// No opening has an epoch past 4,294,967,295.
 pub fn the_last_epoch()
@@ -32,7 +32,7 @@ pub fn switches_all()
 {}
 
 /// A command that wants a change voids, once it is applied, exactly the tickets that its change voids.
-#[tactic(auto, using(crate::specs::WorldLaws::wants_mentions))]
+#[tactic(auto, using(crate::specs::Laws::Wanted::wants_mentions))]
 pub fn voids_the_named()
     ensures { VoidsTheNamed }
 {}

@@ -4,7 +4,7 @@ ghost use Rattle.pf_disk.specs.Disk.{overwritten};
 ghost use Rattle.pf_disk.specs.declared.image.TheConstants.{OPEN_GATE};
 ghost use Rattle.pf_journal.specs.declared.journal.TheConstants.{CLOSED_GATE, HEADER};
 ghost use Rattle.pf_journal.specs.Records.{StandsFor, written_record};
-ghost use Rattle.pf_journal.specs.Examples as example;
+ghost use Rattle.pf_journal.specs.Laws.Records as example;
 
 /// Between two places an image holds the records of at most one list of payloads. Own.
 pub fn image_holds_one_list()

@@ -12,7 +12,7 @@ use Rattle.pf_addr.specs.Address.{family_of}
 use Rattle.pf_addr.specs.declared.addr.Addr.{Addr}
 use Rattle.pf_addr.specs.declared.addr.Addr.TheVariants.{V4, V6}
 use Rattle.pf_addr.specs.Form.Words.{words_of, is_blank}
-use Rattle.pf_addr.specs.Form.TextLaws.{only}
+use Rattle.pf_addr.specs.Laws.Form.Texts.{only}
 use Rattle.pf_rule.specs.declared.value.direction.Direction.{Direction}
 use Rattle.pf_rule.specs.declared.value.direction.Direction.TheVariants.{In, Out}
 use Rattle.pf_state.specs.declared.peer.message.Message.{Message}
@@ -21,7 +21,7 @@ use Rattle.pf_state.specs.Peer.Records.{PlainInsert, insert_bytes}
 use Rattle.pf_state.specs.Peer.Written.{Each, message_length, message_bytes, CanBeWritten}
 use Rattle.pf_state.specs.States.{Stated}
 use Rattle.pf_state.specs.Failover.Outgoing.{exported_insert, exported_message}
-use Rattle.pf_state.specs.Failover.Laws.{IsState}
+use Rattle.pf_state.specs.Laws.Failover.{IsState}
 use Rattle.pf_state.proofs.Cut.{by_parts}
 use Rattle.pf_state.proofs.Parts.{told_long}
 use Rattle.pf_state.proofs.ReadBack.{are_inserts}
@@ -32,7 +32,7 @@ use Rattle.pf_core.specs.declared.reply.Refusal.{Refusal}
 use Rattle.pf_line.specs.Grammar.{decided, line as grammar, Spoken, Tells}
 use Rattle.pf_line.specs.Lines.{is_line_byte, is_bad_line, line_at, Means, said}
 use Rattle.pf_line.specs.Reply.StateTexts.{message_line}
-use Rattle.pf_line.specs.Exports.{TellsOf, ExportsAreRead}
+use Rattle.pf_line.specs.Laws.Exports.{TellsOf, ExportsAreRead}
 use Rattle.pf_line.proofs.SpelledStates.{message_spelled, message_meant}
 
 -- ---- its messages are bytes

@@ -11,8 +11,8 @@ use Rattle.pf_addr.specs.Form.Words.{Word, is_blank, words_of, texts}
 use Rattle.pf_addr.specs.Form.Forms.{Form, making, Spells, RefusedAt, empties, begins, Read, reads, ended, ◌>>=◌, read_all}
 use Rattle.pf_addr.specs.declared.form.fault.Stop.{Stop}
 use Rattle.pf_addr.specs.Form.Readers as Readers
-use Rattle.pf_addr.specs.Form.FormLaws.{lawful}
-use Rattle.pf_addr.specs.Form.TextLaws.{found, only, refused}
+use Rattle.pf_addr.specs.Laws.Form.Forms.{lawful}
+use Rattle.pf_addr.specs.Laws.Form.Texts.{found, only, refused}
 use Rattle.pf_rule.specs.declared.fault.Mistake.TheVariants as mistakes
 use Rattle.pf_state.specs.declared.peer.fault.OneFault.{OneFault}
 use Rattle.pf_state.specs.declared.peer.fault.OneFault.TheVariants.{Fault, Count}

@@ -12,11 +12,11 @@ use Rattle.std.proofs.lemmas.List.Sums.{AllPass-from_list_all}
 use Rattle.pf_addr.specs.Path.Names.{is_name_byte}
 use Rattle.pf_rule.specs.Rules.{PlainRule, IsRule}
 use Rattle.pf_rule.specs.RuleText.{rule_text}
-use Rattle.pf_rule.specs.RuleTextLaws.{rule_text_bytes}
+use Rattle.pf_rule.specs.Laws.RuleText.{rule_text_bytes}
 use Rattle.pf_addr.specs.Path.Paths.{is_path}
 use Rattle.pf_addr.specs.Path.PathGrammar.{IsComponent, IsNames}
-use Rattle.pf_addr.specs.Path.PathLaws.{ReadsWhatIsSpelled, ReadsWhatIsWritten}
-use Rattle.pf_addr.specs.SpellingLaws.{IsNetWord, IsNetByte}
+use Rattle.pf_addr.specs.Laws.Path.Paths.{ReadsWhatIsSpelled, ReadsWhatIsWritten}
+use Rattle.pf_addr.specs.Laws.Spelling.{IsNetWord, IsNetByte}
 use Rattle.pf_line.specs.Reply.Parts.{newlines}
 
 pub newlines-append : (a b : List ℕ) → newlines (a ++ b) ≡ newlines a + newlines b

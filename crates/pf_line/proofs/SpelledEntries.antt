@@ -8,9 +8,9 @@ use Rattle.pf_addr.specs.declared.fault.AddrFault.{AddrFault}
 use Rattle.pf_addr.specs.Address.{Network}
 use Rattle.pf_addr.specs.Grammar.{SpellsNet}
 use Rattle.pf_addr.specs.Reading.{address_at, net_at}
-use Rattle.pf_addr.specs.ReadingLaws.{net_found, net_only, net_without}
+use Rattle.pf_addr.specs.Laws.Reading.{net_found, net_only, net_without}
 use Rattle.pf_addr.specs.Spelling.{net_text}
-use Rattle.pf_addr.specs.SpellingLaws.{IsNetwork, net_text_spells}
+use Rattle.pf_addr.specs.Laws.Spelling.{IsNetwork, net_text_spells}
 use Rattle.pf_table.specs.Entries.{Row}
 use Rattle.pf_line.specs.Reply.Texts.{entry_text}
 use Rattle.pf_line.specs.Entries.{SpellsEntry, signed, entry_of}

@@ -3,9 +3,9 @@ use Rattle.std.proofs.Common.{◌≡◌, ℕ, ◌+◌, ◌^◌, ◌<◌, List, [
 use Rattle.std.specs.List.{position}
 use Rattle.std.proofs.lemmas.Fmt.{decimal_is_IsNumeral, length-decimal-le}
 use Rattle.std.proofs.lemmas.List.{take_at, drop_at, length-append}
-use Rattle.pf_addr.specs.PlaceLaws.{digits_without, place_after, cut_there}
+use Rattle.pf_addr.specs.Laws.Places.{digits_without, place_after, cut_there}
 use Rattle.pf_addr.specs.Form.Words.{Word}
-use Rattle.pf_addr.specs.Form.NumberLaws.{number_in_found, number_in_only}
+use Rattle.pf_addr.specs.Laws.Form.Numbers.{number_in_found, number_in_only}
 use Rattle.pf_ticket.specs.declared.ticket.Ticket.{Ticket}
 use Rattle.pf_line.specs.Reply.Texts.{ticket_text}
 use Rattle.pf_line.specs.Tickets.{is_dot, part_of, ticket_with, cut_at, ticket_of, IsPart, SpellsTicket}

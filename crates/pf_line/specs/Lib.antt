@@ -8,4 +8,4 @@ pub mod Entries
 pub mod States
 pub mod Grammar
 pub mod Lines
-pub mod Exports
+pub mod Laws

@@ -15,13 +15,13 @@ ghost use Rattle.pf_core.specs.declared.reply.Refusal.TheVariants.{BadLine};
 ghost use Rattle.pf_line.specs.declared.line.TheConstants.{LINE_LIMIT};
 ghost use Rattle.pf_line.specs.Grammar.{Spoken, line as the_grammar};
 ghost use Rattle.pf_line.specs.Lines.{line_at, Means, SpellsLine};
-ghost use Rattle.pf_addr.specs.SpellingLaws.{IsNetwork};
+ghost use Rattle.pf_addr.specs.Laws.Spelling.{IsNetwork};
 ghost use Rattle.pf_table.specs.Entries.{Row};
 ghost use Rattle.pf_line.specs.Reply.Texts.{ticket_text, entry_text};
 ghost use Rattle.pf_line.specs.Tickets.{part_of, ticket_of, IsPart, SpellsTicket};
 ghost use Rattle.pf_line.specs.States.{id_of, IsId, bytes_of};
 ghost use Rattle.pf_line.specs.Entries.{entry_of, SpellsEntry};
-ghost use Rattle.pf_line.specs.Exports.{ExportsAreRead};
+ghost use Rattle.pf_line.specs.Laws.Exports.{ExportsAreRead};
 ghost use Rattle.pf_line.specs.declared.ticket.TheConstants.{DIGIT_LIMIT};
 ghost use Rattle.pf_line.specs.declared.state.TheConstants.{ID_DIGIT_LIMIT};
 

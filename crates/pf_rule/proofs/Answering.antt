@@ -5,7 +5,7 @@ use Rattle.pf_addr.specs.declared.form.fault.Kind.{Kind}
 use Rattle.pf_addr.specs.declared.form.fault.Kind.TheVariants as kinds
 use Rattle.pf_addr.specs.Form.Words.{Word}
 use Rattle.pf_addr.specs.Form.Forms.{Form, read_all, is_decided}
-use Rattle.pf_addr.specs.Form.TextLaws.{found, only, refused}
+use Rattle.pf_addr.specs.Laws.Form.Texts.{found, only, refused}
 use Rattle.pf_rule.specs.declared.fault.Mistake.{Mistake}
 use Rattle.pf_rule.specs.declared.fault.Mistake.TheVariants as mistakes
 use Rattle.pf_rule.specs.declared.fault.TextFault.{TextFault}

@@ -12,7 +12,7 @@ use Rattle.pf_rule.specs.Host.Hosts.{a_negated_host, a_host, host}
 use Rattle.pf_rule.specs.Host.Ends.{end, destination, ends}
 use Rattle.pf_rule.specs.RuleGrammar.{rule, opening, state}
 use Rattle.pf_rule.specs.Sum.Forms.{filled, host_form, rule_form, ruleset_sum}
-use Rattle.pf_rule.specs.Sum.Examples as example
+use Rattle.pf_rule.specs.Laws.Sums as example
 
 -- the four texts and the four forms
 pub texts : (read_all rule (words_of (codes "block in all")) ≡ Ok (Ok example.block))

@@ -3,7 +3,7 @@ use Rattle.std.proofs.Common.{◌≡◌, ◌<◌, Bool, true, false, List, Optio
 use Rattle.std.specs.Prelude.{IfSome, IfOk}
 use Rattle.pf_addr.specs.Form.Words.{Word}
 use Rattle.pf_addr.specs.Form.Forms.{Spells, reads}
-use Rattle.pf_addr.specs.Form.FormLaws.{lawful}
+use Rattle.pf_addr.specs.Laws.Form.Forms.{lawful}
 use Rattle.pf_addr.specs.declared.addr.Family.{Family}
 use Rattle.pf_addr.specs.Address.{IsAddr}
 use Rattle.pf_addr.specs.Path.References.{PlainReference, reference_of}

@@ -8,9 +8,9 @@ use Rattle.pf_addr.specs.Form.Words.{Word}
 use Rattle.pf_addr.specs.Form.Forms.{Spells, ◌>>=◌}
 use Rattle.pf_addr.specs.declared.addr.Addr.{Addr}
 use Rattle.pf_addr.specs.Address.{IsAddr}
-use Rattle.pf_addr.specs.SpellingLaws.{IsAddr-spelled}
+use Rattle.pf_addr.specs.Laws.Spelling.{IsAddr-spelled}
 use Rattle.pf_addr.specs.Reading.{addr_at}
-use Rattle.pf_addr.specs.ReadingLaws.{addr_found}
+use Rattle.pf_addr.specs.Laws.Reading.{addr_found}
 use Rattle.pf_addr.proofs.NamesRead.{name_found}
 use Rattle.pf_rule.specs.declared.value.interface.TheConstants.{INTERFACE_LIMIT}
 use Rattle.pf_rule.specs.declared.value.ports.Comparison.{Comparison}

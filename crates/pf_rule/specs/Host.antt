@@ -1,4 +1,2 @@
 pub mod Hosts
 pub mod Ends
-pub mod HostLaws
-pub mod EndLaws

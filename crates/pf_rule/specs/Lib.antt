@@ -6,9 +6,8 @@ pub mod Packets
 pub mod PacketGrammar
 pub mod Rules
 pub mod Matching
-pub mod MatchingLaws
 pub mod RuleGrammar
 pub mod RuleText
 pub mod InOrder
-pub mod RuleTextLaws
 pub mod Refusals
+pub mod Laws

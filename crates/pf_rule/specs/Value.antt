@@ -3,6 +3,3 @@ pub mod Tests
 pub mod Ports
 pub mod Spacing
 pub mod Written
-pub mod ReadingLaws
-pub mod TestLaws
-pub mod PortLaws

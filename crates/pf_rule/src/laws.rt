@@ -6,13 +6,13 @@ ghost use Rattle.pf_addr.specs.Form.Words.{Word, words_of};
 ghost use Rattle.pf_rule.specs.declared.fault.Mistake.{Mistake};
 ghost use Rattle.pf_rule.specs.Rules.{PlainRule, IsRule};
 ghost use Rattle.pf_rule.specs.Packets.{PlainPacket, IsPacket};
-ghost use Rattle.pf_rule.specs.MatchingLaws.{HostAsksNoTable, RuleAsksNoTable};
+ghost use Rattle.pf_rule.specs.Laws.Matching.{HostAsksNoTable, RuleAsksNoTable};
 ghost use Rattle.pf_rule.specs.RuleGrammar.{rule};
 ghost use Rattle.pf_rule.specs.PacketGrammar.{packet};
 ghost use Rattle.pf_rule.specs.RuleText.{canonical, rule_text};
 
 /// The text that a rule is written as has the rule's canonical words, which spell the rule; so it is read back as that rule.
-#[tactic(auto, using(crate::specs::RuleTextLaws::texts_of_rules))]
+#[tactic(auto, using(crate::specs::Laws::RuleText::texts_of_rules))]
 pub fn what_is_written_is_read_again()
     ensures words { (r : PlainRule) → IsRule r → words_of (rule_text r) ≡ canonical r }
     ensures spelled { (r : PlainRule) → IsRule r → Spells rule (Ok r) (canonical r) }

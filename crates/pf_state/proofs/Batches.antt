@@ -5,7 +5,7 @@ use Rattle.std.proofs.lemmas.List.{drop_all}
 use Rattle.pf_state.specs.declared.{counts.Counts.Counts, limits.TheConstants.STATE_LIMIT, step.Step.Step}
 use Rattle.pf_state.specs.States.{Stated, NamesFlows, IsStates}
 use Rattle.pf_state.specs.Steps.{stepped, after, no_counts, both, IsCounted, counted, counts, is_over, passes_limit}
-use Rattle.pf_state.specs.Laws.{is_insert}
+use Rattle.pf_state.specs.Laws.States.{is_insert}
 use Rattle.pf_state.proofs.Tables.{names_step, not_over, within_not_over}
 use Rattle.pf_state.proofs.Counting.{inserts, step_adds, step_counts}
 

@@ -11,7 +11,7 @@ use Rattle.pf_state.specs.Candidates.{inserts_flow, is_inserted, key_of, keys_of
 use Rattle.pf_state.specs.Flows.{PlainFlow, same_flow, turned}
 use Rattle.pf_state.specs.States.{Stated, name_order, held_at, NamesFlows}
 use Rattle.pf_state.specs.Steps.{insertion, has_effect, is_clash, stepped}
-use Rattle.pf_state.specs.Laws.{left_by}
+use Rattle.pf_state.specs.Laws.States.{left_by}
 use Rattle.pf_state.proofs.Batches.{ahead}
 use Rattle.pf_state.proofs.Flows.{left_true, right_true, either_true, or_true, alike_of, same_back}
 use Rattle.pf_state.proofs.Leaves.{reads_step}

@@ -5,7 +5,7 @@ use Rattle.pf_state.specs.Peer.Records.{allowed, fields_of}
 use Rattle.pf_state.specs.Peer.Groups.{content, group_at}
 use Rattle.pf_state.specs.Peer.Messages.{IsMessage}
 use Rattle.pf_state.specs.Peer.Written.{message_bytes}
-use Rattle.pf_state.specs.Peer.Example as example
+use Rattle.pf_state.specs.Laws.Messages as example
 
 pub example_written : message_bytes example.message ≡ example.bytes
 example_written = refl

@@ -10,7 +10,7 @@ use Rattle.pf_table.proofs.Maps.{stays_sorted}
 use Rattle.pf_state.specs.declared.{counts.Counts.Counts, state.Held.Held, state.StateName.StateName, step.Insertion.Insertion, step.Insertion.TheVariants.Stale, step.Insertion.TheVariants.Clash, step.Insertion.TheVariants.Replaced, step.Insertion.TheVariants.New, step.Step.Step, step.Step.TheVariants.Insert, step.Step.TheVariants.Delete, step.Step.TheVariants.Clear}
 use Rattle.pf_state.specs.States.{Stated, name_order, held_at, NamesFlows, IsStates}
 use Rattle.pf_state.specs.Steps.{is_stale, is_clash, insertion, has_effect, without_creator, without_state, stepped, after, one_insertion, named_count, creator_count, counted, counts}
-use Rattle.pf_state.specs.Laws.{is_insert, CountsAddUp}
+use Rattle.pf_state.specs.Laws.States.{is_insert, CountsAddUp}
 use Rattle.pf_state.proofs.Names.{name_total, same_itself}
 use Rattle.pf_state.proofs.Leaves.{reads_delete}
 use Rattle.pf_state.proofs.Tables.{names_step, names_delete, names_clear}

@@ -6,7 +6,7 @@ use Rattle.std.specs.Slice.Iter.{chunk_count}
 use Rattle.pf_state.specs.Peer.Written.{Each}
 use Rattle.pf_state.specs.States.{Stated}
 use Rattle.pf_state.specs.Failover.Outgoing.{exported_insert, exported_message, parts}
-use Rattle.pf_state.specs.Failover.Laws.{AreFullButLast, AreParts, CutsIntoParts, IsExported, ExportsMessages}
+use Rattle.pf_state.specs.Laws.Failover.{AreFullButLast, AreParts, CutsIntoParts, IsExported, ExportsMessages}
 use Rattle.pf_state.proofs.Parts.{next_part, told_long}
 
 -- what holds of no states, and of states where it holds of those behind their first part, holds of all states with their parts

@@ -5,7 +5,7 @@ use Rattle.pf_addr.specs.declared.{addr.Addr.Addr, addr.Addr.TheVariants.V4, add
 use Rattle.pf_rule.specs.declared.{value.direction.Direction.Direction, value.direction.Direction.TheVariants.In, value.direction.Direction.TheVariants.Out}
 use Rattle.pf_rule.specs.Value.Tests.{same_direction}
 use Rattle.pf_state.specs.Flows.{PlainFlow, other_way, turned, same_addr, is_equal, same_flow}
-use Rattle.pf_state.specs.Laws.{OneFlowOrAnother}
+use Rattle.pf_state.specs.Laws.States.{OneFlowOrAnother}
 
 pub left_true : (a b : Bool) → (a && b) ≡ true → a ≡ true
 left_true true b e = refl

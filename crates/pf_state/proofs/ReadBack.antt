@@ -9,7 +9,7 @@ use Rattle.pf_state.specs.Peer.Written.{Each, message_bytes, CanBeWritten}
 use Rattle.pf_state.specs.Bindings.{exported}
 use Rattle.pf_state.specs.States.{Stated}
 use Rattle.pf_state.specs.Failover.Outgoing.{exported_insert, exported_message, parts}
-use Rattle.pf_state.specs.Failover.Laws.{IsBound, IsState, IsReadBack}
+use Rattle.pf_state.specs.Laws.Failover.{IsBound, IsState, IsReadBack}
 use Rattle.pf_state.proofs.Cut.{by_parts}
 use Rattle.pf_state.proofs.Parts.{told_fits, IsRead, read_in_turn}
 

@@ -13,7 +13,7 @@ use Rattle.pf_state.specs.declared.{limits.TheConstants.STATE_LIMIT, state.Held.
 use Rattle.pf_state.specs.Flows.{PlainFlow, same_flow}
 use Rattle.pf_state.specs.States.{Stated, name_order, held_at, state_of, NamesFlows}
 use Rattle.pf_state.specs.Steps.{is_stale, is_clash, insertion, has_effect, without_creator, without_state, stepped, after, is_over, passes_limit}
-use Rattle.pf_state.specs.Laws.{IsStateOf, OneStateAFlow, StaysStates, RefusedByAnyStep}
+use Rattle.pf_state.specs.Laws.States.{IsStateOf, OneStateAFlow, StaysStates, RefusedByAnyStep}
 use Rattle.pf_state.proofs.Names.{name_total, one_name, same_itself}
 use Rattle.pf_state.proofs.Flows.{same_back, same_third}
 use Rattle.pf_state.proofs.Leaves.{reads_put, reads_delete, reads_clear}

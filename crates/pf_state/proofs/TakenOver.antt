@@ -13,7 +13,7 @@ use Rattle.pf_state.specs.States.{Stated, name_order, held_at, NamesFlows}
 use Rattle.pf_state.specs.Steps.{is_clash, insertion, has_effect, stepped, after, is_over, passes_limit}
 use Rattle.pf_state.proofs.Names.{name_total, same_itself, same_name}
 use Rattle.pf_state.proofs.Tables.{within_not_over}
-use Rattle.pf_state.specs.Failover.Laws.{state_there, TakesOver}
+use Rattle.pf_state.specs.Laws.Failover.{state_there, TakesOver}
 use Rattle.pf_state.proofs.Told.{tells_the_states}
 
 -- p stands before s, and has another flow

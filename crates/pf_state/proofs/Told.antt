@@ -11,7 +11,7 @@ use Rattle.pf_state.specs.Bindings.{bound, exported}
 use Rattle.pf_state.specs.States.{Stated}
 use Rattle.pf_state.specs.Failover.Incoming.{insert_step, steps_of}
 use Rattle.pf_state.specs.Failover.Outgoing.{exported_insert, exported_message, parts}
-use Rattle.pf_state.specs.Failover.Laws.{bound_there, state_there, TellsTheStates}
+use Rattle.pf_state.specs.Laws.Failover.{bound_there, state_there, TellsTheStates}
 use Rattle.pf_state.proofs.Cut.{by_parts}
 
 never : (b : Bool) → (b && false) ≡ false

@@ -1,3 +1,2 @@
 pub mod Incoming
 pub mod Outgoing
-pub mod Laws

@@ -4,5 +4,5 @@ pub mod Flows
 pub mod States
 pub mod Steps
 pub mod Bindings
-pub mod Laws
 pub mod Candidates
+pub mod Laws

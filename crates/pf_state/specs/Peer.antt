@@ -5,4 +5,3 @@ pub mod Streams
 pub mod Outcomes
 pub mod One
 pub mod Written
-pub mod Example

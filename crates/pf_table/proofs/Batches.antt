@@ -12,7 +12,7 @@ use Rattle.pf_table.specs.declared.{answer.Addition.Addition, answer.Deletion.De
 use Rattle.pf_table.specs.Entries.{Row}
 use Rattle.pf_table.specs.Tables.{sign_of}
 use Rattle.pf_table.specs.Edits.{with_entry, added, addition, additions, is_sign, has_entry, without_entry, deleted, deletion, deletions, same_entry, is_opposite, conflict_behind, conflict_in}
-use Rattle.pf_table.specs.EditLaws.{Agree, any_is_sign, agree_push, sorted_agree, sign_added, sorted_added, sign_left, sign_deleted, sorted_deleted, one_table, with_all}
+use Rattle.pf_table.specs.Laws.Edits.{Agree, any_is_sign, agree_push, sorted_agree, sign_added, sorted_added, sign_left, sign_deleted, sorted_deleted, one_table, with_all}
 use Rattle.pf_table.specs.Batches.{mention, firsts_behind, told}
 use Rattle.pf_table.proofs.Sorted.{sorted}
 

@@ -8,7 +8,7 @@ use Rattle.pf_table.specs.declared.refusal.TableRefusal.TheVariants as refusal
 use Rattle.pf_table.specs.Entries.{Row}
 use Rattle.pf_table.specs.Tables.{IsTable}
 use Rattle.pf_table.specs.Edits.{added, deleted, replaced, conflict_in, edit_refusal}
-use Rattle.pf_table.specs.EditLaws.{sorted_added, sorted_deleted, added_all, deleted_all, deleted_fewer}
+use Rattle.pf_table.specs.Laws.Edits.{sorted_added, sorted_deleted, added_all, deleted_all, deleted_fewer}
 use Rattle.pf_table.proofs.Sorted.{sorted}
 use Rattle.pf_table.proofs.Batches.{added_batch, deleted_batch}
 

@@ -8,7 +8,7 @@ use Rattle.pf_table.specs.Entries.{Row, net_order}
 use Rattle.std.specs.declared.cmp.Ordering.TheVariants.{Less}
 use Rattle.std.specs.Ordering.{is_eq, ordering_reverse}
 use Rattle.std.specs.Cmp.{tied_itself}
-use Rattle.pf_table.specs.OrderLaws.{net_total}
+use Rattle.pf_table.specs.Laws.Order.{net_total}
 use Rattle.pf_table.proofs.Sorted.{sorted, first_of, second_of, below_at}
 use Rattle.pf_table.specs.Tables.{sign_of, Decides, longer, deciding}
 

@@ -12,7 +12,7 @@ use Rattle.std.proofs.lemmas.Cmp.{alike_right, eq_by_cmp_equiv}
 use Rattle.std.proofs.lemmas.Bool.Decides.{nat_tests}
 use Rattle.std.proofs.lemmas.List.Elements.{filter_passes, recursion_from_All}
 use Rattle.std.proofs.lemmas.List.Sums.{length-filter, count_by-le-length, prefix_len-le-length}
-use Rattle.pf_table.specs.Map.Laws.{ReplacesTheKey, StaysSorted, StaysMap}
+use Rattle.pf_table.specs.Laws.Maps.{ReplacesTheKey, StaysSorted, StaysMap}
 use Rattle.pf_table.specs.Map.Maps.{without, with_value, with_entry, IsMap}
 
 unless : {X : Type 0} (b : Bool) (x : Option X) → cond (not b) x None ≡ cond b None x

@@ -10,7 +10,7 @@ use Rattle.pf_addr.specs.Address.{Network}
 use Rattle.pf_table.specs.Entries.{Row, net_order}
 use Rattle.pf_table.specs.Tables.{sign_of}
 use Rattle.pf_table.specs.Places.{place_of, first_sign}
-use Rattle.pf_table.specs.OrderLaws.{net_total}
+use Rattle.pf_table.specs.Laws.Order.{net_total}
 
 -- ---- tests
 

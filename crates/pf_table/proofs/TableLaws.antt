@@ -12,11 +12,11 @@ use Rattle.std.specs.Ordering.{eq_by_cmp, is_eq}
 use Rattle.pf_addr.specs.Address.{Network, contains, IsNetwork}
 use Rattle.pf_table.specs.declared.{answer.Addition.Addition, answer.Addition.TheVariants.Same, answer.Addition.TheVariants.Conflict, answer.Deletion.Deletion, answer.Deletion.TheVariants.Absent}
 use Rattle.pf_table.specs.Entries.{Row, net_order}
-use Rattle.pf_table.specs.OrderLaws.{net_total}
+use Rattle.pf_table.specs.Laws.Order.{net_total}
 use Rattle.pf_table.specs.Tables.{sign_of, Decides, deciding, table_holds}
 use Rattle.pf_table.specs.Edits.{added, addition, additions, with_entry, is_sign, has_entry, without_entry, deleted, deletion, deletions, same_entry, is_opposite, conflict_behind, conflict_in}
-use Rattle.pf_table.specs.EditLaws.{sign_added, sign_deleted, sign_left, sorted_added, sorted_deleted, added_all, deleted_all, deleted_fewer, one_table}
-use Rattle.pf_table.specs.Laws
+use Rattle.pf_table.specs.Laws.Edits.{sign_added, sign_deleted, sign_left, sorted_added, sorted_deleted, added_all, deleted_all, deleted_fewer, one_table}
+use Rattle.pf_table.specs.Laws.Tables as Laws
 use Rattle.pf_table.specs.Batches.{told}
 use Rattle.pf_table.proofs.Batches.{none_before, no_other_sign, adds_told, dels_by_old}
 use Rattle.pf_table.proofs.Lookups.{none_contains, decides, decided, contains_family}

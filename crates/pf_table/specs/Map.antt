@@ -1,5 +1,4 @@
 pub mod Maps
 pub mod Pairs
 pub mod Pages
-pub mod Laws
 pub mod ListMaps

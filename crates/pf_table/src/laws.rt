@@ -4,7 +4,7 @@ ghost use Rattle.std.specs.Cmp.{IsTotalOrder};
 ghost use Rattle.std.specs.FinMap.{IsAntisymmetric};
 ghost use Rattle.pf_table.specs.declared.limits.TheConstants.{TABLE_LIMIT};
 ghost use Rattle.pf_table.specs.Entries.{net_order};
-ghost use Rattle.pf_table.specs.Laws.{TableDecides, TableMatches, FamiliesApart, OneTable, AddsWhatIsNamed, DeletesWhatIsNamed, HoldsTheList, AllElseStays, StaysTable, OneAnswerEach, AnswersInOrder, CountsWhatChanged, RepeatsChangeNothing, TellsTheFirstConflict};
+ghost use Rattle.pf_table.specs.Laws.Tables.{TableDecides, TableMatches, FamiliesApart, OneTable, AddsWhatIsNamed, DeletesWhatIsNamed, HoldsTheList, AllElseStays, StaysTable, OneAnswerEach, AnswersInOrder, CountsWhatChanged, RepeatsChangeNothing, TellsTheFirstConflict};
 
 /// A table has at most 65,536 entries.
 pub fn the_limit_of_entries()
@@ -12,7 +12,7 @@ pub fn the_limit_of_entries()
 {}
 
 /// Networks are in a total order, in which only equal ones tie.
-#[tactic(auto, using(crate::specs::OrderLaws::net_total, crate::specs::OrderLaws::net_same))]
+#[tactic(auto, using(crate::specs::Laws::Order::net_total, crate::specs::Laws::Order::net_same))]
 pub fn networks_are_in_order()
     ensures total { IsTotalOrder net_order }
     ensures own { IsAntisymmetric net_order }

@@ -8,7 +8,7 @@ use Rattle.std.specs.FinMap.Entries.{by_order}
 use Rattle.pf_addr.specs.Path.Names.{name_order}
 use Rattle.pf_table.specs.declared.limits.TheConstants.{TABLE_LIMIT}
 use Rattle.pf_table.specs.Edits.{conflict_in, replaced}
-use Rattle.pf_table.specs.EditLaws.{sorted_added}
+use Rattle.pf_table.specs.Laws.Edits.{sorted_added}
 use Rattle.pf_table.specs.Entries.{Row}
 use Rattle.pf_table.specs.Tables.{AreEntries}
 use Rattle.std.proofs.lemmas.Bool.{cond_both}
@@ -16,10 +16,10 @@ use Rattle.std.proofs.lemmas.Bool.Decides.{nat_tests}
 use Rattle.pf_rule.specs.Rules.{PlainRule}
 use Rattle.pf_anchor.specs.declared.limits.TheConstants.{RULE_LIMIT, RULESET_LIMIT}
 use Rattle.pf_ticket.specs.declared.{entry.Entry.Entry, limits.TheConstants.LAST_COUNT, limits.TheConstants.OFFERED_TABLE_LIMIT, name.RulesetKind.RulesetKind, name.RulesetKind.TheVariants.Filter, name.RulesetKind.TheVariants.Table, name.RulesetName.RulesetName, refusal.TicketRefusal.TicketRefusal, refusal.TicketRefusal.TheVariants.BadCount, refusal.TicketRefusal.TheVariants.Conflict, refusal.TicketRefusal.TheVariants.Busy, refusal.TicketRefusal.TheVariants.RulesetFull, refusal.TicketRefusal.TheVariants.TableFull, refusal.TicketRefusal.TheVariants.TooManyRulesets, refusal.TicketRefusal.TheVariants.TooManyTables, refusal.TicketRefusal.TheVariants.TicketsExhausted, ticket.Ticket.Ticket, ticket.TicketRange.TicketRange}
-use Rattle.pf_ticket.specs.Laws.{AreGiven, BeginsGive, TellsWhatIsGiven, IsFew, IsWithin, KeepsTheLimits}
+use Rattle.pf_ticket.specs.Laws.Tickets.{AreGiven, BeginsGive, TellsWhatIsGiven, IsFew, IsWithin, KeepsTheLimits}
 use Rattle.pf_ticket.specs.Mentions.{gave, dropped, load, with_offers, take_out, moved, after, gives, switches, drops}
 use Rattle.pf_ticket.specs.Names.{filter_at, table_ruleset_at, same_name, is_named, is_ticket, tickets_from, tickets_of}
-use Rattle.pf_ticket.specs.NameLaws.{names_alike, name_is}
+use Rattle.pf_ticket.specs.Laws.Names.{names_alike, name_is}
 use Rattle.pf_ticket.specs.Replies.{bad_count, range, begin_reply}
 use Rattle.pf_addr.specs.Refusing.{refused_at, both_passed}
 use Rattle.pf_ticket.specs.NamedTables.{Named}

@@ -13,10 +13,10 @@ use Rattle.pf_rule.specs.Rules.{PlainRule}
 use Rattle.pf_table.specs.Edits.{replaced}
 use Rattle.pf_table.specs.Entries.{Row}
 use Rattle.pf_ticket.specs.declared.{name.RulesetName.RulesetName, ticket.Ticket.Ticket}
-use Rattle.pf_ticket.specs.Laws.{touches, AreQuiet, IsGivenLast, ValidIsGivenLast, GivenLastIsValid, rules_added, OffersTheAdded, tables_defined, OffersTheDefined}
+use Rattle.pf_ticket.specs.Laws.Tickets.{touches, AreQuiet, IsGivenLast, ValidIsGivenLast, GivenLastIsValid, rules_added, OffersTheAdded, tables_defined, OffersTheDefined}
 use Rattle.pf_ticket.specs.Mentions.{Mention, gave, added, defined, switched, dropped, named_in, moved, after}
 use Rattle.pf_ticket.specs.Names.{filter_at, table_ruleset_at, same_name, ticket, same_ticket, is_ticket}
-use Rattle.pf_ticket.specs.NameLaws.{names_alike, name_is}
+use Rattle.pf_ticket.specs.Laws.Names.{names_alike, name_is}
 use Rattle.pf_ticket.specs.NamedTables.{Named}
 use Rattle.pf_ticket.specs.Tickets.{Loaded, nothing, with_rule, with_table, Offer, offer, offer_at, Open, fresh, next_ticket, ticket_in, loaded_in, valid_ticket, loaded, is_valid}
 use Rattle.pf_ticket.proofs.Moves.{made_by, reads}

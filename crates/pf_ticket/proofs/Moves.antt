@@ -7,10 +7,10 @@ use Rattle.std.proofs.lemmas.List.Folds.{fold-map}
 use Rattle.std.proofs.lemmas.List.Sums.{fold-append, fold_more}
 use Rattle.std.proofs.lemmas.Simd.{map-map}
 use Rattle.pf_ticket.specs.declared.{entry.Entry.Entry, name.RulesetName.RulesetName, ticket.Ticket.Ticket}
-use Rattle.pf_ticket.specs.Laws.{StartsWithNothing, LeavesTheOthers, CommitTakesOut, RollbackDropsExactly, GoesOnAgreeing, CountsTheOpen}
+use Rattle.pf_ticket.specs.Laws.Tickets.{StartsWithNothing, LeavesTheOthers, CommitTakesOut, RollbackDropsExactly, GoesOnAgreeing, CountsTheOpen}
 use Rattle.pf_ticket.specs.Mentions.{Mention, gave, added, defined, switched, dropped, named_in, load, with_offers, take_out, moved, after, opened, gives}
 use Rattle.pf_ticket.specs.Names.{same_name, is_named, is_ticket, IsDistinct}
-use Rattle.pf_ticket.specs.NameLaws.{name_is}
+use Rattle.pf_ticket.specs.Laws.Names.{name_is}
 use Rattle.pf_ticket.specs.Tickets.{Loaded, nothing, with_rule, with_table, offered_as, Offer, offer, offer_at, put, without, Open, fresh, next_ticket, open_rulesets, ticket_in, loaded_in, loaded, is_valid}
 use Rattle.pf_table.specs.Edits.{replaced}
 use Rattle.pf_ticket.proofs.Offers.{or-false, any-of, read-put, read-without, named-under, length-put, distinct-put, distinct-without}

@@ -4,7 +4,7 @@ use Rattle.std.specs.List.{list_any}
 use Rattle.std.proofs.lemmas.Bool.{not-true, not-false, cond-true, cond-false, cond_both}
 use Rattle.pf_ticket.specs.declared.name.RulesetName.{RulesetName}
 use Rattle.pf_ticket.specs.Names.{same_name, is_named, IsDistinct}
-use Rattle.pf_ticket.specs.NameLaws.{names_alike, name_is}
+use Rattle.pf_ticket.specs.Laws.Names.{names_alike, name_is}
 use Rattle.pf_ticket.specs.Tickets.{Offer, offer_at, put, without, IsPlace}
 
 abbrev pub names_under : List Offer → List RulesetName

@@ -6,9 +6,9 @@ use Rattle.std.proofs.lemmas.Bool.{eqb-true, or_parts, or_from, and_right, false
 use Rattle.std.proofs.lemmas.List.{get_or-map, length-map, length-take-le, take-map}
 use Rattle.std.proofs.lemmas.List.Folds.{list_any-append}
 use Rattle.pf_ticket.specs.declared.{entry.Entry.Entry, name.RulesetName.RulesetName, ticket.Ticket.Ticket}
-use Rattle.pf_ticket.specs.Laws.{IsFirstAgain, TwiceIsFirstAgain, OtherwiseOnce, GivesEachOnce}
+use Rattle.pf_ticket.specs.Laws.Tickets.{IsFirstAgain, TwiceIsFirstAgain, OtherwiseOnce, GivesEachOnce}
 use Rattle.pf_ticket.specs.Names.{same_name, is_named, names_of, ticket, same_ticket, tickets_from, IsDistinct}
-use Rattle.pf_ticket.specs.NameLaws.{names_alike}
+use Rattle.pf_ticket.specs.Laws.Names.{names_alike}
 use Rattle.pf_ticket.specs.Replies.{twice_behind}
 use Rattle.pf_ticket.proofs.Offers.{any-of}
 

@@ -1,5 +1,4 @@
 pub mod Names
-pub mod NameLaws
 pub mod NamedTables
 pub mod Tickets
 pub mod Mentions

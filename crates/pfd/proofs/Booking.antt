@@ -22,7 +22,7 @@ use Rattle.pf_core.specs.declared.durable.refusal.ChangeRefusal.{ChangeRefusal}
 use Rattle.pf_core.specs.Refusals.{change_refusal_of, OrMemory}
 use Rattle.pf_core.specs.Pages.{Page, IsFolded, IsAt, Leads}
 use Rattle.pf_core.specs.Wholes.{Whole, Ready, ready, prepared}
-use Rattle.pf_core.specs.WorldLaws.{fit, wants_memory, wants_mentions, wants_what_fits}
+use Rattle.pf_core.specs.Laws.Wanted.{fit, wants_memory, wants_mentions, wants_what_fits}
 use Rattle.pf_core.specs.Worlds.{Held, upshot, flat, log_of, durable_of, step_in, if_ok, or_refused, due_at, grouped, group_at, due, group_in, LegalReply}
 use Rattle.pf_core.proofs.LongerWorlds.{flat-push, refused-leads}
 use Rattle.pfd.specs.Books.{singles, IsMore, told, IsUnkept}

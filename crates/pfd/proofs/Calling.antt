@@ -12,7 +12,7 @@ use Rattle.pf_line.specs.Lines.{Parses, line_at}
 use Rattle.pf_line.specs.Lines.{Refused as IsRefusal}
 use Rattle.std.specs.Io.KnownBytes.{Appends}
 use Rattle.pfd.specs.Serving.{Continues, Told}
-use Rattle.pfd.specs.ServingLaws.{continues-still}
+use Rattle.pfd.specs.Laws.Serving.{continues-still}
 
 pub told-silence : (line : List ℕ) (page : Page) → Parses (Ok None) (line_at line) → Told line None page page
 told-silence line page (inl means) = ([], inl (Ok None, means, (refl, refl)), continues-still page)

@@ -8,7 +8,7 @@ use Rattle.std.proofs.lemmas.List.{same_from_push}
 use Rattle.std.proofs.lemmas.List.Elements.{All-nil, All-push, All-head, All-tail}
 use Rattle.std.proofs.lemmas.List.Splits.{slice_split_none, slice_split_at}
 use Rattle.pfd.specs.LineEngine.Lines.{newline, IsLine, ended, IsCut}
-use Rattle.pfd.specs.LineEngine.Laws.{IsAlwaysCut, CutsOneWay}
+use Rattle.pfd.specs.Laws.Lines.{IsAlwaysCut, CutsOneWay}
 
 -- ---- a byte more, and then any text
 

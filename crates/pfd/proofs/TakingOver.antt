@@ -24,7 +24,7 @@ use Rattle.pf_core.specs.Durable.Edits.{Kept, Edit, main_sum, kept_nothing, acts
 use Rattle.pf_core.specs.Pages.{Page, IsAt, StandsFor}
 use Rattle.pf_core.specs.Worlds.{Held, State, up, down, flat, log_of, durable_of, step_in, due, due_at, group_in, group_at, or_refused, if_ok, grouped, Upshot, Event, called, opened, setting_with, begun, raised, heard, next, StandsIn, LegalCall, state_after, IsLegalFrom}
 use Rattle.pf_core.proofs.LongerWorlds.{flat-push}
-use Rattle.pf_line.specs.Exports.{Message, Step as StateStep, message_text, main_count, exported_lines, TellsOf, CanBeExported, states_there}
+use Rattle.pf_line.specs.Laws.Exports.{Message, Step as StateStep, message_text, main_count, exported_lines, TellsOf, CanBeExported, states_there}
 use Rattle.pf_line.specs.Failover.Outgoing.{exported_messages}
 use Rattle.pf_line.specs.Lines.{line_at}
 use Rattle.pf_line.specs.Peer.Written.{Each}
@@ -35,7 +35,7 @@ use Rattle.pf_line.proofs.ExportedLines.{exports_are_read}
 use Rattle.pf_line.proofs.Lines.{one_meaning}
 use Rattle.pf_line.proofs.TakenOver.{takes_over as states_taken}
 use Rattle.pfd.specs.Serving.{Says, IsTold, Served, Serves}
-use Rattle.pfd.specs.Takeover.{held_in, IsReadyFor, WantedMemory, TakesOver, FreshTakesOver}
+use Rattle.pfd.specs.Laws.Takeover.{held_in, IsReadyFor, WantedMemory, TakesOver, FreshTakesOver}
 
 -- ---- steps in two parts
 

@@ -2,7 +2,7 @@
 ghost use Rattle.std.specs.Prelude.{◌≡◌};
 ghost use Rattle.pfd.specs.declared.line_engine.answer_line.TheConstants.{LOOKED_AT};
 ghost use Rattle.pfd.specs.declared.program.TheConstants.{HISTORY_LIMIT};
-ghost use Rattle.pfd.specs.Takeover.{TakesOver, FreshTakesOver};
+ghost use Rattle.pfd.specs.Laws.Takeover.{TakesOver, FreshTakesOver};
 
 /// A Book without states that is given the lines of a peer's export, one by one, holds the states that were exported, unless a line
 /// was told that memory was refused: each with its name, its generation and its flow, and bound to its rule only where the main

@@ -8,8 +8,8 @@ use Rattle.pf_addr.specs.declared.form.fault.Unread.TheVariants as unread
 use Rattle.pf_addr.specs.Form.Words.{Word}
 use Rattle.pf_addr.specs.Form.Forms.{Form, making, Read, reads, ended, ◌>>=◌, read_all, is_decided, empties, one_or_more}
 use Rattle.pf_addr.specs.Form.Readers.{Fails, GivesAll, Shrinks, each_by}
-use Rattle.pf_addr.specs.Form.Laws.{takes_some}
-use Rattle.pf_addr.specs.Form.FormLaws.{lawful}
+use Rattle.pf_addr.specs.Laws.Form.Decided.{takes_some}
+use Rattle.pf_addr.specs.Laws.Form.Forms.{lawful}
 
 made_ok : {A B : Type 0} (make : A → B) (f : Form A) (ws : List Word) (x : A) → read_all f ws ≡ Ok x → read_all (making make f) ws ≡ Ok (make x)
 made_ok make f ws x e = by (reads f ws) e where

@@ -13,7 +13,7 @@ pub fn words_stand_between_blanks()
 {}
 
 /// A number is read from a word exactly where the word writes it.
-#[tactic(auto, using(crate::specs::Form::NumberLaws::numbers_read))]
+#[tactic(auto, using(crate::specs::Laws::Form::Numbers::numbers_read))]
 pub fn numbers_are_read_as_written()
     ensures read { (most : ℕ) (w : Word) (n : ℕ) → number_of most w ≡ Some n → IsNumber most w n }
     ensures written { (most : ℕ) (w : Word) (n : ℕ) → IsNumber most w n → number_of most w ≡ Some n }

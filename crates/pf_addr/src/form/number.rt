@@ -6,7 +6,7 @@ ghost use Rattle.pf_addr.specs.Form.Numbers.{is_digit, decimal_value, number_of,
 /// The number that a word of 1 to `most` decimal digits writes, of which the first may be zeros; `None` of any other word.
 ///
 /// It is `None` too where the number has more than 64 bits, and then there are 20 digits at least.
-#[tactic(auto, using(crate::specs::Form::NumberLaws::few_digits))]
+#[tactic(auto, using(crate::specs::Laws::Form::Numbers::few_digits))]
 pub fn read_number(word: &[u8], most: usize) -> Option<u64>
     ensures value { result ≡ number_in 64 most word.now }
     ensures short { most ≤ 19 → result ≡ number_of most word.now }

@@ -6,10 +6,10 @@ ghost use Rattle.pf_addr.specs.Path.FaultCases.{IsNameFault, IsPathFault, IsRefe
 ghost use Rattle.pf_addr.specs.Path.Names.{name_of};
 ghost use Rattle.pf_addr.specs.Path.Paths.{path_of};
 ghost use Rattle.pf_addr.specs.Path.References.{reference_of};
-ghost use Rattle.pf_addr.specs.Path.NameLaws.{ReadsANameAlone, ReadsEachName};
-ghost use Rattle.pf_addr.specs.Path.PathLaws.{ReadsWhatIsSpelled, ReadsAllThatIsSpelled, WritesWhatWasRead, ReadsWhatIsWritten, SamePathIsEqual};
-ghost use Rattle.pf_addr.specs.Path.ReferenceLaws.{ReferenceIsSpelled, SpelledReferenceIsRead};
-ghost use Rattle.pf_addr.specs.Path.NestedLaws.{NoDeeper, LeadsDeeper, ChildHasOneMore, EachIsAChild};
+ghost use Rattle.pf_addr.specs.Laws.Path.Names.{ReadsANameAlone, ReadsEachName};
+ghost use Rattle.pf_addr.specs.Laws.Path.Paths.{ReadsWhatIsSpelled, ReadsAllThatIsSpelled, WritesWhatWasRead, ReadsWhatIsWritten, SamePathIsEqual};
+ghost use Rattle.pf_addr.specs.Laws.Path.References.{ReferenceIsSpelled, SpelledReferenceIsRead};
+ghost use Rattle.pf_addr.specs.Laws.Path.Nested.{NoDeeper, LeadsDeeper, ChildHasOneMore, EachIsAChild};
 
 /// A word is read as a name exactly where it is one.
 #[tactic(auto, using(crate::proofs::NamesRead::name_found, crate::proofs::NamesRead::name_only))]

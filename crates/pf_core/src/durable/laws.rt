@@ -1,5 +1,5 @@
 //! What follows from the definitions that contracts cite: functions that do nothing, whose contracts are the laws.
-ghost use Rattle.pf_core.specs.Durable.Laws.{ReplacesExactly, EditsExactly, DeletesNothing, StepsExactly, KeepsWithin};
+ghost use Rattle.pf_core.specs.Laws.Durable.{ReplacesExactly, EditsExactly, DeletesNothing, StepsExactly, KeepsWithin};
 
 /// After a commit's change the epoch stays, each path has the rules and tables that the change gives it or else its own, and what is
 /// empty isn't there. States stay.

@@ -4,7 +4,7 @@ ghost use Rattle.pf_addr.specs.Writing.{Continues};
 ghost use Rattle.pf_rule.specs.Value.Spacing.{spaced};
 ghost use Rattle.pf_rule.specs.Host.Hosts.{host_words};
 ghost use Rattle.pf_rule.specs.Host.Ends.{from_to_words, ends_words};
-ghost use Rattle.pf_rule.specs.Host.EndLaws.{end_text};
+ghost use Rattle.pf_rule.specs.Laws.Host.Ends.{end_text};
 
 use crate::host::ends::End;
 use crate::host::host::Host;

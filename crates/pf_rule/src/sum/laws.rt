@@ -7,7 +7,7 @@ ghost use Rattle.pf_rule.specs.RuleGrammar.{rule};
 ghost use Rattle.pf_rule.specs.declared.host.host.Host.TheVariants.{Any};
 ghost use Rattle.pf_rule.specs.declared.sum.form.TheConstants.{RULE_FORM};
 ghost use Rattle.pf_rule.specs.Sum.Forms.{host_form, rule_form, ruleset_sum};
-ghost use Rattle.pf_rule.specs.Sum.Examples as example;
+ghost use Rattle.pf_rule.specs.Laws.Sums as example;
 ghost use Rattle.pf_rule.specs.Sum.Reading.{read_form};
 
 /// The form of each rule has [`RULE_FORM`](crate::sum::RULE_FORM) bytes.

@@ -16,7 +16,7 @@ pub fn protocol_words_are_read_as_spelled()
 
 /// The first word of a port test is read exactly where it spells a number, a unary operator joined to one, or a range with its
 /// boundaries.
-#[tactic(auto, using(crate::specs::Value::ReadingLaws::start_found, crate::specs::Value::ReadingLaws::start_only))]
+#[tactic(auto, using(crate::specs::Laws::Value::Reading::start_found, crate::specs::Laws::Value::Reading::start_only))]
 pub fn port_words_are_read_as_spelled()
     ensures read { (w : Word) (s : PortStart) → start_of w ≡ Ok s → SpellsStart w s }
     ensures spelled { (w : Word) (s : PortStart) → SpellsStart w s → start_of w ≡ Ok s }

@@ -1,5 +1,5 @@
 //! What follows from the definitions that contracts cite: functions that do nothing, whose contracts are the laws.
-ghost use Rattle.pf_state.specs.Failover.Laws.{OneStepForEach, CutsIntoParts, ExportsMessages, TellsTheStates, TakesOver, IsReadBack};
+ghost use Rattle.pf_state.specs.Laws.Failover.{OneStepForEach, CutsIntoParts, ExportsMessages, TellsTheStates, TakesOver, IsReadBack};
 
 use crate::peer::written_message_is_read;
 

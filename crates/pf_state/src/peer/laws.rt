@@ -4,7 +4,7 @@ ghost use Rattle.std.specs.List.{concat};
 ghost use Rattle.pf_state.specs.declared.peer.fault.OneFault.{OneFault};
 ghost use Rattle.pf_state.specs.declared.peer.fault.PeerFault.{PeerFault};
 ghost use Rattle.pf_state.specs.declared.peer.message.Message.{Message};
-ghost use Rattle.pf_state.specs.Peer.Example as example;
+ghost use Rattle.pf_state.specs.Laws.Messages as example;
 ghost use Rattle.pf_state.specs.Peer.Messages.{IsMessage};
 ghost use Rattle.pf_state.specs.Peer.One.{IsOne};
 ghost use Rattle.pf_state.specs.Peer.Streams.{Ending, Faulty, Reads, Feeds};

@@ -1,5 +1,5 @@
 //! What follows from the definitions that contracts cite: functions that do nothing, whose contracts are the laws.
-ghost use Rattle.pfd.specs.LineEngine.Laws.{IsAlwaysCut, CutsOneWay};
+ghost use Rattle.pfd.specs.Laws.Lines.{IsAlwaysCut, CutsOneWay};
 
 /// Every text is whole lines, each with its newline, and a rest without one.
 pub fn is_always_cut()

@@ -1,5 +1,5 @@
 use Rattle.std.proofs.Common.{sym, arith, rules}
-use Rattle.pf_addr.specs.GapLaws.{found_at, passed_at, none_left}
+use Rattle.pf_addr.specs.Laws.Gaps.{found_at, passed_at, none_left}
 use Rattle.pf_addr.proofs.groups.place_of_gap.Goals as goal
 
 pub returns-then-colons_at-clause-place : goal.returns-then-colons_at-clause-place

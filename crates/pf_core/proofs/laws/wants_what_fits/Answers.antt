@@ -1,4 +1,4 @@
-use Rattle.pf_core.specs.WorldLaws.{wants_what_fits}
+use Rattle.pf_core.specs.Laws.Wanted.{wants_what_fits}
 use Rattle.pf_core.proofs.laws.wants_what_fits.Goals as goal
 
 pub returns : goal.returns

@@ -1,4 +1,4 @@
-use Rattle.pf_table.specs.EditLaws.{sign_added, sign_deleted}
+use Rattle.pf_table.specs.Laws.Edits.{sign_added, sign_deleted}
 use Rattle.pf_table.proofs.TableLaws.{holds_the_list, all_else_stays, stays_table}
 use Rattle.pf_table.proofs.laws.edits_change_what_they_name.Goals as goal
 

@@ -1,6 +1,6 @@
 use Rattle.std.proofs.Common.{subst, sym}
 use Rattle.pf_addr.specs.Writing.{Continues, Continues-then}
-use Rattle.pf_rule.specs.Host.EndLaws.{ends_in_order}
+use Rattle.pf_rule.specs.Laws.Host.Ends.{ends_in_order}
 use Rattle.pf_rule.proofs.host.ends_text.write_from_to.Goals as goal
 
 pub returns : goal.returns

@@ -1,7 +1,7 @@
 use Rattle.std.proofs.Common.{Ok, refl}
 use Rattle.std.specs.Prelude.{codes}
 use Rattle.pf_addr.specs.Form.Forms.{nothing, or}
-use Rattle.pf_addr.specs.Form.StepLaws.{taken}
+use Rattle.pf_addr.specs.Laws.Form.Steps.{taken}
 use Rattle.pf_rule.specs.declared.host.host.Host.{Host}
 use Rattle.pf_rule.specs.declared.host.host.Host.TheVariants.{Any}
 use Rattle.pf_rule.specs.Host.Hosts.{a_negated_host, a_host}

@@ -2,7 +2,7 @@ use Rattle.pf_line.specs.Reply.Replies.{reply_text}
 use Rattle.std.specs.Prelude.{Some}
 use Rattle.std.proofs.Common.{[], None}
 use Rattle.pfd.proofs.Calling.{appends_none}
-use Rattle.pfd.specs.ServingLaws.{serves-one}
+use Rattle.pfd.specs.Laws.Serving.{serves-one}
 use Rattle.pfd.proofs.engine.BookAnswerLine.answer_line.Goals as goal
 
 pub returns-in-Some : goal.returns-in-Some

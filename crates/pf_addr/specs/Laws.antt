@@ -1,0 +1,9 @@
+pub mod Bits
+pub mod Places
+pub mod Gaps
+pub mod Pieces
+pub mod Reading
+pub mod Digits
+pub mod Spelling
+pub mod Form
+pub mod Path

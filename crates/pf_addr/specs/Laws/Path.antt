@@ -1,0 +1,4 @@
+pub mod Names
+pub mod Paths
+pub mod References
+pub mod Nested

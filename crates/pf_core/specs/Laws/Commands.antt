@@ -1,0 +1,88 @@
+-- What follows from the definitions, as law functions promise it.
+use Rattle.std.specs.Prelude.{◌≡◌, ℕ, T, true, false, List, [], ◌∷◌, map, unwrap_or, None, Ok}
+use Rattle.std.specs.FinMap.{find, is_sorted}
+use Rattle.std.specs.List.{list_all}
+use Rattle.pf_addr.specs.Path.Names.{name_order}
+use Rattle.pf_anchor.specs.Rulesets.{rules_at}
+use Rattle.pf_ticket.specs.declared.{entry.Entry.Entry, name.RulesetKind.TheVariants.Filter, name.RulesetKind.TheVariants.Table, name.RulesetName.RulesetName}
+use Rattle.pf_ticket.specs.NamedTables.{Named}
+use Rattle.pf_ticket.specs.Tickets.{rules_in as offered_rules, tables_in as offered_tables, offer_at, Open, valid_ticket, content}
+use Rattle.pf_ticket.specs.Mentions.{named_in, after, switches}
+use Rattle.pf_ticket.specs.Names.{same_kind, is_named, names_of, filter_at, table_ruleset_at}
+use Rattle.pf_rule.specs.Packets.{PlainPacket}
+use Rattle.pf_state.specs.declared.{state.StateName.StateName, step.Insertion.TheVariants.New, step.Step.TheVariants.Insert}
+use Rattle.pf_state.specs.States.{Stated}
+use Rattle.pf_state.specs.Steps.{insertion}
+use Rattle.pf_core.specs.declared.{command.Command.Command, command.StateCommand.TheVariants.Track, command.Command.TheVariants.Transact, command.Transaction.TheVariants.Commit, reply.Outcome.Outcome, reply.Refusal.Refusal, reply.Reply.TheVariants.Applied, reply.Reply.TheVariants.Refused, step.Step.TheVariants.Wants}
+use Rattle.pf_core.specs.Calls.{Call, call, mentions_of}
+use Rattle.pf_core.specs.Commands.{items, step_by, states_step, mentioned, named_by}
+use Rattle.pf_core.specs.Durable.Edits.{Kept, Edit, commits, acts, entries_at, applied, voided_by, fits}
+
+-- the tables that are offered for the table ruleset at a path
+abbrev pub tables_offered : Open → List ℕ → List Named
+tables_offered t p = offered_tables (content t (table_ruleset_at p))
+
+-- each table ruleset that is named has of each table what was offered for it, and the others that it had
+pub record AreTablesSwitched (t : Open) (entries : List Entry) (old new : Kept) : Type 0 where
+  pub defined : (p name : List ℕ) → is_named (names_of entries) (table_ruleset_at p) ≡ true →
+      T (is_sorted name_order (tables_offered t p)) →
+      entries_at new p name ≡ unwrap_or (find name_order name (tables_offered t p)) (entries_at old p name)
+  pub undefined : (p name : List ℕ) → find name_order name (tables_offered t p) ≡ None → entries_at new p name ≡ entries_at old p name
+  pub others : (p name : List ℕ) → is_named (names_of entries) (table_ruleset_at p) ≡ false → entries_at new p name ≡ entries_at old p name
+
+-- each ruleset that is named has what was offered for it, and all others have what they had
+pub record AreSwitched (t : Open) (entries : List Entry) (old new : Kept) : Type 0 where
+  pub named : (p : List ℕ) → is_named (names_of entries) (filter_at p) ≡ true →
+      rules_at p new.config.rulesets ≡ offered_rules (content t (filter_at p))
+  pub others : (q : List ℕ) → is_named (names_of entries) (filter_at q) ≡ false →
+      rules_at q new.config.rulesets ≡ rules_at q old.config.rulesets
+  pub tables : AreTablesSwitched t entries old new
+
+-- a commit that isn't refused switches all rulesets that it names, and no other
+abbrev pub SwitchesAll : Type 0
+SwitchesAll = (t : Open) (d : Kept) (entries : List Entry) (e : Edit) (o : Outcome) →
+    step_by t d (Transact (Commit entries)) ≡ Ok (Wants e o) → AreSwitched t entries d (applied d e)
+
+-- a commit of filter rulesets alone leaves all tables, and one of table rulesets alone all rulesets
+pub record LeaveTheOtherKind : Type 0 where
+  pub tables : (t : Open) (d : Kept) (entries : List Entry) → list_all (λ e. same_kind e.name.kind Filter) entries ≡ true →
+      (applied d (commits (items (content t) entries))).config.tables ≡ d.config.tables
+  pub rulesets : (t : Open) (d : Kept) (entries : List Entry) → list_all (λ e. same_kind e.name.kind Table) entries ≡ true →
+      (applied d (commits (items (content t) entries))).config.rulesets ≡ d.config.rulesets
+
+-- what is wanted fits, and so it can be prepared
+abbrev pub WantsWhatFits : Type 0
+WantsWhatFits = (t : Open) (d : Kept) (c : Command) (e : Edit) (o : Outcome) → step_by t d c ≡ Ok (Wants e o) → fits d e ≡ Ok tt
+
+-- a command that wants a change mentions, once it is applied, exactly what the change voids
+abbrev pub VoidsTheNamed : Type 0
+VoidsTheNamed = (t : Open) (d : Kept) (c : Command) (e : Edit) (o : Outcome) → step_by t d c ≡ Ok (Wants e o) →
+    mentioned c ≡ switches (voided_by e)
+
+-- after a commit no ruleset that it names has a valid ticket
+abbrev pub KeepsNoneValid : Type 0
+KeepsNoneValid = (t : Open) (entries : List Entry) (n : ℕ) (o : Outcome) (name : RulesetName) → is_named (names_of entries) name ≡ true →
+    valid_ticket (after t (mentions_of (call (Transact (Commit entries)) (Applied n o)))) name ≡ None
+
+-- a call leaves each ruleset that it doesn't name its valid ticket, and what is offered with it
+abbrev pub LeavesTheOthers : Type 0
+LeavesTheOthers = (t : Open) (c : Call) (name : RulesetName) → is_named (named_by c.command) name ≡ false →
+    offer_at (after t (mentions_of c)).offers name ≡ offer_at t.offers name
+
+-- a command mentions exactly the rulesets that it names, in their order
+abbrev pub MentionsTheNamed : Type 0
+MentionsTheNamed = (c : Command) → map named_in (mentioned c) ≡ named_by c
+
+-- a refused command mentions nothing
+abbrev pub RefusedMentionNothing : Type 0
+RefusedMentionNothing = (c : Command) (e : Refusal) → mentions_of (call c (Refused e)) ≡ []
+
+-- A packet that is tracked makes one state, and it is new: its flow is no state's, and its name was free.
+pub record MakesOne (d : Kept) (e : Edit) : Type 0 where
+  pub state : Stated
+  pub change : e ≡ acts (Insert state ∷ [])
+  pub new : insertion d.states state ≡ New
+
+abbrev pub TrackMakesOne : Type 0
+TrackMakesOne = (d : Kept) (name : StateName) (packet : PlainPacket) (e : Edit) (o : Outcome) →
+    states_step d (Track name packet) ≡ Ok (Wants e o) → MakesOne d e

@@ -1,0 +1,125 @@
+-- What holds after every world.
+use Rattle.std.specs.Prelude.{◌≡◌, ℕ, ◌≤◌, Bool, true, List, [], ◌++◌, length, fold, None, Ok}
+use Rattle.std.specs.List.{list_all}
+use Rattle.pf_addr.specs.declared.addr.Addr.{Addr}
+use Rattle.pf_addr.specs.Path.Paths.{main}
+use Rattle.pf_addr.specs.Path.References.{PlainReference}
+use Rattle.pf_rule.specs.Packets.{PlainPacket}
+use Rattle.pf_table.specs.Laws.Tables.{DecidesAbout}
+use Rattle.pf_table.specs.Tables.{deciding}
+use Rattle.pf_anchor.specs.Evaluation.{judged}
+use Rattle.pf_anchor.specs.Laws.Evaluation.{decides, IsToldOfMain, LeadsThere}
+use Rattle.pf_anchor.specs.Rulesets.{rules_at}
+use Rattle.pf_state.specs.Flows.{flow_of}
+use Rattle.pf_state.specs.Laws.States.{IsStateOf}
+use Rattle.pf_state.specs.States.{Stated}
+use Rattle.pf_ticket.specs.declared.{entry.Entry.Entry, ticket.Ticket.Ticket}
+use Rattle.pf_ticket.specs.Replies.{commit_check}
+use Rattle.pf_ticket.specs.Tickets.{content}
+use Rattle.pf_ticket.specs.Laws.Tickets.{AreOnce}
+use Rattle.pf_ticket.specs.Laws.Tickets.{IsWithin as AreTicketsWithin}
+use Rattle.pf_ticket.specs.Mentions.{Mention, opened as left_by}
+use Rattle.pf_ticket.specs.Names.{tickets_from, tickets_of}
+use Rattle.pf_core.specs.declared.{command.Command.TheVariants.Ask, command.Question.TheVariants.Judge, command.Question.TheVariants.Test, durable.verdict.Verdict.TheVariants.State as Stateful, durable.verdict.Verdict.TheVariants.Rules as ByRules, reply.Reply.Reply, reply.Reply.TheVariants.Answer as Answered}
+use Rattle.pf_core.specs.declared.reply.Answer.TheVariants as answer
+use Rattle.pf_core.specs.Calls.{mentions_of}
+use Rattle.pf_core.specs.Commands.{items}
+use Rattle.pf_core.specs.Durable.Edits.{Kept, named_again, entries_at, verdict}
+use Rattle.pf_core.specs.Laws.Durable.{IsWithin}
+use Rattle.pf_core.specs.Worlds.{Held, up, down, Event, called, opened, flat, log_of, durable_of, LegalReply, state_after, IsWorld}
+
+-- ---- tickets
+
+abbrev pub tickets_in : Reply → List Ticket
+tickets_in (Answered (answer.Given range)) = tickets_of range
+tickets_in r = []
+
+abbrev pub given_by : List Ticket → Event → List Ticket
+given_by ts (called c t) = ts ++ tickets_in c.reply
+given_by ts (opened setting) = []
+
+-- the tickets that replies gave since the opening, in order
+abbrev pub tickets_given : List Event → List Ticket
+tickets_given world = fold given_by [] world
+
+abbrev pub mentions_by : List Mention → Event → List Mention
+mentions_by ms (called c t) = ms ++ mentions_of c
+mentions_by ms (opened setting) = []
+
+-- what was mentioned since the opening, in order
+abbrev pub mentions_since : List Event → List Mention
+mentions_since world = fold mentions_by [] world
+
+-- the transactions of the opening that a world comes to are what the mentions since it leave
+abbrev pub TicketsAreOfTheCalls : Type 0
+TicketsAreOfTheCalls = (first : Kept) (world : List Event) (h : Held) → IsWorld first world → state_after (down first) world ≡ up h →
+    h.tickets ≡ left_by h.base.epoch (mentions_since world)
+
+-- tickets are numbered from 1 on, and so none is given twice
+pub record AreGivenOnce (epoch : ℕ) (ts : List Ticket) : Type 0 where
+  pub numbered : ts ≡ tickets_from epoch 1 (length ts)
+  pub once : AreOnce ts
+
+-- of the opening that a world comes to
+abbrev pub GivesEachOnce : Type 0
+GivesEachOnce = (first : Kept) (world : List Event) (h : Held) → IsWorld first world → state_after (down first) world ≡ up h →
+    AreGivenOnce h.base.epoch (tickets_given world)
+
+-- ---- limits
+
+-- an opening's transactions are within the limits, and so is what it kept
+pub record AreWithin (h : Held) : Type 0 where
+  pub tickets : AreTicketsWithin h.tickets
+  pub log : length (log_of h) ≤ h.setting.limit
+  pub kept : IsWithin (durable_of h)
+
+abbrev pub KeepsTheLimits : Type 0
+KeepsTheLimits = (first : Kept) (world : List Event) (h : Held) → IsWithin first → IsWorld first world →
+    state_after (down first) world ≡ up h → AreWithin h
+
+-- where the tickets of a commit are valid it names nothing twice, and is refused for limits alone
+abbrev pub CommitsNameOnce : Type 0
+CommitsNameOnce = (first : Kept) (world : List Event) (h : Held) → IsWorld first world → state_after (down first) world ≡ up h →
+    (entries : List Entry) → commit_check h.tickets entries ≡ Ok tt → named_again (items (content h.tickets) entries) ≡ None
+
+-- every change is acknowledged, and every acknowledged change is shown
+pub record AllIsShown (h : Held) : Type 0 where
+  pub acknowledged : log_of h ≡ flat h.acked
+  pub shown : h.shown ≡ length (flat h.acked)
+
+abbrev pub ShowsAll : Type 0
+ShowsAll = (first : Kept) (world : List Event) (h : Held) → IsWorld first world → state_after (down first) world ≡ up h → AllIsShown h
+
+-- ---- answers
+
+-- A test is told the entry that decides in the table at that path under that name: the one that contains the address and whose network
+-- is the most specific of those that do; none where none contains it.
+pub record TellsTheEntry (h : Held) (p name : List ℕ) (a : Addr) : Type 0 where
+  pub told : (r : Reply) (failed : Bool) → LegalReply h (Ask (Test p name a)) r failed →
+      r ≡ Answered (answer.Tested (deciding (entries_at (durable_of h) p name) a))
+  pub decides : DecidesAbout (entries_at (durable_of h) p name) a
+
+abbrev pub TestsTellTheEntry : Type 0
+TestsTellTheEntry = (first : Kept) (world : List Event) (h : Held) → IsWithin first → IsWorld first world →
+    state_after (down first) world ≡ up h →
+    (p name : List ℕ) (a : Addr) → TellsTheEntry h p name a
+
+-- the one state of its flow decides about a packet, and where there is none the rules do
+pub record IsDecided (d : Kept) (packet : PlainPacket) : Type 0 where
+  pub by_state : (s : Stated) → IsStateOf d.states (flow_of packet) s → verdict d packet ≡ Stateful s.0
+  pub one : (s t : Stated) → IsStateOf d.states (flow_of packet) s → IsStateOf d.states (flow_of packet) t → s ≡ t
+  pub by_rules : ((s : Stated) → IsStateOf d.states (flow_of packet) s → ⊥) → verdict d packet ≡ ByRules (judged d.config packet)
+  -- of rules that all decide the last one that matches, or the first quick one
+  pub last : list_all decides (rules_at main d.config.rulesets) ≡ true → IsToldOfMain d.config packet
+  -- an anchor rule leads to the rulesets that there are, in their order
+  pub leads : (p : List ℕ) (s : PlainReference) → LeadsThere d.config.rulesets p s
+
+pub record TellsTheVerdict (h : Held) (packet : PlainPacket) : Type 0 where
+  pub told : (r : Reply) (failed : Bool) → LegalReply h (Ask (Judge packet)) r failed →
+      r ≡ Answered (answer.Judged (verdict (durable_of h) packet))
+  pub decided : IsDecided (durable_of h) packet
+
+abbrev pub JudgesTellTheVerdict : Type 0
+JudgesTellTheVerdict = (first : Kept) (world : List Event) (h : Held) → IsWithin first → IsWorld first world →
+    state_after (down first) world ≡ up h →
+    (packet : PlainPacket) → TellsTheVerdict h packet

@@ -1,0 +1,51 @@
+-- What a peer reads in the lines of an export. Own.
+use Rattle.std.specs.Prelude.{◌≡◌, ◌≤◌, ℕ, List, [], length, map, Some, Ok}
+use Rattle.hex.specs.Hex.{IsBytes}
+pub use Rattle.pf_state.specs.declared.peer.message.Message.{Message}
+pub use Rattle.pf_state.specs.declared.step.Step.{Step}
+use Rattle.pf_state.specs.Peer.Written.{Each, message_bytes}
+use Rattle.pf_anchor.specs.Rulesets.{rules_at}
+use Rattle.pf_core.specs.Durable.Edits.{Kept, main_sum}
+use Rattle.pf_state.specs.States.{Stated, IsStates}
+use Rattle.pf_state.specs.Failover.Outgoing.{exported_messages}
+use Rattle.pf_state.specs.Laws.Failover.{IsState, state_there}
+use Rattle.pf_core.specs.declared.command.Command.TheVariants.{States}
+use Rattle.pf_core.specs.declared.command.StateCommand.TheVariants.{Peer}
+use Rattle.pf_line.specs.declared.line.TheConstants.{LINE_LIMIT}
+use Rattle.pf_line.specs.Lines.{line_at, Means}
+use Rattle.pf_line.specs.Reply.StateTexts.{message_line}
+
+-- the line that a peer is given for a message
+abbrev pub message_text : Message → List ℕ
+message_text m = message_line (message_bytes m)
+
+-- the lines of an export of these states, where the main rules have this checksum
+abbrev pub exported_lines : List ℕ → List Stated → List (List ℕ)
+exported_lines current es = map message_text (exported_messages current es)
+
+-- a line that is no longer than a line may be, and means to act on this message
+pub record TellsOf (m : Message) (line : List ℕ) : Type 0 where
+  pub short : length line ≤ LINE_LIMIT
+  pub means : Means (line_at line) (Ok (Some (States (Peer m))))
+
+-- what can be exported: a checksum, and a table's states, each number of which is within its width
+pub record CanBeExported (current : List ℕ) (es : List Stated) : Type 0 where
+  pub sum : length current ≡ 16
+  pub bytes : IsBytes current
+  pub table : IsStates es
+  pub numbers : Each IsState es
+
+-- the line that an export gives for each of its messages tells of that message
+abbrev pub ExportsAreRead : Type 0
+ExportsAreRead = (current : List ℕ) (es : List Stated) → length current ≡ 16 → IsBytes current → Each IsState es
+    → Each (λ m. TellsOf m (message_text m)) (exported_messages current es)
+
+-- ---- where it is read
+
+-- how many main rules there are
+abbrev pub main_count : Kept → ℕ
+main_count d = length (rules_at [] d.config.rulesets)
+
+-- these states of ours, as they are where this is kept: each is bound to its rule only where the checksums agree
+abbrev pub states_there : Kept → List ℕ → List Stated → List Stated
+states_there d ours es = map (state_there ours (main_sum d) (main_count d)) es

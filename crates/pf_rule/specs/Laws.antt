@@ -1,0 +1,5 @@
+pub mod Matching
+pub mod RuleText
+pub mod Sums
+pub mod Value
+pub mod Host

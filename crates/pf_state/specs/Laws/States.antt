@@ -1,0 +1,134 @@
+-- What follows from the definitions of flows, states, steps and bindings, as law functions promise it.
+use Rattle.std.specs.Prelude.{◌≡◌, ◌≢◌, ℕ, ◌+◌, ◌<◌, ◌≤◌, ◌==◌, ◌&&◌, ◌↔◌, Bool, true, false, cond, List, [], ◌∷◌, length, take, Option, Some, None}
+use Rattle.std.specs.List.{count_by}
+use Rattle.std.specs.Ordering.{eq_by_cmp}
+use Rattle.pf_rule.specs.Packets.{PlainPacket}
+use Rattle.pf_state.specs.declared.{binding.TheConstants.ALL_ONES, limits.TheConstants.STATE_LIMIT, state.Bound.TheVariants.Rule, state.Bound.TheVariants.Default, state.Held.Held, state.StateName.StateName, step.Insertion.TheVariants.Stale, step.Step.Step, step.Step.TheVariants.Insert, step.Step.TheVariants.Delete, step.Step.TheVariants.Clear}
+use Rattle.pf_state.specs.Flows.{PlainFlow, is_equal, turned, same_flow, flow_of}
+use Rattle.pf_state.specs.States.{Stated, name_order, held_at, state_of, NamesFlows, IsStates}
+use Rattle.pf_state.specs.Steps.{insertion, has_effect, stepped, after, counts, passes_limit}
+use Rattle.pf_state.specs.Bindings.{bound, exported}
+
+-- ---- flows
+
+-- two flows are one exactly where they are equal, or one is the other turned; so they fall into classes
+pub record FlowsAlike (f g h : PlainFlow) : Type 0 where
+  pub equal : (is_equal f g ≡ true) ↔ (f ≡ g)
+  pub back : turned (turned f) ≡ f
+  pub itself : same_flow f f ≡ true
+  pub answer : same_flow f (turned f) ≡ true
+  pub other : same_flow f g ≡ true → same_flow g f ≡ true
+  pub third : same_flow f g ≡ true → same_flow g h ≡ true → same_flow f h ≡ true
+
+abbrev pub OneFlowOrAnother : Type 0
+OneFlowOrAnother = (f g h : PlainFlow) → FlowsAlike f g h
+
+-- packets that differ in their interface alone are of one flow
+abbrev pub InterfaceIsNoPart : Type 0
+InterfaceIsNoPart = (p q : PlainPacket) → p.direction ≡ q.direction → p.protocol ≡ q.protocol → p.source ≡ q.source
+    → p.source_port ≡ q.source_port → p.destination ≡ q.destination → p.destination_port ≡ q.destination_port → flow_of p ≡ flow_of q
+
+-- ---- the state of a flow
+
+-- the state is held under its name, and has the flow
+pub record IsStateOf (es : List Stated) (f : PlainFlow) (s : Stated) : Type 0 where
+  pub held : held_at s.0 es ≡ Some s.1
+  pub flow : same_flow s.1.flow f ≡ true
+
+-- in a table at most one state has a flow, and it is the one that is found
+pub record FindsTheState (es : List Stated) (f : PlainFlow) : Type 0 where
+  pub found : (s : Stated) → (state_of f es ≡ Some s) ↔ IsStateOf es f s
+  pub one : (s t : Stated) → IsStateOf es f s → IsStateOf es f t → s ≡ t
+
+abbrev pub OneStateAFlow : Type 0
+OneStateAFlow = (es : List Stated) (f : PlainFlow) → NamesFlows es → FindsTheState es f
+
+-- ---- what a step changes
+
+-- an insert that is stale or clashes changes nothing
+abbrev pub KeepsWhatIsThere : Type 0
+KeepsWhatIsThere = (es : List Stated) (s : Stated) → has_effect (insertion es s) ≡ false → stepped es (Insert s) ≡ es
+
+-- an insert of a known name is stale exactly where its generation isn't greater, whatever its flow
+abbrev pub StaleByGeneration : Type 0
+StaleByGeneration = (es : List Stated) (s : Stated) (there : Held) → held_at s.0 es ≡ Some there
+    → (insertion es s ≡ Stale) ↔ (s.1.generation ≤ there.generation)
+
+-- under each name what a step leaves: an insert that has effect what it holds, a delete and a clear nothing, whatever the generation
+pub record StepsRead (es : List Stated) (q : StateName) : Type 0 where
+  pub insert : (s : Stated)
+      → held_at q (stepped es (Insert s)) ≡ cond (has_effect (insertion es s) && eq_by_cmp name_order q s.0) (Some s.1) (held_at q es)
+  pub delete : (n : StateName) → held_at q (stepped es (Delete n)) ≡ cond (eq_by_cmp name_order q n) None (held_at q es)
+  pub clear : (creator : ℕ) → held_at q (stepped es (Clear creator)) ≡ cond (q.creator == creator) None (held_at q es)
+
+abbrev pub ReadsWhatStepsLeave : Type 0
+ReadsWhatStepsLeave = (es : List Stated) (q : StateName) → StepsRead es q
+
+-- only a name ties with itself
+abbrev pub NamesAlike : Type 0
+NamesAlike = (a b : StateName) → (eq_by_cmp name_order a b ≡ true) ↔ (a ≡ b)
+
+-- ---- what a batch changes
+
+-- what a step leaves under a name where this was held
+abbrev pub left_by : List Stated → Step → StateName → Option Held → Option Held
+left_by es (Insert s) q old = cond (has_effect (insertion es s) && eq_by_cmp name_order q s.0) (Some s.1) old
+left_by es (Delete n) q old = cond (eq_by_cmp name_order q n) None old
+left_by es (Clear creator) q old = cond (q.creator == creator) None old
+
+-- what steps in turn leave there: what the last of them that has effect on the name does
+abbrev pub left_behind : List Stated → List Step → StateName → Option Held → Option Held
+left_behind es [] q old = old
+left_behind es (x ∷ xs) q old = left_behind (stepped es x) xs q (left_by es x q old)
+
+abbrev pub LastStepStands : Type 0
+LastStepStands = (es : List Stated) (steps : List Step) (q : StateName) → held_at q (after es steps) ≡ left_behind es steps q (held_at q es)
+
+-- the order stays, and so do names and flows that stand once; and the limit, where the batch isn't refused
+pub record LeavesStates (es : List Stated) (steps : List Step) : Type 0 where
+  pub names : NamesFlows es → NamesFlows (after es steps)
+  pub table : IsStates es → passes_limit es steps ≡ false → IsStates (after es steps)
+
+abbrev pub StaysStates : Type 0
+StaysStates = (es : List Stated) (steps : List Step) → LeavesStates es steps
+
+-- a batch isn't refused exactly where, behind each front of it, there are no more states than there may be
+abbrev pub RefusedByAnyStep : Type 0
+RefusedByAnyStep = (es : List Stated) (steps : List Step) → IsStates es
+    → (passes_limit es steps ≡ false) ↔ ((k : ℕ) → length (after es (take k steps)) ≤ STATE_LIMIT)
+
+-- ---- what is counted
+
+abbrev pub is_insert : Step → Bool
+is_insert (Insert s) = true
+is_insert (Delete n) = false
+is_insert (Clear creator) = false
+
+-- each insert is counted once, and the states grow and shrink as is counted
+pub record AddsUp (es : List Stated) (steps : List Step) : Type 0 where
+  pub inserts : let c = counts es steps in c.inserted + (c.replaced + (c.stale + c.clash)) ≡ count_by is_insert steps
+  pub states : length (after es steps) + (counts es steps).deleted ≡ length es + (counts es steps).inserted
+
+abbrev pub CountsAddUp : Type 0
+CountsAddUp = (es : List Stated) (steps : List Step) → NamesFlows es → AddsUp es steps
+
+-- ---- bindings
+
+-- a state is bound to a main rule only by the checksum of the main rules here, and by a number that one of them has
+pub record BindsByRules (sum : List ℕ) (rule anchor : ℕ) (current : List ℕ) (count : ℕ) (number : ℕ) (kept : List ℕ) : Type 0 where
+  pub same_rules : sum ≡ current
+  pub one_rule : rule ≢ ALL_ONES
+  pub no_anchor : anchor ≡ ALL_ONES
+  pub within : rule < count
+  pub its_number : number ≡ rule
+  pub its_sum : kept ≡ sum
+
+abbrev pub BindsExactly : Type 0
+BindsExactly = (sum : List ℕ) (rule anchor : ℕ) (current : List ℕ) (count number : ℕ) (kept : List ℕ)
+    → (bound sum rule anchor current count ≡ Rule number kept) ↔ BindsByRules sum rule anchor current count number kept
+
+-- what is bound here and told while the same rules stand is the number that it came with
+abbrev pub TellsTheNumber : Type 0
+TellsTheNumber = (sum : List ℕ) (rule anchor : ℕ) (current later : List ℕ) (count : ℕ)
+    → let b = bound sum rule anchor current count in
+    (later ≡ current → b ≢ Default → exported b later ≡ rule) × (later ≢ current → exported b later ≡ ALL_ONES)

@@ -1,0 +1,203 @@
+-- What follows from the definitions, as law functions promise it.
+use Rattle.std.specs.Prelude.{◌≡◌, T, ℕ, ◌+◌, ◌≤◌, ◌&&◌, Bool, true, false, cond, List, [], ◌∷◌, ◌++◌, length, map, flat_map, is_some, Some, None, Ok}
+use Rattle.std.specs.FinMap.{find, is_sorted}
+use Rattle.std.specs.List.{AllByRecursion, list_any, slice_get, last_or}
+use Rattle.pf_addr.specs.Path.Names.{name_order, same_name as same_table}
+use Rattle.pf_table.specs.Edits.{replaced}
+use Rattle.pf_table.specs.Entries.{Row}
+use Rattle.pf_table.specs.Tables.{AreEntries}
+use Rattle.pf_rule.specs.Rules.{PlainRule}
+use Rattle.pf_anchor.specs.declared.limits.TheConstants.{RULE_LIMIT, RULESET_LIMIT}
+use Rattle.pf_ticket.specs.declared.{entry.Entry.Entry, limits.TheConstants.LAST_COUNT, limits.TheConstants.OFFERED_TABLE_LIMIT, offered.Offered.Offered, name.RulesetName.RulesetName, ticket.Ticket.Ticket, ticket.TicketRange.TicketRange}
+use Rattle.pf_ticket.specs.Names.{filter_at, table_ruleset_at, same_name, same_ticket, is_named, names_of, tickets_from, tickets_of, IsDistinct}
+use Rattle.pf_ticket.specs.NamedTables.{Named}
+use Rattle.pf_ticket.specs.Tickets.{nothing_for, rules_in, tables_in, offer_at, Open, fresh, next_ticket, open_rulesets, valid_ticket, content, is_valid}
+use Rattle.pf_ticket.specs.Mentions.{Mention, gave, added, defined, switched, dropped, named_in, moved, after, opened, gives, switches, drops}
+use Rattle.pf_ticket.specs.Replies.{twice_in, begin_reply, add_reply, define_reply}
+
+-- ---- which ticket is valid, and what is offered with it
+
+-- whether a mention touches a ruleset whose valid ticket is this one
+abbrev pub touches : RulesetName → Ticket → Mention → Bool
+touches name t (gave n) = same_name n name
+touches name t (added n u r) = false
+touches name t (defined n u table xs) = false
+touches name t (switched n) = same_name n name
+touches name t (dropped n u) = same_name n name && same_ticket t u
+
+abbrev pub AreQuiet : RulesetName → Ticket → List Mention → Type 0
+AreQuiet name t [] = Unit {0}
+AreQuiet name t (m ∷ ms) = (touches name t m ≡ false) × AreQuiet name t ms
+
+-- of the mentions since this, the latest that touched a ruleset is a begin's, which gave it this ticket
+pub record IsGivenLast (first : Open) (ms : List Mention) (name : RulesetName) (t : Ticket) : Type 0 where
+  pub before : List Mention
+  pub given : RulesetName
+  pub behind : List Mention
+  pub all : ms ≡ before ++ gave given ∷ behind
+  pub same : same_name given name ≡ true
+  pub ticket : t ≡ next_ticket (after first before)
+  pub quiet : AreQuiet name t behind
+
+-- that ticket is the valid one, and no other
+abbrev pub ValidIsGivenLast : Type 0
+ValidIsGivenLast = (epoch : ℕ) (ms : List Mention) (name : RulesetName) (t : Ticket) → valid_ticket (opened epoch ms) name ≡ Some t →
+    IsGivenLast (fresh epoch) ms name t
+
+abbrev pub GivenLastIsValid : Type 0
+GivenLastIsValid = (epoch : ℕ) (ms : List Mention) (name : RulesetName) (t : Ticket) → IsGivenLast (fresh epoch) ms name t →
+    valid_ticket (opened epoch ms) name ≡ Some t
+
+-- with a new ticket nothing is offered yet
+abbrev pub StartsWithNothing : Type 0
+StartsWithNothing = (t : Open) (names : List RulesetName) (name : RulesetName) → is_named names name ≡ true →
+    content (after t (gives names)) name ≡ nothing_for name.kind
+
+-- the rule that a mention adds for a ruleset with a ticket
+abbrev pub rules_added : RulesetName → Ticket → Mention → List PlainRule
+rules_added name t (added n u r) = cond (same_name n name && same_ticket t u) (r ∷ []) []
+rules_added name t m = []
+
+-- the rules of the accepted adds with the valid ticket are offered, in order
+abbrev pub OffersTheAdded : Type 0
+OffersTheAdded = (epoch : ℕ) (ms : List Mention) (path : List ℕ) (t : Ticket) → (given : IsGivenLast (fresh epoch) ms (filter_at path) t) →
+    rules_in (content (opened epoch ms) (filter_at path)) ≡ flat_map (rules_added (filter_at path) t) given.behind
+
+-- the table that a mention defines under a name, for a ruleset with a ticket
+abbrev pub tables_defined : RulesetName → Ticket → List ℕ → Mention → List (List Row)
+tables_defined name t table (defined n u other xs) =
+    cond (same_name n name && same_ticket t u && same_table table other) (replaced xs ∷ []) []
+tables_defined name t table m = []
+
+-- under each name there is the table of the last of these mentions that defines one, and none where none does; and the tables stand
+-- in the order of their names, each name once
+pub record AreDefined (name : RulesetName) (t : Ticket) (ms : List Mention) (tables : List Named) : Type 0 where
+  pub last : (table : List ℕ) → find name_order table tables ≡ last_or None (flat_map (tables_defined name t table) ms)
+  pub order : T (is_sorted name_order tables)
+
+-- under each name what the last accepted define with the valid ticket handed in is offered, and no other table is
+abbrev pub OffersTheDefined : Type 0
+OffersTheDefined = (epoch : ℕ) (ms : List Mention) (path : List ℕ) (t : Ticket) →
+    (given : IsGivenLast (fresh epoch) ms (table_ruleset_at path) t) →
+    AreDefined (table_ruleset_at path) t given.behind (tables_in (content (opened epoch ms) (table_ruleset_at path)))
+
+-- a mention leaves the offers of the rulesets that it doesn't name
+abbrev pub LeavesTheOthers : Type 0
+LeavesTheOthers = (t : Open) (ms : List Mention) (name : RulesetName) → is_named (map named_in ms) name ≡ false →
+    offer_at (after t ms).offers name ≡ offer_at t.offers name
+
+-- a commit takes out what is offered for the rulesets that it names, and nothing else
+abbrev pub CommitTakesOut : Type 0
+CommitTakesOut = (t : Open) (names : List RulesetName) (name : RulesetName) →
+    offer_at (after t (switches names)).offers name ≡ cond (is_named names name) None (offer_at t.offers name)
+
+-- whether one of these entries names the ruleset with its valid ticket
+abbrev pub is_named_validly : Open → List Entry → RulesetName → Bool
+is_named_validly t entries name = list_any (λ e. same_name e.name name && is_valid t name e.ticket) entries
+
+-- a rollback drops what is offered for the rulesets that it names with their valid tickets, and nothing else
+abbrev pub RollbackDropsExactly : Type 0
+RollbackDropsExactly = (t : Open) (entries : List Entry) (name : RulesetName) →
+    offer_at (after t (drops entries)).offers name ≡ cond (is_named_validly t entries name) None (offer_at t.offers name)
+
+-- ---- the transactions, and what was mentioned since the opening
+
+-- the transactions are what these mentions leave
+abbrev pub Agrees : Open → List Mention → Type 0
+Agrees t ms = t ≡ opened t.epoch ms
+
+-- they agree with no mention at first, and go on so with each list of mentions
+pub record GoesOnAgreeing : Type 0 where
+  pub first : (epoch : ℕ) → Agrees (fresh epoch) []
+  pub on : (t : Open) (ms more : List Mention) → Agrees t ms → Agrees (after t more) (ms ++ more)
+
+-- ---- how many tickets and rulesets
+
+-- each ruleset with a valid ticket stands once among the open ones, and no other does
+pub record AreCounted (t : Open) : Type 0 where
+  pub once : IsDistinct (open_rulesets t)
+  pub valid : (name : RulesetName) → is_named (open_rulesets t) name ≡ is_some (valid_ticket t name)
+
+abbrev pub CountsTheOpen : Type 0
+CountsTheOpen = (epoch : ℕ) (ms : List Mention) → AreCounted (opened epoch ms)
+
+-- no ticket stands twice
+abbrev pub AreOnce : List Ticket → Type 0
+AreOnce [] = Unit {0}
+AreOnce (t ∷ ts) = (list_any (λ u. same_ticket u t) ts ≡ false) × AreOnce ts
+
+-- tickets that are numbered are given once
+abbrev pub GivesEachOnce : Type 0
+GivesEachOnce = (epoch count number : ℕ) → AreOnce (tickets_from epoch count number)
+
+-- a begin tells at each ruleset's place the ticket that is then valid for it, where it isn't named again behind
+abbrev pub TellsWhatIsGiven : Type 0
+TellsWhatIsGiven = (t : Open) (range : TicketRange) (before : List RulesetName) (name : RulesetName) (behind : List RulesetName) →
+    begin_reply t (before ++ name ∷ behind) ≡ Ok range → is_named behind name ≡ false
+    → valid_ticket (after t (gives (before ++ name ∷ behind))) name ≡ slice_get (tickets_of range) (length before)
+
+-- so many tickets were given
+pub record AreGiven (number : ℕ) (t new : Open) : Type 0 where
+  pub epoch : new.epoch ≡ t.epoch
+  pub next : new.next ≡ t.next + number
+
+-- a begin gives as many as it names rulesets, and tells them; no other step gives one
+pub record BeginsGive : Type 0 where
+  pub told : (t : Open) (names : List RulesetName) (range : TicketRange) → begin_reply t names ≡ Ok range →
+      tickets_of range ≡ tickets_from t.epoch t.next (length names)
+  pub begin : (t : Open) (names : List RulesetName) → AreGiven (length names) t (after t (gives names))
+  pub add : (t : Open) (n : RulesetName) (u : Ticket) (r : PlainRule) → AreGiven 0 t (moved t (added n u r))
+  pub define : (t : Open) (n : RulesetName) (u : Ticket) (name : List ℕ) (xs : List Row) → AreGiven 0 t (moved t (defined n u name xs))
+  pub commit : (t : Open) (names : List RulesetName) → AreGiven 0 t (after t (switches names))
+  pub rollback : (t : Open) (entries : List Entry) → AreGiven 0 t (after t (drops entries))
+
+-- ---- the limits
+
+-- so many rules, tables, and entries of each table at most, no table's name and no network of a table twice
+pub record IsFew (o : Offered) : Type 0 where
+  pub rules : length (rules_in o) ≤ RULE_LIMIT
+  pub tables : length (tables_in o) ≤ OFFERED_TABLE_LIMIT
+  pub entries : AllByRecursion (λ n. AreEntries n.1) (tables_in o)
+  pub order : T (is_sorted name_order (tables_in o))
+
+-- as many rulesets of both kinds at most as there may be, and as much offered for each
+pub record IsWithin (t : Open) : Type 0 where
+  pub given : t.next ≤ LAST_COUNT + 1
+  pub opened : length t.offers ≤ RULESET_LIMIT
+  pub offered : (name : RulesetName) → IsFew (content t name)
+
+-- they hold at first, and after each step that isn't refused
+pub record KeepsTheLimits : Type 0 where
+  pub first : (epoch : ℕ) → IsWithin (fresh epoch)
+  pub begin : (t : Open) (names : List RulesetName) (range : TicketRange) → begin_reply t names ≡ Ok range → IsWithin t →
+      IsWithin (after t (gives names))
+  pub add : (t : Open) (p : List ℕ) (u : Ticket) (r : PlainRule) → add_reply t (filter_at p) u ≡ Ok tt → IsWithin t →
+      IsWithin (moved t (added (filter_at p) u r))
+  pub define : (t : Open) (p : List ℕ) (u : Ticket) (name : List ℕ) (xs : List Row) →
+      define_reply t (table_ruleset_at p) u name xs ≡ Ok tt → IsWithin t → IsWithin (moved t (defined (table_ruleset_at p) u name xs))
+  pub commit : (t : Open) (names : List RulesetName) → IsWithin t → IsWithin (after t (switches names))
+  pub rollback : (t : Open) (entries : List Entry) → IsWithin t → IsWithin (after t (drops entries))
+
+-- ---- names
+
+-- the rules and the tables at one path are two rulesets
+abbrev pub AreApart : Type 0
+AreApart = (p q : List ℕ) → same_name (filter_at p) (table_ruleset_at q) ≡ false
+
+-- the ruleset at this place is named before it, and those before it are named once each
+pub record IsFirstAgain (names : List RulesetName) (place : ℕ) : Type 0 where
+  pub before : List RulesetName
+  pub name : RulesetName
+  pub behind : List RulesetName
+  pub all : names ≡ before ++ name ∷ behind
+  pub placed : length before ≡ place
+  pub again : is_named before name ≡ true
+  pub once : IsDistinct before
+
+-- where a ruleset is named twice, that place is the first at which one is named again
+abbrev pub TwiceIsFirstAgain : Type 0
+TwiceIsFirstAgain = (entries : List Entry) (place : ℕ) → twice_in entries ≡ Some place → IsFirstAgain (names_of entries) place
+
+-- and otherwise each ruleset is named once
+abbrev pub OtherwiseOnce : Type 0
+OtherwiseOnce = (entries : List Entry) → twice_in entries ≡ None → IsDistinct (names_of entries)

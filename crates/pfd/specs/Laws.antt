@@ -1,0 +1,3 @@
+pub mod Serving
+pub mod Lines
+pub mod Takeover
