@@ -1,18 +1,8 @@
 -- An address is made of the numbers that were kept.
-use Rattle.std.proofs.Common.{◌≡◌, ℕ, ◌+◌, ◌-◌, ◌<◌, ◌≤◌, ◌&&◌, Bool, true, false, List, [], ◌∷◌, ◌++◌, length, take, drop, replicate, Some, None, Result, Ok, Err, refl, sym, ap, ◌∙◌, arith, le-leb, eq-eqb, ne_eqb}
-use Rattle.std.specs.Prelude.{◌⊎◌, ◌≢◌, nat_le}
-use Rattle.std.specs.Int.{from_be_bytes, w32}
-use Rattle.std.proofs.lemmas.Bool.Decides.{nat_tests}
-use Rattle.std.proofs.lemmas.List.{take_at, take-take, take-replicate}
-use Rattle.std.proofs.Math.Seq.{take-append-add}
-use Rattle.pf_addr.specs.Form.Forms.{◌>>=◌}
-use Rattle.pf_addr.specs.declared.fault.AddrFault.{AddrFault}
-use Rattle.pf_addr.specs.declared.fault.AddrFault.TheVariants.{BadGroups}
-use Rattle.pf_addr.specs.declared.groups.Groups.{Groups}
-use Rattle.pf_addr.specs.declared.reading.Parts.{Parts}
-use Rattle.pf_addr.specs.Collected.{parts_of, parts_kept, eight_groups, groups_of, groups_kept, last_kept}
-use Rattle.pf_addr.specs.Grammar.{v6_number, two_groups}
-use Rattle.pf_addr.specs.Reading.{parts_at, v4_of, v4_at, has, group_at, end_at, groups_at, v6_of, v6_around, gap, v6_at}
+use Rattle.std.proofs.{Common.{◌≡◌, ℕ, ◌+◌, ◌-◌, ◌<◌, ◌≤◌, ◌&&◌, Bool, true, false, List, [], ◌∷◌, ◌++◌, length, take, drop, replicate, Some, None, Result, Ok, Err, refl, sym, ap, ◌∙◌, arith, le-leb, eq-eqb, ne_eqb}, lemmas.Bool.Decides.nat_tests, lemmas.List.{take_at, take-take, take-replicate}, Math.Seq.take-append-add}
+use Rattle.std.specs.{Prelude.{◌⊎◌, ◌≢◌, nat_le}, Int.{from_be_bytes, w32}}
+use Rattle.pf_addr.specs.{Form.Forms.◌>>=◌, Collected.{parts_of, parts_kept, eight_groups, groups_of, groups_kept, last_kept}, Grammar.{v6_number, two_groups}, Reading.{parts_at, v4_of, v4_at, has, group_at, end_at, groups_at, v6_of, v6_around, gap, v6_at}}
+use Rattle.pf_addr.specs.declared.{fault.AddrFault.AddrFault, fault.AddrFault.TheVariants.BadGroups, groups.Groups.Groups, reading.Parts.Parts}
 
 -- ---- what was kept of what was read
 

@@ -1,17 +1,9 @@
 -- A list that is read part after part.
-use Rattle.std.proofs.Common.{◌≡◌, ◌<◌, true, false, List, [], ◌∷◌, ◌++◌, length, Result, Ok, Err, refl, sym, ap, subst, ◌∙◌, append_assoc, append-nil, arith}
+use Rattle.std.proofs.{Common.{◌≡◌, ◌<◌, true, false, List, [], ◌∷◌, ◌++◌, length, Result, Ok, Err, refl, sym, ap, subst, ◌∙◌, append_assoc, append-nil, arith}, lemmas.Bool.Decides.nat_tests}
 use Rattle.std.specs.Prelude.{IsErrAnd, ◌==◌}
-use Rattle.std.proofs.lemmas.Bool.Decides.{nat_tests}
 use denote.Ref.{Bor}
-use Rattle.pf_addr.specs.declared.form.fault.Kind.{Kind}
-use Rattle.pf_addr.specs.declared.form.fault.Stop.{Stop}
-use Rattle.pf_addr.specs.declared.form.fault.Unread.{Unread}
-use Rattle.pf_addr.specs.declared.form.fault.Unread.TheVariants.{Stopped}
-use Rattle.pf_addr.specs.Form.Words.{Word, texts}
-use Rattle.pf_addr.specs.Form.Forms.{Reader, Read, ◌>>=◌, any_by, onto, one_or_more_by}
-use Rattle.pf_addr.specs.Form.Readers.{Fails, GivesAll, Shrinks, each_by}
-use Rattle.pf_addr.specs.Laws.Form.Decided.{leaves}
-use Rattle.pf_addr.specs.Laws.Form.Lists.{in_front, one_more, one_failed}
+use Rattle.pf_addr.specs.declared.{form.fault.Kind.Kind, form.fault.Stop.Stop, form.fault.Unread.Unread, form.fault.Unread.TheVariants.Stopped}
+use Rattle.pf_addr.specs.{Form.Words.{Word, texts}, Form.Forms.{Reader, Read, ◌>>=◌, any_by, onto, one_or_more_by}, Form.Readers.{Fails, GivesAll, Shrinks, each_by}, Laws.Form.Decided.leaves, Laws.Form.Lists.{in_front, one_more, one_failed}}
 
 -- these, and then what the others gave
 abbrev pub after : {A : Type 0} → List A → Read (List A) → Read (List A)

@@ -1,12 +1,7 @@
 -- The words of a line stand between blanks, and are all that stands so.
-use Rattle.std.proofs.Common.{◌≡◌, ℕ, ◌<◌, Bool, true, false, List, [], ◌∷◌, ◌++◌, length, refl, sym, ap, subst, ◌∙◌, append-nil, append_assoc, arith}
-use Rattle.std.specs.Prelude.{nat_lt, filter, All}
-use Rattle.std.specs.List.{slice_split}
-use Rattle.std.proofs.lemmas.Bool.{lt-ltb}
-use Rattle.std.proofs.lemmas.List.Elements.{All-nil, All-cons, All-head, All-tail}
-use Rattle.std.proofs.lemmas.List.Splits.{slice_split_none, slice_split-cons_yes, slice_split_at}
-use Rattle.pf_addr.specs.Form.Words.{Word, is_blank, words_of}
-use Rattle.pf_addr.specs.Form.Cuts.{AreBlanks, IsWord, EndsWord, IsFirstWord, IsCut}
+use Rattle.std.proofs.{Common.{◌≡◌, ℕ, ◌<◌, Bool, true, false, List, [], ◌∷◌, ◌++◌, length, refl, sym, ap, subst, ◌∙◌, append-nil, append_assoc, arith}, lemmas.Bool.lt-ltb, lemmas.List.Elements.{All-nil, All-cons, All-head, All-tail}, lemmas.List.Splits.{slice_split_none, slice_split-cons_yes, slice_split_at}}
+use Rattle.std.specs.{Prelude.{nat_lt, filter, All}, List.slice_split}
+use Rattle.pf_addr.specs.{Form.Words.{Word, is_blank, words_of}, Form.Cuts.{AreBlanks, IsWord, EndsWord, IsFirstWord, IsCut}}
 
 abbrev Blank : ℕ → Type 0
 Blank b = is_blank b ≡ true

@@ -1,6 +1,5 @@
 -- A number begins with a network's front exactly where clearing its other bits gives the network's number.
-use Rattle.std.proofs.Common.{◌≡◌, ℕ, ◌*◌, ◌/◌, ◌^◌, ◌==◌, sym, ap, ◌∙◌}
-use Rattle.std.proofs.lemmas.Bool.Decides.{Decides-eqb, Decides-like, same_from_decides}
+use Rattle.std.proofs.{Common.{◌≡◌, ℕ, ◌*◌, ◌/◌, ◌^◌, ◌==◌, sym, ap, ◌∙◌}, lemmas.Bool.Decides.{Decides-eqb, Decides-like, same_from_decides}}
 use Rattle.pf_addr.specs.declared.net.Net.TheInside.{Inside}
 use Rattle.pf_addr.specs.Nets.{IsWithin, host_bits, network_in, filled}
 

@@ -1,12 +1,7 @@
 -- A word is read as a name exactly where it is one.
-use Rattle.std.proofs.Common.{◌≡◌, ℕ, true, List, arith}
-use Rattle.std.specs.Prelude.{nat_lt}
-use Rattle.std.specs.List.{list_all, slice_index_or}
-use Rattle.std.proofs.lemmas.Bool.{and_parts}
-use Rattle.std.proofs.lemmas.Bool.Decides.{nat_tests}
-use Rattle.std.proofs.lemmas.List.Sums.{AllPass-from_list_all, list_all-from_AllPass}
-use Rattle.pf_addr.specs.Path.Names.{is_name_byte, IsName}
-use Rattle.pf_addr.specs.Laws.Path.Names.{ReadsANameAlone, ReadsEachName}
+use Rattle.std.proofs.{Common.{◌≡◌, ℕ, true, List, arith}, lemmas.Bool.and_parts, lemmas.Bool.Decides.nat_tests, lemmas.List.Sums.{AllPass-from_list_all, list_all-from_AllPass}}
+use Rattle.std.specs.{Prelude.nat_lt, List.{list_all, slice_index_or}}
+use Rattle.pf_addr.specs.{Path.Names.{is_name_byte, IsName}, Laws.Path.Names.{ReadsANameAlone, ReadsEachName}}
 
 pub name_found : ReadsANameAlone
 name_found limit w n e = grind (arith, nat_tests, and_parts)

@@ -1,11 +1,7 @@
 -- Texts that are written part by part.
-use Rattle.std.proofs.Common.{◌≡◌, ℕ, ◌+◌, ◌-◌, ◌<◌, List, ◌∷◌, ◌++◌, length, take, drop, get_or, Option, sym, ap, ◌∙◌}
-use Rattle.std.specs.Prelude.{flat_map}
-use Rattle.std.specs.Io.KnownBytes.{Appends}
-use Rattle.std.proofs.lemmas.List.{take_rest, take_more, flat_map_more}
-use Rattle.std.proofs.Math.Seq.{take-add}
-use Rattle.pf_addr.specs.Spelling.{group_text}
-use Rattle.pf_addr.specs.Writing.{Appends-then}
+use Rattle.std.proofs.{Common.{◌≡◌, ℕ, ◌+◌, ◌-◌, ◌<◌, List, ◌∷◌, ◌++◌, length, take, drop, get_or, Option, sym, ap, ◌∙◌}, lemmas.List.{take_rest, take_more, flat_map_more}, Math.Seq.take-add}
+use Rattle.std.specs.{Prelude.flat_map, Io.KnownBytes.Appends}
+use Rattle.pf_addr.specs.{Spelling.group_text, Writing.Appends-then}
 
 pub appends_more : (old mid new : Option (List ℕ)) (text : List ℕ) (w n : ℕ) → Appends old mid (take w text) → Appends mid new (take n (take (length text - w) (drop w text))) → Appends old new (take (w + n) text)
 appends_more old mid new text w n p q = rw (take-add w n text) (Appends-then old mid new (take w text) (take n (drop w text)) p (rw (take_rest text w) at q))

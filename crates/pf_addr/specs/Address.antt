@@ -1,10 +1,7 @@
 -- Addresses, networks, and which network contains which address (pf.conf(5), PARAMETERS, networks in CIDR notation).
 use Rattle.std.specs.Prelude.{◌≡◌, ℕ, ◌-◌, ◌/◌, ◌%◌, ◌^◌, ◌==◌, ◌<◌, ◌≤◌, Bool, true, false, ◌&&◌}
-use Rattle.pf_addr.specs.declared.addr.Addr.{Addr}
+use Rattle.pf_addr.specs.declared.{addr.Addr.Addr, addr.TheConstants.{V4_BITS, V6_BITS}, addr.Family.Family, addr.Family.TheVariants.{V4, V6}}
 use Rattle.pf_addr.specs.declared.addr.Addr.TheVariants as addr
-use Rattle.pf_addr.specs.declared.addr.TheConstants.{V4_BITS, V6_BITS}
-use Rattle.pf_addr.specs.declared.addr.Family.{Family}
-use Rattle.pf_addr.specs.declared.addr.Family.TheVariants.{V4, V6}
 
 -- how many bits an address of the family has
 abbrev pub width : Family → ℕ

@@ -1,13 +1,7 @@
 -- Which fault a text has that spells no address or no network, and at which byte, by cases on the text. Their order is own.
-use Rattle.std.specs.Prelude.{◌≡◌, ◌≢◌, ℕ, ◌+◌, ◌==◌, ◌<◌, ◌≤◌, ◌⊎◌, Bool, true, false, List, [], ◌∷◌, ◌++◌, length, slice_index, All}
-use Rattle.std.specs.List.{AllZip}
-use Rattle.std.specs.Str.Parse.{IsNumeral}
-use Rattle.pf_addr.specs.declared.addr.Addr.{Addr}
-use Rattle.pf_addr.specs.declared.fault.AddrFault.{AddrFault}
-use Rattle.pf_addr.specs.declared.fault.AddrFault.TheVariants.{Empty, BadDigit, TooBig, BadLength, BadGroups}
-use Rattle.pf_addr.specs.declared.groups.TheConstants.{GROUPS}
-use Rattle.pf_addr.specs.Address.{width, family_of}
-use Rattle.pf_addr.specs.Grammar.{is_other, is_small, is_short, pieces, IsNumber, Dotted, IsGroup, Grouped, EndGrouped, Spells}
+use Rattle.std.specs.{Prelude.{◌≡◌, ◌≢◌, ℕ, ◌+◌, ◌==◌, ◌<◌, ◌≤◌, ◌⊎◌, Bool, true, false, List, [], ◌∷◌, ◌++◌, length, slice_index, All}, List.AllZip, Str.Parse.IsNumeral}
+use Rattle.pf_addr.specs.declared.{addr.Addr.Addr, fault.AddrFault.AddrFault, fault.AddrFault.TheVariants.{Empty, BadDigit, TooBig, BadLength, BadGroups}, groups.TheConstants.GROUPS}
+use Rattle.pf_addr.specs.{Address.{width, family_of}, Grammar.{is_other, is_small, is_short, pieces, IsNumber, Dotted, IsGroup, Grouped, EndGrouped, Spells}}
 
 -- the first byte that passes a test stands at this place
 pub record FirstAt (test : ℕ → Bool) (text : List ℕ) (place : ℕ) : Type 0 where

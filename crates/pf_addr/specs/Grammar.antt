@@ -1,16 +1,9 @@
 -- Which texts spell an address or a network: V4 in decimal numbers between dots, V6 in hexadecimal groups between colons
 -- (RFC 4291 section 2.2), a network in CIDR notation (pf.conf(5), PARAMETERS).
-use Rattle.std.specs.Prelude.{◌≡◌, ℕ, ◌/◌, ◌%◌, ◌<◌, ◌≤◌, nat_le, Bool, ◌&&◌, ◌==◌, ◌⊎◌, List, [], ◌∷◌, ◌++◌, length, take, replicate}
-use Rattle.std.specs.Char.{digit_value}
-use Rattle.std.specs.List.{AllZip, slice_split}
-use Rattle.std.specs.Int.{from_be_bytes, w32}
-use Rattle.std.specs.Int.Digits.{number_from_digits}
-use Rattle.std.specs.Str.Parse.{IsNumeral, digits_value}
+use Rattle.std.specs.{Prelude.{◌≡◌, ℕ, ◌/◌, ◌%◌, ◌<◌, ◌≤◌, nat_le, Bool, ◌&&◌, ◌==◌, ◌⊎◌, List, [], ◌∷◌, ◌++◌, length, take, replicate}, Char.digit_value, List.{AllZip, slice_split}, Int.{from_be_bytes, w32}, Int.Digits.number_from_digits, Str.Parse.{IsNumeral, digits_value}}
 use Rattle.pf_addr.specs.Form.Numbers as digits
-use Rattle.pf_addr.specs.declared.addr.Addr.{Addr}
+use Rattle.pf_addr.specs.declared.{addr.Addr.Addr, reading.TheConstants.NUMBER_DIGITS, groups.TheConstants.{GROUP_DIGITS, GROUPS}}
 use Rattle.pf_addr.specs.declared.addr.Addr.TheVariants as addr
-use Rattle.pf_addr.specs.declared.reading.TheConstants.{NUMBER_DIGITS}
-use Rattle.pf_addr.specs.declared.groups.TheConstants.{GROUP_DIGITS, GROUPS}
 use Rattle.pf_addr.specs.Address.{Network, width, family_of, network_from, network_of}
 
 -- the pieces of a text between such bytes; the empty text has no pieces

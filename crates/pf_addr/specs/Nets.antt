@@ -1,7 +1,6 @@
 -- How a network is kept: the number of its first address, and how many of its bits are the front.
 use Rattle.std.specs.Prelude.{◌≡◌, ℕ, ◌-◌, ◌*◌, ◌/◌, ◌^◌, ◌%◌, ◌<◌, ◌≤◌}
-use Rattle.std.proofs.Common.{ap, arith}
-use Rattle.std.proofs.lemmas.Nat.{shr_split}
+use Rattle.std.proofs.{Common.{ap, arith}, lemmas.Nat.shr_split}
 use Rattle.pf_addr.specs.declared.net.Net.TheInside.{Inside}
 use Rattle.pf_addr.specs.Address.{Network, width}
 

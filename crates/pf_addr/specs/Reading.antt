@@ -1,19 +1,9 @@
 -- How a text is read from left to right: what it spells (`Grammar`), or else its fault (`FaultCases`). It is there so that functions
 -- have something to compute; laws say that both are told exactly so.
-use Rattle.std.specs.Prelude.{ℕ, ◌+◌, ◌-◌, ◌==◌, nat_le, Bool, true, false, ◌&&◌, List, [], ◌∷◌, ◌++◌, length, take, drop, replicate, Option, Some, None, is_some, Result, Ok, Err, if◌then◌else◌}
-use Rattle.std.specs.List.{position}
-use Rattle.std.specs.Option.{ok_or}
-use Rattle.std.specs.Str.Parse.{digits_value}
-use Rattle.pf_addr.specs.Form.Forms.{◌>>=◌}
-use Rattle.pf_addr.specs.Form.Numbers.{number_of}
-use Rattle.pf_addr.specs.declared.addr.Addr.{Addr}
+use Rattle.std.specs.{Prelude.{ℕ, ◌+◌, ◌-◌, ◌==◌, nat_le, Bool, true, false, ◌&&◌, List, [], ◌∷◌, ◌++◌, length, take, drop, replicate, Option, Some, None, is_some, Result, Ok, Err, if◌then◌else◌}, List.position, Option.ok_or, Str.Parse.digits_value}
+use Rattle.pf_addr.specs.{Form.Forms.◌>>=◌, Form.Numbers.number_of, Address.{Network, width, family_of, network_from, network_of}, Grammar.{is_other, is_short, pieces, v4_number, v6_number, two_groups}}
+use Rattle.pf_addr.specs.declared.{addr.Addr.Addr, fault.AddrFault.AddrFault, fault.AddrFault.TheVariants.{Empty, BadDigit, TooBig, BadLength, BadGroups}, reading.TheConstants.NUMBER_DIGITS, groups.TheConstants.GROUPS}
 use Rattle.pf_addr.specs.declared.addr.Addr.TheVariants as addr
-use Rattle.pf_addr.specs.declared.fault.AddrFault.{AddrFault}
-use Rattle.pf_addr.specs.declared.fault.AddrFault.TheVariants.{Empty, BadDigit, TooBig, BadLength, BadGroups}
-use Rattle.pf_addr.specs.declared.reading.TheConstants.{NUMBER_DIGITS}
-use Rattle.pf_addr.specs.declared.groups.TheConstants.{GROUPS}
-use Rattle.pf_addr.specs.Address.{Network, width, family_of, network_from, network_of}
-use Rattle.pf_addr.specs.Grammar.{is_other, is_short, pieces, v4_number, v6_number, two_groups}
 
 -- the number, if it is at most `most`
 abbrev pub kept_to : ℕ → Option ℕ → Option ℕ

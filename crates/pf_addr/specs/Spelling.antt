@@ -1,12 +1,7 @@
 -- The one text that an address or a network is written as.
-use Rattle.std.specs.Prelude.{ℕ, ◌-◌, ◌*◌, ◌/◌, ◌%◌, ◌^◌, ◌==◌, List, [], ◌∷◌, ◌++◌, map, decimal, if◌then◌else◌}
-use Rattle.std.specs.List.{join_with_byte}
-use Rattle.std.specs.Int.{to_be_bytes, w32}
-use Rattle.std.specs.Net.Text.{hex}
-use Rattle.pf_addr.specs.declared.addr.Addr.{Addr}
+use Rattle.std.specs.{Prelude.{ℕ, ◌-◌, ◌*◌, ◌/◌, ◌%◌, ◌^◌, ◌==◌, List, [], ◌∷◌, ◌++◌, map, decimal, if◌then◌else◌}, List.join_with_byte, Int.{to_be_bytes, w32}, Net.Text.hex}
+use Rattle.pf_addr.specs.declared.{addr.Addr.Addr, addr.Family.Family, addr.Family.TheVariants.{V4, V6}}
 use Rattle.pf_addr.specs.declared.addr.Addr.TheVariants as addr
-use Rattle.pf_addr.specs.declared.addr.Family.{Family}
-use Rattle.pf_addr.specs.declared.addr.Family.TheVariants.{V4, V6}
 use Rattle.pf_addr.specs.Address.{Network, width}
 
 -- the 16 bits of a V6 address that end so many bits before its end, in lower-case hexadecimal with no leading zeros

@@ -1,12 +1,7 @@
 -- What a call that writes a text leaves in the writer, where the writer's bytes are known.
-use Rattle.std.proofs.Common.{◌≡◌, ℕ, ◌+◌, min, List, [], ◌++◌, length, take, arith, Option, Some, None, Result, Ok, Err, sym, ap, ◌∙◌, subst, append_assoc, append-nil}
-use Rattle.std.specs.Prelude.{◌≢◌, IfErr}
-use Rattle.std.proofs.lemmas.List.{take-append-le, take_min}
-use Rattle.std.proofs.Math.Seq.{take-append-add}
-use Rattle.std.specs.declared.io.Error.{Error}
-use Rattle.std.specs.declared.io.ErrorKind.TheVariants.{Interrupted}
-use Rattle.std.specs.Io.KnownBytes.{Appends, Keeps}
-use Rattle.std.specs.IoError.{error_kind}
+use Rattle.std.proofs.{Common.{◌≡◌, ℕ, ◌+◌, min, List, [], ◌++◌, length, take, arith, Option, Some, None, Result, Ok, Err, sym, ap, ◌∙◌, subst, append_assoc, append-nil}, lemmas.List.{take-append-le, take_min}, Math.Seq.take-append-add}
+use Rattle.std.specs.{Prelude.{◌≢◌, IfErr}, Io.KnownBytes.{Appends, Keeps}, IoError.error_kind}
+use Rattle.std.specs.declared.{io.Error.Error, io.ErrorKind.TheVariants.Interrupted}
 
 -- some front of the text
 abbrev pub WritesFront : Option (List ℕ) → Option (List ℕ) → List ℕ → Type 0
@@ -49,31 +44,40 @@ pub WritesFront-longer : (old new : Option (List ℕ)) (a b : List ℕ) → Writ
 WritesFront-longer old new a b w = (min w.0 (length a), rw (take-append-le (min w.0 (length a)) a b (omega arith), take_min w.0 a) w.1)
 
 -- Where the second fails, the first and a front of the second are a front of both.
-pub WritesFront-then : (old mid new : Option (List ℕ)) (a b : List ℕ) → Appends old mid a → WritesFront mid new b → WritesFront old new (a ++ b)
+pub WritesFront-then : (old mid new : Option (List ℕ)) (a b : List ℕ) → Appends old mid a → WritesFront mid new b →
+    WritesFront old new (a ++ b)
 WritesFront-then old mid new a b p w = (length a + w.0, rw (take-append-add a b w.0) (Appends-then old mid new a (take w.0 b) p w.1))
 
 -- One text and then another.
-pub Writes-then : {A E : Type 0} (r : Result A E) (old mid new : Option (List ℕ)) (a b : List ℕ) → Appends old mid a → Writes r mid new b → Writes r old new (a ++ b)
+pub Writes-then : {A E : Type 0} (r : Result A E) (old mid new : Option (List ℕ)) (a b : List ℕ) → Appends old mid a → Writes r mid new b →
+    Writes r old new (a ++ b)
 Writes-then (Ok u) old mid new a b p w = Appends-then old mid new a b p w
 Writes-then (Err e) old mid new a b p w = WritesFront-then old mid new a b p w
 
 -- ---- one behind the other
 
-pub Continues-then : {A B C : Type 0} {q : Result A Error} {r : Result B Error} {s : Result C Error} {old mid new : Option (List ℕ)} {a b : List ℕ} → Continues q old r mid a → Continues r mid s new b → Continues q old s new (a ++ b)
+pub Continues-then : {A B C : Type 0} {q : Result A Error} {r : Result B Error} {s : Result C Error} {old mid new : Option (List ℕ)}
+    {a b : List ℕ} → Continues q old r mid a → Continues r mid s new b → Continues q old s new (a ++ b)
 Continues-then {s = s} {new = new} {a = a} {b = b} first second = record {
-  behind = λ at front w. subst (λ (text : List ℕ). Wrote s at new text) (append_assoc front a b) (second.behind at (front ++ a) (first.behind at front w));
+  behind = λ at front w. subst (λ (text : List ℕ). Wrote s at new text) (append_assoc front a b)
+      (second.behind at (front ++ a) (first.behind at front w));
 }
 
-pub Continues-ok : {A B : Type 0} (q : Result A Error) (u : A) (r : Result B Error) (mid new : Option (List ℕ)) (text : List ℕ) → q ≡ Ok u → Writes r mid new text → IfErr r (λ e. error_kind e ≢ Interrupted) → Continues q mid r new text
+pub Continues-ok : {A B : Type 0} (q : Result A Error) (u : A) (r : Result B Error) (mid new : Option (List ℕ)) (text : List ℕ) → q ≡ Ok u →
+    Writes r mid new text → IfErr r (λ e. error_kind e ≢ Interrupted) → Continues q mid r new text
 Continues-ok {A = A} q u r mid new text is p retried = record {
-  behind = λ old front w. (Writes-then r old mid new front text (let h : Wrote {A = A} (Ok u) old mid front = subst (λ (x : Result A Error). Wrote x old mid front) is w in h.0) p, retried);
+  behind = λ old front w. (Writes-then r old mid new front text (let h : Wrote {A = A} (Ok u) old mid front =
+      subst (λ (x : Result A Error). Wrote x old mid front) is w in h.0) p, retried);
 }
 
-pub Continues-err : {A B : Type 0} (q : Result A Error) (e : Error) (mid : Option (List ℕ)) (text : List ℕ) → q ≡ Err e → Continues {B = B} q mid (Err e) mid text
+pub Continues-err : {A B : Type 0} (q : Result A Error) (e : Error) (mid : Option (List ℕ)) (text : List ℕ) → q ≡ Err e →
+    Continues {B = B} q mid (Err e) mid text
 Continues-err {A = A} q e mid text is = record {
-  behind = λ old front w. let h : Wrote {A = A} (Err e) old mid front = subst (λ (x : Result A Error). Wrote x old mid front) is w in (WritesFront-longer old mid front text h.0, h.1);
+  behind = λ old front w. let h : Wrote {A = A} (Err e) old mid front = subst (λ (x : Result A Error). Wrote x old mid front) is w in
+      (WritesFront-longer old mid front text h.0, h.1);
 }
 
 -- behind nothing
-pub behind_nothing : {A B : Type 0} (u : A) {r : Result B Error} {mid new : Option (List ℕ)} {text : List ℕ} → Continues {A = A} (Ok u) mid r new text → Wrote r mid new text
+pub behind_nothing : {A B : Type 0} (u : A) {r : Result B Error} {mid new : Option (List ℕ)} {text : List ℕ} →
+    Continues {A = A} (Ok u) mid r new text → Wrote r mid new text
 behind_nothing u {mid = mid} all = all.behind mid [] (Appends-none mid, tt)

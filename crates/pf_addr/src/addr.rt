@@ -1,8 +1,6 @@
 //! Addresses.
 ghost use Rattle.std.specs.Prelude.{◌≡◌, IfOk, Ok};
-ghost use Rattle.pf_addr.specs.Address.{family_of, width};
-ghost use Rattle.pf_addr.specs.Grammar.{SpellsAddr};
-ghost use Rattle.pf_addr.specs.Reading.{addr_at};
+ghost use Rattle.pf_addr.specs.{Address.{family_of, width}, Grammar.SpellsAddr, Reading.addr_at};
 
 use crate::fault::AddrFault;
 use crate::reading::read_address;

@@ -1,16 +1,7 @@
 //! Laws of networks and of texts. Each function's contract is the law, and its body does nothing.
 ghost use Rattle.std.specs.Prelude.{◌≡◌, ◌↔◌, ℕ, ◌^◌, ◌<◌, ◌≤◌, true, List, Ok};
-ghost use Rattle.pf_addr.specs.declared.addr.Addr.{Addr};
-ghost use Rattle.pf_addr.specs.declared.addr.TheConstants.{V4_BITS, V6_BITS};
-ghost use Rattle.pf_addr.specs.declared.groups.TheConstants.{GROUPS, GROUP_DIGITS};
-ghost use Rattle.pf_addr.specs.declared.reading.TheConstants.{NUMBER_DIGITS};
-ghost use Rattle.pf_addr.specs.Address.{Network, width, family_of, network_from, contains, IsAddr, BeginsAs, Agree};
-ghost use Rattle.pf_addr.specs.FaultCases.{IsAddrFault, IsNetFault};
-ghost use Rattle.pf_addr.specs.Form.Told.{TellsFaults};
-ghost use Rattle.pf_addr.specs.Grammar.{SpellsAddr, SpellsNet};
-ghost use Rattle.pf_addr.specs.Reading.{addr_at, net_at};
-ghost use Rattle.pf_addr.specs.Spelling.{addr_text, net_text};
-ghost use Rattle.pf_addr.specs.Laws.Spelling.{IsNetwork, IsNetWord};
+ghost use Rattle.pf_addr.specs.declared.{addr.Addr.Addr, addr.TheConstants.{V4_BITS, V6_BITS}, groups.TheConstants.{GROUPS, GROUP_DIGITS}, reading.TheConstants.NUMBER_DIGITS};
+ghost use Rattle.pf_addr.specs.{Address.{Network, width, family_of, network_from, contains, IsAddr, BeginsAs, Agree}, FaultCases.{IsAddrFault, IsNetFault}, Form.Told.TellsFaults, Grammar.{SpellsAddr, SpellsNet}, Reading.{addr_at, net_at}, Spelling.{addr_text, net_text}, Laws.Spelling.{IsNetwork, IsNetWord}};
 
 use crate::addr::Addr;
 

@@ -1,9 +1,6 @@
 //! Networks.
 ghost use Rattle.std.specs.Prelude.{◌≡◌, ℕ, ◌-◌, ◌*◌, ◌/◌, ◌^◌, ◌≤◌, ◌<◌, length, IfOk, Ok};
-ghost use Rattle.pf_addr.specs.Address.{Network, contains, width, family_of, network_from, network_of};
-ghost use Rattle.pf_addr.specs.Grammar.{SpellsNet};
-ghost use Rattle.pf_addr.specs.Reading.{net_at, cut_at};
-ghost use Rattle.pf_addr.specs.Spelling.{first_addr};
+ghost use Rattle.pf_addr.specs.{Address.{Network, contains, width, family_of, network_from, network_of}, Grammar.SpellsNet, Reading.{net_at, cut_at}, Spelling.first_addr};
 
 use crate::addr::{Addr, Family, V4_BITS, V6_BITS};
 use crate::fault::AddrFault;

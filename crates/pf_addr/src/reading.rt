@@ -1,10 +1,6 @@
 //! Addresses as text, and the numbers between the dots of an IPv4 address.
-ghost use Rattle.std.specs.Prelude.{◌≡◌, ◌+◌, ◌^◌, ◌<◌, ◌==◌, ◌-◌, length, set, IfSome};
-ghost use Rattle.std.specs.Char.{digit_value};
-ghost use Rattle.std.specs.List.{position};
-ghost use Rattle.pf_addr.specs.Grammar.{is_other};
-ghost use Rattle.pf_addr.specs.Collected.{parts_kept};
-ghost use Rattle.pf_addr.specs.Reading.{small_number, part_at, part_fault, v4_at, address_at, length_at};
+ghost use Rattle.std.specs.{Prelude.{◌≡◌, ◌+◌, ◌^◌, ◌<◌, ◌==◌, ◌-◌, length, set, IfSome}, Char.digit_value, List.position};
+ghost use Rattle.pf_addr.specs.{Grammar.is_other, Collected.parts_kept, Reading.{small_number, part_at, part_fault, v4_at, address_at, length_at}};
 
 use crate::addr::Addr;
 use crate::fault::AddrFault;

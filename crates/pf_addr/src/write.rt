@@ -1,16 +1,9 @@
 //! Addresses, networks and numbers as text.
 //!
 //! A call that fails has written some front of its text, and no more. None of these calls takes memory.
-ghost use Rattle.std.specs.Prelude.{◌≡◌, ◌≢◌, ◌+◌, ◌<◌, ◌≤◌, ◌^◌, ◌/◌, ◌%◌, ℕ, List, [], ◌∷◌, ◌++◌, length, map, take, decimal, IfErr, IfOk, OnErr};
-ghost use Rattle.std.specs.Char.{digit_char};
-ghost use Rattle.std.specs.Io.{WritesAtMost};
-ghost use Rattle.std.specs.Io.KnownBytes.{Appends, Keeps};
-ghost use Rattle.std.specs.IoError.{error_kind};
-ghost use Rattle.std.specs.List.{join_with_byte};
-ghost use Rattle.std.specs.Net.Text.{hex, leading_zero_digits};
+ghost use Rattle.std.specs.{Prelude.{◌≡◌, ◌≢◌, ◌+◌, ◌<◌, ◌≤◌, ◌^◌, ◌/◌, ◌%◌, ℕ, List, [], ◌∷◌, ◌++◌, length, map, take, decimal, IfErr, IfOk, OnErr}, Char.digit_char, Io.WritesAtMost, Io.KnownBytes.{Appends, Keeps}, IoError.error_kind, List.join_with_byte, Net.Text.{hex, leading_zero_digits}};
 ghost use Rattle.pf_addr.specs.declared.addr.Addr.TheVariants as Addr;
-ghost use Rattle.pf_addr.specs.Spelling.{addr_text, net_text, length_text, group_text};
-ghost use Rattle.pf_addr.specs.Writing.{Writes, Wrote, Continues};
+ghost use Rattle.pf_addr.specs.{Spelling.{addr_text, net_text, length_text, group_text}, Writing.{Writes, Wrote, Continues}};
 
 use crate::addr::Addr;
 use crate::net::Net;

@@ -1,15 +1,9 @@
 -- A rule before other rules, rules in parts, and where a ruleset ends.
 use Rattle.std.proofs.Common.{◌≡◌, ℕ, ◌+◌, Bool, true, false, cond, List, [], ◌∷◌, ◌++◌, length, Option, Some, None, refl, sym, ap, ◌∙◌, arith}
-use Rattle.std.specs.Prelude.{◌||◌}
-use Rattle.std.specs.List.{list_any}
-use Rattle.pf_addr.specs.Path.Paths.{main}
-use Rattle.pf_addr.specs.Path.References.{PlainReference}
+use Rattle.std.specs.{Prelude.◌||◌, List.list_any}
+use Rattle.pf_addr.specs.{Path.Paths.main, Path.References.PlainReference}
 use Rattle.pf_rule.specs.Rules.{PlainRule}
-use Rattle.pf_anchor.specs.declared.{evaluated.Evaluated.Evaluated, evaluated.Evaluated.TheVariants.Open, evaluated.Evaluated.TheVariants.Ended}
-use Rattle.pf_anchor.specs.Matches.{PlainMatch, found}
-use Rattle.pf_anchor.specs.Rulesets.{Ruled, ruled, targets}
-use Rattle.pf_anchor.specs.Evaluation.{Tests, and_then, settled, in_turn, effected, evaluation, matching, last_of, verdict_by, rules_at_path}
-use Rattle.pf_anchor.specs.Laws.Evaluation.{IsAnchor, OwnMatch, EndsOutside, NothingWithin, MatchWithin, QuickEnds, EndsTheVerdict, InTwoParts, PassedOver}
+use Rattle.pf_anchor.specs.{declared.{evaluated.Evaluated.Evaluated, evaluated.Evaluated.TheVariants.Open, evaluated.Evaluated.TheVariants.Ended}, Matches.{PlainMatch, found}, Rulesets.{Ruled, ruled, targets}, Evaluation.{Tests, and_then, settled, in_turn, effected, evaluation, matching, last_of, verdict_by, rules_at_path}, Laws.Evaluation.{IsAnchor, OwnMatch, EndsOutside, NothingWithin, MatchWithin, QuickEnds, EndsTheVerdict, InTwoParts, PassedOver}}
 use Rattle.pf_anchor.proofs.Evaluations.{none_and_then, and_then_assoc, unrolled}
 
 rule_is : (f : Ruled → Evaluated PlainMatch) (c : List Ruled) (tests : Tests) (p : List ℕ) (n : ℕ) (r : PlainRule) (rs : List PlainRule) (x : Evaluated PlainMatch) →

@@ -1,18 +1,11 @@
 -- What is found is a rule that decides, and a verdict tells which.
 use Rattle.std.proofs.Common.{◌≡◌, ℕ, T, zero, suc, ◌+◌, inl, inr, Bool, true, false, cond, List, [], ◌∷◌, Option, Some, None, refl, sym, ap, ◌∙◌, subst, arith}
 use Rattle.std.specs.FinMap.{find, is_sorted}
-use Rattle.pf_addr.specs.Path.Paths.{main, path_order}
-use Rattle.pf_addr.specs.Path.References.{PlainReference}
-use Rattle.pf_rule.specs.Rules.{PlainRule}
-use Rattle.pf_rule.specs.declared.{rule.Action.Action, rule.Effect.Effect, rule.Effect.TheVariants.Decide, rule.Effect.TheVariants.Evaluate}
-use Rattle.pf_anchor.specs.declared.{evaluated.Evaluated.Evaluated, evaluated.Evaluated.TheVariants.Open, evaluated.Evaluated.TheVariants.Ended}
+use Rattle.pf_addr.specs.{Path.Paths.{main, path_order}, Path.References.PlainReference}
+use Rattle.pf_rule.specs.{Rules.PlainRule, declared.{rule.Action.Action, rule.Effect.Effect, rule.Effect.TheVariants.Decide, rule.Effect.TheVariants.Evaluate}}
+use Rattle.pf_anchor.specs.{declared.{evaluated.Evaluated.Evaluated, evaluated.Evaluated.TheVariants.Open, evaluated.Evaluated.TheVariants.Ended}, Matches.{PlainMatch, found}, Rulesets.{Ruled, ruled, rules_in, rules_at, targets, leads_to}, Evaluation.{Tests, and_then, settled, in_turn, effected, evaluate_with, levels, evaluation, matching, verdict_by, last_of, judged, rules_at_path}, Laws.Evaluation.{IsIn, rule_numbered, IsDecidedBy, Holds, AnchorsNeverDecide, ToldRuleDecides}}
 use Rattle.pf_anchor.specs.declared.verdict.RuleVerdict.TheVariants as by
-use Rattle.pf_anchor.specs.Matches.{PlainMatch, found}
-use Rattle.pf_anchor.specs.Rulesets.{Ruled, ruled, rules_in, rules_at, targets, leads_to}
-use Rattle.pf_anchor.specs.Evaluation.{Tests, and_then, settled, in_turn, effected, evaluate_with, levels, evaluation, matching, verdict_by, last_of, judged, rules_at_path}
-use Rattle.pf_anchor.specs.Laws.Evaluation.{IsIn, rule_numbered, IsDecidedBy, Holds, AnchorsNeverDecide, ToldRuleDecides}
-use Rattle.pf_anchor.proofs.Evaluations.{default_judged}
-use Rattle.pf_anchor.proofs.Entries.{found_is_in, entry_is}
+use Rattle.pf_anchor.proofs.{Evaluations.default_judged, Entries.{found_is_in, entry_is}}
 
 both_hold : (P : PlainMatch → Type 0) (a b : Evaluated PlainMatch) → Holds P a → Holds P b → Holds P (and_then a b)
 both_hold P (Ended m) b h k = h

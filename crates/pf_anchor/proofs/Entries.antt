@@ -1,13 +1,10 @@
 -- Entries of a map, and what is found at their paths.
-use Rattle.std.proofs.Common.{◌≡◌, ℕ, T, inl, inr, Bool, true, false, cond, List, [], ◌∷◌, Option, Some, None, refl, sym, ap, subst, ◌∙◌}
-use Rattle.std.specs.Prelude.{filter}
-use Rattle.std.specs.FinMap.{find, is_sorted}
-use Rattle.std.proofs.lemmas.Cmp.{eq_by_cmp_equiv, nat_list_cmp_total}
+use Rattle.std.proofs.{Common.{◌≡◌, ℕ, T, inl, inr, Bool, true, false, cond, List, [], ◌∷◌, Option, Some, None, refl, sym, ap, subst, ◌∙◌}, lemmas.Cmp.{eq_by_cmp_equiv, nat_list_cmp_total}}
+use Rattle.std.specs.{Prelude.filter, FinMap.{find, is_sorted}}
 use Rattle.pf_addr.specs.Path.Paths.{path_order, same_path}
 use Rattle.pf_addr.proofs.PathsRead.{same_path_is}
 use Rattle.pf_rule.specs.Rules.{PlainRule}
-use Rattle.pf_anchor.specs.Rulesets.{Ruled, ruled, rules_in, rules_at}
-use Rattle.pf_anchor.specs.Laws.Evaluation.{IsIn}
+use Rattle.pf_anchor.specs.{Rulesets.{Ruled, ruled, rules_in, rules_at}, Laws.Evaluation.IsIn}
 use Rattle.pf_anchor.proofs.Turns.{alone, one_there}
 
 pub found_is_in : (p : List ℕ) (c : List Ruled) (rs : List PlainRule) → find path_order p c ≡ Some rs → IsIn (ruled p rs) c

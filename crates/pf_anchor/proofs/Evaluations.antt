@@ -2,20 +2,10 @@
 use Rattle.std.proofs.Common.{◌≡◌, ℕ, zero, suc, ◌+◌, ◌-◌, ◌<◌, ◌≤◌, Bool, true, false, cond, List, [], ◌∷◌, Option, Some, None, refl, sym, ap, ◌∙◌, arith}
 use Rattle.std.specs.Option.{option_map_or}
 use Rattle.pf_addr.specs.declared.path.limits.TheConstants.{DEPTH_LIMIT}
-use Rattle.pf_addr.specs.Path.Paths.{main}
-use Rattle.pf_addr.specs.Path.Nested.{depth, path_within}
-use Rattle.pf_addr.specs.Path.References.{PlainReference}
-use Rattle.pf_addr.proofs.PathsRead.{same_path_is}
-use Rattle.pf_addr.proofs.Nesting.{leads_deeper, has_one_more}
-use Rattle.pf_rule.specs.Packets.{PlainPacket}
-use Rattle.pf_rule.specs.Rules.{PlainRule}
-use Rattle.pf_rule.specs.declared.{rule.Effect.Effect, rule.Effect.TheVariants.Decide, rule.Effect.TheVariants.Evaluate}
-use Rattle.pf_anchor.specs.declared.{evaluated.Evaluated.Evaluated, evaluated.Evaluated.TheVariants.Open, evaluated.Evaluated.TheVariants.Ended, verdict.RuleVerdict.TheVariants.Default}
-use Rattle.pf_anchor.specs.Matches.{PlainMatch}
-use Rattle.pf_anchor.specs.Rulesets.{Ruled, ruled, rules_at, leads_from, leads_to, targets}
-use Rattle.pf_anchor.specs.Configurations.{Configuration}
-use Rattle.pf_anchor.specs.Evaluation.{Tests, and_then, in_turn, last_of, effected, rules_give, evaluate_with, levels, evaluation, matching, verdict_by, judged}
-use Rattle.pf_anchor.specs.Laws.Evaluation.{Unrolls, IsTheOnly, DepthIsEnough}
+use Rattle.pf_addr.specs.{Path.Paths.main, Path.Nested.{depth, path_within}, Path.References.PlainReference}
+use Rattle.pf_addr.proofs.{PathsRead.same_path_is, Nesting.{leads_deeper, has_one_more}}
+use Rattle.pf_rule.specs.{Packets.PlainPacket, Rules.PlainRule, declared.{rule.Effect.Effect, rule.Effect.TheVariants.Decide, rule.Effect.TheVariants.Evaluate}}
+use Rattle.pf_anchor.specs.{declared.{evaluated.Evaluated.Evaluated, evaluated.Evaluated.TheVariants.Open, evaluated.Evaluated.TheVariants.Ended, verdict.RuleVerdict.TheVariants.Default}, Matches.PlainMatch, Rulesets.{Ruled, ruled, rules_at, leads_from, leads_to, targets}, Configurations.Configuration, Evaluation.{Tests, and_then, in_turn, last_of, effected, rules_give, evaluate_with, levels, evaluation, matching, verdict_by, judged}, Laws.Evaluation.{Unrolls, IsTheOnly, DepthIsEnough}}
 
 -- ---- evaluations one after the other
 

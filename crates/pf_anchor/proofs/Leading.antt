@@ -1,18 +1,10 @@
 -- What a rule leads to: the rulesets at the children of its path, or the one at it, or none.
-use Rattle.std.proofs.Common.{◌≡◌, ◌==◌, ◌≢◌, ℕ, inl, inr, true, false, cond, List, [], ◌∷◌, length, Option, Some, None, Bool, refl, sym, ap, ◌∙◌, arith}
-use Rattle.std.proofs.lemmas.Bool.Decides.{nat_tests}
-use Rattle.std.specs.Prelude.{filter, map}
-use Rattle.std.specs.FinMap.{find}
-use Rattle.pf_addr.specs.Path.Paths.{path_order}
-use Rattle.pf_addr.specs.Path.Nested.{path_within, is_child}
-use Rattle.pf_addr.specs.Path.References.{PlainReference}
+use Rattle.std.proofs.{Common.{◌≡◌, ◌==◌, ◌≢◌, ℕ, inl, inr, true, false, cond, List, [], ◌∷◌, length, Option, Some, None, Bool, refl, sym, ap, ◌∙◌, arith}, lemmas.Bool.Decides.nat_tests}
+use Rattle.std.specs.{Prelude.{filter, map}, FinMap.find}
+use Rattle.pf_addr.specs.{Path.Paths.path_order, Path.Nested.{path_within, is_child}, Path.References.PlainReference}
 use Rattle.pf_rule.specs.Rules.{PlainRule}
-use Rattle.pf_anchor.specs.Rulesets.{Ruled, ruled, rules_in, rules_at, children, targets, IsMap}
-use Rattle.pf_anchor.specs.Laws.Evaluation.{IsIn, InTurn, rulesets_at, LeadsToTheseAlone}
-use Rattle.pf_anchor.proofs.Evaluations.{and_then_none}
-use Rattle.pf_anchor.proofs.Entries.{entry_is}
-use Rattle.pf_anchor.proofs.RulesetMaps.{paths_kept}
-use Rattle.pf_anchor.proofs.Turns.{alone, one_there, no_targets, targets_from, turns_append}
+use Rattle.pf_anchor.specs.{Rulesets.{Ruled, ruled, rules_in, rules_at, children, targets, IsMap}, Laws.Evaluation.{IsIn, InTurn, rulesets_at, LeadsToTheseAlone}}
+use Rattle.pf_anchor.proofs.{Evaluations.and_then_none, Entries.entry_is, RulesetMaps.paths_kept, Turns.{alone, one_there, no_targets, targets_from, turns_append}}
 
 -- entries that are kept of a map, each as it is found there
 found_again : (c : List Ruled) (test : List ℕ → Bool) (es : List Ruled) → ((e : Ruled) → IsIn e es → e ≡ ruled e.0 (rules_at e.0 c)) →

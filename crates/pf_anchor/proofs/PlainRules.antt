@@ -2,13 +2,8 @@
 use Rattle.std.proofs.Common.{◌≡◌, ◌⊎◌, inl, inr, ℕ, suc, ◌+◌, Bool, true, false, not, ◌&&◌, cond, List, [], ◌∷◌, Some, None, refl, ap, ◌∙◌, arith}
 use Rattle.std.specs.List.{list_all, list_any}
 use Rattle.pf_addr.specs.Path.Paths.{main}
-use Rattle.pf_rule.specs.Rules.{PlainRule}
-use Rattle.pf_rule.specs.declared.{rule.Action.Action, rule.Effect.Effect, rule.Effect.TheVariants.Decide, rule.Effect.TheVariants.Evaluate}
-use Rattle.pf_anchor.specs.declared.{evaluated.Evaluated.Evaluated, evaluated.Evaluated.TheVariants.Open, evaluated.Evaluated.TheVariants.Ended}
-use Rattle.pf_anchor.specs.Matches.{PlainMatch, found}
-use Rattle.pf_anchor.specs.Rulesets.{Ruled, ruled, rules_at}
-use Rattle.pf_anchor.specs.Evaluation.{and_then, settled, effected, rules_give, evaluation, matching, last_of, verdict_by}
-use Rattle.pf_anchor.specs.Laws.Evaluation.{IsDeciding, TellsWhatDecides, decides}
+use Rattle.pf_rule.specs.{Rules.PlainRule, declared.{rule.Action.Action, rule.Effect.Effect, rule.Effect.TheVariants.Decide, rule.Effect.TheVariants.Evaluate}}
+use Rattle.pf_anchor.specs.{declared.{evaluated.Evaluated.Evaluated, evaluated.Evaluated.TheVariants.Open, evaluated.Evaluated.TheVariants.Ended}, Matches.{PlainMatch, found}, Rulesets.{Ruled, ruled, rules_at}, Evaluation.{and_then, settled, effected, rules_give, evaluation, matching, last_of, verdict_by}, Laws.Evaluation.{IsDeciding, TellsWhatDecides, decides}}
 use Rattle.pf_anchor.proofs.Evaluations.{none_and_then, unrolled}
 
 -- what rules give from a number on: nothing, or the rule that decides

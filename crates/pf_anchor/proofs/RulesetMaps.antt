@@ -1,19 +1,11 @@
 -- The map of rulesets: what a commit leaves of it.
-use Rattle.std.proofs.Common.{◌≡◌, ◌≢◌, ◌==◌, ◌&&◌, not, T, ℕ, Bool, true, false, cond, List, [], ◌∷◌, length, refl, sym, ap, subst, ◌∙◌, Option, Some, None, arith}
-use Rattle.std.specs.Prelude.{map, filter, is_some}
-use Rattle.std.specs.FinMap.{find, is_sorted, slice_cmp-IsAntisymmetric, nat_cmp-IsAntisymmetric}
-use Rattle.std.specs.FinMap.Entries.{below_all, is_some-find, is_sorted-where_key}
-use Rattle.std.proofs.lemmas.Bool.Decides.{nat_tests}
-use Rattle.std.proofs.lemmas.Map.Views.{any-filter_same}
-use Rattle.std.proofs.lemmas.Cmp.{nat_list_cmp_total}
+use Rattle.std.proofs.{Common.{◌≡◌, ◌≢◌, ◌==◌, ◌&&◌, not, T, ℕ, Bool, true, false, cond, List, [], ◌∷◌, length, refl, sym, ap, subst, ◌∙◌, Option, Some, None, arith}, lemmas.Bool.Decides.nat_tests, lemmas.Map.Views.any-filter_same, lemmas.Cmp.nat_list_cmp_total}
+use Rattle.std.specs.{Prelude.{map, filter, is_some}, FinMap.{find, is_sorted, slice_cmp-IsAntisymmetric, nat_cmp-IsAntisymmetric}, FinMap.Entries.{below_all, is_some-find, is_sorted-where_key}, Option.{option_map, MatchOption}}
 use Rattle.pf_addr.proofs.PathsRead.{same_path_is}
-use Rattle.pf_addr.specs.Path.Nested.{is_child}
+use Rattle.pf_addr.specs.{Path.Nested.is_child, Path.Paths.{path_order, same_path}}
 use Rattle.pf_rule.specs.Rules.{PlainRule}
-use Rattle.pf_anchor.specs.Laws.Configurations.{ReplacesInTurn, StaysMap, OneMap, in_order, ChildrenHaveRules}
-use Rattle.pf_addr.specs.Path.Paths.{path_order, same_path}
-use Rattle.pf_anchor.specs.Rulesets.{Ruled, ruled, rules_in}
+use Rattle.pf_anchor.specs.{Laws.Configurations.{ReplacesInTurn, StaysMap, OneMap, in_order, ChildrenHaveRules}, Rulesets.{Ruled, ruled, rules_in}}
 use Rattle.pf_table.proofs.ListMaps.{lists_replaced, list_maps_stay, one_list_map}
-use Rattle.std.specs.Option.{option_map, MatchOption}
 
 -- ---- replaced
 

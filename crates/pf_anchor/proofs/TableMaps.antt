@@ -1,25 +1,13 @@
 -- The map of tables: what a change leaves of it, and which table answers a rule.
-use Rattle.std.proofs.Common.{◌≡◌, ◌≢◌, ◌⊎◌, inl, inr, ℕ, ◌+◌, ◌≤◌, Bool, true, false, not, cond, List, length, [], ◌∷◌, Option, None, refl, sym, ap, ◌∙◌}
-use Rattle.std.specs.declared.{cmp.Ordering.Ordering, cmp.Ordering.TheVariants.Less, cmp.Ordering.TheVariants.Equal, cmp.Ordering.TheVariants.Greater}
-use Rattle.std.specs.Prelude.{fold}
-use Rattle.std.specs.Cmp.{IsTotalOrder}
-use Rattle.std.specs.FinMap.{IsAntisymmetric, slice_cmp-IsAntisymmetric, nat_cmp-IsAntisymmetric}
-use Rattle.std.specs.Option.{option_map_or, option_or}
-use Rattle.std.specs.Ordering.{eq_by_cmp}
-use Rattle.std.proofs.lemmas.Cmp.{eq_by_cmp_equiv, nat_list_cmp_total, on_total, then_total}
+use Rattle.std.proofs.{Common.{◌≡◌, ◌≢◌, ◌⊎◌, inl, inr, ℕ, ◌+◌, ◌≤◌, Bool, true, false, not, cond, List, length, [], ◌∷◌, Option, None, refl, sym, ap, ◌∙◌}, lemmas.Cmp.{eq_by_cmp_equiv, nat_list_cmp_total, on_total, then_total}}
+use Rattle.std.specs.{declared.{cmp.Ordering.Ordering, cmp.Ordering.TheVariants.Less, cmp.Ordering.TheVariants.Equal, cmp.Ordering.TheVariants.Greater}, Prelude.fold, Cmp.IsTotalOrder, FinMap.{IsAntisymmetric, slice_cmp-IsAntisymmetric, nat_cmp-IsAntisymmetric}, Option.{option_map_or, option_or}, Ordering.eq_by_cmp}
 use Rattle.pf_addr.specs.declared.addr.Addr.{Addr}
-use Rattle.pf_table.specs.Map.ListMaps.{list_in, unless_empty}
-use Rattle.pf_table.specs.Map.Pairs.{pairs_alike}
-use Rattle.pf_table.proofs.Maps.{replaces_the_key}
-use Rattle.pf_table.proofs.ListMaps.{lists_replaced, list_maps_stay, one_list_map, lists_grow}
-use Rattle.pf_addr.specs.Path.Names.{name_order}
-use Rattle.pf_addr.specs.Path.Paths.{main, path_order}
+use Rattle.pf_table.specs.{Map.ListMaps.{list_in, unless_empty}, Map.Pairs.pairs_alike, Entries.Row, Tables.table_holds}
+use Rattle.pf_table.proofs.{Maps.replaces_the_key, ListMaps.{lists_replaced, list_maps_stay, one_list_map, lists_grow}}
+use Rattle.pf_addr.specs.{Path.Names.name_order, Path.Paths.{main, path_order}}
 use Rattle.pf_rule.specs.declared.host.host.Host.TheVariants.{Table}
 use Rattle.pf_rule.specs.Host.Hosts.{host_holds}
-use Rattle.pf_table.specs.Entries.{Row}
-use Rattle.pf_table.specs.Tables.{table_holds}
-use Rattle.pf_anchor.specs.Tables.{TableKey, Tabled, tabled, table_order, table_found, with_table, tables_say}
-use Rattle.pf_anchor.specs.Laws.Tables.{ReplacesTables, HasItsEntries, OtherNamesStay, OtherPathsStay, StaysTableMap, EmptyIsAbsent, OneTableMap, LeavesTheOther, OwnAnswers, OwnHidesMain, MainAnswersElse, NoneElse, OthersAnswerNothing}
+use Rattle.pf_anchor.specs.{Tables.{TableKey, Tabled, tabled, table_order, table_found, with_table, tables_say}, Laws.Tables.{ReplacesTables, HasItsEntries, OtherNamesStay, OtherPathsStay, StaysTableMap, EmptyIsAbsent, OneTableMap, LeavesTheOther, OwnAnswers, OwnHidesMain, MainAnswersElse, NoneElse, OthersAnswerNothing}}
 
 -- ---- the order of keys
 

@@ -1,15 +1,10 @@
 -- The tables at a path stand in the order of their names.
 use Rattle.std.proofs.Common.{◌≡◌, ℕ, T, ◌&&◌, Bool, true, false, cond, List, [], ◌∷◌, Option, Some, refl, sym, ap, subst, ◌∙◌}
-use Rattle.std.specs.declared.{cmp.Ordering.Ordering, cmp.Ordering.TheVariants.Less, cmp.Ordering.TheVariants.Equal, cmp.Ordering.TheVariants.Greater}
-use Rattle.std.specs.FinMap.{find, is_sorted}
-use Rattle.std.specs.FinMap.Entries.{below_all}
-use Rattle.std.specs.Ordering.{ordering_then, eq_by_cmp, is_eq, is_lt}
-use Rattle.pf_addr.specs.Path.Names.{name_order}
-use Rattle.pf_addr.specs.Path.Paths.{path_order, same_path}
+use Rattle.std.specs.{declared.{cmp.Ordering.Ordering, cmp.Ordering.TheVariants.Less, cmp.Ordering.TheVariants.Equal, cmp.Ordering.TheVariants.Greater}, FinMap.{find, is_sorted}, FinMap.Entries.below_all, Ordering.{ordering_then, eq_by_cmp, is_eq, is_lt}}
+use Rattle.pf_addr.specs.{Path.Names.name_order, Path.Paths.{path_order, same_path}}
 use Rattle.pf_addr.proofs.PathsRead.{same_path_is}
 use Rattle.pf_table.specs.Entries.{Row}
-use Rattle.pf_anchor.specs.Tables.{Tabled, table_order, table_found, tables_at}
-use Rattle.pf_anchor.specs.Laws.Tables.{by_name, TablesAtPath}
+use Rattle.pf_anchor.specs.{Tables.{Tabled, table_order, table_found, tables_at}, Laws.Tables.{by_name, TablesAtPath}}
 use Rattle.pf_anchor.proofs.RulesetMaps.{both_hold, first_holds, second_holds}
 
 both_tie : (r s : Ordering) → is_eq (ordering_then r s) ≡ (is_eq r && is_eq s)

@@ -1,24 +1,12 @@
 -- Rulesets in turn: what a reference leads to, as the code finds it.
-use Rattle.std.proofs.Common.{◌≡◌, ℕ, ◌<◌, ◌≤◌, ◌+◌, T, Bool, true, false, cond, List, [], ◌∷◌, ◌++◌, Option, Some, None, refl, sym, ap, ◌∙◌, arith}
-use Rattle.std.specs.Prelude.{filter, map}
-use Rattle.std.specs.FinMap.{find, is_sorted, slice_cmp-IsAntisymmetric, nat_cmp-IsAntisymmetric}
-use Rattle.std.specs.FinMap.Entries.{same_entries, find-where_key, is_sorted-where_key}
-use Rattle.std.specs.Option.{option_map_or, option_or}
-use Rattle.std.specs.Ordering.{is_eq}
-use Rattle.std.proofs.lemmas.Cmp.{alike_right, eq_by_cmp_equiv, nat_list_cmp_total}
-use Rattle.std.proofs.lemmas.List.{map-append}
-use Rattle.std.proofs.lemmas.List.Elements.{filter-append}
+use Rattle.std.proofs.{Common.{◌≡◌, ℕ, ◌<◌, ◌≤◌, ◌+◌, T, Bool, true, false, cond, List, [], ◌∷◌, ◌++◌, Option, Some, None, refl, sym, ap, ◌∙◌, arith}, lemmas.Cmp.{alike_right, eq_by_cmp_equiv, nat_list_cmp_total}, lemmas.List.map-append, lemmas.List.Elements.filter-append}
+use Rattle.std.specs.{Prelude.{filter, map}, FinMap.{find, is_sorted, slice_cmp-IsAntisymmetric, nat_cmp-IsAntisymmetric}, FinMap.Entries.{same_entries, find-where_key, is_sorted-where_key}, Option.{option_map_or, option_or}, Ordering.is_eq}
 use Rattle.pf_addr.specs.declared.path.limits.TheConstants.{DEPTH_LIMIT}
-use Rattle.pf_addr.specs.Path.Paths.{path_order, same_path, is_path}
-use Rattle.pf_addr.specs.Path.Nested.{depth, path_within, is_child}
-use Rattle.pf_addr.specs.Path.References.{PlainReference}
-use Rattle.pf_addr.proofs.PathsRead.{same_path_is}
-use Rattle.pf_addr.proofs.Nesting.{path_few, has_one_more}
+use Rattle.pf_addr.specs.{Path.Paths.{path_order, same_path, is_path}, Path.Nested.{depth, path_within, is_child}, Path.References.PlainReference}
+use Rattle.pf_addr.proofs.{PathsRead.same_path_is, Nesting.{path_few, has_one_more}}
 use Rattle.pf_rule.specs.Rules.{PlainRule}
-use Rattle.pf_anchor.specs.declared.{evaluated.Evaluated.Evaluated, evaluated.Evaluated.TheVariants.Open}
+use Rattle.pf_anchor.specs.{declared.{evaluated.Evaluated.Evaluated, evaluated.Evaluated.TheVariants.Open}, Rulesets.{Ruled, ruled, rules_in, rules_at, leads_from, targets, children}, Evaluation.{and_then, settled, rules_give, in_turn}}
 use Rattle.pf_table.specs.Map.Pages.{joined}
-use Rattle.pf_anchor.specs.Rulesets.{Ruled, ruled, rules_in, rules_at, leads_from, targets, children}
-use Rattle.pf_anchor.specs.Evaluation.{and_then, settled, rules_give, in_turn}
 use Rattle.pf_anchor.proofs.Evaluations.{none_and_then, and_then_none, and_then_assoc}
 
 pub placed_is : (e : Ruled) (p : List ℕ) (es rest : List Ruled) → same_path p e.0 ≡ true → rules_at p es ≡ rules_at p (e ∷ rest) → e ≡ ruled p (rules_at p es)

@@ -1,22 +1,12 @@
 -- A ruleset that no rule leads to changes nothing.
 use Rattle.std.proofs.Common.{◌≡◌, ℕ, zero, suc, ◌+◌, inl, inr, Bool, true, false, not, cond, List, [], ◌∷◌, Option, Some, None, refl, sym, ap, ◌∙◌}
-use Rattle.std.specs.Prelude.{filter}
-use Rattle.std.specs.declared.{cmp.Ordering.Ordering, cmp.Ordering.TheVariants.Less, cmp.Ordering.TheVariants.Equal, cmp.Ordering.TheVariants.Greater}
-use Rattle.std.specs.FinMap.{find, put, slice_cmp-IsAntisymmetric, nat_cmp-IsAntisymmetric}
-use Rattle.std.specs.FinMap.Entries.{by_order}
-use Rattle.pf_addr.specs.Path.Paths.{main, path_order, same_path}
-use Rattle.pf_addr.specs.Path.References.{PlainReference}
+use Rattle.std.specs.{Prelude.filter, declared.{cmp.Ordering.Ordering, cmp.Ordering.TheVariants.Less, cmp.Ordering.TheVariants.Equal, cmp.Ordering.TheVariants.Greater}, FinMap.{find, put, slice_cmp-IsAntisymmetric, nat_cmp-IsAntisymmetric}, FinMap.Entries.by_order}
+use Rattle.pf_addr.specs.{Path.Paths.{main, path_order, same_path}, Path.References.PlainReference}
 use Rattle.pf_addr.proofs.PathsRead.{same_path_is}
-use Rattle.pf_rule.specs.Rules.{PlainRule}
-use Rattle.pf_rule.specs.declared.{rule.Effect.Effect, rule.Effect.TheVariants.Decide, rule.Effect.TheVariants.Evaluate}
-use Rattle.pf_anchor.specs.declared.{evaluated.Evaluated.Evaluated, evaluated.Evaluated.TheVariants.Open}
+use Rattle.pf_rule.specs.{Rules.PlainRule, declared.{rule.Effect.Effect, rule.Effect.TheVariants.Decide, rule.Effect.TheVariants.Evaluate}}
+use Rattle.pf_anchor.specs.{declared.{evaluated.Evaluated.Evaluated, evaluated.Evaluated.TheVariants.Open}, Matches.PlainMatch, Rulesets.{Ruled, ruled, rules_in, rules_at, with_rules, leads_to, targets}, Evaluation.{Tests, in_turn, effected, evaluate_with, levels, evaluation, matching, verdict_by, last_of, rules_at_path}, Laws.Evaluation.{IsIn, rule_numbered, NoneLeadsTo, UnreachedIsNothing}}
 use Rattle.pf_table.specs.Map.Maps.{without}
-use Rattle.pf_anchor.specs.Matches.{PlainMatch}
-use Rattle.pf_anchor.specs.Rulesets.{Ruled, ruled, rules_in, rules_at, with_rules, leads_to, targets}
-use Rattle.pf_anchor.specs.Evaluation.{Tests, in_turn, effected, evaluate_with, levels, evaluation, matching, verdict_by, last_of, rules_at_path}
-use Rattle.pf_anchor.specs.Laws.Evaluation.{IsIn, rule_numbered, NoneLeadsTo, UnreachedIsNothing}
-use Rattle.pf_anchor.proofs.RulesetMaps.{replaced_in_turn}
-use Rattle.pf_anchor.proofs.Entries.{found_is_in}
+use Rattle.pf_anchor.proofs.{RulesetMaps.replaced_in_turn, Entries.found_is_in}
 
 -- ---- entries of other paths stay
 

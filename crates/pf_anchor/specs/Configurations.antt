@@ -1,7 +1,6 @@
 -- What is active: rulesets and tables at paths (pf.conf(5), ANCHORS and TABLES).
 use Rattle.std.specs.Prelude.{List, [], fold}
-use Rattle.pf_anchor.specs.Rulesets.{Ruled, IsMap, with_rules}
-use Rattle.pf_anchor.specs.Tables.{Tabled, IsTableMap, with_table}
+use Rattle.pf_anchor.specs.{Rulesets.{Ruled, IsMap, with_rules}, Tables.{Tabled, IsTableMap, with_table}}
 
 pub record Configuration : Type 0 where
   pub rulesets : List Ruled

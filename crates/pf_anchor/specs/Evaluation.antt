@@ -2,17 +2,10 @@
 -- anchor rules, the order of children by bytes and the limits of paths are own.
 use Rattle.std.specs.Prelude.{ℕ, zero, suc, ◌+◌, ◌-◌, Bool, cond, List, [], ◌∷◌, Option, Some, None}
 use Rattle.pf_addr.specs.declared.path.limits.TheConstants.{DEPTH_LIMIT}
-use Rattle.pf_addr.specs.Path.Paths.{main}
-use Rattle.pf_addr.specs.Path.Nested.{depth}
-use Rattle.pf_rule.specs.Packets.{PlainPacket}
-use Rattle.pf_rule.specs.Rules.{PlainRule, matches}
-use Rattle.pf_rule.specs.declared.{rule.Effect.Effect, rule.Effect.TheVariants.Decide, rule.Effect.TheVariants.Evaluate}
-use Rattle.pf_anchor.specs.declared.{evaluated.Evaluated.Evaluated, evaluated.Evaluated.TheVariants.Open, evaluated.Evaluated.TheVariants.Ended, verdict.RuleVerdict.RuleVerdict}
+use Rattle.pf_addr.specs.{Path.Paths.main, Path.Nested.depth}
+use Rattle.pf_rule.specs.{Packets.PlainPacket, Rules.{PlainRule, matches}, declared.{rule.Effect.Effect, rule.Effect.TheVariants.Decide, rule.Effect.TheVariants.Evaluate}}
+use Rattle.pf_anchor.specs.{declared.{evaluated.Evaluated.Evaluated, evaluated.Evaluated.TheVariants.Open, evaluated.Evaluated.TheVariants.Ended, verdict.RuleVerdict.RuleVerdict}, Matches.{PlainMatch, found}, Rulesets.{Ruled, ruled, rules_at, targets}, Tables.{Tabled, tables_say}, Configurations.Configuration}
 use Rattle.pf_anchor.specs.declared.verdict.RuleVerdict.TheVariants as by
-use Rattle.pf_anchor.specs.Matches.{PlainMatch, found}
-use Rattle.pf_anchor.specs.Rulesets.{Ruled, ruled, rules_at, targets}
-use Rattle.pf_anchor.specs.Tables.{Tabled, tables_say}
-use Rattle.pf_anchor.specs.Configurations.{Configuration}
 
 -- ---- one after the other
 

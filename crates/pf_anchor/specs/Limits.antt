@@ -1,8 +1,7 @@
 -- How many rulesets and tables there may be, and what refuses a change that would leave more. Own.
 use Rattle.std.specs.Prelude.{nat_lt, cond, length, Option, Some, None}
-use Rattle.pf_anchor.specs.declared.{fault.ConfigFault.ConfigFault, limits.TheConstants.RULESET_LIMIT, limits.TheConstants.TABLE_COUNT_LIMIT}
+use Rattle.pf_anchor.specs.{declared.{fault.ConfigFault.ConfigFault, limits.TheConstants.RULESET_LIMIT, limits.TheConstants.TABLE_COUNT_LIMIT}, Configurations.Configuration}
 use Rattle.pf_anchor.specs.declared.fault.ConfigFault.TheVariants as fault
-use Rattle.pf_anchor.specs.Configurations.{Configuration}
 
 -- what refuses a change of a ruleset, by what it would leave
 abbrev pub ruleset_refusal : Configuration → Option ConfigFault

@@ -1,9 +1,6 @@
 -- Rulesets at paths (pf.conf(5), ANCHORS): a finite map. That an empty ruleset doesn't exist is own.
-use Rattle.std.specs.Prelude.{ℕ, Bool, false, cond, List, Option, map, filter}
-use Rattle.std.specs.Option.{option_map_or}
-use Rattle.pf_addr.specs.Path.Paths.{path_order, same_path}
-use Rattle.pf_addr.specs.Path.Nested.{path_within, is_child}
-use Rattle.pf_addr.specs.Path.References.{PlainReference}
+use Rattle.std.specs.{Prelude.{ℕ, Bool, false, cond, List, Option, map, filter}, Option.option_map_or}
+use Rattle.pf_addr.specs.{Path.Paths.{path_order, same_path}, Path.Nested.{path_within, is_child}, Path.References.PlainReference}
 use Rattle.pf_rule.specs.Rules.{PlainRule}
 use Rattle.pf_table.specs.Map.ListMaps.{list_in, list_at, with_list, IsListMap}
 

@@ -1,16 +1,10 @@
 -- Tables at paths (pf.conf(5), TABLES and ANCHORS): a finite map, and which table the rules of a ruleset name. That an empty table doesn't
 -- exist is own.
-use Rattle.std.specs.Prelude.{ℕ, Bool, false, List, Option, filter}
+use Rattle.std.specs.{Prelude.{ℕ, Bool, false, List, Option, filter}, FinMap.find, Option.{option_map_or, option_or}}
 use Rattle.std.specs.declared.cmp.Ordering.{Ordering}
-use Rattle.std.specs.FinMap.{find}
-use Rattle.std.specs.Option.{option_map_or, option_or}
 use Rattle.pf_addr.specs.declared.addr.Addr.{Addr}
-use Rattle.pf_table.specs.Map.Pairs.{pair_order}
-use Rattle.pf_table.specs.Map.ListMaps.{list_at, with_list, IsListMap}
-use Rattle.pf_addr.specs.Path.Names.{name_order}
-use Rattle.pf_addr.specs.Path.Paths.{main, path_order, same_path}
-use Rattle.pf_table.specs.Entries.{Row}
-use Rattle.pf_table.specs.Tables.{table_holds}
+use Rattle.pf_table.specs.{Map.Pairs.pair_order, Map.ListMaps.{list_at, with_list, IsListMap}, Entries.Row, Tables.table_holds}
+use Rattle.pf_addr.specs.{Path.Names.name_order, Path.Paths.{main, path_order, same_path}}
 
 -- where a table is: its path and its name
 abbrev pub TableKey : Type 0

@@ -1,14 +1,9 @@
 //! What is active: rulesets and tables.
-ghost use Rattle.std.specs.Prelude.{◌≡◌, [], ◌∷◌, length, IfOk, nat_lt};
-ghost use Rattle.std.specs.Option.{MatchOption, option_map};
-ghost use Rattle.pf_anchor.specs.Tables.{tabled, table_found, tables_at, named_table, IsTableMap};
+ghost use Rattle.std.specs.{Prelude.{◌≡◌, [], ◌∷◌, length, IfOk, nat_lt}, Option.{MatchOption, option_map}};
+ghost use Rattle.pf_anchor.specs.{Tables.{tabled, table_found, tables_at, named_table, IsTableMap}, Rulesets.{ruled, rules_at, children, IsMap}, Configurations.{nothing, with_rulesets, with_tables}, Limits.{ruleset_refusal, table_refusal}, Evaluation.judged};
 ghost use Rattle.pf_table.specs.Map.Pages.{joined};
-ghost use Rattle.pf_anchor.specs.Rulesets.{ruled, rules_at, children, IsMap};
-ghost use Rattle.pf_anchor.specs.Configurations.{nothing, with_rulesets, with_tables};
 ghost use Rattle.pf_addr.specs.Refusing.{Refuses};
 ghost use Rattle.pf_anchor.specs.declared.fault.ConfigFault.TheVariants.{Memory};
-ghost use Rattle.pf_anchor.specs.Limits.{ruleset_refusal, table_refusal};
-ghost use Rattle.pf_anchor.specs.Evaluation.{judged};
 
 use crate::evaluate::evaluate;
 use crate::fault::ConfigFault;

@@ -1,8 +1,7 @@
 //! Evaluation of rulesets that lead to one another, with tables as their rules name them.
 ghost use Rattle.std.specs.Prelude.{◌≡◌, filter};
 ghost use Rattle.pf_addr.specs.Path.Nested.{is_child};
-ghost use Rattle.pf_anchor.specs.Rulesets.{targets};
-ghost use Rattle.pf_anchor.specs.Evaluation.{evaluation, effected, in_turn, matching};
+ghost use Rattle.pf_anchor.specs.{Rulesets.targets, Evaluation.{evaluation, effected, in_turn, matching}};
 
 use crate::config::Config;
 use crate::evaluated::{Evaluated, Match};

@@ -1,9 +1,7 @@
 //! What follows from the definitions that contracts cite: functions that do nothing, whose contracts are the laws.
 ghost use Rattle.std.specs.Prelude.{◌≡◌};
 ghost use Rattle.pf_anchor.specs.declared.limits.TheConstants.{RULE_LIMIT, RULESET_LIMIT, TABLE_COUNT_LIMIT};
-ghost use Rattle.pf_anchor.specs.Laws.Configurations.{ReplacesInTurn, StaysMap, OneMap, ChildrenHaveRules};
-ghost use Rattle.pf_anchor.specs.Laws.Tables.{ReplacesTables, HasItsEntries, OtherNamesStay, OtherPathsStay, StaysTableMap, EmptyIsAbsent, OneTableMap, LeavesTheOther, TablesAtPath, OwnAnswers, OwnHidesMain, MainAnswersElse, NoneElse, OthersAnswerNothing};
-ghost use Rattle.pf_anchor.specs.Laws.Evaluation.{TellsWhatDecides, Unrolls, IsTheOnly, DepthIsEnough, OwnMatch, EndsOutside, NothingWithin, MatchWithin, InTurn, LeadsToTheseAlone, QuickEnds, EndsTheVerdict, AnchorsNeverDecide, ToldRuleDecides, UnreachedIsNothing, InTwoParts, PassedOver};
+ghost use Rattle.pf_anchor.specs.{Laws.Configurations.{ReplacesInTurn, StaysMap, OneMap, ChildrenHaveRules}, Laws.Tables.{ReplacesTables, HasItsEntries, OtherNamesStay, OtherPathsStay, StaysTableMap, EmptyIsAbsent, OneTableMap, LeavesTheOther, TablesAtPath, OwnAnswers, OwnHidesMain, MainAnswersElse, NoneElse, OthersAnswerNothing}, Laws.Evaluation.{TellsWhatDecides, Unrolls, IsTheOnly, DepthIsEnough, OwnMatch, EndsOutside, NothingWithin, MatchWithin, InTurn, LeadsToTheseAlone, QuickEnds, EndsTheVerdict, AnchorsNeverDecide, ToldRuleDecides, UnreachedIsNothing, InTwoParts, PassedOver}};
 
 /// A ruleset has at most 1,024 rules, and there are at most 1,024 rulesets and 1,024 tables.
 pub fn the_limits_of_rulesets()

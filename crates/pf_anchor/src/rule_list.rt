@@ -1,6 +1,5 @@
 //! Rules that are shared.
-ghost use Rattle.std.specs.Prelude.{◌≡◌, ◌<◌, ◌≤◌, [], ◌∷◌, ◌++◌, length, IfOk, OnOk, OnErr};
-ghost use Rattle.std.specs.Arc.{arc_value};
+ghost use Rattle.std.specs.{Prelude.{◌≡◌, ◌<◌, ◌≤◌, [], ◌∷◌, ◌++◌, length, IfOk, OnOk, OnErr}, Arc.arc_value};
 ghost use Rattle.pf_table.specs.Map.ListMaps.{unless_empty, kept_again};
 
 use crate::limits::RULE_LIMIT;

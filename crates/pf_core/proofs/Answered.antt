@@ -4,18 +4,10 @@ use Rattle.std.specs.Option.{option_map_or}
 use Rattle.pf_rule.specs.Packets.{PlainPacket}
 use Rattle.pf_table.proofs.TableLaws.{table_decides}
 use Rattle.pf_anchor.specs.Evaluation.{judged}
-use Rattle.pf_anchor.proofs.PlainRules.{tells_what_decides}
-use Rattle.pf_anchor.proofs.Leading.{leads_to_these_alone}
+use Rattle.pf_anchor.proofs.{PlainRules.tells_what_decides, Leading.leads_to_these_alone}
 use Rattle.pf_state.proofs.Tables.{one_state_a_flow}
-use Rattle.pf_state.specs.Flows.{flow_of}
-use Rattle.pf_state.specs.Laws.States.{IsStateOf, FindsTheState}
-use Rattle.pf_state.specs.States.{Stated, state_of}
-use Rattle.pf_core.specs.declared.{command.Command.Command, command.Command.TheVariants.Ask, command.Question.TheVariants.Judge, command.Question.TheVariants.Test, durable.verdict.Verdict.TheVariants.State as Stateful, durable.verdict.Verdict.TheVariants.Rules as ByRules, reply.Refusal.TheVariants.Memory, reply.Reply.Reply, reply.Reply.TheVariants.Refused}
-use Rattle.pf_core.specs.Commands.{takes_memory}
-use Rattle.pf_core.specs.Durable.Edits.{Kept, entries_at, verdict}
-use Rattle.pf_core.specs.Laws.Durable.{IsWithin}
-use Rattle.pf_core.specs.Laws.Worlds.{IsDecided, TestsTellTheEntry, JudgesTellTheVerdict}
-use Rattle.pf_core.specs.Worlds.{Held, durable_of, due, StandsIn, LegalReply}
+use Rattle.pf_state.specs.{Flows.flow_of, Laws.States.{IsStateOf, FindsTheState}, States.{Stated, state_of}}
+use Rattle.pf_core.specs.{declared.{command.Command.Command, command.Command.TheVariants.Ask, command.Question.TheVariants.Judge, command.Question.TheVariants.Test, durable.verdict.Verdict.TheVariants.State as Stateful, durable.verdict.Verdict.TheVariants.Rules as ByRules, reply.Refusal.TheVariants.Memory, reply.Reply.Reply, reply.Reply.TheVariants.Refused}, Commands.takes_memory, Durable.Edits.{Kept, entries_at, verdict}, Laws.Durable.IsWithin, Laws.Worlds.{IsDecided, TestsTellTheEntry, JudgesTellTheVerdict}, Worlds.{Held, durable_of, due, StandsIn, LegalReply}}
 use Rattle.pf_core.proofs.Limits.{keeps_the_limits}
 
 none-stands-in : (h : Held) (c : Command) (failed : Bool) (due r : Reply) → takes_memory (durable_of h) c ≡ false → StandsIn h c failed due r → ⊥

@@ -1,13 +1,9 @@
 -- What names nothing twice.
-use Rattle.std.proofs.Common.{◌≡◌, ℕ, not, Bool, true, false, List, [], ◌∷◌, Option, Some, None, Ok, refl, ap, ◌∙◌, cond, length, arith}
-use Rattle.std.specs.Prelude.{map, nat_lt}
-use Rattle.std.proofs.lemmas.Bool.Decides.{nat_tests}
-use Rattle.std.specs.List.{list_all, position, prefix_len}
-use Rattle.std.specs.Option.{option_or}
+use Rattle.std.proofs.{Common.{◌≡◌, ℕ, not, Bool, true, false, List, [], ◌∷◌, Option, Some, None, Ok, refl, ap, ◌∙◌, cond, length, arith}, lemmas.Bool.Decides.nat_tests}
+use Rattle.std.specs.{Prelude.{map, nat_lt}, List.{list_all, position, prefix_len}, Option.option_or}
 use Rattle.pf_addr.specs.Refusing.{refused_at}
 use Rattle.pf_ticket.specs.Replies.{twice_behind}
-use Rattle.pf_core.specs.declared.{durable.change.Item.Item, durable.refusal.ChangeRefusal.TheVariants.Twice}
-use Rattle.pf_core.specs.Durable.Edits.{name_of, is_in_order, named_again}
+use Rattle.pf_core.specs.{declared.{durable.change.Item.Item, durable.refusal.ChangeRefusal.TheVariants.Twice}, Durable.Edits.{name_of, is_in_order, named_again}}
 
 -- where all pass none fails
 all-pass : (is : List Item) → list_all is_in_order is ≡ true → prefix_len (λ (i : Item). not (not (is_in_order i))) is ≡ length is

@@ -1,19 +1,12 @@
 -- What changes leave.
-use Rattle.std.proofs.Common.{◌≡◌, ◌≢◌, ◌⊎◌, inl, inr, ℕ, Bool, true, false, cond, ◌&&◌, List, [], ◌∷◌, refl, ap, ◌∙◌, subst}
-use Rattle.std.specs.declared.{cmp.Ordering.Ordering, cmp.Ordering.TheVariants.Less, cmp.Ordering.TheVariants.Equal, cmp.Ordering.TheVariants.Greater}
-use Rattle.std.specs.FinMap.{slice_cmp-IsAntisymmetric, nat_cmp-IsAntisymmetric}
-use Rattle.std.specs.Ordering.{is_eq, eq_by_cmp, ordering_then}
-use Rattle.std.proofs.lemmas.Cmp.{eq_by_cmp_equiv}
+use Rattle.std.proofs.{Common.{◌≡◌, ◌≢◌, ◌⊎◌, inl, inr, ℕ, Bool, true, false, cond, ◌&&◌, List, [], ◌∷◌, refl, ap, ◌∙◌, subst}, lemmas.Cmp.eq_by_cmp_equiv}
+use Rattle.std.specs.{declared.{cmp.Ordering.Ordering, cmp.Ordering.TheVariants.Less, cmp.Ordering.TheVariants.Equal, cmp.Ordering.TheVariants.Greater}, FinMap.{slice_cmp-IsAntisymmetric, nat_cmp-IsAntisymmetric}, Ordering.{is_eq, eq_by_cmp, ordering_then}}
 use Rattle.pf_addr.proofs.PathsRead.{same_path_is}
-use Rattle.pf_addr.specs.Path.Names.{name_order}
-use Rattle.pf_addr.specs.Path.Paths.{path_order, same_path}
-use Rattle.pf_table.specs.Edits.{added, deleted, replaced}
-use Rattle.pf_table.specs.Entries.{Row}
+use Rattle.pf_addr.specs.{Path.Names.name_order, Path.Paths.{path_order, same_path}}
+use Rattle.pf_table.specs.{Edits.{added, deleted, replaced}, Entries.Row}
 use Rattle.pf_anchor.specs.Tables.{tabled, table_order}
-use Rattle.pf_anchor.proofs.RulesetMaps.{map_all, replaced_in_turn}
-use Rattle.pf_anchor.proofs.TableMaps.{table_order_total, tables_replaced, table_maps_stay}
-use Rattle.pf_core.specs.Durable.Edits.{Kept, rulesets_in, tables_in, entries_at, with_entries}
-use Rattle.pf_core.specs.Laws.Durable.{ReplacesExactly, IsEdited, EditsExactly, DeletesNothing, StepsExactly}
+use Rattle.pf_anchor.proofs.{RulesetMaps.{map_all, replaced_in_turn}, TableMaps.{table_order_total, tables_replaced, table_maps_stay}}
+use Rattle.pf_core.specs.{Durable.Edits.{Kept, rulesets_in, tables_in, entries_at, with_entries}, Laws.Durable.{ReplacesExactly, IsEdited, EditsExactly, DeletesNothing, StepsExactly}}
 use Rattle.pf_core.proofs.TableCounts.{deleted-none}
 
 pub replaces_exactly : ReplacesExactly

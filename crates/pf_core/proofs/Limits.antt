@@ -1,55 +1,21 @@
 -- In each opening that a world comes to each ticket was given once, all limits hold, and all is shown.
-use Rattle.std.proofs.Common.{T, ◌&&◌}
-use Rattle.std.specs.Prelude.{map}
-use Rattle.std.specs.FinMap.{is_sorted}
-use Rattle.std.specs.List.{list_all}
-use Rattle.pf_addr.specs.Path.Names.{name_order}
-use Rattle.pf_addr.specs.Refusing.{refused_at, both_passed}
+use Rattle.std.proofs.{Common.{T, ◌&&◌, ◌≡◌, ℕ, ◌+◌, ◌≤◌, Bool, true, false, cond, List, [], ◌∷◌, length, refl, sym, ap, ◌∙◌, subst, inl, inr, Option, Some, None, Result, Ok, Err, arith, zero, suc, ◌++◌}, lemmas.Bool.Decides.nat_tests, lemmas.List.{append-nil, length-append}, lemmas.List.Sums.fold_push}
+use Rattle.std.specs.{Prelude.{map, nat_lt, fold, is_some, if◌then◌else◌}, FinMap.is_sorted, List.{list_all, AllByRecursion}}
+use Rattle.pf_addr.specs.{Path.Names.name_order, Refusing.{refused_at, both_passed}}
 use Rattle.pf_ticket.specs.declared.refusal.TicketRefusal.TheVariants.{Busy}
-use Rattle.pf_ticket.specs.Replies.{bad_count, twice_in, twice_behind, busy_in}
+use Rattle.pf_ticket.specs.{Replies.{bad_count, twice_in, twice_behind, busy_in, begin_reply, add_reply, define_reply, list_check, commit_check}, declared.{name.RulesetName.RulesetName, refusal.TicketRefusal.TicketRefusal, ticket.Ticket.Ticket, name.RulesetKind.RulesetKind, name.RulesetKind.TheVariants.Filter, name.RulesetKind.TheVariants.Table, entry.Entry.Entry}, Laws.Tickets.{AreGiven, IsFew, IsWithin as AreTicketsWithin, AreOnce}, Mentions.{Mention, gives, switches, after as moved_by}, Names.{filter_at, table_ruleset_at, tickets_from, ticket}, NamedTables.Named, Tickets.{Loaded, Open, offered_as, loaded, content}}
 use Rattle.pf_core.specs.declared.durable.refusal.ChangeRefusal.TheVariants.{Twice as Again}
-use Rattle.pf_core.specs.Durable.Edits.{name_of, is_in_order}
-use Rattle.pf_core.specs.Laws.Worlds.{CommitsNameOnce}
-use Rattle.pf_core.specs.Laws.Wanted.{names-items}
-use Rattle.pf_core.proofs.Checks.{named_once}
-use Rattle.pf_core.proofs.Switching.{not-twice}
-use Rattle.std.proofs.Common.{◌≡◌, ℕ, ◌+◌, ◌≤◌, Bool, true, false, cond, List, [], ◌∷◌, length, refl, sym, ap, ◌∙◌, subst, inl, inr, Option, Some, None, Result, Ok, Err, arith, zero, suc, ◌++◌}
-use Rattle.std.specs.Prelude.{nat_lt, fold, is_some, if◌then◌else◌}
-use Rattle.std.specs.List.{AllByRecursion}
-use Rattle.pf_table.specs.Edits.{additions, deletions}
-use Rattle.pf_table.specs.Tables.{AreEntries}
-use Rattle.std.proofs.lemmas.Bool.Decides.{nat_tests}
-use Rattle.pf_ticket.specs.declared.{name.RulesetName.RulesetName, refusal.TicketRefusal.TicketRefusal, ticket.Ticket.Ticket, name.RulesetKind.RulesetKind, name.RulesetKind.TheVariants.Filter, name.RulesetKind.TheVariants.Table, entry.Entry.Entry}
-use Rattle.pf_ticket.specs.Laws.Tickets.{AreGiven, IsFew, IsWithin as AreTicketsWithin, AreOnce}
-use Rattle.pf_ticket.specs.Mentions.{Mention, gives, switches, after as moved_by}
-use Rattle.pf_ticket.specs.Names.{filter_at, table_ruleset_at, tickets_from, ticket}
-use Rattle.pf_ticket.specs.NamedTables.{Named}
-use Rattle.pf_ticket.specs.Replies.{begin_reply, add_reply, define_reply, list_check, commit_check}
-use Rattle.pf_ticket.specs.Tickets.{Loaded, Open, offered_as, loaded, content}
-use Rattle.pf_ticket.proofs.Keeping.{begins_give, keeps_the_limits as tickets_keep}
-use Rattle.pf_core.specs.declared.{command.Command.Command, durable.change.Item.Item, command.Command.TheVariants.Transact, command.Command.TheVariants.Edit as Change, command.Command.TheVariants.States as OfStates, command.Command.TheVariants.Ask, durable.verdict.Verdict.Verdict, durable.verdict.Verdict.TheVariants.State as Stateful, durable.verdict.Verdict.TheVariants.Rules as ByRules, command.StateCommand.StateCommand, command.StateCommand.TheVariants.Track, command.StateCommand.TheVariants.Peer, command.StateCommand.TheVariants.Kill as KillState, command.TableEdit.TableEdit, command.TableEdit.TheVariants.Add as AddTo, command.TableEdit.TheVariants.Delete, command.TableEdit.TheVariants.Set, command.TableEdit.TheVariants.Kill, command.Question.Question, command.Transaction.TheVariants.Begin, command.Transaction.TheVariants.Add, command.Transaction.TheVariants.Define, command.Transaction.TheVariants.Commit, command.Transaction.TheVariants.Rollback, reply.Answer.Answer, reply.Outcome.Outcome, reply.Refusal.Refusal, reply.Refusal.TheVariants.HistoryFull, durable.refusal.ChangeRefusal.ChangeRefusal, reply.Reply.Reply, reply.Reply.TheVariants.Answer as Answered, reply.Reply.TheVariants.Applied, reply.Reply.TheVariants.Refused, step.Step.Step, step.Step.TheVariants.Done, step.Step.TheVariants.Wants}
+use Rattle.pf_core.specs.{Durable.Edits.{name_of, is_in_order, Kept, Edit, commits, adds, deletes, sets, acts, removes, verdict, placed, tables_in, entries_at, applied, voided_by, after, no_conflict, fits}, Laws.Worlds.{CommitsNameOnce, tickets_in, given_by, tickets_given, GivesEachOnce, KeepsTheLimits, ShowsAll}, Laws.Wanted.{names-items, unit_is, IsPassed, passed, none-wanted, fit, IsThis, wants_commit, edit_of, wants_edit, IsOfStates, of_steps, of_removal, IsStateChange, wants_states, IsWanted, wants}, declared.{command.Command.Command, durable.change.Item.Item, command.Command.TheVariants.Transact, command.Command.TheVariants.Edit as Change, command.Command.TheVariants.States as OfStates, command.Command.TheVariants.Ask, durable.verdict.Verdict.Verdict, durable.verdict.Verdict.TheVariants.State as Stateful, durable.verdict.Verdict.TheVariants.Rules as ByRules, command.StateCommand.StateCommand, command.StateCommand.TheVariants.Track, command.StateCommand.TheVariants.Peer, command.StateCommand.TheVariants.Kill as KillState, command.TableEdit.TableEdit, command.TableEdit.TheVariants.Add as AddTo, command.TableEdit.TheVariants.Delete, command.TableEdit.TheVariants.Set, command.TableEdit.TheVariants.Kill, command.Question.Question, command.Transaction.TheVariants.Begin, command.Transaction.TheVariants.Add, command.Transaction.TheVariants.Define, command.Transaction.TheVariants.Commit, command.Transaction.TheVariants.Rollback, reply.Answer.Answer, reply.Outcome.Outcome, reply.Refusal.Refusal, reply.Refusal.TheVariants.HistoryFull, durable.refusal.ChangeRefusal.ChangeRefusal, reply.Reply.Reply, reply.Reply.TheVariants.Answer as Answered, reply.Reply.TheVariants.Applied, reply.Reply.TheVariants.Refused, step.Step.Step, step.Step.TheVariants.Done, step.Step.TheVariants.Wants}, Calls.{call, mentions_of, Call}, Commands.{item_of, unless_refused, unless_unfit, if_there, is_table, items, wanting, added_of, deleted_of, edit_step, makes_state, tracked, track_step, steps_here, states_step, answer_of, step_by, mentioned}, Laws.Durable.{IsWithin, AreFew}, Worlds.{Held, log_of, durable_of, step_in, room_for, if_ok, or_refused, due_at, grouped, group_at, LegalReply, State, up, down, Upshot, Event, called, opened, flat, group_in, acked_by, shown_by, heard, next, LegalCall, IsLegal, state_after, IsLegalFrom, IsWorld}}
+use Rattle.pf_core.proofs.{Checks.named_once, Switching.not-twice, Within.keeps_within, LongerWorlds.flat-push}
+use Rattle.pf_table.specs.{Edits.{additions, deletions}, Tables.AreEntries}
+use Rattle.pf_ticket.proofs.{Keeping.{begins_give, keeps_the_limits as tickets_keep}, Twice.gives_each_once as once_given}
 use Rattle.pf_rule.specs.Packets.{PlainPacket}
 use Rattle.pf_anchor.specs.declared.verdict.RuleVerdict.{RuleVerdict}
-use Rattle.pf_state.specs.declared.{state.Bound.Bound, state.StateName.StateName}
+use Rattle.pf_state.specs.{declared.{state.Bound.Bound, state.StateName.StateName}, Flows.flow_of, States.{Stated, held_at}, Steps.counts}
 use Rattle.pf_state.specs.declared.step.Step.TheVariants as step
-use Rattle.pf_state.specs.Flows.{flow_of}
-use Rattle.pf_state.specs.States.{Stated, held_at}
-use Rattle.pf_state.specs.Steps.{counts}
 use Rattle.pf_core.specs.declared.reply.Answer.TheVariants as answer
 use Rattle.pf_core.specs.declared.reply.Outcome.TheVariants as outcome
-use Rattle.pf_core.specs.Calls.{call, mentions_of, Call}
-use Rattle.pf_core.specs.Commands.{item_of, unless_refused, unless_unfit, if_there, is_table, items, wanting, added_of, deleted_of, edit_step, makes_state, tracked, track_step, steps_here, states_step, answer_of, step_by, mentioned}
-use Rattle.pf_core.specs.Durable.Edits.{Kept, Edit, commits, adds, deletes, sets, acts, removes, verdict, placed, tables_in, entries_at, applied, voided_by, after, no_conflict, fits}
-use Rattle.pf_core.specs.Laws.Durable.{IsWithin, AreFew}
-use Rattle.pf_core.proofs.Within.{keeps_within}
-use Rattle.pf_core.specs.Laws.Worlds.{tickets_in, given_by, tickets_given, GivesEachOnce, KeepsTheLimits, ShowsAll}
-use Rattle.pf_core.specs.Laws.Wanted.{unit_is, IsPassed, passed, none-wanted, fit, IsThis, wants_commit, edit_of, wants_edit, IsOfStates, of_steps, of_removal, IsStateChange, wants_states, IsWanted, wants}
-use Rattle.pf_core.specs.Worlds.{Held, log_of, durable_of, step_in, room_for, if_ok, or_refused, due_at, grouped, group_at, LegalReply, State, up, down, Upshot, Event, called, opened, flat, group_in, acked_by, shown_by, heard, next, LegalCall, IsLegal, state_after, IsLegalFrom, IsWorld}
-use Rattle.std.proofs.lemmas.List.{append-nil, length-append}
-use Rattle.std.proofs.lemmas.List.Sums.{fold_push}
 use Rattle.pf_anchor.specs.Tables.{Tabled}
-use Rattle.pf_ticket.proofs.Twice.{gives_each_once as once_given}
-use Rattle.pf_core.proofs.LongerWorlds.{flat-push}
 
 -- ---- by the step that was answered
 

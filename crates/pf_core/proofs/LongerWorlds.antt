@@ -1,16 +1,8 @@
 -- Longer worlds, one event at a time.
-use Rattle.std.proofs.Common.{◌≡◌, ◌<◌, List, [], ◌∷◌, ◌++◌, refl, sym, ap, ◌∙◌, subst, append_assoc, append-nil, false}
+use Rattle.std.proofs.{Common.{◌≡◌, ◌<◌, List, [], ◌∷◌, ◌++◌, refl, sym, ap, ◌∙◌, subst, append_assoc, append-nil, false}, lemmas.List.Sums.{fold-append, fold_push}}
 use Rattle.std.specs.Prelude.{fold, ⊤}
-use Rattle.std.proofs.lemmas.List.Sums.{fold-append, fold_push}
-use Rattle.pf_core.specs.declared.{command.Command.Command, reply.Refusal.Refusal, reply.Reply.Reply, reply.Reply.TheVariants.Refused}
-use Rattle.pf_ticket.specs.Tickets.{Open, fresh}
-use Rattle.pf_ticket.specs.Mentions.{Mention, moved, after, opened as left_by}
-use Rattle.pf_core.specs.Calls.{Call, call, mentions_of}
-use Rattle.pf_core.specs.Durable.Edits.{Kept, Edit}
-use Rattle.pf_core.specs.Pages.{Page, IsAt, StandsFor, Leads}
-use Rattle.pf_core.specs.Wholes.{Whole}
-use Rattle.pf_core.specs.Laws.Worlds.{mentions_by, mentions_since, TicketsAreOfTheCalls}
-use Rattle.pf_core.specs.Worlds.{Setting, Held, State, up, down, begun, raised, flat, group_in, Upshot, upshot, Event, called, opened, acked_by, shown_by, heard, next, LegalReply, last_epoch, IsLegal, state_after, IsLegalFrom, IsWorld}
+use Rattle.pf_core.specs.{declared.{command.Command.Command, reply.Refusal.Refusal, reply.Reply.Reply, reply.Reply.TheVariants.Refused}, Calls.{Call, call, mentions_of}, Durable.Edits.{Kept, Edit}, Pages.{Page, IsAt, StandsFor, Leads}, Wholes.Whole, Laws.Worlds.{mentions_by, mentions_since, TicketsAreOfTheCalls}, Worlds.{Setting, Held, State, up, down, begun, raised, flat, group_in, Upshot, upshot, Event, called, opened, acked_by, shown_by, heard, next, LegalReply, last_epoch, IsLegal, state_after, IsLegalFrom, IsWorld}}
+use Rattle.pf_ticket.specs.{Tickets.{Open, fresh}, Mentions.{Mention, moved, after, opened as left_by}}
 
 -- a group of one change more
 pub flat-push : (gs : List (List Edit)) (e : Edit) → flat (gs ++ (e ∷ []) ∷ []) ≡ flat gs ++ e ∷ []

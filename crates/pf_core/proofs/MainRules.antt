@@ -3,9 +3,7 @@ use Rattle.std.proofs.Common.{◌≡◌, Bool, true, false, cond, List, [], ◌�
 use Rattle.std.specs.List.{list_any}
 use Rattle.pf_addr.specs.Path.Paths.{same_path}
 use Rattle.pf_rule.specs.Rules.{PlainRule}
-use Rattle.pf_anchor.specs.Configurations.{Configuration, with_rulesets}
-use Rattle.pf_anchor.specs.Laws.Configurations.{rules_by}
-use Rattle.pf_anchor.specs.Rulesets.{Ruled, rules_at}
+use Rattle.pf_anchor.specs.{Configurations.{Configuration, with_rulesets}, Laws.Configurations.rules_by, Rulesets.{Ruled, rules_at}}
 use Rattle.pf_anchor.proofs.RulesetMaps.{replaced_in_turn}
 
 not-by : (rs : List Ruled) (old : List PlainRule) → list_any (λ (r : Ruled). same_path r.0 []) rs ≡ false → rules_by rs [] old ≡ old

@@ -1,40 +1,14 @@
 -- What a commit leaves of each ruleset, and any call of those that it doesn't name.
-use Rattle.std.proofs.Common.{◌≡◌, ℕ, T, Bool, true, false, cond, ◌&&◌, ◌||◌, List, [], ◌∷◌, ◌++◌, length, refl, sym, ap, ◌∙◌, Option, Some, None, Ok, Err, subst}
-use Rattle.std.specs.Prelude.{fold, unwrap_or}
-use Rattle.std.specs.declared.{cmp.Ordering.Ordering, cmp.Ordering.TheVariants.Less, cmp.Ordering.TheVariants.Equal, cmp.Ordering.TheVariants.Greater}
-use Rattle.std.specs.FinMap.{find, is_sorted, slice_cmp-IsAntisymmetric, nat_cmp-IsAntisymmetric}
-use Rattle.std.specs.FinMap.Entries.{below_all}
-use Rattle.std.specs.List.{list_all}
-use Rattle.std.specs.Ordering.{is_eq, is_lt, eq_by_cmp}
-use Rattle.std.proofs.lemmas.Bool.{or_parts, and_parts, cond_both}
-use Rattle.std.proofs.lemmas.Cmp.{eq_by_cmp_equiv, nat_list_cmp_total}
-use Rattle.std.proofs.lemmas.List.{map-id}
-use Rattle.std.proofs.lemmas.Simd.{map-map}
+use Rattle.std.proofs.{Common.{◌≡◌, ℕ, T, Bool, true, false, cond, ◌&&◌, ◌||◌, List, [], ◌∷◌, ◌++◌, length, refl, sym, ap, ◌∙◌, Option, Some, None, Ok, Err, subst}, lemmas.Bool.{or_parts, and_parts, cond_both}, lemmas.Cmp.{eq_by_cmp_equiv, nat_list_cmp_total}, lemmas.List.map-id, lemmas.Simd.map-map}
+use Rattle.std.specs.{Prelude.{fold, unwrap_or}, declared.{cmp.Ordering.Ordering, cmp.Ordering.TheVariants.Less, cmp.Ordering.TheVariants.Equal, cmp.Ordering.TheVariants.Greater}, FinMap.{find, is_sorted, slice_cmp-IsAntisymmetric, nat_cmp-IsAntisymmetric}, FinMap.Entries.below_all, List.list_all, Ordering.{is_eq, is_lt, eq_by_cmp}}
 use Rattle.pf_rule.specs.Rules.{PlainRule}
-use Rattle.pf_addr.specs.Refusing.{refused_at, both_passed}
-use Rattle.pf_addr.specs.Path.Names.{name_order}
-use Rattle.pf_addr.specs.Path.Paths.{same_path}
-use Rattle.pf_table.specs.Entries.{Row}
-use Rattle.pf_anchor.specs.Laws.Configurations.{rules_by}
-use Rattle.pf_table.specs.Map.ListMaps.{list_by}
-use Rattle.pf_anchor.specs.Rulesets.{Ruled, rules_at, with_rules}
-use Rattle.pf_anchor.specs.Tables.{TableKey, Tabled, table_order, with_table}
-use Rattle.pf_anchor.proofs.RulesetMaps.{replaced_in_turn}
-use Rattle.pf_anchor.proofs.TableMaps.{tables_replaced}
-use Rattle.pf_ticket.specs.declared.{entry.Entry.Entry, name.RulesetKind.RulesetKind, name.RulesetKind.TheVariants.Filter, name.RulesetKind.TheVariants.Table, name.RulesetName.RulesetName, refusal.TicketRefusal.TheVariants.BadCount, refusal.TicketRefusal.TheVariants.Twice, refusal.TicketRefusal.TheVariants.Busy}
-use Rattle.pf_ticket.specs.Laws.Names.{paths_alike, name_is}
-use Rattle.pf_ticket.specs.Names.{same_kind, same_name, is_named, names_of, filter_at, table_ruleset_at, IsDistinct}
-use Rattle.pf_ticket.specs.Replies.{bad_count, twice_in, busy_in, list_check, commit_check}
-use Rattle.pf_ticket.specs.Mentions.{Mention, switched, dropped, named_in, after}
-use Rattle.pf_ticket.specs.NamedTables.{Named}
-use Rattle.pf_ticket.specs.Tickets.{Loaded, Open, offered_as, loaded, offer_at, ticket_in, content}
-use Rattle.pf_ticket.proofs.Moves.{leaves_the_others as mentions_leave, commit_takes_out, gives-named}
-use Rattle.pf_ticket.proofs.Twice.{otherwise_once}
-use Rattle.pf_core.specs.declared.{durable.change.Item.Item, command.Command.TheVariants.Transact, command.Command.TheVariants.Edit as Change, command.Command.TheVariants.States as OfStates, command.Command.TheVariants.Ask, command.Transaction.TheVariants.Begin, command.Transaction.TheVariants.Add, command.Transaction.TheVariants.Define, command.Transaction.TheVariants.Commit, command.Transaction.TheVariants.Rollback}
-use Rattle.pf_core.specs.Commands.{item_of, items, mentioned, is_accepted}
-use Rattle.pf_core.specs.Durable.Edits.{Kept, Edit, commits, rulesets_in, placed, tables_in, entries_at, applied}
-use Rattle.pf_core.specs.Laws.Commands.{tables_offered, AreTablesSwitched, AreSwitched, SwitchesAll, LeaveTheOtherKind, KeepsNoneValid, MentionsTheNamed, LeavesTheOthers, RefusedMentionNothing}
-use Rattle.pf_core.specs.Laws.Wanted.{IsCommitted, wants_commit}
+use Rattle.pf_addr.specs.{Refusing.{refused_at, both_passed}, Path.Names.name_order, Path.Paths.same_path}
+use Rattle.pf_table.specs.{Entries.Row, Map.ListMaps.list_by}
+use Rattle.pf_anchor.specs.{Laws.Configurations.rules_by, Rulesets.{Ruled, rules_at, with_rules}, Tables.{TableKey, Tabled, table_order, with_table}}
+use Rattle.pf_anchor.proofs.{RulesetMaps.replaced_in_turn, TableMaps.tables_replaced}
+use Rattle.pf_ticket.specs.{declared.{entry.Entry.Entry, name.RulesetKind.RulesetKind, name.RulesetKind.TheVariants.Filter, name.RulesetKind.TheVariants.Table, name.RulesetName.RulesetName, refusal.TicketRefusal.TheVariants.BadCount, refusal.TicketRefusal.TheVariants.Twice, refusal.TicketRefusal.TheVariants.Busy}, Laws.Names.{paths_alike, name_is}, Names.{same_kind, same_name, is_named, names_of, filter_at, table_ruleset_at, IsDistinct}, Replies.{bad_count, twice_in, busy_in, list_check, commit_check}, Mentions.{Mention, switched, dropped, named_in, after}, NamedTables.Named, Tickets.{Loaded, Open, offered_as, loaded, offer_at, ticket_in, content}}
+use Rattle.pf_ticket.proofs.{Moves.{leaves_the_others as mentions_leave, commit_takes_out, gives-named}, Twice.otherwise_once}
+use Rattle.pf_core.specs.{declared.{durable.change.Item.Item, command.Command.TheVariants.Transact, command.Command.TheVariants.Edit as Change, command.Command.TheVariants.States as OfStates, command.Command.TheVariants.Ask, command.Transaction.TheVariants.Begin, command.Transaction.TheVariants.Add, command.Transaction.TheVariants.Define, command.Transaction.TheVariants.Commit, command.Transaction.TheVariants.Rollback}, Commands.{item_of, items, mentioned, is_accepted}, Durable.Edits.{Kept, Edit, commits, rulesets_in, placed, tables_in, entries_at, applied}, Laws.Commands.{tables_offered, AreTablesSwitched, AreSwitched, SwitchesAll, LeaveTheOtherKind, KeepsNoneValid, MentionsTheNamed, LeavesTheOthers, RefusedMentionNothing}, Laws.Wanted.{IsCommitted, wants_commit}}
 use Rattle.pf_core.proofs.Edited.{same-keys, equal-is}
 
 first_holds : (a b : Bool) → T (a && b) → T a

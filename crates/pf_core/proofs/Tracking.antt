@@ -1,23 +1,13 @@
 -- A packet that is tracked makes a new state.
 use Rattle.std.proofs.Common.{◌≡◌, Bool, true, false, ◌&&◌, List, [], ◌∷◌, Option, Some, None, Ok, refl, sym}
-use Rattle.std.specs.Prelude.{not, is_some, if◌then◌else◌}
-use Rattle.std.specs.List.{find as first_where, list_any}
-use Rattle.std.specs.Option.{option_map_or}
-use Rattle.std.specs.Ordering.{eq_by_cmp}
+use Rattle.std.specs.{Prelude.{not, is_some, if◌then◌else◌}, List.{find as first_where, list_any}, Option.option_map_or, Ordering.eq_by_cmp}
 use Rattle.pf_rule.specs.Packets.{PlainPacket}
 use Rattle.pf_anchor.specs.declared.verdict.RuleVerdict.{RuleVerdict}
 use Rattle.pf_anchor.specs.Evaluation.{judged}
-use Rattle.pf_state.specs.declared.{state.Bound.Bound, state.Held.Held, state.StateName.StateName, step.Insertion.TheVariants.New, step.Step.TheVariants.Insert}
-use Rattle.pf_state.specs.Flows.{flow_of, same_flow}
-use Rattle.pf_state.specs.States.{Stated, name_order, held_at, state_of}
-use Rattle.pf_state.specs.Steps.{is_clash, insertion}
-use Rattle.pf_core.specs.declared.{durable.verdict.Verdict.TheVariants.State, durable.verdict.Verdict.TheVariants.Rules, reply.Outcome.Outcome, step.Step.TheVariants.Done, step.Step.TheVariants.Wants}
-use Rattle.pf_core.specs.Durable.Edits.{Kept, Edit, acts}
+use Rattle.pf_state.specs.{declared.{state.Bound.Bound, state.Held.Held, state.StateName.StateName, step.Insertion.TheVariants.New, step.Step.TheVariants.Insert}, Flows.{flow_of, same_flow}, States.{Stated, name_order, held_at, state_of}, Steps.{is_clash, insertion}}
+use Rattle.pf_core.specs.{declared.{durable.verdict.Verdict.TheVariants.State, durable.verdict.Verdict.TheVariants.Rules, reply.Outcome.Outcome, step.Step.TheVariants.Done, step.Step.TheVariants.Wants}, Durable.Edits.{Kept, Edit, acts}, Commands.{wanting, makes_state, tracked, track_step}, Laws.Commands.{MakesOne, TrackMakesOne}, Laws.Wanted.{IsThis, wanted}}
 use Rattle.pf_core.specs.declared.reply.Answer.TheVariants as answer
 use Rattle.pf_core.specs.declared.reply.Outcome.TheVariants as outcome
-use Rattle.pf_core.specs.Commands.{wanting, makes_state, tracked, track_step}
-use Rattle.pf_core.specs.Laws.Commands.{MakesOne, TrackMakesOne}
-use Rattle.pf_core.specs.Laws.Wanted.{IsThis, wanted}
 
 -- where none passes a test none passes it and another
 none-of-both : {X : Type 0} (p q : X → Bool) (xs : List X) → first_where p xs ≡ None → list_any (λ x. q x && p x) xs ≡ false

@@ -1,34 +1,18 @@
 -- Limits that a change keeps.
-use Rattle.std.proofs.Common.{◌≡◌, T, ℕ, ◌≤◌, ◌==◌, ◌&&◌, not, cond, Bool, true, false, List, [], ◌∷◌, length, refl, sym, ap, subst, Result, Ok, arith}
-use Rattle.std.specs.Prelude.{nat_lt}
+use Rattle.std.proofs.{Common.{◌≡◌, T, ℕ, ◌≤◌, ◌==◌, ◌&&◌, not, cond, Bool, true, false, List, [], ◌∷◌, length, refl, sym, ap, subst, Result, Ok, arith}, lemmas.Bool.cond_both, lemmas.Bool.Decides.nat_tests}
+use Rattle.std.specs.{Prelude.nat_lt, FinMap.is_sorted, List.AllByRecursion, Ordering.eq_by_cmp}
 use Rattle.std.specs.declared.cmp.Ordering.{Ordering}
-use Rattle.std.specs.FinMap.{is_sorted}
-use Rattle.std.specs.List.{AllByRecursion}
-use Rattle.std.specs.Ordering.{eq_by_cmp}
-use Rattle.std.proofs.lemmas.Bool.{cond_both}
-use Rattle.std.proofs.lemmas.Bool.Decides.{nat_tests}
 use Rattle.pf_table.specs.declared.limits.TheConstants.{TABLE_LIMIT}
-use Rattle.pf_addr.specs.Path.Paths.{path_order}
+use Rattle.pf_addr.specs.{Path.Paths.path_order, Refusing.{and_then, unless, refused_at, AreBothPassed, both_passed, not_refused}}
 use Rattle.pf_rule.specs.Rules.{PlainRule}
-use Rattle.pf_table.specs.Laws.Edits.{deleted_fewer, sorted_added, sorted_deleted}
-use Rattle.pf_table.specs.Edits.{added, deleted, replaced}
-use Rattle.pf_table.specs.Entries.{Row, net_order}
-use Rattle.pf_table.specs.Map.ListMaps.{list_by}
-use Rattle.pf_table.specs.Tables.{AreEntries}
+use Rattle.pf_table.specs.{Laws.Edits.{deleted_fewer, sorted_added, sorted_deleted}, Edits.{added, deleted, replaced}, Entries.{Row, net_order}, Map.ListMaps.list_by, Tables.AreEntries}
 use Rattle.pf_anchor.specs.declared.limits.TheConstants.{RULE_LIMIT, RULESET_LIMIT, TABLE_COUNT_LIMIT}
-use Rattle.pf_anchor.specs.Configurations.{Configuration}
-use Rattle.pf_anchor.specs.Rulesets.{rules_at}
-use Rattle.pf_anchor.specs.Tables.{tabled, table_order}
+use Rattle.pf_anchor.specs.{Configurations.Configuration, Rulesets.rules_at, Tables.{tabled, table_order}}
 use Rattle.pf_anchor.proofs.TableMaps.{tables_replaced, table_maps_stay}
 use Rattle.pf_state.specs.Steps.{passes_limit}
-use Rattle.pf_state.proofs.Counting.{states_deleted}
-use Rattle.pf_state.proofs.Tables.{stays_states}
-use Rattle.pf_core.specs.declared.{durable.refusal.ChangeRefusal.ChangeRefusal, durable.refusal.ChangeRefusal.TheVariants.Twice, durable.refusal.ChangeRefusal.TheVariants.TableFull, durable.refusal.ChangeRefusal.TheVariants.TooManyRulesets, durable.refusal.ChangeRefusal.TheVariants.TooManyTables, durable.refusal.ChangeRefusal.TheVariants.StatesFull, durable.change.Item.Item}
-use Rattle.pf_core.specs.Durable.Edits.{Kept, commits, deletes, applied, fits, named_again, rulesets_in, tables_in, entries_at, with_entries, is_one_more, no_conflict, holdable, room_for_table, replaceable}
-use Rattle.pf_core.specs.Laws.Durable.{IsWithin, AreFew, KeepsWithin}
-use Rattle.pf_addr.specs.Refusing.{and_then, unless, refused_at, AreBothPassed, both_passed, not_refused}
-use Rattle.pf_core.proofs.Edited.{replaces_exactly}
-use Rattle.pf_core.proofs.TableCounts.{deleted-none, no-table-more}
+use Rattle.pf_state.proofs.{Counting.states_deleted, Tables.stays_states}
+use Rattle.pf_core.specs.{declared.{durable.refusal.ChangeRefusal.ChangeRefusal, durable.refusal.ChangeRefusal.TheVariants.Twice, durable.refusal.ChangeRefusal.TheVariants.TableFull, durable.refusal.ChangeRefusal.TheVariants.TooManyRulesets, durable.refusal.ChangeRefusal.TheVariants.TooManyTables, durable.refusal.ChangeRefusal.TheVariants.StatesFull, durable.change.Item.Item}, Durable.Edits.{Kept, commits, deletes, applied, fits, named_again, rulesets_in, tables_in, entries_at, with_entries, is_one_more, no_conflict, holdable, room_for_table, replaceable}, Laws.Durable.{IsWithin, AreFew, KeepsWithin}}
+use Rattle.pf_core.proofs.{Edited.replaces_exactly, TableCounts.{deleted-none, no-table-more}}
 
 table-within : (d : Kept) (p name : List ℕ) (es : List Row) → AreEntries es → length (with_entries d p name es).config.tables ≤ TABLE_COUNT_LIMIT → IsWithin d → IsWithin (with_entries d p name es)
 table-within d p name es few count w = record {

@@ -1,8 +1,7 @@
 -- Calls, and what they mention.
 use Rattle.std.specs.Prelude.{cond, List, []}
 use Rattle.pf_ticket.specs.Mentions.{Mention}
-use Rattle.pf_core.specs.declared.{command.Command.Command, reply.Reply.Reply}
-use Rattle.pf_core.specs.Commands.{mentioned, is_accepted}
+use Rattle.pf_core.specs.{declared.{command.Command.Command, reply.Reply.Reply}, Commands.{mentioned, is_accepted}}
 
 -- a command, and the reply that it got
 pub record Call : Type 0 where

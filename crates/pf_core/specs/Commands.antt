@@ -2,38 +2,21 @@
 -- DIOCRADDADDRS to DIOCRTSTADDRS; pf.conf(5); pfctl(8), -k). One line each, by family. The limits, the order of refusals and what peers
 -- tell are own.
 use Rattle.std.specs.Prelude.{ℕ, ◌==◌, Bool, true, false, not, if◌then◌else◌, is_some, List, [], ◌∷◌, length, map, filter, Option, Some, None, Result, Ok, Err}
-use Rattle.pf_table.specs.declared.{answer.Addition.Addition, answer.Deletion.Deletion}
+use Rattle.pf_table.specs.{declared.{answer.Addition.Addition, answer.Deletion.Deletion}, Edits.{additions, deletions}, Entries.Row, Tables.deciding}
 use Rattle.pf_table.specs.declared.answer.Addition.TheVariants as addition
 use Rattle.pf_table.specs.declared.answer.Deletion.TheVariants as deletion
-use Rattle.pf_table.specs.Edits.{additions, deletions}
-use Rattle.pf_table.specs.Entries.{Row}
-use Rattle.pf_table.specs.Tables.{deciding}
-use Rattle.pf_anchor.specs.Rulesets.{ruled, rules_at}
-use Rattle.pf_anchor.specs.Tables.{tables_at}
+use Rattle.pf_anchor.specs.{Rulesets.{ruled, rules_at}, Tables.tables_at, declared.{verdict.RuleVerdict.RuleVerdict, verdict.RuleVerdict.TheVariants.Rule as Deciding, verdict.RuleVerdict.TheVariants.Default as NoRule}}
 use Rattle.pf_rule.specs.declared.rule.Action.TheVariants.{Pass, Block}
 use Rattle.pf_rule.specs.Packets.{PlainPacket}
-use Rattle.pf_anchor.specs.declared.{verdict.RuleVerdict.RuleVerdict, verdict.RuleVerdict.TheVariants.Rule as Deciding, verdict.RuleVerdict.TheVariants.Default as NoRule}
-use Rattle.pf_state.specs.declared.{state.Bound.Bound, state.StateName.StateName, step.Step.Step as StateStep, peer.message.Message.Message}
+use Rattle.pf_state.specs.{declared.{state.Bound.Bound, state.StateName.StateName, step.Step.Step as StateStep, peer.message.Message.Message}, Flows.flow_of, States.{Stated, held_at}, Steps.counts, Peer.Written.message_bytes, Failover.Incoming.steps_of, Failover.Outgoing.exported_messages}
 use Rattle.pf_state.specs.declared.state.Bound.TheVariants as bound
 use Rattle.pf_state.specs.declared.step.Step.TheVariants as step
-use Rattle.pf_state.specs.Flows.{flow_of}
-use Rattle.pf_state.specs.States.{Stated, held_at}
-use Rattle.pf_state.specs.Steps.{counts}
-use Rattle.pf_state.specs.Peer.Written.{message_bytes}
-use Rattle.pf_state.specs.Failover.Incoming.{steps_of}
-use Rattle.pf_state.specs.Failover.Outgoing.{exported_messages}
-use Rattle.pf_ticket.specs.declared.{entry.Entry.Entry, name.RulesetName.RulesetName, offered.Offered.Offered, refusal.TicketRefusal.TicketRefusal}
+use Rattle.pf_ticket.specs.{declared.{entry.Entry.Entry, name.RulesetName.RulesetName, offered.Offered.Offered, refusal.TicketRefusal.TicketRefusal}, Names.{filter_at, table_ruleset_at, names_of}, Mentions.{Mention, added, defined, gives, switches, drops}, Tickets.{Open, content}, Replies.{begin_reply, add_reply, define_reply, list_check, commit_check}}
 use Rattle.pf_ticket.specs.declared.offered.Offered.TheVariants as offered
-use Rattle.pf_ticket.specs.Names.{filter_at, table_ruleset_at, names_of}
-use Rattle.pf_ticket.specs.Mentions.{Mention, added, defined, gives, switches, drops}
-use Rattle.pf_ticket.specs.Tickets.{Open, content}
-use Rattle.pf_ticket.specs.Replies.{begin_reply, add_reply, define_reply, list_check, commit_check}
-use Rattle.pf_core.specs.declared.{durable.change.Item.Item, command.Command.Command, command.Command.TheVariants.Transact, command.Command.TheVariants.Edit as Change, command.Command.TheVariants.States as OfStates, command.Command.TheVariants.Ask, command.Question.Question, command.Question.TheVariants.Judge, command.Question.TheVariants.Test, command.Question.TheVariants.ShowRules, command.Question.TheVariants.ShowTables, command.Question.TheVariants.ShowStates, command.Question.TheVariants.Sum, command.Question.TheVariants.Export, command.StateCommand.StateCommand, command.StateCommand.TheVariants.Track, command.StateCommand.TheVariants.Peer, command.StateCommand.TheVariants.Kill as KillState, command.TableEdit.TableEdit, command.TableEdit.TheVariants.Add as AddTo, command.TableEdit.TheVariants.Delete, command.TableEdit.TheVariants.Set, command.TableEdit.TheVariants.Kill, command.Transaction.Transaction, command.Transaction.TheVariants.Begin, command.Transaction.TheVariants.Add, command.Transaction.TheVariants.Define, command.Transaction.TheVariants.Commit, command.Transaction.TheVariants.Rollback, reply.Answer.Answer, reply.Outcome.Outcome, reply.Refusal.Refusal, reply.Refusal.TheVariants.Absent, reply.Reply.Reply, reply.Reply.TheVariants.Answer as Answered, reply.Reply.TheVariants.Applied, reply.Reply.TheVariants.Refused, step.Step.Step, step.Step.TheVariants.Done, step.Step.TheVariants.Wants, durable.refusal.ChangeRefusal.ChangeRefusal, durable.verdict.Verdict.Verdict, durable.verdict.Verdict.TheVariants.State as Stateful, durable.verdict.Verdict.TheVariants.Rules as ByRules}
+use Rattle.pf_core.specs.{declared.{durable.change.Item.Item, command.Command.Command, command.Command.TheVariants.Transact, command.Command.TheVariants.Edit as Change, command.Command.TheVariants.States as OfStates, command.Command.TheVariants.Ask, command.Question.Question, command.Question.TheVariants.Judge, command.Question.TheVariants.Test, command.Question.TheVariants.ShowRules, command.Question.TheVariants.ShowTables, command.Question.TheVariants.ShowStates, command.Question.TheVariants.Sum, command.Question.TheVariants.Export, command.StateCommand.StateCommand, command.StateCommand.TheVariants.Track, command.StateCommand.TheVariants.Peer, command.StateCommand.TheVariants.Kill as KillState, command.TableEdit.TableEdit, command.TableEdit.TheVariants.Add as AddTo, command.TableEdit.TheVariants.Delete, command.TableEdit.TheVariants.Set, command.TableEdit.TheVariants.Kill, command.Transaction.Transaction, command.Transaction.TheVariants.Begin, command.Transaction.TheVariants.Add, command.Transaction.TheVariants.Define, command.Transaction.TheVariants.Commit, command.Transaction.TheVariants.Rollback, reply.Answer.Answer, reply.Outcome.Outcome, reply.Refusal.Refusal, reply.Refusal.TheVariants.Absent, reply.Reply.Reply, reply.Reply.TheVariants.Answer as Answered, reply.Reply.TheVariants.Applied, reply.Reply.TheVariants.Refused, step.Step.Step, step.Step.TheVariants.Done, step.Step.TheVariants.Wants, durable.refusal.ChangeRefusal.ChangeRefusal, durable.verdict.Verdict.Verdict, durable.verdict.Verdict.TheVariants.State as Stateful, durable.verdict.Verdict.TheVariants.Rules as ByRules}, Durable.Edits.{Kept, Edit, commits, adds, deletes, sets, acts, removes, entries_at, main_sum, no_conflict, fits, verdict}, Refusals.{refusal_of, change_refusal_of}}
 use Rattle.pf_core.specs.declared.durable.change.Item.TheVariants as item
 use Rattle.pf_core.specs.declared.reply.Answer.TheVariants as answer
 use Rattle.pf_core.specs.declared.reply.Outcome.TheVariants as outcome
-use Rattle.pf_core.specs.Durable.Edits.{Kept, Edit, commits, adds, deletes, sets, acts, removes, entries_at, main_sum, no_conflict, fits, verdict}
-use Rattle.pf_core.specs.Refusals.{refusal_of, change_refusal_of}
 
 -- ---- steps
 

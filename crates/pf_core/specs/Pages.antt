@@ -1,9 +1,6 @@
 -- What contracts see of a Book, and when it stands for a world. Own.
 use Rattle.std.specs.Prelude.{◌≡◌, ℕ, ◌≤◌, List, length, take}
-use Rattle.pf_core.specs.Calls.{Call}
-use Rattle.pf_core.specs.Durable.Edits.{Kept, Edit, after}
-use Rattle.pf_core.specs.Wholes.{Whole}
-use Rattle.pf_core.specs.Worlds.{Held, up, down, Upshot, Event, flat, LegalCall, heard, state_after, IsWorld}
+use Rattle.pf_core.specs.{Calls.Call, Durable.Edits.{Kept, Edit, after}, Wholes.Whole, Worlds.{Held, up, down, Upshot, Event, flat, LegalCall, heard, state_after, IsWorld}}
 
 -- a Book: what its opening gave, the core, the groups of changes that were acknowledged, and the one that wasn't, how
 -- many changes there may be, how many are shown, and the copy that shows them

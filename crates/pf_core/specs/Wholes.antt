@@ -1,11 +1,8 @@
 -- What contracts see of a core, and what a step leaves of it. Own.
 use Rattle.std.specs.Prelude.{List, Result, Ok, Err}
-use Rattle.pf_core.specs.declared.{command.Command.Command, reply.Refusal.Refusal, step.Step.Step, step.Step.TheVariants.Done, step.Step.TheVariants.Wants}
+use Rattle.pf_core.specs.{declared.{command.Command.Command, reply.Refusal.Refusal, step.Step.Step, step.Step.TheVariants.Done, step.Step.TheVariants.Wants}, Commands.{mentioned, unless_unfit}, Durable.Edits.{Kept, Edit, applied, voided_by, fits}}
 use Rattle.pf_ticket.specs.declared.name.RulesetName.{RulesetName}
-use Rattle.pf_ticket.specs.Tickets.{Open}
-use Rattle.pf_ticket.specs.Mentions.{after}
-use Rattle.pf_core.specs.Commands.{mentioned, unless_unfit}
-use Rattle.pf_core.specs.Durable.Edits.{Kept, Edit, applied, voided_by, fits}
+use Rattle.pf_ticket.specs.{Tickets.Open, Mentions.after}
 
 -- a core: what is kept, and the open transactions
 pub record Whole : Type 0 where

@@ -1,11 +1,7 @@
 -- Worlds: lists of events, which of them are legal, and what they leave. Own.
 use Rattle.std.specs.Prelude.{◌≡◌, ℕ, ◌+◌, ◌<◌, ◌⊎◌, Bool, true, if◌then◌else◌, List, [], ◌∷◌, ◌++◌, length, fold, nat_lt, ⊤, Result, Ok, Err}
-use Rattle.pf_core.specs.declared.{command.Command.Command, reply.Refusal.Refusal, reply.Refusal.TheVariants.HistoryFull, reply.Refusal.TheVariants.Memory, reply.Reply.Reply, reply.Reply.TheVariants.Answer, reply.Reply.TheVariants.Applied, reply.Reply.TheVariants.Refused, step.Step.Step, step.Step.TheVariants.Done, step.Step.TheVariants.Wants}
-use Rattle.pf_ticket.specs.Tickets.{Open, fresh}
-use Rattle.pf_ticket.specs.Mentions.{after as moved_by}
-use Rattle.pf_core.specs.Calls.{Call, mentions_of}
-use Rattle.pf_core.specs.Commands.{step_by, takes_memory}
-use Rattle.pf_core.specs.Durable.Edits.{Kept, Edit, after}
+use Rattle.pf_core.specs.{declared.{command.Command.Command, reply.Refusal.Refusal, reply.Refusal.TheVariants.HistoryFull, reply.Refusal.TheVariants.Memory, reply.Reply.Reply, reply.Reply.TheVariants.Answer, reply.Reply.TheVariants.Applied, reply.Reply.TheVariants.Refused, step.Step.Step, step.Step.TheVariants.Done, step.Step.TheVariants.Wants}, Calls.{Call, mentions_of}, Commands.{step_by, takes_memory}, Durable.Edits.{Kept, Edit, after}}
+use Rattle.pf_ticket.specs.{Tickets.{Open, fresh}, Mentions.after as moved_by}
 
 -- ---- states
 

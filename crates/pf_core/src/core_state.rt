@@ -1,18 +1,11 @@
 //! One command after the other.
-ghost use Rattle.std.specs.Prelude.{◌≡◌, List, IfOk, OnErr, true};
-ghost use Rattle.std.specs.Arc.{arc_value};
+ghost use Rattle.std.specs.{Prelude.{◌≡◌, List, IfOk, OnErr, true}, Arc.arc_value};
 ghost use Rattle.pf_rule.specs.Packets.{PlainPacket};
 ghost use Rattle.pf_ticket.specs.declared.entry.Entry.{Entry};
-ghost use Rattle.pf_ticket.specs.Mentions.{after, switches};
-ghost use Rattle.pf_ticket.specs.Tickets.{fresh, content};
-ghost use Rattle.pf_core.specs.declared.command.Command.{Command};
-ghost use Rattle.pf_core.specs.declared.command.Question.{Question};
-ghost use Rattle.pf_core.specs.declared.command.Transaction.{Transaction};
+ghost use Rattle.pf_ticket.specs.{Mentions.{after, switches}, Tickets.{fresh, content}};
+ghost use Rattle.pf_core.specs.declared.{command.Command.Command, command.Question.Question, command.Transaction.Transaction};
 ghost use Rattle.pf_core.specs.declared.reply.Answer.TheVariants as answer;
-ghost use Rattle.pf_core.specs.Commands.{item_of, items, commit_step, rollback_step, transact_step, answer_of, step_by, transacts_in_memory, asks_for_memory, takes_memory};
-ghost use Rattle.pf_core.specs.Durable.Edits.{verdict};
-ghost use Rattle.pf_core.specs.Refusals.{OrMemory};
-ghost use Rattle.pf_core.specs.Wholes.{whole, prepared, answered, stepped};
+ghost use Rattle.pf_core.specs.{Commands.{item_of, items, commit_step, rollback_step, transact_step, answer_of, step_by, transacts_in_memory, asks_for_memory, takes_memory}, Durable.Edits.verdict, Refusals.OrMemory, Wholes.{whole, prepared, answered, stepped}};
 
 use crate::command::{Command, Question, Transaction};
 use crate::durable::{Change, Durable, Item};

@@ -1,9 +1,7 @@
 //! Changes of states: which change each one wants, and what it is told.
 ghost use Rattle.std.specs.Prelude.{◌≡◌, length, not, IfOk};
 ghost use Rattle.pf_anchor.specs.Rulesets.{rules_at};
-ghost use Rattle.pf_core.specs.Durable.Edits.{verdict};
-ghost use Rattle.pf_core.specs.Commands.{bound_here, makes_state, make_step, track_step, steps_here, states_step, is_done, changes_states_in_memory};
-ghost use Rattle.pf_core.specs.Refusals.{OrMemory};
+ghost use Rattle.pf_core.specs.{Durable.Edits.verdict, Commands.{bound_here, makes_state, make_step, track_step, steps_here, states_step, is_done, changes_states_in_memory}, Refusals.OrMemory};
 
 use crate::command::StateCommand;
 use crate::durable::{Change, Durable, Verdict};

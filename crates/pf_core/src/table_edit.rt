@@ -1,7 +1,6 @@
 //! Edits of tables: which change each one wants, and what it is told.
 ghost use Rattle.std.specs.Prelude.{◌≡◌, length, filter};
-ghost use Rattle.pf_core.specs.Commands.{same_addition, added_of, same_deletion, deleted_of, edit_step, edits_in_memory};
-ghost use Rattle.pf_core.specs.Refusals.{OrMemory};
+ghost use Rattle.pf_core.specs.{Commands.{same_addition, added_of, same_deletion, deleted_of, edit_step, edits_in_memory}, Refusals.OrMemory};
 
 use crate::command::TableEdit;
 use crate::durable::{Change, Durable, EntryList};

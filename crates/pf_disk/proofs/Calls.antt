@@ -1,11 +1,7 @@
 -- One call more of a device that keeps its calls.
-use Rattle.std.proofs.Common.{◌≡◌, inl, inr, ⊎_elim, ◌⊎◌, ℕ, zero, suc, ◌+◌, ◌<◌, ◌≤◌, Bool, true, false, ◌&&◌, cond, List, [], ◌∷◌, ◌++◌, length, take, refl, sym, ◌∙◌, ap, subst, arith, append_assoc, take-append-drop, drop, Result, Ok, Err}
+use Rattle.std.proofs.{Common.{◌≡◌, inl, inr, ⊎_elim, ◌⊎◌, ℕ, zero, suc, ◌+◌, ◌<◌, ◌≤◌, Bool, true, false, ◌&&◌, cond, List, [], ◌∷◌, ◌++◌, length, take, refl, sym, ◌∙◌, ap, subst, arith, append_assoc, take-append-drop, drop, Result, Ok, Err}, lemmas.List.{take_all, take-append-le, length_push, length-take, length-drop, drop-drop}, lemmas.Bool.{cases_lt, cases_eq, leb-true, le-leb}}
 use Rattle.std.specs.Prelude.{OnOk, OnErr}
-use Rattle.std.proofs.lemmas.List.{take_all, take-append-le, length_push, length-take, length-drop, drop-drop}
-use Rattle.std.proofs.lemmas.Bool.{cases_lt, cases_eq, leb-true, le-leb}
-use Rattle.pf_disk.specs.Disk.{IsImage, AreIn, Elapses, with_range, is_within, overwritten}
-use Rattle.pf_disk.specs.Calls.{Event, reading, writing, syncing, State, at_rest, after_event, after, is_sync, is_sync_at, counting, state_at, IsImageAt, LeftSince, fits_in, all_fit}
-use Rattle.pf_disk.specs.Past.{at_past}
+use Rattle.pf_disk.specs.{Disk.{IsImage, AreIn, Elapses, with_range, is_within, overwritten}, Calls.{Event, reading, writing, syncing, State, at_rest, after_event, after, is_sync, is_sync_at, counting, state_at, IsImageAt, LeftSince, fits_in, all_fit}, Past.at_past}
 use Rattle.pf_disk.proofs.Images.{wide_image, overwritten_elsewhere, neither_left, neither_right}
 
 pub after-push : (s : State) (events : List Event) (event : Event) → after s (events ++ event ∷ []) ≡ after_event (after s events) event

@@ -1,8 +1,5 @@
 -- What an image is, where nothing or one range is unsynced.
-use Rattle.std.proofs.Common.{◌≡◌, inl, inr, ℕ, ◌+◌, ◌<◌, ◌≤◌, Bool, false, true, ◌||◌, List, ◌++◌, length, take, drop, refl, sym, ◌∙◌, ap, arith, rules, append_assoc}
-use Rattle.std.proofs.lemmas.List.{ext_get_or, places, length-take, length-drop, get_or-take, get_or-drop, drop_at}
-use Rattle.std.proofs.lemmas.Bool.{cases_lt}
-use Rattle.std.proofs.lemmas.Bool.Decides.{nat_tests}
+use Rattle.std.proofs.{Common.{◌≡◌, inl, inr, ℕ, ◌+◌, ◌<◌, ◌≤◌, Bool, false, true, ◌||◌, List, ◌++◌, length, take, drop, refl, sym, ◌∙◌, ap, arith, rules, append_assoc}, lemmas.List.{ext_get_or, places, length-take, length-drop, get_or-take, get_or-drop, drop_at}, lemmas.Bool.cases_lt, lemmas.Bool.Decides.nat_tests}
 use Rattle.pf_disk.specs.Disk.{IsImage, IsSynced, is_within, with_range, overwritten}
 
 pub neither_left : (a b : Bool) → (a || b) ≡ false → a ≡ false

@@ -1,8 +1,7 @@
 -- A `MemDisk` after one call more.
 use Rattle.std.proofs.Common.{◌≡◌, true, List, [], ◌∷◌, ◌++◌, length}
 use Rattle.pf_disk.specs.declared.memory.MemDisk.{MemDisk}
-use Rattle.pf_disk.specs.Calls.{Event, at_rest, after_event, fits_in}
-use Rattle.pf_disk.specs.Memory.{first_of, events_of, seen_of}
+use Rattle.pf_disk.specs.{Calls.{Event, at_rest, after_event, fits_in}, Memory.{first_of, events_of, seen_of}}
 use Rattle.pf_disk.proofs.Calls.{Keeps, Goes, goes}
 
 pub keeps : (m : MemDisk) → Keeps (first_of m) (seen_of m) (length (first_of m)) (events_of m)

@@ -1,10 +1,7 @@
 -- The calls of a `MemDisk`, one after the other.
-use Rattle.std.proofs.Common.{◌≡◌, ℕ, zero, suc, ◌+◌, ◌<◌, Bool, true, false, ◌&&◌, cond, List, [], ◌∷◌, length, get_or, take, map, refl, sym, ◌∙◌, ap, arith}
-use Rattle.std.proofs.lemmas.List.{take_more, map-append}
-use Rattle.pf_disk.specs.declared.memory.Call.{Call}
-use Rattle.pf_disk.specs.declared.memory.Call.TheVariants.{Read, Write, Sync}
-use Rattle.pf_disk.specs.Kept.{event_of}
-use Rattle.pf_disk.specs.Calls.{Event, State, after, after_event, is_sync, is_sync_at, counting, fits_in, all_fit}
+use Rattle.std.proofs.{Common.{◌≡◌, ℕ, zero, suc, ◌+◌, ◌<◌, Bool, true, false, ◌&&◌, cond, List, [], ◌∷◌, length, get_or, take, map, refl, sym, ◌∙◌, ap, arith}, lemmas.List.{take_more, map-append}}
+use Rattle.pf_disk.specs.declared.{memory.Call.Call, memory.Call.TheVariants.{Read, Write, Sync}}
+use Rattle.pf_disk.specs.{Kept.event_of, Calls.{Event, State, after, after_event, is_sync, is_sync_at, counting, fits_in, all_fit}}
 use Rattle.pf_disk.proofs.Calls.{after-push, size-after}
 
 and_left : (a b : Bool) → (a && b) ≡ true → a ≡ true

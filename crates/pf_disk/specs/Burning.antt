@@ -1,7 +1,6 @@
 -- Which calls a fuse lets fail.
 use Rattle.std.specs.Prelude.{ℕ, zero, suc, Bool, true, false, if◌then◌else◌, ◌+◌}
-use Rattle.pf_disk.specs.declared.fuse.Fuse.{Fuse}
-use Rattle.pf_disk.specs.declared.fuse.Fuse.TheVariants.{Whole, After, Once}
+use Rattle.pf_disk.specs.declared.{fuse.Fuse.Fuse, fuse.Fuse.TheVariants.{Whole, After, Once}}
 
 -- the next call fails
 abbrev pub blows : Fuse → Bool

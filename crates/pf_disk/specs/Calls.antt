@@ -1,6 +1,5 @@
 -- The calls of a device that keeps them, what they make of it, and what a crash during one of them may leave.
-use Rattle.std.specs.Prelude.{◌≡◌, ℕ, zero, suc, ◌+◌, ◌<◌, Bool, true, false, ◌&&◌, nat_le, if◌then◌else◌, List, [], ◌∷◌, length, take, refl}
-use Rattle.std.specs.Coded.{Coded, code_by, coded×, coded_ℕ, coded_list}
+use Rattle.std.specs.{Prelude.{◌≡◌, ℕ, zero, suc, ◌+◌, ◌<◌, Bool, true, false, ◌&&◌, nat_le, if◌then◌else◌, List, [], ◌∷◌, length, take, refl}, Coded.{Coded, code_by, coded×, coded_ℕ, coded_list}}
 use Rattle.pf_disk.specs.Disk.{IsImage, with_range, overwritten}
 
 -- a call: a read, a write of these bytes from a place on, a sync

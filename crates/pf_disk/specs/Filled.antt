@@ -1,9 +1,6 @@
 -- The images that a `MemDisk` makes.
 use Rattle.std.specs.Prelude.{◌≡◌, ℕ, ◌-◌, ◌<◌, false, if◌then◌else◌, List, length, slice_index, slice_index_or}
-use Rattle.pf_disk.specs.declared.image.Fill.{Fill}
-use Rattle.pf_disk.specs.declared.image.Fill.TheVariants.{Old, New, Zeros, Open, Inverted, Bytes}
-use Rattle.pf_disk.specs.declared.image.Replay.{Replay}
-use Rattle.pf_disk.specs.declared.image.TheConstants.{OPEN_GATE}
+use Rattle.pf_disk.specs.declared.{image.Fill.Fill, image.Fill.TheVariants.{Old, New, Zeros, Open, Inverted, Bytes}, image.Replay.Replay, image.TheConstants.OPEN_GATE}
 use Rattle.pf_disk.specs.Calls.{State}
 
 -- what an unsynced place is filled with, from the byte of the last sync and the byte that a read returns

@@ -1,8 +1,6 @@
 -- What a `FuseDisk` shows.
 use Rattle.std.specs.Prelude.{ℕ}
-use Rattle.pf_disk.specs.declared.disk.Disk.{Ghosts}
-use Rattle.pf_disk.specs.declared.fuse.Fuse.{Fuse}
-use Rattle.pf_disk.specs.declared.fuse.FuseDisk.{FuseDisk}
+use Rattle.pf_disk.specs.declared.{disk.Disk.Ghosts, fuse.Fuse.Fuse, fuse.FuseDisk.FuseDisk}
 
 module _ {D : Type 0} {G : Ghosts D} where
   abbrev pub inner_of : FuseDisk D G → D

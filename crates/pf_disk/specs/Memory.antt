@@ -1,8 +1,7 @@
 -- What a `MemDisk` shows.
 use Rattle.std.specs.Prelude.{ℕ, Bool, List, map}
 use Rattle.pf_disk.specs.declared.memory.MemDisk.{MemDisk}
-use Rattle.pf_disk.specs.Calls.{Event, at_rest, after}
-use Rattle.pf_disk.specs.Kept.{event_of}
+use Rattle.pf_disk.specs.{Calls.{Event, at_rest, after}, Kept.event_of}
 
 -- the bytes at first, all of them synced
 abbrev pub first_of : MemDisk → List ℕ

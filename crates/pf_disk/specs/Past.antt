@@ -1,9 +1,7 @@
 -- The moments since the last call: there is the state of now, and no other.
 use Rattle.std.specs.Prelude.{◌≡◌, ℕ, zero, suc, ◌+◌, ◌<◌, ◌≤◌, false, List, [], ◌∷◌, length, refl}
-use Rattle.std.proofs.Common.{arith, subst, sym, ap}
-use Rattle.std.proofs.lemmas.List.{take_all}
-use Rattle.pf_disk.specs.Disk.{IsImage}
-use Rattle.pf_disk.specs.Calls.{Event, State, at_rest, after, is_sync_at, state_at, LeftSince}
+use Rattle.std.proofs.{Common.{arith, subst, sym, ap}, lemmas.List.take_all}
+use Rattle.pf_disk.specs.{Disk.IsImage, Calls.{Event, State, at_rest, after, is_sync_at, state_at, LeftSince}}
 
 pub no_sync_past : (events : List Event) (k : ℕ) → length events ≤ k → is_sync_at events k ≡ false
 no_sync_past [] k le = refl

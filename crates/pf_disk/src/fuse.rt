@@ -1,7 +1,6 @@
 // A device that fails where it is told to.
 ghost use Rattle.std.specs.Prelude.{◌≡◌, ◌⊎◌, ◌+◌, ◌-◌, ◌^◌, ◌<◌, ◌≤◌, true, false, List, ℕ, length, take, drop, OnOk, OnErr, MatchResult};
-ghost use Rattle.pf_disk.specs.Disk.{IsImage, IsSynced, AreIn, is_within, with_range, overwritten, Elapses, CountsFault};
-ghost use Rattle.pf_disk.specs.Burning.{blows, burnt, counted};
+ghost use Rattle.pf_disk.specs.{Disk.{IsImage, IsSynced, AreIn, is_within, with_range, overwritten, Elapses, CountsFault}, Burning.{blows, burnt, counted}};
 
 use crate::{Disk, DiskFault};
 

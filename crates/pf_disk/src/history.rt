@@ -1,8 +1,6 @@
 // A list of calls that clauses alone read.
-ghost use Rattle.std.specs.Prelude.{◌≡◌, List, [], ◌∷◌, ◌++◌};
-ghost use Rattle.std.specs.Borrow.{ftrue};
-ghost use Rattle.pf_disk.specs.Calls.{Event, events_code};
-ghost use Rattle.pf_disk.specs.Noted.{noted};
+ghost use Rattle.std.specs.{Prelude.{◌≡◌, List, [], ◌∷◌, ◌++◌}, Borrow.ftrue};
+ghost use Rattle.pf_disk.specs.{Calls.{Event, events_code}, Noted.noted};
 
 use std::marker::{Model, PhantomData};
 

@@ -1,9 +1,6 @@
 // Images of a crash, from the calls that were kept.
 ghost use Rattle.std.specs.Prelude.{◌≡◌, ◌+◌, ◌-◌, ◌^◌, ◌<◌, ◌≤◌, ◌||◌, Bool, true, false, List, ℕ, length, map, IfOk, OnOk, if◌then◌else◌, slice_index, slice_index_or};
-ghost use Rattle.pf_disk.specs.Disk.{overwritten, is_within};
-ghost use Rattle.pf_disk.specs.Calls.{State, at_rest, after_event, after, fits_in, all_fit};
-ghost use Rattle.pf_disk.specs.Kept.{event_of};
-ghost use Rattle.pf_disk.specs.Filled.{fill_byte, FillsAll, IsFilled, Shows};
+ghost use Rattle.pf_disk.specs.{Disk.{overwritten, is_within}, Calls.{State, at_rest, after_event, after, fits_in, all_fit}, Kept.event_of, Filled.{fill_byte, FillsAll, IsFilled, Shows}};
 
 use crate::memory::{Call, overwrite};
 use std::alloc::{AllocError, Global};

@@ -1,10 +1,7 @@
 -- Records are read in one way.
-use Rattle.std.proofs.Common.{◌≡◌, ◌≢◌, ℕ, ◌^◌, ◌<◌, List, [], ◌∷◌, ◌++◌, length, get_or, take, drop, refl, sym, ◌∙◌, ap, subst, arith, append_assoc, length-append}
-use Rattle.std.specs.Prelude.{Vec}
+use Rattle.std.proofs.{Common.{◌≡◌, ◌≢◌, ℕ, ◌^◌, ◌<◌, List, [], ◌∷◌, ◌++◌, length, get_or, take, drop, refl, sym, ◌∙◌, ap, subst, arith, append_assoc, length-append}, lemmas.List.{take_at, drop_at, map-append, append-nil}, lemmas.Nat.from_be_bytes-to_be_bytes_4}
+use Rattle.std.specs.{Prelude.Vec, Int.{w32, from_be_bytes}}
 use Rattle.std.specs.declared.alloc.Global.{Global}
-use Rattle.std.specs.Int.{w32, from_be_bytes}
-use Rattle.std.proofs.lemmas.List.{take_at, drop_at, map-append, append-nil}
-use Rattle.std.proofs.lemmas.Nat.{from_be_bytes-to_be_bytes_4}
 use Rattle.pf_journal.specs.Records.{counted, records, AreShort, AreRecords, IsRecord, contents}
 use Rattle.pf_journal.proofs.Gates.{records-push, short-push}
 

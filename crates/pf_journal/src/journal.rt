@@ -1,9 +1,7 @@
 // Adding a record.
 ghost use Rattle.std.specs.Prelude.{◌≡◌, ◌↔◌, ◌+◌, ◌^◌, ◌<◌, ◌≤◌, ◌++◌, [], ◌∷◌, List, ℕ, length, IfOk, OnOk, IsErrOf, MatchResult, if◌then◌else◌};
 ghost use Rattle.pf_disk.specs.Disk.{CountsFault, EachMoment, IsImage, IsSynced, is_within, overwritten};
-ghost use Rattle.pf_journal.specs.Records.{counted, written_record, StandsFor, HasBeforeOrAfter};
-ghost use Rattle.pf_journal.specs.Journal.{IsBetween, IsReady, Keeps};
-ghost use Rattle.pf_journal.specs.Faults.{is_append_fault};
+ghost use Rattle.pf_journal.specs.{Records.{counted, written_record, StandsFor, HasBeforeOrAfter}, Journal.{IsBetween, IsReady, Keeps}, Faults.is_append_fault};
 
 use crate::AppendFault;
 use pf_disk::{Disk, DiskFault, OPEN_GATE, write_synced};

@@ -1,8 +1,7 @@
 // Reading the records of a region.
 ghost use Rattle.std.specs.Prelude.{◌≡◌, ◌+◌, ◌-◌, ◌^◌, ◌<◌, ◌≤◌, List, ℕ, length, take, drop, IfOk, IfErr, OnOk, IsErrOf, MatchOption, slice_index, if◌then◌else◌};
 ghost use Rattle.pf_disk.specs.Disk.{EachMoment, IsImage, AreIn};
-ghost use Rattle.pf_journal.specs.Records.{records, IsRecord, AreRecords, StandsFor, BreaksAt, Breaks, contents};
-ghost use Rattle.pf_journal.specs.Faults.{IsCorrupt, IfCorrupt, is_read_fault};
+ghost use Rattle.pf_journal.specs.{Records.{records, IsRecord, AreRecords, StandsFor, BreaksAt, Breaks, contents}, Faults.{IsCorrupt, IfCorrupt, is_read_fault}};
 
 use crate::ReadFault;
 use crate::journal::HEADER;

@@ -1,7 +1,6 @@
 // Appends in memory that a crash or a fault cuts.
 ghost use Rattle.std.specs.Prelude.{◌≡◌, ◌≤◌, length};
-ghost use Rattle.pf_disk.specs.Disk.{IsSynced};
-ghost use Rattle.pf_disk.specs.Filled.{FillsAll};
+ghost use Rattle.pf_disk.specs.{Disk.IsSynced, Filled.FillsAll};
 
 use crate::records::{END, FIRST, empty, open_gates, read_back, with_two};
 use pf_disk::{Disk, Fill, FuseDisk, MemDisk};

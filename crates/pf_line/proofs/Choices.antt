@@ -1,10 +1,7 @@
 -- What words are read as where a choice stands first, by whether its word was taken.
 use Rattle.std.proofs.Common.{◌≡◌, Bool, true, false, List, [], ◌∷◌, Ok, Err, sym, ap}
-use Rattle.std.specs.Prelude.{if◌then◌else◌}
-use Rattle.std.specs.Str.{bytes_eq}
-use Rattle.pf_addr.specs.Form.Words.{Word}
-use Rattle.pf_addr.specs.Form.Forms.{Form, or, Read, reads, ended, ◌>>=◌, read_all}
-use Rattle.pf_addr.specs.Form.Readers.{if_there}
+use Rattle.std.specs.{Prelude.if◌then◌else◌, Str.bytes_eq}
+use Rattle.pf_addr.specs.{Form.Words.Word, Form.Forms.{Form, or, Read, reads, ended, ◌>>=◌, read_all}, Form.Readers.if_there}
 
 abbrev flag_of : Read Bool → Bool
 flag_of (Ok x) = x.0

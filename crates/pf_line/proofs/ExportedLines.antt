@@ -1,38 +1,17 @@
 -- The lines of an export are short, and are read as the commands to act on its messages.
-use Rattle.std.proofs.Common.{◌≡◌, ◌<◌, ◌≤◌, ◌/◌, ◌%◌, ℕ, zero, suc, Bool, true, false, not, List, [], ◌∷◌, ◌++◌, length, length-append, map, take, drop, replicate, refl, sym, subst, ap, arith}
-use Rattle.std.specs.Prelude.{codes, nat_lt, slice_index, Option, Some, Result, Ok}
-use Rattle.std.specs.Int.{byte_at, bytes_high_first}
-use Rattle.std.specs.List.{list_all, slice_split, flat_map}
-use Rattle.std.proofs.lemmas.Bool.{and_parts, lt-ltb}
-use Rattle.std.proofs.lemmas.Bool.Decides.{nat_tests}
-use Rattle.std.proofs.lemmas.List.{length-take, take-append-drop}
+use Rattle.std.proofs.{Common.{◌≡◌, ◌<◌, ◌≤◌, ◌/◌, ◌%◌, ℕ, zero, suc, Bool, true, false, not, List, [], ◌∷◌, ◌++◌, length, length-append, map, take, drop, replicate, refl, sym, subst, ap, arith}, lemmas.Bool.{and_parts, lt-ltb}, lemmas.Bool.Decides.nat_tests, lemmas.List.{length-take, take-append-drop}}
+use Rattle.std.specs.{Prelude.{codes, nat_lt, slice_index, Option, Some, Result, Ok}, Int.{byte_at, bytes_high_first}, List.{list_all, slice_split, flat_map}}
 use Rattle.hex.specs.Hex.{IsBytes, encode_with, encode_lower, lower_digits}
 use Rattle.hex.proofs.HexLemmas.{length-encode_with}
-use Rattle.pf_addr.specs.Address.{family_of}
-use Rattle.pf_addr.specs.declared.addr.Addr.{Addr}
-use Rattle.pf_addr.specs.declared.addr.Addr.TheVariants.{V4, V6}
-use Rattle.pf_addr.specs.Form.Words.{words_of, is_blank}
-use Rattle.pf_addr.specs.Laws.Form.Texts.{only}
-use Rattle.pf_rule.specs.declared.value.direction.Direction.{Direction}
-use Rattle.pf_rule.specs.declared.value.direction.Direction.TheVariants.{In, Out}
+use Rattle.pf_addr.specs.{Address.family_of, Form.Words.{words_of, is_blank}, Laws.Form.Texts.only, Form.Forms.Spells}
+use Rattle.pf_addr.specs.declared.{addr.Addr.Addr, addr.Addr.TheVariants.{V4, V6}}
+use Rattle.pf_rule.specs.declared.{value.direction.Direction.Direction, value.direction.Direction.TheVariants.{In, Out}}
 use Rattle.pf_state.specs.declared.peer.message.Message.{Message}
 use Rattle.pf_rule.specs.Bytes.{addr_bytes, direction_byte, family_byte}
-use Rattle.pf_state.specs.Peer.Records.{PlainInsert, insert_bytes}
-use Rattle.pf_state.specs.Peer.Written.{Each, message_length, message_bytes, CanBeWritten}
-use Rattle.pf_state.specs.States.{Stated}
-use Rattle.pf_state.specs.Failover.Outgoing.{exported_insert, exported_message}
-use Rattle.pf_state.specs.Laws.Failover.{IsState}
-use Rattle.pf_state.proofs.Cut.{by_parts}
-use Rattle.pf_state.proofs.Parts.{told_long}
-use Rattle.pf_state.proofs.ReadBack.{are_inserts}
-use Rattle.pf_addr.specs.Form.Forms.{Spells}
-use Rattle.pf_core.specs.declared.command.Command.TheVariants.{States}
-use Rattle.pf_core.specs.declared.command.StateCommand.TheVariants.{Peer}
-use Rattle.pf_core.specs.declared.reply.Refusal.{Refusal}
-use Rattle.pf_line.specs.Grammar.{decided, line as grammar, Spoken, Tells}
-use Rattle.pf_line.specs.Lines.{is_line_byte, is_bad_line, line_at, Means, said}
-use Rattle.pf_line.specs.Reply.StateTexts.{message_line}
-use Rattle.pf_line.specs.Laws.Exports.{TellsOf, ExportsAreRead}
+use Rattle.pf_state.specs.{Peer.Records.{PlainInsert, insert_bytes}, Peer.Written.{Each, message_length, message_bytes, CanBeWritten}, States.Stated, Failover.Outgoing.{exported_insert, exported_message}, Laws.Failover.IsState}
+use Rattle.pf_state.proofs.{Cut.by_parts, Parts.told_long, ReadBack.are_inserts}
+use Rattle.pf_core.specs.declared.{command.Command.TheVariants.States, command.StateCommand.TheVariants.Peer, reply.Refusal.Refusal}
+use Rattle.pf_line.specs.{Grammar.{decided, line as grammar, Spoken, Tells}, Lines.{is_line_byte, is_bad_line, line_at, Means, said}, Reply.StateTexts.message_line, Laws.Exports.{TellsOf, ExportsAreRead}}
 use Rattle.pf_line.proofs.SpelledStates.{message_spelled, message_meant}
 
 -- ---- its messages are bytes

@@ -1,30 +1,19 @@
 -- What a line is answered, and why.
-use Rattle.std.proofs.Common.{◌≡◌, ℕ, ◌-◌, ◌==◌, Bool, true, false, cond, List, [], ◌∷◌, length, Option, Some, None, Result, Ok, Err, inl, inr, refl, sym, ap, ◌∙◌, subst, arith}
-use Rattle.std.specs.Prelude.{IfOk, IfErr, IfSome, not, filter, nat_lt}
-use Rattle.std.specs.List.{slice_split, onto_first, find}
+use Rattle.std.proofs.{Common.{◌≡◌, ℕ, ◌-◌, ◌==◌, Bool, true, false, cond, List, [], ◌∷◌, length, Option, Some, None, Result, Ok, Err, inl, inr, refl, sym, ap, ◌∙◌, subst, arith}, lemmas.List.length-map, lemmas.Bool.Decides.nat_tests}
+use Rattle.std.specs.{Prelude.{IfOk, IfErr, IfSome, not, filter, nat_lt}, List.{slice_split, onto_first, find}}
 use denote.Ref.{Bor}
-use Rattle.std.proofs.lemmas.List.{length-map}
-use Rattle.std.proofs.lemmas.Bool.Decides.{nat_tests}
-use Rattle.pf_addr.specs.declared.form.fault.Kind.{Kind}
+use Rattle.pf_addr.specs.declared.{form.fault.Kind.Kind, form.fault.Stop.Stop}
 use Rattle.pf_addr.specs.declared.form.fault.Kind.TheVariants as kinds
-use Rattle.pf_addr.specs.Form.Words.{Word, is_blank, words_of, texts}
-use Rattle.pf_addr.specs.Form.Forms.{Form, making, Spells, RefusedAt, empties, begins, Read, reads, ended, ◌>>=◌, read_all}
-use Rattle.pf_addr.specs.declared.form.fault.Stop.{Stop}
+use Rattle.pf_addr.specs.{Form.Words.{Word, is_blank, words_of, texts}, Form.Forms.{Form, making, Spells, RefusedAt, empties, begins, Read, reads, ended, ◌>>=◌, read_all}, Laws.Form.Forms.lawful, Laws.Form.Texts.{found, only, refused}}
 use Rattle.pf_addr.specs.Form.Readers as Readers
-use Rattle.pf_addr.specs.Laws.Form.Forms.{lawful}
-use Rattle.pf_addr.specs.Laws.Form.Texts.{found, only, refused}
 use Rattle.pf_rule.specs.declared.fault.Mistake.TheVariants as mistakes
-use Rattle.pf_state.specs.declared.peer.fault.OneFault.{OneFault}
-use Rattle.pf_state.specs.declared.peer.fault.OneFault.TheVariants.{Fault, Count}
-use Rattle.pf_state.specs.declared.peer.message.Message.{Message}
+use Rattle.pf_state.specs.declared.{peer.fault.OneFault.OneFault, peer.fault.OneFault.TheVariants.{Fault, Count}, peer.message.Message.Message}
 use Rattle.pf_state.specs.Peer.One.{IsOne}
 use Rattle.pf_state.proofs.OneMessage.{one_answer}
-use Rattle.pf_core.specs.declared.command.Command.{Command}
-use Rattle.pf_core.specs.declared.reply.Refusal.{Refusal}
+use Rattle.pf_core.specs.declared.{command.Command.Command, reply.Refusal.Refusal}
 use Rattle.pf_core.specs.declared.reply.Refusal.TheVariants as refusals
 use Rattle.pf_line.specs.Grammar as grammar
-use Rattle.pf_line.specs.Grammar.{Spoken, Says, Tells, decided}
-use Rattle.pf_line.specs.Lines.{is_bad_line, is_comment, no_command, is_silent, refusal_at, said, said_by, line_at, peer_command, Means, SpellsLine, IsCommand, Parses, Speaks, Refused, Answers}
+use Rattle.pf_line.specs.{Grammar.{Spoken, Says, Tells, decided}, Lines.{is_bad_line, is_comment, no_command, is_silent, refusal_at, said, said_by, line_at, peer_command, Means, SpellsLine, IsCommand, Parses, Speaks, Refused, Answers}}
 
 -- ---- words that spell a line are no comment
 

@@ -1,22 +1,8 @@
 -- What has no newline: digits, paths, and the texts of rules.
-use Rattle.std.proofs.Common.{◌≡◌, inl, inr, ℕ, suc, ◌+◌, ◌^◌, ◌<◌, ◌==◌, Bool, true, false, cond, List, [], ◌∷◌, ◌++◌, decimal, refl, ap, subst, ◌∙◌, arith}
-use Rattle.std.specs.Prelude.{nat_lt, All}
-use Rattle.std.specs.List.{AllByRecursion, list_all, join_with_byte}
-use Rattle.std.specs.Char.{digit_value}
-use Rattle.std.specs.Str.Parse.{AllDigits}
-use Rattle.std.proofs.lemmas.Bool.{ne_eqb}
-use Rattle.std.proofs.lemmas.Bool.Decides.{nat_tests}
-use Rattle.std.proofs.lemmas.Fmt.{decimal_is_IsNumeral}
-use Rattle.std.proofs.lemmas.List.Elements.{All-head, All-tail}
-use Rattle.std.proofs.lemmas.List.Sums.{AllPass-from_list_all}
-use Rattle.pf_addr.specs.Path.Names.{is_name_byte}
-use Rattle.pf_rule.specs.Rules.{PlainRule, IsRule}
-use Rattle.pf_rule.specs.RuleText.{rule_text}
-use Rattle.pf_rule.specs.Laws.RuleText.{rule_text_bytes}
-use Rattle.pf_addr.specs.Path.Paths.{is_path}
-use Rattle.pf_addr.specs.Path.PathGrammar.{IsComponent, IsNames}
-use Rattle.pf_addr.specs.Laws.Path.Paths.{ReadsWhatIsSpelled, ReadsWhatIsWritten}
-use Rattle.pf_addr.specs.Laws.Spelling.{IsNetWord, IsNetByte}
+use Rattle.std.proofs.{Common.{◌≡◌, inl, inr, ℕ, suc, ◌+◌, ◌^◌, ◌<◌, ◌==◌, Bool, true, false, cond, List, [], ◌∷◌, ◌++◌, decimal, refl, ap, subst, ◌∙◌, arith}, lemmas.Bool.ne_eqb, lemmas.Bool.Decides.nat_tests, lemmas.Fmt.decimal_is_IsNumeral, lemmas.List.Elements.{All-head, All-tail}, lemmas.List.Sums.AllPass-from_list_all}
+use Rattle.std.specs.{Prelude.{nat_lt, All}, List.{AllByRecursion, list_all, join_with_byte}, Char.digit_value, Str.Parse.AllDigits}
+use Rattle.pf_addr.specs.{Path.Names.is_name_byte, Path.Paths.is_path, Path.PathGrammar.{IsComponent, IsNames}, Laws.Path.Paths.{ReadsWhatIsSpelled, ReadsWhatIsWritten}, Laws.Spelling.{IsNetWord, IsNetByte}}
+use Rattle.pf_rule.specs.{Rules.{PlainRule, IsRule}, RuleText.rule_text, Laws.RuleText.rule_text_bytes}
 use Rattle.pf_line.specs.Reply.Parts.{newlines}
 
 pub newlines-append : (a b : List ℕ) → newlines (a ++ b) ≡ newlines a + newlines b

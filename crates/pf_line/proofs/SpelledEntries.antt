@@ -1,19 +1,10 @@
 -- A word is read as an entry exactly where it spells it, and so what an entry is written as is read again.
-use Rattle.std.proofs.Common.{◌≡◌, ℕ, ◌==◌, Bool, true, false, [], ◌∷◌, Result, Ok, Err, refl, sym, ap, subst, ◌∙◌, arith}
+use Rattle.std.proofs.{Common.{◌≡◌, ℕ, ◌==◌, Bool, true, false, [], ◌∷◌, Result, Ok, Err, refl, sym, ap, subst, ◌∙◌, arith}, lemmas.Bool.Decides.nat_tests, lemmas.List.Elements.All-head}
 use Rattle.std.specs.Prelude.{if◌then◌else◌}
-use Rattle.std.proofs.lemmas.Bool.Decides.{nat_tests}
-use Rattle.std.proofs.lemmas.List.Elements.{All-head}
-use Rattle.pf_addr.specs.Form.Words.{Word}
+use Rattle.pf_addr.specs.{Form.Words.Word, Address.Network, Grammar.SpellsNet, Reading.{address_at, net_at}, Laws.Reading.{net_found, net_only, net_without}, Spelling.net_text, Laws.Spelling.{IsNetwork, net_text_spells}}
 use Rattle.pf_addr.specs.declared.fault.AddrFault.{AddrFault}
-use Rattle.pf_addr.specs.Address.{Network}
-use Rattle.pf_addr.specs.Grammar.{SpellsNet}
-use Rattle.pf_addr.specs.Reading.{address_at, net_at}
-use Rattle.pf_addr.specs.Laws.Reading.{net_found, net_only, net_without}
-use Rattle.pf_addr.specs.Spelling.{net_text}
-use Rattle.pf_addr.specs.Laws.Spelling.{IsNetwork, net_text_spells}
 use Rattle.pf_table.specs.Entries.{Row}
-use Rattle.pf_line.specs.Reply.Texts.{entry_text}
-use Rattle.pf_line.specs.Entries.{SpellsEntry, signed, entry_of}
+use Rattle.pf_line.specs.{Reply.Texts.entry_text, Entries.{SpellsEntry, signed, entry_of}}
 
 -- ---- an entry's network
 

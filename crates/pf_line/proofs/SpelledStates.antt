@@ -5,14 +5,10 @@ use Rattle.hex.specs.Hex.{IsBytes, encode_lower, encode_upper}
 use Rattle.hex.proofs.HexLemmas.{decode_of-encode_lower, decode_of-encode_upper}
 use Rattle.pf_state.specs.declared.peer.message.Message.{Message}
 use Rattle.pf_state.specs.Peer.Written.{message_bytes, CanBeWritten}
-use Rattle.pf_state.proofs.OneMessage.{message_alone}
-use Rattle.pf_state.proofs.RoundTrip.{message_again}
-use Rattle.pf_core.specs.declared.command.Command.TheVariants.{States}
-use Rattle.pf_core.specs.declared.command.StateCommand.TheVariants.{Peer}
-use Rattle.pf_line.specs.States.{as_word, bytes_of}
+use Rattle.pf_state.proofs.{OneMessage.message_alone, RoundTrip.message_again}
+use Rattle.pf_core.specs.declared.{command.Command.TheVariants.States, command.StateCommand.TheVariants.Peer}
+use Rattle.pf_line.specs.{States.{as_word, bytes_of}, Grammar.{Tells, line as grammar}, Lines.{Means, SpellsLine}}
 use Rattle.pf_addr.specs.Form.Forms.{Spells}
-use Rattle.pf_line.specs.Grammar.{Tells, line as grammar}
-use Rattle.pf_line.specs.Lines.{Means, SpellsLine}
 
 -- ---- bytes in hexadecimal
 

@@ -1,17 +1,10 @@
 -- Texts of states and of bytes in hexadecimal.
-use Rattle.std.proofs.Common.{◌≡◌, ℕ, zero, suc, ◌+◌, ◌*◌, ◌/◌, ◌%◌, ◌<◌, ◌==◌, true, false, not, List, [], ◌∷◌, ◌++◌, length, take, get_or, Option, Result, refl, sym, ap, ◌∙◌, subst, arith, append-nil}
-use Rattle.std.specs.Prelude.{map, slice_index, IsOk, OnOk, Ok, Err}
-use Rattle.std.specs.List.{list_all}
+use Rattle.std.proofs.{Common.{◌≡◌, ℕ, zero, suc, ◌+◌, ◌*◌, ◌/◌, ◌%◌, ◌<◌, ◌==◌, true, false, not, List, [], ◌∷◌, ◌++◌, length, take, get_or, Option, Result, refl, sym, ap, ◌∙◌, subst, arith, append-nil}, lemmas.Bool.and_parts, lemmas.List.{take_more, map-append}, lemmas.Simd.map-map}
+use Rattle.std.specs.{Prelude.{map, slice_index, IsOk, OnOk, Ok, Err}, List.list_all}
 use Rattle.std.specs.declared.io.Error.{Error}
-use Rattle.std.proofs.lemmas.Bool.{and_parts}
-use Rattle.std.proofs.lemmas.List.{take_more, map-append}
-use Rattle.std.proofs.lemmas.Simd.{map-map}
 use Rattle.hex.specs.Hex.{encode_with, encode_lower, lower_digits}
-use Rattle.pf_addr.specs.declared.addr.Addr.{Addr}
-use Rattle.pf_addr.specs.declared.addr.Addr.TheVariants.{V4, V6}
-use Rattle.pf_addr.specs.Address.{network_of}
-use Rattle.pf_addr.specs.Spelling.{addr_text, net_text}
-use Rattle.pf_addr.specs.Writing.{Continues}
+use Rattle.pf_addr.specs.declared.{addr.Addr.Addr, addr.Addr.TheVariants.{V4, V6}}
+use Rattle.pf_addr.specs.{Address.network_of, Spelling.{addr_text, net_text}, Writing.Continues}
 use Rattle.pf_line.specs.Reply.Parts.{newlines, GoesOn, WroteLines}
 use Rattle.pf_line.proofs.Writers.{goes_on, one_more_line}
 

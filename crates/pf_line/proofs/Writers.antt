@@ -1,15 +1,12 @@
 -- Parts of a line, lines, tickets and entries, that are written one after the other.
-use Rattle.std.proofs.Common.{◌≡◌, ℕ, zero, suc, ◌+◌, ◌<◌, List, [], ◌∷◌, ◌++◌, length, take, get_or, Option, Result, refl, sym, ap, ◌∙◌, subst, arith, append_assoc, append-nil, add-zero}
-use Rattle.std.proofs.lemmas.List.{take_more, length-append, length-take}
+use Rattle.std.proofs.{Common.{◌≡◌, ℕ, zero, suc, ◌+◌, ◌<◌, List, [], ◌∷◌, ◌++◌, length, take, get_or, Option, Result, refl, sym, ap, ◌∙◌, subst, arith, append_assoc, append-nil, add-zero}, lemmas.List.{take_more, length-append, length-take}}
 use Rattle.std.specs.declared.io.Error.{Error}
 use Rattle.pf_addr.specs.Writing.{Wrote, Continues, Continues-then}
 use Rattle.pf_rule.specs.Rules.{PlainRule}
 use Rattle.pf_table.specs.Entries.{Row}
 use Rattle.pf_ticket.specs.Names.{ticket, tickets_from}
 use Rattle.pf_anchor.specs.Tables.{Tabled}
-use Rattle.pf_line.specs.Reply.Texts.{ticket_text, tickets_text, entry_text, entries_text}
-use Rattle.pf_line.specs.Reply.Parts.{newlines, lines_text, HasLines, GoesOn, WroteLines}
-use Rattle.pf_line.specs.Reply.Replies.{rule_line, rule_lines, table_line, table_lines}
+use Rattle.pf_line.specs.{Reply.Texts.{ticket_text, tickets_text, entry_text, entries_text}, Reply.Parts.{newlines, lines_text, HasLines, GoesOn, WroteLines}, Reply.Replies.{rule_line, rule_lines, table_line, table_lines}}
 use Rattle.pf_line.proofs.Newlines.{newlines-append}
 
 pub goes_on : {A B C : Type 0} {q : Result A Error} {r : Result B Error} {s : Result C Error} {old mid new : Option (List ℕ)} {a b : List ℕ} → GoesOn q old r mid a → GoesOn r mid s new b → GoesOn q old s new (a ++ b)

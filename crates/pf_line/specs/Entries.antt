@@ -1,14 +1,9 @@
 -- Words that stand for a table's entries (pf.conf(5), TABLES).
 use Rattle.std.specs.Prelude.{◌≡◌, ◌==◌, Bool, true, false, [], ◌∷◌, codes, Result, Ok, Err, if◌then◌else◌}
 use Rattle.std.proofs.Common.{refl}
-use Rattle.pf_addr.specs.declared.form.fault.Kind.{Kind}
-use Rattle.pf_addr.specs.declared.form.fault.Kind.TheVariants.{BadWord}
-use Rattle.pf_addr.specs.Form.Words.{Word}
+use Rattle.pf_addr.specs.declared.{form.fault.Kind.Kind, form.fault.Kind.TheVariants.BadWord, fault.AddrFault.AddrFault}
+use Rattle.pf_addr.specs.{Form.Words.Word, Address.{Network, network_of}, Grammar.SpellsNet, Reading.{part_at, pieces_at, v4_at, address_at, net_at}}
 use Rattle.pf_addr.specs.declared.addr.Addr.TheVariants as addr
-use Rattle.pf_addr.specs.declared.fault.AddrFault.{AddrFault}
-use Rattle.pf_addr.specs.Address.{Network, network_of}
-use Rattle.pf_addr.specs.Grammar.{SpellsNet}
-use Rattle.pf_addr.specs.Reading.{part_at, pieces_at, v4_at, address_at, net_at}
 use Rattle.pf_table.specs.Entries.{Row}
 
 -- A network, with an exclamation mark (33) joined to it where it is negated.

@@ -1,37 +1,18 @@
 -- The grammar of lines. Own, with pf(4)'s names of what a client may ask.
 use Rattle.std.specs.Prelude.{◌≡◌, ℕ, true, false, List, [], ◌∷◌, codes, Option, Some, None, Result, Ok, Err}
 use Rattle.std.proofs.Common.{refl}
-use Rattle.pf_addr.specs.declared.form.fault.Kind.{Kind}
-use Rattle.pf_addr.specs.declared.form.fault.Kind.TheVariants.{BadWord}
-use Rattle.pf_addr.specs.Form.Words.{Word}
-use Rattle.pf_addr.specs.Form.Forms.{Form, nothing, word, key, or, pair, making, any_number, one_or_more, is_decided}
+use Rattle.pf_addr.specs.declared.{form.fault.Kind.Kind, form.fault.Kind.TheVariants.BadWord}
+use Rattle.pf_addr.specs.{Form.Words.Word, Form.Forms.{Form, nothing, word, key, or, pair, making, any_number, one_or_more, is_decided}, Address.network_of, Path.Names.table_name_of, Path.Paths.{path_of, main}}
 use Rattle.pf_addr.specs.declared.addr.Addr.TheVariants as addr
-use Rattle.pf_addr.specs.Address.{network_of}
 use Rattle.pf_rule.specs.declared.fault.Mistake.{Mistake}
-use Rattle.pf_rule.specs.Rules.{PlainRule}
-use Rattle.pf_rule.specs.RuleGrammar.{rule, rule_decided}
-use Rattle.pf_rule.specs.Packets.{PlainPacket}
-use Rattle.pf_rule.specs.PacketGrammar.{packet, packet_decided}
+use Rattle.pf_rule.specs.{Rules.PlainRule, RuleGrammar.{rule, rule_decided}, Packets.PlainPacket, PacketGrammar.{packet, packet_decided}, Value.Values.an_address}
 use Rattle.pf_table.specs.Entries.{Row}
-use Rattle.pf_core.specs.declared.command.Command.{Command}
-use Rattle.pf_core.specs.declared.command.Command.TheVariants.{Transact, Edit, States, Ask}
-use Rattle.pf_core.specs.declared.command.StateCommand.TheVariants.{Track, Kill as KillState}
-use Rattle.pf_core.specs.declared.command.Transaction.TheVariants.{Begin, Add, Define, Commit, Rollback}
+use Rattle.pf_core.specs.declared.{command.Command.Command, command.Command.TheVariants.{Transact, Edit, States, Ask}, command.StateCommand.TheVariants.{Track, Kill as KillState}, command.Transaction.TheVariants.{Begin, Add, Define, Commit, Rollback}, command.Question.TheVariants.{Judge, Test, ShowRules, ShowTables, ShowStates, Sum, Export}}
 use Rattle.pf_core.specs.declared.command.TableEdit.TheVariants as edits
-use Rattle.pf_core.specs.declared.command.Question.TheVariants.{Judge, Test, ShowRules, ShowTables, ShowStates, Sum, Export}
-use Rattle.pf_ticket.specs.declared.entry.Entry.{Entry}
-use Rattle.pf_ticket.specs.declared.name.RulesetKind.{RulesetKind}
-use Rattle.pf_ticket.specs.declared.name.RulesetKind.TheVariants.{Filter, Table}
-use Rattle.pf_ticket.specs.declared.name.RulesetName.{RulesetName}
-use Rattle.pf_ticket.specs.declared.ticket.Ticket.{Ticket}
+use Rattle.pf_ticket.specs.declared.{entry.Entry.Entry, name.RulesetKind.RulesetKind, name.RulesetKind.TheVariants.{Filter, Table}, name.RulesetName.RulesetName, ticket.Ticket.Ticket}
 use Rattle.pf_ticket.specs.Names.{ticket}
 use Rattle.pf_state.specs.declared.state.StateName.{StateName}
-use Rattle.pf_addr.specs.Path.Names.{table_name_of}
-use Rattle.pf_addr.specs.Path.Paths.{path_of, main}
-use Rattle.pf_line.specs.Tickets.{part_of, ticket_of}
-use Rattle.pf_line.specs.States.{id_of, bytes_of, a_byte}
-use Rattle.pf_line.specs.Entries.{entry_of, entry_taken}
-use Rattle.pf_rule.specs.Value.Values.{an_address}
+use Rattle.pf_line.specs.{Tickets.{part_of, ticket_of}, States.{id_of, bytes_of, a_byte}, Entries.{entry_of, entry_taken}}
 
 -- ---- words that stand for values
 
@@ -229,5 +210,6 @@ line = or (codes "peer") (making Tells hex) (making Says command)
 
 -- One word of look-ahead decides it.
 pub decided : is_decided line ≡ true
-unfolding begun added defined committed rolled_back entries_added entries_deleted entries_set killed tracked state_killed judged tested shown overview question state_or_question edit_or_question command
+unfolding begun added defined committed rolled_back entries_added entries_deleted entries_set killed tracked state_killed judged tested
+    shown overview question state_or_question edit_or_question command
 decided = rw (rule_decided, packet_decided) refl

@@ -1,25 +1,15 @@
 -- Lines: which are bad, which are silent, and what any other says or why it is refused. Own.
-use Rattle.std.specs.Prelude.{◌≡◌, ℕ, ◌-◌, ◌<◌, ◌==◌, ◌||◌, ◌&&◌, not, nat_lt, nat_le, Bool, true, false, List, [], ◌∷◌, length, Option, Some, None, Result, Ok, Err, if◌then◌else◌, ◌⊎◌}
-use Rattle.std.specs.List.{list_all}
-use Rattle.std.proofs.Common.{refl}
-use Rattle.std.proofs.lemmas.Bool.{lt-ltb}
-use Rattle.pf_addr.specs.declared.form.fault.Kind.{Kind}
+use Rattle.std.specs.{Prelude.{◌≡◌, ℕ, ◌-◌, ◌<◌, ◌==◌, ◌||◌, ◌&&◌, not, nat_lt, nat_le, Bool, true, false, List, [], ◌∷◌, length, Option, Some, None, Result, Ok, Err, if◌then◌else◌, ◌⊎◌}, List.list_all}
+use Rattle.std.proofs.{Common.refl, lemmas.Bool.lt-ltb}
+use Rattle.pf_addr.specs.declared.{form.fault.Kind.Kind, form.fault.Unread.Unread}
 use Rattle.pf_addr.specs.declared.form.fault.Kind.TheVariants as kinds
-use Rattle.pf_addr.specs.declared.form.fault.Unread.{Unread}
 use Rattle.pf_addr.specs.declared.form.fault.Unread.TheVariants as unread
-use Rattle.pf_addr.specs.Form.Words.{Word, words_of}
-use Rattle.pf_addr.specs.Form.Forms.{Spells, RefusedAt, read_all}
+use Rattle.pf_addr.specs.{Form.Words.{Word, words_of}, Form.Forms.{Spells, RefusedAt, read_all}}
 use Rattle.pf_rule.specs.declared.fault.Mistake.{Mistake}
 use Rattle.pf_rule.specs.declared.fault.Mistake.TheVariants as mistakes
-use Rattle.pf_state.specs.declared.peer.fault.OneFault.{OneFault}
-use Rattle.pf_state.specs.declared.peer.fault.OneFault.TheVariants.{Fault, Count}
-use Rattle.pf_state.specs.declared.peer.message.Message.{Message}
+use Rattle.pf_state.specs.declared.{peer.fault.OneFault.OneFault, peer.fault.OneFault.TheVariants.{Fault, Count}, peer.message.Message.Message}
 use Rattle.pf_state.specs.Peer.One.{IsOne}
-use Rattle.pf_core.specs.declared.command.Command.{Command}
-use Rattle.pf_core.specs.declared.command.Command.TheVariants.{States}
-use Rattle.pf_core.specs.declared.command.StateCommand.TheVariants.{Peer}
-use Rattle.pf_core.specs.declared.reply.Refusal.{Refusal}
-use Rattle.pf_core.specs.declared.reply.Refusal.TheVariants.{BadLine, BadWord, NameTooLong, BadProto, MixedFamily, PortNeedsProto, BadPeer, PeerCount, Memory}
+use Rattle.pf_core.specs.declared.{command.Command.Command, command.Command.TheVariants.States, command.StateCommand.TheVariants.Peer, reply.Refusal.Refusal, reply.Refusal.TheVariants.{BadLine, BadWord, NameTooLong, BadProto, MixedFamily, PortNeedsProto, BadPeer, PeerCount, Memory}}
 use Rattle.pf_line.specs.declared.line.TheConstants.{LINE_LIMIT}
 use Rattle.pf_line.specs.Grammar as grammar
 use Rattle.pf_line.specs.Grammar.{Spoken, Says, Tells}

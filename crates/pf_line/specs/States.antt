@@ -3,10 +3,8 @@ use Rattle.std.specs.Prelude.{◌≡◌, ℕ, List, [], ◌∷◌, codes, Option
 use Rattle.std.proofs.Common.{refl}
 use Rattle.hex.specs.declared.error.FromHexError.{FromHexError}
 use Rattle.hex.specs.Hex.{decode_of, decode_pairs}
-use Rattle.pf_addr.specs.declared.form.fault.Kind.{Kind}
-use Rattle.pf_addr.specs.declared.form.fault.Kind.TheVariants.{BadWord}
-use Rattle.pf_addr.specs.Form.Words.{Word}
-use Rattle.pf_addr.specs.Form.Numbers.{IsNumberIn, number_in}
+use Rattle.pf_addr.specs.declared.{form.fault.Kind.Kind, form.fault.Kind.TheVariants.BadWord}
+use Rattle.pf_addr.specs.{Form.Words.Word, Form.Numbers.{IsNumberIn, number_in}}
 use Rattle.pf_line.specs.declared.state.TheConstants.{ID_DIGIT_LIMIT}
 
 -- a state's number: 1 to 20 digits of a number of 64 bits

@@ -4,26 +4,12 @@ ghost use Rattle.pf_addr.specs.declared.form.fault.Kind.{Kind};
 ghost use Rattle.hex.specs.Hex.{IsBytes, encode_lower, encode_upper};
 ghost use Rattle.pf_state.specs.declared.peer.message.Message.{Message};
 ghost use Rattle.pf_state.specs.Peer.Written.{message_bytes, CanBeWritten};
-ghost use Rattle.pf_core.specs.declared.command.Command.TheVariants.{States};
-ghost use Rattle.pf_core.specs.declared.command.StateCommand.TheVariants.{Peer};
-ghost use Rattle.pf_addr.specs.Form.Words.{Word};
-ghost use Rattle.pf_addr.specs.Form.Forms.{RefusedAt};
+ghost use Rattle.pf_core.specs.declared.{command.Command.TheVariants.States, command.StateCommand.TheVariants.Peer, command.Command.Command, reply.Refusal.Refusal, reply.Refusal.TheVariants.BadLine};
+ghost use Rattle.pf_addr.specs.{Form.Words.Word, Form.Forms.RefusedAt, Laws.Spelling.IsNetwork};
 ghost use Rattle.pf_ticket.specs.declared.ticket.Ticket.{Ticket};
-ghost use Rattle.pf_core.specs.declared.command.Command.{Command};
-ghost use Rattle.pf_core.specs.declared.reply.Refusal.{Refusal};
-ghost use Rattle.pf_core.specs.declared.reply.Refusal.TheVariants.{BadLine};
-ghost use Rattle.pf_line.specs.declared.line.TheConstants.{LINE_LIMIT};
-ghost use Rattle.pf_line.specs.Grammar.{Spoken, line as the_grammar};
-ghost use Rattle.pf_line.specs.Lines.{line_at, Means, SpellsLine};
-ghost use Rattle.pf_addr.specs.Laws.Spelling.{IsNetwork};
+ghost use Rattle.pf_line.specs.declared.{line.TheConstants.LINE_LIMIT, ticket.TheConstants.DIGIT_LIMIT, state.TheConstants.ID_DIGIT_LIMIT};
+ghost use Rattle.pf_line.specs.{Grammar.{Spoken, line as the_grammar}, Lines.{line_at, Means, SpellsLine}, Reply.Texts.{ticket_text, entry_text}, Tickets.{part_of, ticket_of, IsPart, SpellsTicket}, States.{id_of, IsId, bytes_of}, Entries.{entry_of, SpellsEntry}, Laws.Exports.ExportsAreRead};
 ghost use Rattle.pf_table.specs.Entries.{Row};
-ghost use Rattle.pf_line.specs.Reply.Texts.{ticket_text, entry_text};
-ghost use Rattle.pf_line.specs.Tickets.{part_of, ticket_of, IsPart, SpellsTicket};
-ghost use Rattle.pf_line.specs.States.{id_of, IsId, bytes_of};
-ghost use Rattle.pf_line.specs.Entries.{entry_of, SpellsEntry};
-ghost use Rattle.pf_line.specs.Laws.Exports.{ExportsAreRead};
-ghost use Rattle.pf_line.specs.declared.ticket.TheConstants.{DIGIT_LIMIT};
-ghost use Rattle.pf_line.specs.declared.state.TheConstants.{ID_DIGIT_LIMIT};
 
 /// A ticket is read from a word exactly where the word spells it.
 #[tactic(auto, using(crate::proofs::SpelledTickets::read_is_spelled))]

@@ -1,12 +1,8 @@
 //! Lines.
-ghost use Rattle.std.specs.Prelude.{◌≡◌, ◌-◌, ℕ, not, true, false, Some, None, Ok, Err, IfOk, IfErr, IfSome, length};
-ghost use Rattle.std.specs.List.{list_all, find};
-ghost use Rattle.pf_addr.specs.Form.Forms.{making, read_all};
-ghost use Rattle.pf_addr.specs.Form.Words.{is_blank, words_of, texts};
-ghost use Rattle.pf_core.specs.declared.command.Command.{Command};
-ghost use Rattle.pf_core.specs.declared.reply.Refusal.TheVariants.{BadLine};
-ghost use Rattle.pf_line.specs.Grammar.{Says, Tells, hex, command, line as the_grammar};
-ghost use Rattle.pf_line.specs.Lines.{is_line_byte, is_bad_line, is_silent, line_at, said_by, refusal_at, refusal_for, said, refusal_of, SpellsLine, IsCommand, Parses, Answers, Refused};
+ghost use Rattle.std.specs.{Prelude.{◌≡◌, ◌-◌, ℕ, not, true, false, Some, None, Ok, Err, IfOk, IfErr, IfSome, length}, List.{list_all, find}};
+ghost use Rattle.pf_addr.specs.{Form.Forms.{making, read_all}, Form.Words.{is_blank, words_of, texts}};
+ghost use Rattle.pf_core.specs.declared.{command.Command.Command, reply.Refusal.TheVariants.BadLine};
+ghost use Rattle.pf_line.specs.{Grammar.{Says, Tells, hex, command, line as the_grammar}, Lines.{is_line_byte, is_bad_line, is_silent, line_at, said_by, refusal_at, refusal_for, said, refusal_of, SpellsLine, IsCommand, Parses, Answers, Refused}};
 
 use crate::commands::command;
 use crate::state::read_bytes;

@@ -1,6 +1,5 @@
 //! Lists of a table's entries, which stand at a line's end.
-ghost use Rattle.pf_addr.specs.Form.Forms.{one_or_more, any_number};
-ghost use Rattle.pf_addr.specs.Form.Readers.{ReadsAll};
+ghost use Rattle.pf_addr.specs.{Form.Forms.{one_or_more, any_number}, Form.Readers.ReadsAll};
 ghost use Rattle.pf_line.specs.Grammar.{row};
 
 use crate::words::row_word;

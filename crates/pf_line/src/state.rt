@@ -1,9 +1,7 @@
 //! Words of a state's number, of who made it, and of bytes.
 ghost use Rattle.std.specs.Prelude.{◌≡◌};
 ghost use Rattle.pf_addr.specs.Form.Readers.{ReadsAll};
-ghost use Rattle.pf_line.specs.Grammar.{or_bad, hex};
-ghost use Rattle.pf_line.specs.States.{id_of};
-ghost use Rattle.pf_line.specs.Tickets.{part_of};
+ghost use Rattle.pf_line.specs.{Grammar.{or_bad, hex}, States.id_of, Tickets.part_of};
 
 use crate::ticket::part;
 use hex::{FromHexError, decode};

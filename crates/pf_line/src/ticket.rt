@@ -1,8 +1,6 @@
 //! Texts of tickets.
-ghost use Rattle.std.specs.Prelude.{◌≡◌, ◌<◌, length, IfSome};
-ghost use Rattle.std.specs.List.{position};
-ghost use Rattle.pf_line.specs.Grammar.{ticket_word};
-ghost use Rattle.pf_line.specs.Tickets.{is_dot, part_of, ticket_of};
+ghost use Rattle.std.specs.{Prelude.{◌≡◌, ◌<◌, length, IfSome}, List.position};
+ghost use Rattle.pf_line.specs.{Grammar.ticket_word, Tickets.{is_dot, part_of, ticket_of}};
 
 use pf_addr::form::{Kind, read_number};
 use pf_ticket::Ticket;

@@ -3,18 +3,10 @@ use Rattle.std.proofs.Common.{◌≡◌, ◌⊎◌, true, List, length, Result, 
 use Rattle.std.specs.Prelude.{IfErr}
 use Rattle.pf_addr.specs.declared.form.fault.Kind.{Kind}
 use Rattle.pf_addr.specs.declared.form.fault.Kind.TheVariants as kinds
-use Rattle.pf_addr.specs.Form.Words.{Word}
-use Rattle.pf_addr.specs.Form.Forms.{Form, read_all, is_decided}
-use Rattle.pf_addr.specs.Laws.Form.Texts.{found, only, refused}
-use Rattle.pf_rule.specs.declared.fault.Mistake.{Mistake}
+use Rattle.pf_addr.specs.{Form.Words.Word, Form.Forms.{Form, read_all, is_decided}, Laws.Form.Texts.{found, only, refused}}
+use Rattle.pf_rule.specs.declared.{fault.Mistake.Mistake, fault.TextFault.TextFault, fault.TextFault.TheVariants.Memory}
 use Rattle.pf_rule.specs.declared.fault.Mistake.TheVariants as mistakes
-use Rattle.pf_rule.specs.declared.fault.TextFault.{TextFault}
-use Rattle.pf_rule.specs.declared.fault.TextFault.TheVariants.{Memory}
-use Rattle.pf_rule.specs.Packets.{PlainPacket}
-use Rattle.pf_rule.specs.PacketGrammar.{packet, packet_decided}
-use Rattle.pf_rule.specs.Refusals.{told, reading, Answers, Refused, IsAnswer}
-use Rattle.pf_rule.specs.RuleGrammar.{rule, rule_decided}
-use Rattle.pf_rule.specs.Rules.{PlainRule}
+use Rattle.pf_rule.specs.{Packets.PlainPacket, PacketGrammar.{packet, packet_decided}, Refusals.{told, reading, Answers, Refused, IsAnswer}, RuleGrammar.{rule, rule_decided}, Rules.PlainRule}
 
 answered : {A : Type 0} (r t : Result A TextFault) → (r ≡ Err Memory) ⊎ (r ≡ t) → Answers r t
 answered r t is = grind arith

@@ -1,28 +1,13 @@
 -- What words spell is what a rule or a packet keeps.
 use Rattle.std.proofs.Common.{◌≡◌, ◌<◌, Bool, true, false, List, Option, Some, None, Result, Ok, refl, sym, subst, ap, ◌∙◌, arith}
 use Rattle.std.specs.Prelude.{IfSome, IfOk}
-use Rattle.pf_addr.specs.Form.Words.{Word}
-use Rattle.pf_addr.specs.Form.Forms.{Spells, reads}
-use Rattle.pf_addr.specs.Laws.Form.Forms.{lawful}
+use Rattle.pf_addr.specs.{Form.Words.Word, Form.Forms.{Spells, reads}, Laws.Form.Forms.lawful, Address.IsAddr, Path.References.{PlainReference, reference_of}, Path.ReferenceGrammar.IsReference}
 use Rattle.pf_addr.specs.declared.addr.Family.{Family}
-use Rattle.pf_addr.specs.Address.{IsAddr}
-use Rattle.pf_addr.specs.Path.References.{PlainReference, reference_of}
-use Rattle.pf_addr.specs.Path.ReferenceGrammar.{IsReference}
 use Rattle.pf_addr.proofs.ReferencesRead.{read_is_spelled}
-use Rattle.pf_rule.specs.Value.Values.{IsInterfaceName, IsProtocol, has_ports}
-use Rattle.pf_rule.specs.Value.Ports.{ports_fit}
-use Rattle.pf_rule.proofs.ValueKept.{interface_kept, protocol_kept, address_kept, port_kept, interface_is, protocol_is}
-use Rattle.pf_rule.specs.declared.rule.Opening.{Opening}
+use Rattle.pf_rule.specs.{Value.Values.{IsInterfaceName, IsProtocol, has_ports}, Value.Ports.ports_fit, Host.Hosts.IsHost, Host.Ends.IsEnd, Packets.{PlainPacket, IsPacket}, Rules.{PlainRule, IsEffect, IsRule, HostFits}, PacketGrammar.{packet_with, of_one_family, packet}, RuleGrammar.{opening, effect_of, rule_with, one_family, agreeing_with, agreeing, rule, rule_decided}}
+use Rattle.pf_rule.proofs.{ValueKept.{interface_kept, protocol_kept, address_kept, port_kept, interface_is, protocol_is}, HostKept.ends_are}
+use Rattle.pf_rule.specs.declared.{rule.Opening.Opening, host.host.Host.Host, fault.Mistake.Mistake}
 use Rattle.pf_rule.specs.declared.rule.Opening.TheVariants as openings
-use Rattle.pf_rule.specs.declared.host.host.Host.{Host}
-use Rattle.pf_rule.specs.declared.fault.Mistake.{Mistake}
-use Rattle.pf_rule.specs.Host.Hosts.{IsHost}
-use Rattle.pf_rule.specs.Host.Ends.{IsEnd}
-use Rattle.pf_rule.proofs.HostKept.{ends_are}
-use Rattle.pf_rule.specs.Packets.{PlainPacket, IsPacket}
-use Rattle.pf_rule.specs.Rules.{PlainRule, IsEffect, IsRule, HostFits}
-use Rattle.pf_rule.specs.PacketGrammar.{packet_with, of_one_family, packet}
-use Rattle.pf_rule.specs.RuleGrammar.{opening, effect_of, rule_with, one_family, agreeing_with, agreeing, rule, rule_decided}
 
 -- ---- a rule
 

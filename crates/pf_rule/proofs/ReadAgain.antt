@@ -1,26 +1,10 @@
 -- A rule is read again from its form.
-use Rattle.std.proofs.Common.{◌≡◌, ◌+◌, ◌-◌, ◌*◌, ◌^◌, ◌<◌, ◌≤◌, ◌||◌, ◌==◌, ℕ, zero, suc, Bool, true, false, List, [], ◌∷◌, ◌++◌, length, drop, replicate, Option, Some, None, refl, sym, ap, ◌∙◌, append_assoc, arith}
-use Rattle.std.specs.Prelude.{nat_lt, take_while, unwrap_or, IfSome}
-use Rattle.std.specs.List.{list_all}
-use Rattle.std.proofs.lemmas.Bool.{and_parts, lt-ltb}
-use Rattle.std.proofs.lemmas.Bool.Decides.{nat_tests}
-use Rattle.std.proofs.lemmas.List.{drop_at, drop-drop, get_or-drop, length-append, length-drop, length-replicate}
-use Rattle.std.proofs.lemmas.List.Sums.{take_while-cons}
-use Rattle.std.proofs.lemmas.Nat.{shl_below, shl-shr}
+use Rattle.std.proofs.{Common.{◌≡◌, ◌+◌, ◌-◌, ◌*◌, ◌^◌, ◌<◌, ◌≤◌, ◌||◌, ◌==◌, ℕ, zero, suc, Bool, true, false, List, [], ◌∷◌, ◌++◌, length, drop, replicate, Option, Some, None, refl, sym, ap, ◌∙◌, append_assoc, arith}, lemmas.Bool.{and_parts, lt-ltb}, lemmas.Bool.Decides.nat_tests, lemmas.List.{drop_at, drop-drop, get_or-drop, length-append, length-drop, length-replicate}, lemmas.List.Sums.take_while-cons, lemmas.Nat.{shl_below, shl-shr}}
+use Rattle.std.specs.{Prelude.{nat_lt, take_while, unwrap_or, IfSome}, List.list_all}
 use Rattle.byteorder.specs.Numbers.{big_number-reads_back}
-use Rattle.pf_addr.specs.declared.{addr.Family.Family, addr.Family.TheVariants.V4, addr.Family.TheVariants.V6}
-use Rattle.pf_addr.specs.Address.{Network, IsNetwork}
-use Rattle.pf_addr.specs.Spelling.{first_addr}
-use Rattle.pf_addr.specs.Path.Names.{is_name_byte}
-use Rattle.pf_addr.specs.Path.Paths.{is_slash}
+use Rattle.pf_addr.specs.{declared.{addr.Family.Family, addr.Family.TheVariants.V4, addr.Family.TheVariants.V6}, Address.{Network, IsNetwork}, Spelling.first_addr, Path.Names.is_name_byte, Path.Paths.is_slash}
 use Rattle.pf_addr.proofs.ReferencesRead.{names_bytes}
-use Rattle.pf_rule.specs.declared.{value.direction.Direction.Direction, value.direction.Direction.TheVariants.In, value.direction.Direction.TheVariants.Out, value.ports.Comparison.TheVariants.Equal, value.ports.Comparison.TheVariants.NotEqual, value.ports.Comparison.TheVariants.Less, value.ports.Comparison.TheVariants.AtMost, value.ports.Comparison.TheVariants.Greater, value.ports.Comparison.TheVariants.AtLeast, value.ports.PortRange.TheVariants.Including, value.ports.PortRange.TheVariants.Excluding, value.ports.PortRange.TheVariants.Except, value.ports.PortTest.PortTest, value.ports.PortTest.TheVariants.Compared, value.ports.PortTest.TheVariants.Ranged, host.host.Host.Host, host.host.Host.TheVariants.Any, host.host.Host.TheVariants.Net, host.host.Host.TheVariants.Table, rule.Effect.Effect, rule.Effect.TheVariants.Decide, rule.Effect.TheVariants.Evaluate, rule.Action.TheVariants.Pass, rule.Action.TheVariants.Block}
-use Rattle.pf_rule.specs.Value.Ports.{IsPortTest}
-use Rattle.pf_rule.specs.Value.Values.{IsInterfaceName, IsProtocol}
-use Rattle.pf_rule.specs.Rules.{PlainRule, HostFits, IsEffect, IsRule}
-use Rattle.pf_rule.specs.Sum.Forms.{flag, filled, host_form, address_bytes, table_name, effect_byte, keeps_state, direction_byte, family_byte, names, wildcard, rule_form}
-use Rattle.pf_rule.specs.Bytes.{byte_at, number_at, addr_bytes-length}
-use Rattle.pf_rule.specs.Sum.Reading.{is_set, name_at, read_host, read_port, effect_of, direction_of, family_of_byte, protocol_of_byte, interface_named, read_form}
+use Rattle.pf_rule.specs.{declared.{value.direction.Direction.Direction, value.direction.Direction.TheVariants.In, value.direction.Direction.TheVariants.Out, value.ports.Comparison.TheVariants.Equal, value.ports.Comparison.TheVariants.NotEqual, value.ports.Comparison.TheVariants.Less, value.ports.Comparison.TheVariants.AtMost, value.ports.Comparison.TheVariants.Greater, value.ports.Comparison.TheVariants.AtLeast, value.ports.PortRange.TheVariants.Including, value.ports.PortRange.TheVariants.Excluding, value.ports.PortRange.TheVariants.Except, value.ports.PortTest.PortTest, value.ports.PortTest.TheVariants.Compared, value.ports.PortTest.TheVariants.Ranged, host.host.Host.Host, host.host.Host.TheVariants.Any, host.host.Host.TheVariants.Net, host.host.Host.TheVariants.Table, rule.Effect.Effect, rule.Effect.TheVariants.Decide, rule.Effect.TheVariants.Evaluate, rule.Action.TheVariants.Pass, rule.Action.TheVariants.Block}, Value.Ports.IsPortTest, Value.Values.{IsInterfaceName, IsProtocol}, Rules.{PlainRule, HostFits, IsEffect, IsRule}, Sum.Forms.{flag, filled, host_form, address_bytes, table_name, effect_byte, keeps_state, direction_byte, family_byte, names, wildcard, rule_form}, Bytes.{byte_at, number_at, addr_bytes-length}, Sum.Reading.{is_set, name_at, read_host, read_port, effect_of, direction_of, family_of_byte, protocol_of_byte, interface_named, read_form}}
 
 -- ---- names in their fields
 

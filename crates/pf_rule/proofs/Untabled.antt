@@ -1,8 +1,7 @@
 -- Hosts that are no tables don't look at what tables say.
 use Rattle.std.proofs.Common.{refl}
 use Rattle.pf_rule.specs.declared.host.host.Host.TheVariants.{Any, Net, Table}
-use Rattle.pf_rule.specs.Laws.Matching.{HostAsksNoTable, RuleAsksNoTable}
-use Rattle.pf_rule.specs.Rules.{ends_hold}
+use Rattle.pf_rule.specs.{Laws.Matching.{HostAsksNoTable, RuleAsksNoTable}, Rules.ends_hold}
 
 pub host_asks_none : HostAsksNoTable
 host_asks_none says other Any a is = refl

@@ -1,28 +1,11 @@
 -- What words spell is what a test of a value keeps.
-use Rattle.std.proofs.Common.{◌≡◌, ℕ, ◌<◌, Bool, true, false, List, Option, Some, None, Result, Ok, Err, refl, subst, arith}
-use Rattle.std.specs.Prelude.{◌+◌, take, drop, IfSome, IfOk}
-use Rattle.std.specs.List.{position}
-use Rattle.std.proofs.lemmas.Bool.Decides.{nat_tests}
-use Rattle.pf_addr.specs.declared.form.fault.Kind.{Kind}
-use Rattle.pf_addr.specs.Form.Words.{Word}
-use Rattle.pf_addr.specs.Form.Forms.{Spells, ◌>>=◌}
-use Rattle.pf_addr.specs.declared.addr.Addr.{Addr}
-use Rattle.pf_addr.specs.Address.{IsAddr}
-use Rattle.pf_addr.specs.Laws.Spelling.{IsAddr-spelled}
-use Rattle.pf_addr.specs.Reading.{addr_at}
-use Rattle.pf_addr.specs.Laws.Reading.{addr_found}
+use Rattle.std.proofs.{Common.{◌≡◌, ℕ, ◌<◌, Bool, true, false, List, Option, Some, None, Result, Ok, Err, refl, subst, arith}, lemmas.Bool.Decides.nat_tests}
+use Rattle.std.specs.{Prelude.{◌+◌, take, drop, IfSome, IfOk}, List.position}
+use Rattle.pf_addr.specs.declared.{form.fault.Kind.Kind, addr.Addr.Addr}
+use Rattle.pf_addr.specs.{Form.Words.Word, Form.Forms.{Spells, ◌>>=◌}, Address.IsAddr, Laws.Spelling.IsAddr-spelled, Reading.addr_at, Laws.Reading.addr_found}
 use Rattle.pf_addr.proofs.NamesRead.{name_found}
-use Rattle.pf_rule.specs.declared.value.interface.TheConstants.{INTERFACE_LIMIT}
-use Rattle.pf_rule.specs.declared.value.ports.Comparison.{Comparison}
-use Rattle.pf_rule.specs.declared.value.ports.PortRange.{PortRange}
-use Rattle.pf_rule.specs.declared.value.ports.PortRange.TheVariants.{Including}
-use Rattle.pf_rule.specs.declared.value.ports.PortTest.{PortTest}
-use Rattle.pf_rule.specs.declared.value.ports.PortTest.TheVariants.{Compared, Ranged}
-use Rattle.pf_rule.specs.declared.value.port_words.PortStart.{PortStart}
-use Rattle.pf_rule.specs.declared.value.port_words.PortStart.TheVariants.{Test, Number}
-use Rattle.pf_rule.specs.Value.Values.{IsInterfaceName, IsProtocol, interface_of, protocol_of, address_of, port_of}
-use Rattle.pf_rule.specs.Value.Tests.{interface, protocol}
-use Rattle.pf_rule.specs.Value.Ports.{IsPortTest, is_colon, split_operator, joined, number_or, start_at, start_of, is_number, test_with, range_end, compared, ranged, order_or_range, port_test, port}
+use Rattle.pf_rule.specs.declared.{value.interface.TheConstants.INTERFACE_LIMIT, value.ports.Comparison.Comparison, value.ports.PortRange.PortRange, value.ports.PortRange.TheVariants.Including, value.ports.PortTest.PortTest, value.ports.PortTest.TheVariants.{Compared, Ranged}, value.port_words.PortStart.PortStart, value.port_words.PortStart.TheVariants.{Test, Number}}
+use Rattle.pf_rule.specs.{Value.Values.{IsInterfaceName, IsProtocol, interface_of, protocol_of, address_of, port_of}, Value.Tests.{interface, protocol}, Value.Ports.{IsPortTest, is_colon, split_operator, joined, number_or, start_at, start_of, is_number, test_with, range_end, compared, ranged, order_or_range, port_test, port}}
 
 -- ---- one word
 

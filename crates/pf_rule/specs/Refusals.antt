@@ -2,12 +2,9 @@
 use Rattle.std.specs.Prelude.{◌≡◌, ℕ, ◌-◌, List, length, Result, Ok, Err, IfOk, IfErr}
 use Rattle.pf_addr.specs.declared.form.fault.Kind.{Kind}
 use Rattle.pf_addr.specs.declared.form.fault.Kind.TheVariants as kinds
-use Rattle.pf_addr.specs.Form.Words.{Word}
-use Rattle.pf_addr.specs.Form.Forms.{Form, Spells, RefusedAt, Reader, reads, ended, ◌>>=◌}
-use Rattle.pf_rule.specs.declared.fault.Mistake.{Mistake}
+use Rattle.pf_addr.specs.{Form.Words.Word, Form.Forms.{Form, Spells, RefusedAt, Reader, reads, ended, ◌>>=◌}}
+use Rattle.pf_rule.specs.declared.{fault.Mistake.Mistake, fault.TextFault.TextFault, fault.TextFault.TheVariants.{BadWord, NameTooLong, BadProto, MixedFamily, PortNeedsProto, Memory}}
 use Rattle.pf_rule.specs.declared.fault.Mistake.TheVariants as mistakes
-use Rattle.pf_rule.specs.declared.fault.TextFault.{TextFault}
-use Rattle.pf_rule.specs.declared.fault.TextFault.TheVariants.{BadWord, NameTooLong, BadProto, MixedFamily, PortNeedsProto, Memory}
 
 abbrev pub fault_at : Kind → ℕ → TextFault
 fault_at kinds.BadWord at = BadWord at

@@ -1,27 +1,11 @@
 -- The grammar of a rule (pf.conf(5), GRAMMAR).
-use Rattle.std.specs.Prelude.{◌≡◌, ℕ, Bool, true, false, List, codes, Option, Some, None, Result, Ok, Err, if◌then◌else◌}
-use Rattle.std.specs.Option.{option_and_then}
+use Rattle.std.specs.{Prelude.{◌≡◌, ℕ, Bool, true, false, List, codes, Option, Some, None, Result, Ok, Err, if◌then◌else◌}, Option.option_and_then}
 use Rattle.std.proofs.Common.{refl}
-use Rattle.pf_addr.specs.Form.Readers.{if_there}
-use Rattle.pf_addr.specs.Path.References.{PlainReference, refers, reference_of}
-use Rattle.pf_addr.specs.Form.Forms.{Form, word, nothing, key, or, pair, pair_by, making, is_decided}
+use Rattle.pf_addr.specs.{Form.Readers.if_there, Path.References.{PlainReference, refers, reference_of}, Form.Forms.{Form, word, nothing, key, or, pair, pair_by, making, is_decided}, Address.same_family, Reading.{part_at, pieces_at, v4_at, address_at}}
 use Rattle.pf_addr.specs.declared.addr.Family.{Family}
-use Rattle.pf_addr.specs.Address.{same_family}
-use Rattle.pf_addr.specs.Reading.{part_at, pieces_at, v4_at, address_at}
-use Rattle.pf_rule.specs.declared.rule.Action.TheVariants.{Pass, Block}
-use Rattle.pf_rule.specs.declared.rule.Effect.{Effect}
-use Rattle.pf_rule.specs.declared.rule.Effect.TheVariants.{Decide, Evaluate}
-use Rattle.pf_rule.specs.declared.rule.Opening.{Opening}
+use Rattle.pf_rule.specs.declared.{rule.Action.TheVariants.{Pass, Block}, rule.Effect.Effect, rule.Effect.TheVariants.{Decide, Evaluate}, rule.Opening.Opening, value.direction.Direction.Direction, host.host.Host.Host, fault.Mistake.Mistake, fault.Mistake.TheVariants.{MixedFamily, PortNeedsProto}}
 use Rattle.pf_rule.specs.declared.rule.Opening.TheVariants as openings
-use Rattle.pf_rule.specs.declared.value.direction.Direction.{Direction}
-use Rattle.pf_rule.specs.declared.host.host.Host.{Host}
-use Rattle.pf_rule.specs.declared.fault.Mistake.{Mistake}
-use Rattle.pf_rule.specs.declared.fault.Mistake.TheVariants.{MixedFamily, PortNeedsProto}
-use Rattle.pf_rule.specs.Value.Tests.{direction, interface, family, protocol}
-use Rattle.pf_rule.specs.Value.Ports.{port, port_test, order_or_range, compared, ranged, range_end, ports_fit}
-use Rattle.pf_rule.specs.Host.Hosts.{a_negated_host, a_host, host, host_family}
-use Rattle.pf_rule.specs.Host.Ends.{End, end, destination, ends}
-use Rattle.pf_rule.specs.Rules.{PlainRule}
+use Rattle.pf_rule.specs.{Value.Tests.{direction, interface, family, protocol}, Value.Ports.{port, port_test, order_or_range, compared, ranged, range_end, ports_fit}, Host.Hosts.{a_negated_host, a_host, host, host_family}, Host.Ends.{End, end, destination, ends}, Rules.PlainRule}
 
 -- what an anchor rule names
 abbrev pub a_reference : Form PlainReference
@@ -98,5 +82,6 @@ rule = making agreeing rule_words
 
 -- One word of look-ahead decides it.
 pub rule_decided : is_decided rule ≡ true
-unfolding rule opening direction interface family protocol a_negated_host a_host host port port_test order_or_range compared ranged range_end end destination ends state part_at pieces_at v4_at address_at
+unfolding rule opening direction interface family protocol a_negated_host a_host host port port_test order_or_range compared ranged
+    range_end end destination ends state part_at pieces_at v4_at address_at
 rule_decided = refl

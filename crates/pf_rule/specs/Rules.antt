@@ -1,20 +1,9 @@
 -- Rules, and which packets they match (pf.conf(5), PARAMETERS).
-use Rattle.std.specs.Prelude.{true, ◌≡◌, ◌==◌, ◌&&◌, Bool, Option, Some, IfSome}
-use Rattle.std.specs.Str.{bytes_eq}
+use Rattle.std.specs.{Prelude.{true, ◌≡◌, ◌==◌, ◌&&◌, Bool, Option, Some, IfSome}, Str.bytes_eq}
 use Rattle.pf_addr.specs.declared.addr.Family.{Family}
-use Rattle.pf_addr.specs.Address.{family_of, same_family, IsNetwork}
-use Rattle.pf_addr.specs.Path.Names.{IsTableName}
-use Rattle.pf_addr.specs.Path.ReferenceGrammar.{IsReference}
-use Rattle.pf_rule.specs.declared.rule.Effect.{Effect}
-use Rattle.pf_rule.specs.declared.rule.Effect.TheVariants.{Decide, Evaluate}
-use Rattle.pf_rule.specs.declared.host.host.Host.{Host}
-use Rattle.pf_rule.specs.declared.rule.RuleParts.{RuleParts}
-use Rattle.pf_rule.specs.declared.host.host.Host.TheVariants.{Any, Net, Table}
-use Rattle.pf_rule.specs.Value.Values.{IsInterfaceName, IsProtocol}
-use Rattle.pf_rule.specs.Value.Tests.{holds, same_direction}
-use Rattle.pf_rule.specs.Host.Hosts.{TableTest, host_holds}
-use Rattle.pf_rule.specs.Packets.{PlainPacket}
-use Rattle.pf_rule.specs.Value.Ports.{IsPortTest, port_holds, ports_fit}
+use Rattle.pf_addr.specs.{Address.{family_of, same_family, IsNetwork}, Path.Names.IsTableName, Path.ReferenceGrammar.IsReference}
+use Rattle.pf_rule.specs.declared.{rule.Effect.Effect, rule.Effect.TheVariants.{Decide, Evaluate}, host.host.Host.Host, rule.RuleParts.RuleParts, host.host.Host.TheVariants.{Any, Net, Table}}
+use Rattle.pf_rule.specs.{Value.Values.{IsInterfaceName, IsProtocol}, Value.Tests.{holds, same_direction}, Host.Hosts.{TableTest, host_holds}, Packets.PlainPacket, Value.Ports.{IsPortTest, port_holds, ports_fit}}
 
 -- a rule as contracts see it: its fields
 abbrev pub PlainRule : Type 0

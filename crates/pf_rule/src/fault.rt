@@ -1,12 +1,9 @@
 //! Why a text could not be read.
 ghost use Rattle.std.specs.Prelude.{◌≡◌, ◌-◌, List, Result};
 ghost use denote.Ref.{Bor};
-ghost use Rattle.pf_addr.specs.Form.Forms.{Reader};
-ghost use Rattle.pf_addr.specs.Form.Readers.{MovesBy};
-ghost use Rattle.pf_addr.specs.Form.Words.{Word, texts};
+ghost use Rattle.pf_addr.specs.{Form.Forms.Reader, Form.Readers.MovesBy, Form.Words.{Word, texts}};
 ghost use Rattle.pf_rule.specs.Refusals.{fault_at, fault_for, told_by};
-ghost use Rattle.pf_rule.specs.declared.fault.Mistake.{Mistake};
-ghost use Rattle.pf_rule.specs.declared.fault.TextFault.TheVariants.{Memory};
+ghost use Rattle.pf_rule.specs.declared.{fault.Mistake.Mistake, fault.TextFault.TheVariants.Memory};
 
 use pf_addr::form::{Kind, Stop, Words, end};
 use std::alloc::AllocError;

@@ -1,15 +1,9 @@
 //! Laws of texts and of matches. Each function does nothing; its clauses are what is proved.
 ghost use Rattle.std.specs.Prelude.{◌≡◌, ◌↔◌, ℕ, List, Result, Ok};
 ghost use Rattle.pf_addr.specs.declared.form.fault.Kind.{Kind};
-ghost use Rattle.pf_addr.specs.Form.Forms.{Spells, RefusedAt, read_all};
-ghost use Rattle.pf_addr.specs.Form.Words.{Word, words_of};
+ghost use Rattle.pf_addr.specs.{Form.Forms.{Spells, RefusedAt, read_all}, Form.Words.{Word, words_of}};
 ghost use Rattle.pf_rule.specs.declared.fault.Mistake.{Mistake};
-ghost use Rattle.pf_rule.specs.Rules.{PlainRule, IsRule};
-ghost use Rattle.pf_rule.specs.Packets.{PlainPacket, IsPacket};
-ghost use Rattle.pf_rule.specs.Laws.Matching.{HostAsksNoTable, RuleAsksNoTable};
-ghost use Rattle.pf_rule.specs.RuleGrammar.{rule};
-ghost use Rattle.pf_rule.specs.PacketGrammar.{packet};
-ghost use Rattle.pf_rule.specs.RuleText.{canonical, rule_text};
+ghost use Rattle.pf_rule.specs.{Rules.{PlainRule, IsRule}, Packets.{PlainPacket, IsPacket}, Laws.Matching.{HostAsksNoTable, RuleAsksNoTable}, RuleGrammar.rule, PacketGrammar.packet, RuleText.{canonical, rule_text}};
 
 /// The text that a rule is written as has the rule's canonical words, which spell the rule; so it is read back as that rule.
 #[tactic(auto, using(crate::specs::Laws::RuleText::texts_of_rules))]

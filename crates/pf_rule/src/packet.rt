@@ -1,10 +1,7 @@
 //! Packets.
 ghost use Rattle.std.specs.Prelude.{◌≡◌};
-ghost use Rattle.pf_addr.specs.Form.Readers.{Moves};
-ghost use Rattle.pf_addr.specs.Form.Words.{words_of, texts};
-ghost use Rattle.pf_rule.specs.PacketGrammar.{packet, way};
-ghost use Rattle.pf_rule.specs.Refusals.{IsAnswer, reading};
-ghost use Rattle.pf_rule.specs.Packets.{PlainPacket, IsPacket};
+ghost use Rattle.pf_addr.specs.{Form.Readers.Moves, Form.Words.{words_of, texts}};
+ghost use Rattle.pf_rule.specs.{PacketGrammar.{packet, way}, Refusals.{IsAnswer, reading}, Packets.{PlainPacket, IsPacket}};
 
 use crate::fault::{Mistake, TextFault, tell};
 use crate::value::{

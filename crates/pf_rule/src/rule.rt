@@ -1,11 +1,7 @@
 //! Filter rules.
 ghost use Rattle.std.specs.Prelude.{◌≡◌};
-ghost use Rattle.pf_addr.specs.Form.Readers.{Moves};
-ghost use Rattle.pf_addr.specs.Form.Words.{words_of, texts};
-ghost use Rattle.pf_rule.specs.RuleGrammar.{rule, agreed, one_family, agreeing, passes, effect_of};
-ghost use Rattle.pf_rule.specs.Refusals.{IsAnswer, reading};
-ghost use Rattle.pf_rule.specs.Rules.{PlainRule, IsRule, ends_hold, matches};
-ghost use Rattle.pf_rule.specs.Matching.{ports_hold, networks_hold, tables_hold};
+ghost use Rattle.pf_addr.specs.{Form.Readers.Moves, Form.Words.{words_of, texts}};
+ghost use Rattle.pf_rule.specs.{RuleGrammar.{rule, agreed, one_family, agreeing, passes, effect_of}, Refusals.{IsAnswer, reading}, Rules.{PlainRule, IsRule, ends_hold, matches}, Matching.{ports_hold, networks_hold, tables_hold}};
 
 use crate::fault::{Mistake, TextFault, tell};
 use crate::host::{Host, TableAnswers, read_ends};

@@ -1,11 +1,7 @@
 -- What is written in turn stands there in order.
-use Rattle.std.proofs.Common.{◌≡◌, ◌+◌, ◌<◌, ◌≤◌, ℕ, zero, suc, List, [], ◌∷◌, ◌++◌, length, take, get_or, subst, ap, ◌∙◌, append_assoc, length-append, arith}
+use Rattle.std.proofs.{Common.{◌≡◌, ◌+◌, ◌<◌, ◌≤◌, ℕ, zero, suc, List, [], ◌∷◌, ◌++◌, length, take, get_or, subst, ap, ◌∙◌, append_assoc, length-append, arith}, lemmas.List.take_all, lemmas.List.Elements.{All-head, All-tail, All-more}}
 use Rattle.std.specs.List.{All, flat_map}
-use Rattle.std.proofs.lemmas.List.{take_all}
-use Rattle.std.proofs.lemmas.List.Elements.{All-head, All-tail, All-more}
-use Rattle.pf_state.specs.declared.{peer.message.Group.Group, peer.message.Group.TheVariants.Inserts, peer.message.Group.TheVariants.Deletes, peer.message.Group.TheVariants.Clears, peer.record.Delete.Delete, peer.record.Clear.Clear}
-use Rattle.pf_state.specs.Peer.Records.{PlainInsert, insert_bytes, delete_bytes, clear_bytes}
-use Rattle.pf_state.specs.Peer.Written.{Each, group_bytes, group_with}
+use Rattle.pf_state.specs.{declared.{peer.message.Group.Group, peer.message.Group.TheVariants.Inserts, peer.message.Group.TheVariants.Deletes, peer.message.Group.TheVariants.Clears, peer.record.Delete.Delete, peer.record.Clear.Clear}, Peer.Records.{PlainInsert, insert_bytes, delete_bytes, clear_bytes}, Peer.Written.{Each, group_bytes, group_with}}
 
 pub two : (o a b p q : List ℕ) → p ≡ o ++ a → q ≡ p ++ b → q ≡ o ++ (a ++ b)
 two o a b p q e f = f ∙ ap (λ (l : List ℕ). l ++ b) e ∙ append_assoc o a b

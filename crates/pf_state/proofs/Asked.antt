@@ -1,11 +1,7 @@
 -- A message asks for a step for each record.
-use Rattle.std.proofs.Common.{◌≡◌, ◌∙◌, ℕ, List, length, ap}
+use Rattle.std.proofs.{Common.{◌≡◌, ◌∙◌, ℕ, List, length, ap}, lemmas.List.length-map, lemmas.List.Concat.length-flat_map}
 use Rattle.std.specs.List.{sum_by}
-use Rattle.std.proofs.lemmas.List.{length-map}
-use Rattle.std.proofs.lemmas.List.Concat.{length-flat_map}
-use Rattle.pf_state.specs.declared.{peer.message.Group.Group, peer.message.Group.TheVariants.Inserts, peer.message.Group.TheVariants.Deletes, peer.message.Group.TheVariants.Clears}
-use Rattle.pf_state.specs.Failover.Incoming.{insert_step, delete_step, clear_step, group_steps}
-use Rattle.pf_state.specs.Laws.Failover.{record_count, OneStepForEach}
+use Rattle.pf_state.specs.{declared.{peer.message.Group.Group, peer.message.Group.TheVariants.Inserts, peer.message.Group.TheVariants.Deletes, peer.message.Group.TheVariants.Clears}, Failover.Incoming.{insert_step, delete_step, clear_step, group_steps}, Laws.Failover.{record_count, OneStepForEach}}
 
 of_group : (sum current : List ℕ) (count : ℕ) (g : Group) → length (group_steps sum current count g) ≡ record_count g
 of_group sum current count (Inserts xs) = length-map xs (insert_step sum current count)

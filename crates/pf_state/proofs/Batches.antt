@@ -1,13 +1,7 @@
 -- A batch of steps, part of which was acted on.
-use Rattle.std.proofs.Common.{◌≡◌, ℕ, suc, ◌+◌, ◌<◌, ◌≤◌, ◌^◌, Bool, true, false, ◌||◌, cond, List, [], ◌∷◌, length, drop, get_or, refl, sym, ap, ◌∙◌, subst, arith}
-use Rattle.std.proofs.Math.Seq.{drop-cons}
-use Rattle.std.proofs.lemmas.List.{drop_all}
-use Rattle.pf_state.specs.declared.{counts.Counts.Counts, limits.TheConstants.STATE_LIMIT, step.Step.Step}
-use Rattle.pf_state.specs.States.{Stated, NamesFlows, IsStates}
-use Rattle.pf_state.specs.Steps.{stepped, after, no_counts, both, IsCounted, counted, counts, is_over, passes_limit}
-use Rattle.pf_state.specs.Laws.States.{is_insert}
-use Rattle.pf_state.proofs.Tables.{names_step, not_over, within_not_over}
-use Rattle.pf_state.proofs.Counting.{inserts, step_adds, step_counts}
+use Rattle.std.proofs.{Common.{◌≡◌, ℕ, suc, ◌+◌, ◌<◌, ◌≤◌, ◌^◌, Bool, true, false, ◌||◌, cond, List, [], ◌∷◌, length, drop, get_or, refl, sym, ap, ◌∙◌, subst, arith}, Math.Seq.drop-cons, lemmas.List.drop_all}
+use Rattle.pf_state.specs.{declared.{counts.Counts.Counts, limits.TheConstants.STATE_LIMIT, step.Step.Step}, States.{Stated, NamesFlows, IsStates}, Steps.{stepped, after, no_counts, both, IsCounted, counted, counts, is_over, passes_limit}, Laws.States.is_insert}
+use Rattle.pf_state.proofs.{Tables.{names_step, not_over, within_not_over}, Counting.{inserts, step_adds, step_counts}}
 
 -- After so many steps these are the states, and what was counted; and what is still to come is as it is for the whole batch.
 pub record Acting (es : List Stated) (steps : List Step) (index : ℕ) (now : List Stated) (c : Counts) : Type 0 where

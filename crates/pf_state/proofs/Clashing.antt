@@ -1,23 +1,8 @@
 -- The states that can clash with what a batch inserts are among the candidates, from step to step.
-use Rattle.std.proofs.Common.{◌≡◌, ℕ, suc, ◌+◌, ◌<◌, length, drop, get_or, arith, ◌⊎◌, inl, inr, Bool, true, false, not, ◌&&◌, ◌||◌, cond, T, List, [], ◌∷◌, ◌++◌, Option, Some, None, refl, sym, ap, ◌∙◌, subst}
-use Rattle.std.specs.Prelude.{◌==◌}
-use Rattle.std.specs.FinMap.{is_sorted}
-use Rattle.std.specs.Option.{option_map_or, unwrap_or}
-use Rattle.std.specs.Ordering.{eq_by_cmp}
-use Rattle.std.proofs.lemmas.Bool.{eq-eqb}
-use Rattle.std.proofs.lemmas.List.Folds.{list_any-append}
-use Rattle.pf_state.specs.declared.{state.Held.Held, state.StateName.StateName, step.Step.Step, step.Step.TheVariants.Insert, step.Step.TheVariants.Delete, step.Step.TheVariants.Clear}
-use Rattle.pf_state.specs.Candidates.{inserts_flow, is_inserted, key_of, keys_of, has_key, candidates, is_among, AreNamed, clashes_with, clashes_among, with_inserted}
-use Rattle.pf_state.specs.Flows.{PlainFlow, same_flow, turned}
-use Rattle.pf_state.specs.States.{Stated, name_order, held_at, NamesFlows}
-use Rattle.pf_state.specs.Steps.{insertion, has_effect, is_clash, stepped}
-use Rattle.pf_state.specs.Laws.States.{left_by}
-use Rattle.pf_state.proofs.Batches.{ahead}
-use Rattle.pf_state.proofs.Flows.{left_true, right_true, either_true, or_true, alike_of, same_back}
-use Rattle.pf_state.proofs.Leaves.{reads_step}
-use Rattle.pf_state.proofs.Names.{one_name, same_itself}
-use Rattle.pf_state.proofs.Places.{first_of, second_of}
-use Rattle.pf_state.proofs.Tables.{no, nothing_is, others_differ, none_behind, left_of}
+use Rattle.std.proofs.{Common.{◌≡◌, ℕ, suc, ◌+◌, ◌<◌, length, drop, get_or, arith, ◌⊎◌, inl, inr, Bool, true, false, not, ◌&&◌, ◌||◌, cond, T, List, [], ◌∷◌, ◌++◌, Option, Some, None, refl, sym, ap, ◌∙◌, subst}, lemmas.Bool.eq-eqb, lemmas.List.Folds.list_any-append}
+use Rattle.std.specs.{Prelude.◌==◌, FinMap.is_sorted, Option.{option_map_or, unwrap_or}, Ordering.eq_by_cmp}
+use Rattle.pf_state.specs.{declared.{state.Held.Held, state.StateName.StateName, step.Step.Step, step.Step.TheVariants.Insert, step.Step.TheVariants.Delete, step.Step.TheVariants.Clear}, Candidates.{inserts_flow, is_inserted, key_of, keys_of, has_key, candidates, is_among, AreNamed, clashes_with, clashes_among, with_inserted}, Flows.{PlainFlow, same_flow, turned}, States.{Stated, name_order, held_at, NamesFlows}, Steps.{insertion, has_effect, is_clash, stepped}, Laws.States.left_by}
+use Rattle.pf_state.proofs.{Batches.ahead, Flows.{left_true, right_true, either_true, or_true, alike_of, same_back}, Leaves.reads_step, Names.{one_name, same_itself}, Places.{first_of, second_of}, Tables.{no, nothing_is, others_differ, none_behind, left_of}}
 
 or_left : (a b : Bool) → a ≡ true → (a || b) ≡ true
 or_left true b e = refl

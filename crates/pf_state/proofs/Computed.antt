@@ -1,10 +1,7 @@
 -- The bytes of the example message, computed, and what is read of them.
 use Rattle.std.proofs.Common.{◌≡◌, lit≤, refl}
 use Rattle.pf_rule.specs.Bytes.{number_at}
-use Rattle.pf_state.specs.Peer.Records.{allowed, fields_of}
-use Rattle.pf_state.specs.Peer.Groups.{content, group_at}
-use Rattle.pf_state.specs.Peer.Messages.{IsMessage}
-use Rattle.pf_state.specs.Peer.Written.{message_bytes}
+use Rattle.pf_state.specs.{Peer.Records.{allowed, fields_of}, Peer.Groups.{content, group_at}, Peer.Messages.IsMessage, Peer.Written.message_bytes}
 use Rattle.pf_state.specs.Laws.Messages as example
 
 pub example_written : message_bytes example.message ≡ example.bytes

@@ -1,19 +1,10 @@
 -- By how much states grow and shrink, and what is counted.
-use Rattle.std.proofs.Common.{◌≡◌, ℕ, suc, ◌+◌, Bool, true, false, not, cond, List, [], ◌∷◌, length, Option, Some, None, is_some, refl, ap, ◌∙◌, arith}
-use Rattle.std.specs.Prelude.{◌==◌, nat_lt}
-use Rattle.std.proofs.lemmas.Bool.Decides.{nat_tests}
-use Rattle.std.specs.FinMap.Entries.{length-put, length_without}
-use Rattle.std.specs.List.{count_by}
-use Rattle.std.proofs.lemmas.List.Sums.{sum_by-cons}
+use Rattle.std.proofs.{Common.{◌≡◌, ℕ, suc, ◌+◌, Bool, true, false, not, cond, List, [], ◌∷◌, length, Option, Some, None, is_some, refl, ap, ◌∙◌, arith}, lemmas.Bool.Decides.nat_tests, lemmas.List.Sums.sum_by-cons}
+use Rattle.std.specs.{Prelude.{◌==◌, nat_lt}, FinMap.Entries.{length-put, length_without}, List.count_by}
 use Rattle.pf_table.specs.Map.Maps.{with_value}
 use Rattle.pf_table.proofs.Maps.{stays_sorted}
-use Rattle.pf_state.specs.declared.{counts.Counts.Counts, state.Held.Held, state.StateName.StateName, step.Insertion.Insertion, step.Insertion.TheVariants.Stale, step.Insertion.TheVariants.Clash, step.Insertion.TheVariants.Replaced, step.Insertion.TheVariants.New, step.Step.Step, step.Step.TheVariants.Insert, step.Step.TheVariants.Delete, step.Step.TheVariants.Clear}
-use Rattle.pf_state.specs.States.{Stated, name_order, held_at, NamesFlows, IsStates}
-use Rattle.pf_state.specs.Steps.{is_stale, is_clash, insertion, has_effect, without_creator, without_state, stepped, after, one_insertion, named_count, creator_count, counted, counts}
-use Rattle.pf_state.specs.Laws.States.{is_insert, CountsAddUp}
-use Rattle.pf_state.proofs.Names.{name_total, same_itself}
-use Rattle.pf_state.proofs.Leaves.{reads_delete}
-use Rattle.pf_state.proofs.Tables.{names_step, names_delete, names_clear}
+use Rattle.pf_state.specs.{declared.{counts.Counts.Counts, state.Held.Held, state.StateName.StateName, step.Insertion.Insertion, step.Insertion.TheVariants.Stale, step.Insertion.TheVariants.Clash, step.Insertion.TheVariants.Replaced, step.Insertion.TheVariants.New, step.Step.Step, step.Step.TheVariants.Insert, step.Step.TheVariants.Delete, step.Step.TheVariants.Clear}, States.{Stated, name_order, held_at, NamesFlows, IsStates}, Steps.{is_stale, is_clash, insertion, has_effect, without_creator, without_state, stepped, after, one_insertion, named_count, creator_count, counted, counts}, Laws.States.{is_insert, CountsAddUp}}
+use Rattle.pf_state.proofs.{Names.{name_total, same_itself}, Leaves.reads_delete, Tables.{names_step, names_delete, names_clear}}
 
 counted_more : {X : Type 0} (p : X → Bool) (x : X) (xs : List X) → count_by p (x ∷ xs) ≡ cond (p x) 1 0 + count_by p xs
 counted_more p x xs = sum_by-cons (λ y. cond (p y) 1 0) x xs

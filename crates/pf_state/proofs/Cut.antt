@@ -1,12 +1,7 @@
 -- An export is cut into parts that are full but for the last.
-use Rattle.std.proofs.Common.{◌≡◌, ◌<◌, ◌≤◌, ℕ, zero, suc, List, [], ◌∷◌, ◌++◌, length, map, take, drop, refl, sym, subst, ap, ◌∙◌, arith}
-use Rattle.std.proofs.lemmas.List.{length-take, length-drop, length-map, take-append-drop}
-use Rattle.std.specs.Simd.{first_chunks}
-use Rattle.std.specs.Slice.Iter.{chunk_count}
-use Rattle.pf_state.specs.Peer.Written.{Each}
-use Rattle.pf_state.specs.States.{Stated}
-use Rattle.pf_state.specs.Failover.Outgoing.{exported_insert, exported_message, parts}
-use Rattle.pf_state.specs.Laws.Failover.{AreFullButLast, AreParts, CutsIntoParts, IsExported, ExportsMessages}
+use Rattle.std.proofs.{Common.{◌≡◌, ◌<◌, ◌≤◌, ℕ, zero, suc, List, [], ◌∷◌, ◌++◌, length, map, take, drop, refl, sym, subst, ap, ◌∙◌, arith}, lemmas.List.{length-take, length-drop, length-map, take-append-drop}}
+use Rattle.std.specs.{Simd.first_chunks, Slice.Iter.chunk_count}
+use Rattle.pf_state.specs.{Peer.Written.Each, States.Stated, Failover.Outgoing.{exported_insert, exported_message, parts}, Laws.Failover.{AreFullButLast, AreParts, CutsIntoParts, IsExported, ExportsMessages}}
 use Rattle.pf_state.proofs.Parts.{next_part, told_long}
 
 -- what holds of no states, and of states where it holds of those behind their first part, holds of all states with their parts

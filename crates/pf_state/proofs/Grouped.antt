@@ -1,10 +1,6 @@
 -- Steps of the loops over groups and records.
-use Rattle.std.proofs.Common.{◌≡◌, ◌≢◌, ◌==◌, true, false, true≢false, ◌+◌, ◌-◌, ◌<◌, ℕ, suc, List, [], ◌∷◌, ◌++◌, length, take, drop, Option, Some, None, Result, Ok, Err, refl, sym, ap, ◌∙◌, subst, append_assoc, arith}
-use Rattle.std.proofs.lemmas.Bool.Decides.{nat_tests}
-use Rattle.std.proofs.lemmas.List.{append-nil}
-use Rattle.pf_state.specs.declared.{peer.fault.PeerFault.PeerFault, peer.fault.PeerFault.TheVariants.BadRecord, peer.message.Group.Group, peer.record.TheConstants.RECORD, peer.fault.ReadError.ReadError, peer.fault.ReadError.TheVariants.Memory, peer.fault.ReadError.TheVariants.Fault}
-use Rattle.pf_state.specs.Peer.Outcomes.{Fails, IfFault}
-use Rattle.pf_state.specs.Peer.Groups.{records_of, ◌>>=◌, group_at, AreGroups, BreakBehind}
+use Rattle.std.proofs.{Common.{◌≡◌, ◌≢◌, ◌==◌, true, false, true≢false, ◌+◌, ◌-◌, ◌<◌, ℕ, suc, List, [], ◌∷◌, ◌++◌, length, take, drop, Option, Some, None, Result, Ok, Err, refl, sym, ap, ◌∙◌, subst, append_assoc, arith}, lemmas.Bool.Decides.nat_tests, lemmas.List.append-nil}
+use Rattle.pf_state.specs.{declared.{peer.fault.PeerFault.PeerFault, peer.fault.PeerFault.TheVariants.BadRecord, peer.message.Group.Group, peer.record.TheConstants.RECORD, peer.fault.ReadError.ReadError, peer.fault.ReadError.TheVariants.Memory, peer.fault.ReadError.TheVariants.Fault}, Peer.Outcomes.{Fails, IfFault}, Peer.Groups.{records_of, ◌>>=◌, group_at, AreGroups, BreakBehind}}
 
 -- a bind behind a bind
 pub in_turn : {A : Type 0} (xs : List A) (x : A) (r : Result (List A) PeerFault) → ((r >>= λ ys. Ok (x ∷ ys)) >>= λ zs. Ok (xs ++ zs)) ≡ (r >>= λ ys. Ok ((xs ++ x ∷ []) ++ ys))

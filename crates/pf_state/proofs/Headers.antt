@@ -1,10 +1,6 @@
 -- What the first bytes of a message say.
-use Rattle.std.proofs.Common.{◌≡◌, ℕ, List, [], ◌∷◌, ◌++◌, take, drop, Option, Some, None, Result, Ok, Err, inr, refl, sym, subst, append_assoc}
-use Rattle.std.proofs.lemmas.List.{append-nil, take-append-drop}
-use Rattle.pf_state.specs.declared.{peer.message.Message.Message, peer.fault.PeerFault.PeerFault}
-use Rattle.pf_state.specs.Peer.Streams.{Ending, Unfinished, Faulty, Reads, Ends, IsUnfinished, IsFaulty}
-use Rattle.pf_state.specs.Peer.Outcomes.{ending}
-use Rattle.pf_state.specs.Peer.Messages.{IsMessage, IsJudged}
+use Rattle.std.proofs.{Common.{◌≡◌, ℕ, List, [], ◌∷◌, ◌++◌, take, drop, Option, Some, None, Result, Ok, Err, inr, refl, sym, subst, append_assoc}, lemmas.List.{append-nil, take-append-drop}}
+use Rattle.pf_state.specs.{declared.{peer.message.Message.Message, peer.fault.PeerFault.PeerFault}, Peer.Streams.{Ending, Unfinished, Faulty, Reads, Ends, IsUnfinished, IsFaulty}, Peer.Outcomes.ending, Peer.Messages.{IsMessage, IsJudged}}
 
 pub one_more_message : (bytes rest front behind : List ℕ) (ms : List Message) (m : Message)
     → ((ns : List Message) (e : Ending) → Reads rest ns e → Reads bytes (ms ++ ns) e) → rest ≡ front ++ behind → IsMessage front m

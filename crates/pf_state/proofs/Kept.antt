@@ -1,13 +1,9 @@
 -- What is read of an insert's record is an insert.
-use Rattle.std.proofs.Common.{◌≡◌, ◌+◌, ◌<◌, ◌==◌, ◌^◌, ◌&&◌, ◌||◌, ℕ, Bool, true, false, if◌then◌else◌, List, drop, slice_index, refl, sym, subst, true≢false, arith}
-use Rattle.std.proofs.lemmas.List.{get_or-drop}
-use Rattle.std.proofs.lemmas.Bool.{and_parts}
-use Rattle.std.proofs.lemmas.Bool.Decides.{nat_tests}
+use Rattle.std.proofs.{Common.{◌≡◌, ◌+◌, ◌<◌, ◌==◌, ◌^◌, ◌&&◌, ◌||◌, ℕ, Bool, true, false, if◌then◌else◌, List, drop, slice_index, refl, sym, subst, true≢false, arith}, lemmas.List.get_or-drop, lemmas.Bool.and_parts, lemmas.Bool.Decides.nat_tests}
 use Rattle.byteorder.specs.Numbers.{big_from-lt}
 use Rattle.pf_addr.specs.declared.addr.Addr.TheVariants.{V4, V6}
 use Rattle.pf_addr.specs.Address.{IsAddr, family_of}
-use Rattle.pf_rule.specs.Bytes.{byte_at, number_at}
-use Rattle.pf_rule.specs.Value.Values.{has_ports}
+use Rattle.pf_rule.specs.{Bytes.{byte_at, number_at}, Value.Values.has_ports}
 use Rattle.pf_state.specs.Peer.Records.{IsInsert, allowed, fields_of, are_kinds, are_ports, is_padded, address_at}
 
 -- the places of a record hold bytes

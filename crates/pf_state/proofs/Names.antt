@@ -1,10 +1,6 @@
 -- Names of states are in a total order, and no two of them tie.
-use Rattle.std.proofs.Common.{◌≡◌, true, not, T, refl, ap, subst}
-use Rattle.std.proofs.lemmas.Cmp.{nat_cmp_total, tied_itself}
-use Rattle.std.specs.Cmp.{IsTotalOrder, on_total, then_total}
-use Rattle.std.specs.FinMap.{IsAntisymmetric, nat_cmp-IsAntisymmetric}
-use Rattle.std.specs.Ordering.{is_eq, eq_by_cmp}
-use Rattle.std.specs.declared.{cmp.Ordering.Ordering, cmp.Ordering.TheVariants.Less, cmp.Ordering.TheVariants.Equal, cmp.Ordering.TheVariants.Greater}
+use Rattle.std.proofs.{Common.{◌≡◌, true, not, T, refl, ap, subst}, lemmas.Cmp.{nat_cmp_total, tied_itself}}
+use Rattle.std.specs.{Cmp.{IsTotalOrder, on_total, then_total}, FinMap.{IsAntisymmetric, nat_cmp-IsAntisymmetric}, Ordering.{is_eq, eq_by_cmp}, declared.{cmp.Ordering.Ordering, cmp.Ordering.TheVariants.Less, cmp.Ordering.TheVariants.Equal, cmp.Ordering.TheVariants.Greater}}
 use Rattle.pf_table.specs.Map.Pairs.{pairs_alike}
 use Rattle.pf_state.specs.declared.state.StateName.{StateName}
 use Rattle.pf_state.specs.States.{name_order}

@@ -1,10 +1,6 @@
 -- Bytes that have to be one message.
-use Rattle.std.proofs.Common.{◌≡◌, ◌↔◌, ℕ, List, [], ◌∷◌, Result, Ok, refl, sym, ◌∙◌}
-use Rattle.std.proofs.lemmas.List.{append-nil}
-use Rattle.pf_state.specs.declared.{peer.fault.OneFault.OneFault, peer.message.Message.Message}
-use Rattle.pf_state.specs.Peer.Messages.{IsMessage}
-use Rattle.pf_state.specs.Peer.Streams.{Ending, Unfinished, Faulty, Reads}
-use Rattle.pf_state.specs.Peer.One.{IsOne, one_of}
+use Rattle.std.proofs.{Common.{◌≡◌, ◌↔◌, ℕ, List, [], ◌∷◌, Result, Ok, refl, sym, ◌∙◌}, lemmas.List.append-nil}
+use Rattle.pf_state.specs.{declared.{peer.fault.OneFault.OneFault, peer.message.Message.Message}, Peer.Messages.IsMessage, Peer.Streams.{Ending, Unfinished, Faulty, Reads}, Peer.One.{IsOne, one_of}}
 use Rattle.pf_state.proofs.OneReading.{one_reading}
 
 pub one_answer : (bytes : List ℕ) (r s : Result Message OneFault) → IsOne bytes r → IsOne bytes s → r ≡ s

@@ -1,11 +1,7 @@
 -- A stream has one reading.
-use Rattle.std.proofs.Common.{◌≡◌, ℕ, List, [], ◌∷◌, ◌++◌, length, take, drop, Result, Ok, Err, inl, inr, refl, sym, ap, ◌∙◌, subst, length-append, arith}
-use Rattle.std.proofs.lemmas.List.{take_at, drop_at}
-use Rattle.pf_state.specs.declared.{peer.fault.PeerFault.PeerFault, peer.message.Group.Group, peer.message.Message.Message}
+use Rattle.std.proofs.{Common.{◌≡◌, ℕ, List, [], ◌∷◌, ◌++◌, length, take, drop, Result, Ok, Err, inl, inr, refl, sym, ap, ◌∙◌, subst, length-append, arith}, lemmas.List.{take_at, drop_at}}
+use Rattle.pf_state.specs.{declared.{peer.fault.PeerFault.PeerFault, peer.message.Group.Group, peer.message.Message.Message}, Peer.Groups.{group_at, AreGroups, BreakBehind}, Peer.Messages.{IsWhole, IsMessage, IsBroken}, Peer.Streams.{Ending, Unfinished, Faulty, Reads, Ends, IsUnfinished, IsFaulty, IsBadHeader, HasBadVersion, HasShortLength}}
 use Rattle.pf_rule.specs.Bytes.{number_at}
-use Rattle.pf_state.specs.Peer.Groups.{group_at, AreGroups, BreakBehind}
-use Rattle.pf_state.specs.Peer.Messages.{IsWhole, IsMessage, IsBroken}
-use Rattle.pf_state.specs.Peer.Streams.{Ending, Unfinished, Faulty, Reads, Ends, IsUnfinished, IsFaulty, IsBadHeader, HasBadVersion, HasShortLength}
 
 -- ---- groups
 

@@ -1,15 +1,8 @@
 -- The parts of an export, and how long its messages are.
-use Rattle.std.proofs.Common.{◌≡◌, ◌+◌, ◌-◌, ◌*◌, ◌<◌, ◌≤◌, ℕ, suc, List, [], ◌∷◌, ◌++◌, length, map, take, drop, min, refl, sym, subst, ap, ◌∙◌, append_assoc, length-append, arith}
-use Rattle.std.proofs.lemmas.List.{append-nil, length-drop, length-map, take_all, drop_all, take_at, drop_at}
-use Rattle.std.specs.List.{concat, flat_map}
-use Rattle.std.specs.Slice.Iter.{chunk_count}
-use Rattle.pf_state.specs.Peer.Records.{PlainInsert, insert_bytes}
-use Rattle.pf_state.specs.Peer.Messages.{IsMessage}
-use Rattle.pf_state.specs.Peer.Streams.{Reads, Unfinished}
-use Rattle.pf_state.specs.Peer.Written.{Each, message_length, message_bytes}
-use Rattle.pf_state.specs.States.{Stated}
+use Rattle.std.proofs.{Common.{◌≡◌, ◌+◌, ◌-◌, ◌*◌, ◌<◌, ◌≤◌, ℕ, suc, List, [], ◌∷◌, ◌++◌, length, map, take, drop, min, refl, sym, subst, ap, ◌∙◌, append_assoc, length-append, arith}, lemmas.List.{append-nil, length-drop, length-map, take_all, drop_all, take_at, drop_at}}
+use Rattle.std.specs.{List.{concat, flat_map}, Slice.Iter.chunk_count}
+use Rattle.pf_state.specs.{Peer.Records.{PlainInsert, insert_bytes}, Peer.Messages.IsMessage, Peer.Streams.{Reads, Unfinished}, Peer.Written.{Each, message_length, message_bytes}, States.Stated, Failover.Outgoing.{exported_insert, exported_message, parts, exported_messages}}
 use Rattle.pf_state.specs.declared.failover.outgoing.TheConstants.{EXPORT_RECORDS}
-use Rattle.pf_state.specs.Failover.Outgoing.{exported_insert, exported_message, parts, exported_messages}
 use Rattle.pf_state.proofs.RoundTrip.{insert_long}
 
 -- ---- lengths

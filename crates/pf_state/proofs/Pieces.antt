@@ -1,9 +1,7 @@
 -- Faults stay, and pieces join.
-use Rattle.std.proofs.Common.{ℕ, List, [], ◌∷◌, ◌++◌, inl, inr, refl, sym, ap, ◌∙◌, subst, append_assoc}
+use Rattle.std.proofs.{Common.{ℕ, List, [], ◌∷◌, ◌++◌, inl, inr, refl, sym, ap, ◌∙◌, subst, append_assoc}, lemmas.List.append-nil}
 use Rattle.std.specs.List.{concat}
-use Rattle.std.proofs.lemmas.List.{append-nil}
-use Rattle.pf_state.specs.declared.{peer.fault.PeerFault.PeerFault, peer.message.Message.Message}
-use Rattle.pf_state.specs.Peer.Streams.{Ending, Unfinished, Faulty, Reads, Feeds, IsUnfinished, IsFaulty, IsBadHeader, HasBadVersion, HasShortLength, BeginsBroken}
+use Rattle.pf_state.specs.{declared.{peer.fault.PeerFault.PeerFault, peer.message.Message.Message}, Peer.Streams.{Ending, Unfinished, Faulty, Reads, Feeds, IsUnfinished, IsFaulty, IsBadHeader, HasBadVersion, HasShortLength, BeginsBroken}}
 
 version_stays : (bytes more : List ℕ) → HasBadVersion bytes → HasBadVersion (bytes ++ more)
 version_stays [] more h = elim h [ ]

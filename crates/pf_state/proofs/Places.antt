@@ -1,21 +1,9 @@
 -- Where a name stands in states in order, and what is read, put or taken out there.
-use Rattle.std.proofs.Common.{◌≡◌, ℕ, zero, suc, ◌<◌, ◌≤◌, ◌&&◌, Bool, true, false, not, cond, T, List, [], ◌∷◌, length, get_or, add-one, Some, None, refl, sym, ap, ◌∙◌, subst, arith}
-use Rattle.std.proofs.lemmas.Cmp.{tied_itself}
-use Rattle.std.proofs.lemmas.List.Sorted.{searchable_from_sorted}
-use Rattle.std.proofs.Math.ListN.{set}
-use Rattle.std.specs.declared.{cmp.Ordering.Ordering, cmp.Ordering.TheVariants.Less, cmp.Ordering.TheVariants.Equal, cmp.Ordering.TheVariants.Greater}
-use Rattle.std.specs.FinMap.{put, is_sorted}
-use Rattle.std.specs.FinMap.Entries.{below_all}
-use Rattle.std.specs.List.{HoldsAt, insert, remove}
-use Rattle.std.specs.List.Sorted.{IsBinarySearchResult, IsNonDecreasingBy, IsPartitionPoint}
-use Rattle.std.specs.Prelude.{Result, Ok, Err, IfOk, IfErr}
-use Rattle.std.specs.Ordering.{is_eq, is_lt, ordering_index, ordering_reverse}
+use Rattle.std.proofs.{Common.{◌≡◌, ℕ, zero, suc, ◌<◌, ◌≤◌, ◌&&◌, Bool, true, false, not, cond, T, List, [], ◌∷◌, length, get_or, add-one, Some, None, refl, sym, ap, ◌∙◌, subst, arith}, lemmas.Cmp.tied_itself, lemmas.List.Sorted.searchable_from_sorted, Math.ListN.set}
+use Rattle.std.specs.{declared.{cmp.Ordering.Ordering, cmp.Ordering.TheVariants.Less, cmp.Ordering.TheVariants.Equal, cmp.Ordering.TheVariants.Greater}, FinMap.{put, is_sorted}, FinMap.Entries.below_all, List.{HoldsAt, insert, remove}, List.Sorted.{IsBinarySearchResult, IsNonDecreasingBy, IsPartitionPoint}, Prelude.{Result, Ok, Err, IfOk, IfErr}, Ordering.{is_eq, is_lt, ordering_index, ordering_reverse}}
 use Rattle.pf_table.specs.Map.Maps.{with_value}
-use Rattle.pf_state.specs.declared.{state.Held.Held, state.StateName.StateName}
-use Rattle.pf_state.specs.States.{Stated, name_order, held_at}
-use Rattle.pf_state.specs.Steps.{without_state}
-use Rattle.pf_state.proofs.Names.{name_total, name_alike, same_itself}
-use Rattle.pf_state.proofs.Leaves.{reads_delete}
+use Rattle.pf_state.specs.{declared.{state.Held.Held, state.StateName.StateName}, States.{Stated, name_order, held_at}, Steps.without_state}
+use Rattle.pf_state.proofs.{Names.{name_total, name_alike, same_itself}, Leaves.reads_delete}
 
 pub first_of : (a b : Bool) → T (a && b) → T a
 first_of true b p = tt

@@ -1,17 +1,8 @@
 -- The bytes of an export are read as its messages.
-use Rattle.std.proofs.Common.{◌≡◌, ◌<◌, ◌^◌, ℕ, zero, suc, List, [], ◌∷◌, length, map, take, drop, cond, Bool, true, false, arith}
+use Rattle.std.proofs.{Common.{◌≡◌, ◌<◌, ◌^◌, ℕ, zero, suc, List, [], ◌∷◌, length, map, take, drop, cond, Bool, true, false, arith}, lemmas.List.length-take}
 use Rattle.std.specs.Str.{bytes_eq}
-use Rattle.std.proofs.lemmas.List.{length-take}
-use Rattle.pf_state.specs.declared.{peer.message.Message.Message, binding.TheConstants.ALL_ONES, state.Bound.Bound, state.Bound.TheVariants.Rule, state.Bound.TheVariants.Default}
-use Rattle.pf_state.specs.Peer.Messages.{IsMessage}
-use Rattle.pf_state.specs.Peer.Records.{IsInsert}
-use Rattle.pf_state.specs.Peer.Written.{Each, message_bytes, CanBeWritten}
-use Rattle.pf_state.specs.Bindings.{exported}
-use Rattle.pf_state.specs.States.{Stated}
-use Rattle.pf_state.specs.Failover.Outgoing.{exported_insert, exported_message, parts}
-use Rattle.pf_state.specs.Laws.Failover.{IsBound, IsState, IsReadBack}
-use Rattle.pf_state.proofs.Cut.{by_parts}
-use Rattle.pf_state.proofs.Parts.{told_fits, IsRead, read_in_turn}
+use Rattle.pf_state.specs.{declared.{peer.message.Message.Message, binding.TheConstants.ALL_ONES, state.Bound.Bound, state.Bound.TheVariants.Rule, state.Bound.TheVariants.Default}, Peer.Messages.IsMessage, Peer.Records.IsInsert, Peer.Written.{Each, message_bytes, CanBeWritten}, Bindings.exported, States.Stated, Failover.Outgoing.{exported_insert, exported_message, parts}, Laws.Failover.{IsBound, IsState, IsReadBack}}
+use Rattle.pf_state.proofs.{Cut.by_parts, Parts.{told_fits, IsRead, read_in_turn}}
 
 each_take : (n : ℕ) (es : List Stated) → Each IsState es → Each IsState (take n es)
 each_take zero es each = tt

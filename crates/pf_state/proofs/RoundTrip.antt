@@ -1,22 +1,12 @@
 -- What is written is read again.
-use Rattle.std.proofs.Common.{◌≡◌, ◌≢◌, ◌*◌, ◌<◌, ◌≤◌, ◌==◌, ◌&&◌, ◌||◌, ℕ, Bool, true, false, List, [], ◌∷◌, ◌++◌, length, Option, Some, Ok, refl, sym, ap, ◌∙◌, subst, append_assoc, length-append, arith}
-use Rattle.std.specs.Prelude.{nat_lt}
-use Rattle.std.specs.List.{flat_map}
-use Rattle.std.proofs.lemmas.List.{take_at, drop_at}
-use Rattle.std.proofs.lemmas.Bool.Decides.{nat_tests}
-use Rattle.byteorder.specs.Numbers.{big_number-reads_back}
-use Rattle.byteorder.specs.Endian.{big_bytes}
+use Rattle.std.proofs.{Common.{◌≡◌, ◌≢◌, ◌*◌, ◌<◌, ◌≤◌, ◌==◌, ◌&&◌, ◌||◌, ℕ, Bool, true, false, List, [], ◌∷◌, ◌++◌, length, Option, Some, Ok, refl, sym, ap, ◌∙◌, subst, append_assoc, length-append, arith}, lemmas.List.{take_at, drop_at}, lemmas.Bool.Decides.nat_tests}
+use Rattle.std.specs.{Prelude.nat_lt, List.flat_map}
+use Rattle.byteorder.specs.{Numbers.big_number-reads_back, Endian.big_bytes}
 use Rattle.pf_addr.specs.declared.{addr.Addr.Addr, addr.Addr.TheVariants.V4, addr.Addr.TheVariants.V6}
 use Rattle.pf_addr.specs.declared.addr.Family.TheVariants as family
-use Rattle.pf_rule.specs.Bytes.{number_at, direction_byte, addr_bytes-length}
-use Rattle.pf_rule.specs.Value.Values.{has_ports}
-use Rattle.pf_rule.specs.declared.{value.direction.Direction.Direction, value.direction.Direction.TheVariants.In, value.direction.Direction.TheVariants.Out}
-use Rattle.pf_state.specs.declared.{peer.message.Group.Group, peer.message.Group.TheVariants.Inserts, peer.message.Group.TheVariants.Deletes, peer.message.Group.TheVariants.Clears, peer.message.Message.Message, peer.record.TheConstants.RECORD, peer.record.Delete.Delete, peer.record.Clear.Clear}
-use Rattle.pf_state.specs.Peer.Records.{PlainInsert, IsInsert, allowed, fields_of, direction_of, insert_of, delete_of, clear_of, insert_bytes, delete_bytes, clear_bytes}
-use Rattle.pf_state.specs.Peer.Groups.{records_of, content, is_action, group_at, AreGroups}
-use Rattle.pf_state.specs.Peer.Messages.{IsMessage}
+use Rattle.pf_rule.specs.{Bytes.{number_at, direction_byte, addr_bytes-length}, Value.Values.has_ports, declared.{value.direction.Direction.Direction, value.direction.Direction.TheVariants.In, value.direction.Direction.TheVariants.Out}}
+use Rattle.pf_state.specs.{declared.{peer.message.Group.Group, peer.message.Group.TheVariants.Inserts, peer.message.Group.TheVariants.Deletes, peer.message.Group.TheVariants.Clears, peer.message.Message.Message, peer.record.TheConstants.RECORD, peer.record.Delete.Delete, peer.record.Clear.Clear}, Peer.Records.{PlainInsert, IsInsert, allowed, fields_of, direction_of, insert_of, delete_of, clear_of, insert_bytes, delete_bytes, clear_bytes}, Peer.Groups.{records_of, content, is_action, group_at, AreGroups}, Peer.Messages.IsMessage, Peer.Written.{Each, IsDelete, IsClear, IsGroup, group_bytes, groups_bytes, message_length, message_bytes, CanBeWritten}}
 use Rattle.pf_state.proofs.Appended.{few_inserts, few_deletes, few_clears}
-use Rattle.pf_state.specs.Peer.Written.{Each, IsDelete, IsClear, IsGroup, group_bytes, groups_bytes, message_length, message_bytes, CanBeWritten}
 
 -- ---- records
 

@@ -1,17 +1,7 @@
 -- What a peer makes of an export.
-use Rattle.std.proofs.Common.{◌≡◌, ◌≤◌, ◌&&◌, not, ℕ, Bool, true, false, cond, List, [], ◌∷◌, ◌++◌, map, take, drop, refl, sym, ap, ◌∙◌, arith}
-use Rattle.std.specs.Prelude.{◌==◌, nat_lt}
-use Rattle.std.specs.List.{flat_map}
-use Rattle.std.specs.Str.{bytes_eq}
-use Rattle.std.proofs.lemmas.Bool.Decides.{nat_tests}
-use Rattle.std.proofs.lemmas.List.{append-nil, map-append, take-append-drop}
-use Rattle.std.proofs.lemmas.Slice.Eq.{bytes_eq-Decides}
-use Rattle.pf_state.specs.declared.{binding.TheConstants.ALL_ONES, state.Bound.Bound, state.Bound.TheVariants.Rule, state.Bound.TheVariants.Default, step.Step.Step, step.Step.TheVariants.Insert}
-use Rattle.pf_state.specs.Bindings.{bound, exported}
-use Rattle.pf_state.specs.States.{Stated}
-use Rattle.pf_state.specs.Failover.Incoming.{insert_step, steps_of}
-use Rattle.pf_state.specs.Failover.Outgoing.{exported_insert, exported_message, parts}
-use Rattle.pf_state.specs.Laws.Failover.{bound_there, state_there, TellsTheStates}
+use Rattle.std.proofs.{Common.{◌≡◌, ◌≤◌, ◌&&◌, not, ℕ, Bool, true, false, cond, List, [], ◌∷◌, ◌++◌, map, take, drop, refl, sym, ap, ◌∙◌, arith}, lemmas.Bool.Decides.nat_tests, lemmas.List.{append-nil, map-append, take-append-drop}, lemmas.Slice.Eq.bytes_eq-Decides}
+use Rattle.std.specs.{Prelude.{◌==◌, nat_lt}, List.flat_map, Str.bytes_eq}
+use Rattle.pf_state.specs.{declared.{binding.TheConstants.ALL_ONES, state.Bound.Bound, state.Bound.TheVariants.Rule, state.Bound.TheVariants.Default, step.Step.Step, step.Step.TheVariants.Insert}, Bindings.{bound, exported}, States.Stated, Failover.Incoming.{insert_step, steps_of}, Failover.Outgoing.{exported_insert, exported_message, parts}, Laws.Failover.{bound_there, state_there, TellsTheStates}}
 use Rattle.pf_state.proofs.Cut.{by_parts}
 
 never : (b : Bool) → (b && false) ≡ false

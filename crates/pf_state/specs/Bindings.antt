@@ -1,6 +1,5 @@
 -- To which rule a state is bound. Own.
-use Rattle.std.specs.Prelude.{ℕ, ◌==◌, ◌&&◌, nat_lt, Bool, not, cond, List}
-use Rattle.std.specs.Str.{bytes_eq}
+use Rattle.std.specs.{Prelude.{ℕ, ◌==◌, ◌&&◌, nat_lt, Bool, not, cond, List}, Str.bytes_eq}
 use Rattle.pf_state.specs.declared.{binding.TheConstants.ALL_ONES, state.Bound.Bound, state.Bound.TheVariants.Rule, state.Bound.TheVariants.Default}
 
 -- the number is that of one of so many main rules: there is one, no anchor is named, and it is below their number

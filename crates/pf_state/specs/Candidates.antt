@@ -1,12 +1,7 @@
 -- Which states can clash with what a batch inserts, so that a batch goes over all states once. No part of what a batch does. Own.
-use Rattle.std.specs.Prelude.{◌≡◌, ℕ, ◌+◌, ◌%◌, ◌^◌, ◌==◌, ◌&&◌, Bool, true, false, not, List, [], ◌∷◌, ◌++◌, map, filter, Some}
-use Rattle.std.specs.List.{list_any}
-use Rattle.std.specs.Option.{option_map_or}
-use Rattle.std.specs.Ordering.{eq_by_cmp}
+use Rattle.std.specs.{Prelude.{◌≡◌, ℕ, ◌+◌, ◌%◌, ◌^◌, ◌==◌, ◌&&◌, Bool, true, false, not, List, [], ◌∷◌, ◌++◌, map, filter, Some}, List.list_any, Option.option_map_or, Ordering.eq_by_cmp}
 use Rattle.pf_addr.specs.declared.{addr.Addr.Addr, addr.Addr.TheVariants.V4, addr.Addr.TheVariants.V6}
-use Rattle.pf_state.specs.declared.{state.Held.Held, state.StateName.StateName, step.Step.Step, step.Step.TheVariants.Insert, step.Step.TheVariants.Delete, step.Step.TheVariants.Clear}
-use Rattle.pf_state.specs.Flows.{PlainFlow, same_flow}
-use Rattle.pf_state.specs.States.{Stated, name_order, held_at}
+use Rattle.pf_state.specs.{declared.{state.Held.Held, state.StateName.StateName, step.Step.Step, step.Step.TheVariants.Insert, step.Step.TheVariants.Delete, step.Step.TheVariants.Clear}, Flows.{PlainFlow, same_flow}, States.{Stated, name_order, held_at}}
 
 -- the step inserts a state of this flow
 abbrev pub inserts_flow : Step → PlainFlow → Bool

@@ -1,11 +1,7 @@
 -- Flows: what a state is looked for by (pf.conf(5)). That the interface is no part of a flow is own.
 use Rattle.std.specs.Prelude.{◌≡◌, ◌<◌, ◌==◌, ◌&&◌, ◌||◌, Bool, false}
-use Rattle.pf_addr.specs.declared.{addr.Addr.Addr, addr.Addr.TheVariants.V4, addr.Addr.TheVariants.V6}
-use Rattle.pf_addr.specs.Address.{family_of, same_family, IsAddr}
-use Rattle.pf_rule.specs.declared.{value.direction.Direction.Direction, value.direction.Direction.TheVariants.In, value.direction.Direction.TheVariants.Out}
-use Rattle.pf_rule.specs.Value.Values.{IsProtocol, has_ports}
-use Rattle.pf_rule.specs.Value.Tests.{same_direction}
-use Rattle.pf_rule.specs.Packets.{PlainPacket}
+use Rattle.pf_addr.specs.{declared.{addr.Addr.Addr, addr.Addr.TheVariants.V4, addr.Addr.TheVariants.V6}, Address.{family_of, same_family, IsAddr}}
+use Rattle.pf_rule.specs.{declared.{value.direction.Direction.Direction, value.direction.Direction.TheVariants.In, value.direction.Direction.TheVariants.Out}, Value.Values.{IsProtocol, has_ports}, Value.Tests.same_direction, Packets.PlainPacket}
 use Rattle.pf_state.specs.declared.flow.FlowParts.{FlowParts}
 
 -- a flow as contracts see it: its fields, which are those of its first packet

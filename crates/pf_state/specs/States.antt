@@ -1,11 +1,7 @@
 -- States, and the table of them (pf.conf(5)). How states are named and ordered is own.
-use Rattle.std.specs.Prelude.{◌≡◌, ◌≤◌, T, true, List, length, Option, Some}
+use Rattle.std.specs.{Prelude.{◌≡◌, ◌≤◌, T, true, List, length, Option, Some}, FinMap.{find, is_sorted}, List.find as first_where, Ordering.{ordering_then, nat_cmp}}
 use Rattle.std.specs.declared.cmp.Ordering.{Ordering}
-use Rattle.std.specs.FinMap.{find, is_sorted}
-use Rattle.std.specs.List.{find as first_where}
-use Rattle.std.specs.Ordering.{ordering_then, nat_cmp}
-use Rattle.pf_state.specs.declared.{limits.TheConstants.STATE_LIMIT, state.Held.Held, state.StateName.StateName}
-use Rattle.pf_state.specs.Flows.{PlainFlow, same_flow}
+use Rattle.pf_state.specs.{declared.{limits.TheConstants.STATE_LIMIT, state.Held.Held, state.StateName.StateName}, Flows.{PlainFlow, same_flow}}
 
 -- a state: its name, and what is held under it
 abbrev pub Stated : Type 0

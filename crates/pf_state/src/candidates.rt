@@ -1,10 +1,6 @@
 //! Which states can clash with what a batch inserts: a batch goes over all states once to find them.
-ghost use Rattle.std.specs.Prelude.{◌≡◌, ◌∷◌, [], T, IfOk, OnOk};
-ghost use Rattle.std.specs.FinMap.{is_sorted};
-ghost use Rattle.pf_state.specs.Candidates.{AreNamed, candidates, clashes_among, clashes_with, has_flow_at, has_key, inserts_flow, is_inserted, keys_of, with_inserted};
-ghost use Rattle.pf_state.specs.Flows.{turned};
-ghost use Rattle.pf_state.specs.States.{NamesFlows, name_order};
-ghost use Rattle.pf_state.specs.Steps.{is_clash};
+ghost use Rattle.std.specs.{Prelude.{◌≡◌, ◌∷◌, [], T, IfOk, OnOk}, FinMap.is_sorted};
+ghost use Rattle.pf_state.specs.{Candidates.{AreNamed, candidates, clashes_among, clashes_with, has_flow_at, has_key, inserts_flow, is_inserted, keys_of, with_inserted}, Flows.turned, States.{NamesFlows, name_order}, Steps.is_clash};
 ghost use Rattle.pf_state.specs.declared.step.Step.TheVariants as step_kind;
 
 use crate::flow::Flow;

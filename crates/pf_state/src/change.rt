@@ -1,10 +1,6 @@
 //! Changes of a list of states.
-ghost use Rattle.std.specs.Prelude.{◌≡◌, ◌∷◌, [], nat_le, false, T, IfOk, OnOk, Some};
-ghost use Rattle.std.specs.FinMap.{is_sorted};
-ghost use Rattle.std.specs.Option.{option_map_or};
-ghost use Rattle.pf_state.specs.Candidates.{AreNamed};
-ghost use Rattle.pf_state.specs.States.{NamesFlows, name_order};
-ghost use Rattle.pf_state.specs.Steps.{insertion, stepped, counted, without_state, without_creator, named_count, creator_count, is_over};
+ghost use Rattle.std.specs.{Prelude.{◌≡◌, ◌∷◌, [], nat_le, false, T, IfOk, OnOk, Some}, FinMap.is_sorted, Option.option_map_or};
+ghost use Rattle.pf_state.specs.{Candidates.AreNamed, States.{NamesFlows, name_order}, Steps.{insertion, stepped, counted, without_state, without_creator, named_count, creator_count, is_over}};
 ghost use Rattle.pf_state.specs.declared.step.Step.TheVariants as step_kind;
 ghost use Rattle.pf_table.specs.Map.Maps.{with_value};
 

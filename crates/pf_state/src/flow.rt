@@ -1,8 +1,7 @@
 //! Flows.
 ghost use Rattle.std.specs.Prelude.{◌≡◌, ◌<◌, ◌^◌, ◌==◌, ◌&&◌, cond, Some, None};
 ghost use Rattle.pf_rule.specs.Value.Tests.{same_direction};
-ghost use Rattle.pf_state.specs.Candidates.{key_of, low_bits};
-ghost use Rattle.pf_state.specs.Flows.{PlainFlow, IsFlow, flow_of, is_flow, same_addr, is_equal, turned, same_flow, other_way};
+ghost use Rattle.pf_state.specs.{Candidates.{key_of, low_bits}, Flows.{PlainFlow, IsFlow, flow_of, is_flow, same_addr, is_equal, turned, same_flow, other_way}};
 
 use pf_addr::Addr;
 use pf_rule::Packet;

@@ -1,9 +1,6 @@
 //! Where a name stands in states in order.
-ghost use Rattle.std.specs.Prelude.{◌≡◌, T, length, IfOk, IfErr};
+ghost use Rattle.std.specs.{Prelude.{◌≡◌, T, length, IfOk, IfErr}, FinMap.is_sorted, List.HoldsAt, List.Sorted.{IsPartitionPoint, IsSearchInRange}};
 ghost use Rattle.std.specs.declared.cmp.Ordering.TheVariants.{Less, Greater};
-ghost use Rattle.std.specs.FinMap.{is_sorted};
-ghost use Rattle.std.specs.List.{HoldsAt};
-ghost use Rattle.std.specs.List.Sorted.{IsPartitionPoint, IsSearchInRange};
 ghost use Rattle.pf_state.specs.States.{held_at, name_order};
 
 use crate::state::{Held, State, StateName};

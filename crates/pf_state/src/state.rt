@@ -1,9 +1,6 @@
 //! States.
-ghost use Rattle.std.specs.Prelude.{◌≡◌};
-ghost use Rattle.std.specs.Ordering.{eq_by_cmp};
-ghost use Rattle.pf_state.specs.Candidates.{key_of};
-ghost use Rattle.pf_state.specs.Flows.{IsFlow, turned, same_flow};
-ghost use Rattle.pf_state.specs.States.{name_order};
+ghost use Rattle.std.specs.{Prelude.◌≡◌, Ordering.eq_by_cmp};
+ghost use Rattle.pf_state.specs.{Candidates.key_of, Flows.{IsFlow, turned, same_flow}, States.name_order};
 
 use crate::flow::Flow;
 use std::cmp::Ordering;

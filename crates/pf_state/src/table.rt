@@ -1,9 +1,6 @@
 //! The table of states.
-ghost use Rattle.std.specs.Prelude.{◌≡◌, ◌+◌, [], cond, is_ok, is_some, length, IfOk, IfSome, Contains, Some, None, true, false};
-ghost use Rattle.std.specs.Option.{option_map};
-ghost use Rattle.pf_state.specs.Flows.{flow_of, same_flow};
-ghost use Rattle.pf_state.specs.States.{Stated, IsStates, held_at, state_of};
-ghost use Rattle.pf_state.specs.Steps.{Refuses, passes_limit, after, counts, without_state, without_creator, creator_count, named_count};
+ghost use Rattle.std.specs.{Prelude.{◌≡◌, ◌+◌, [], cond, is_ok, is_some, length, IfOk, IfSome, Contains, Some, None, true, false}, Option.option_map};
+ghost use Rattle.pf_state.specs.{Flows.{flow_of, same_flow}, States.{Stated, IsStates, held_at, state_of}, Steps.{Refuses, passes_limit, after, counts, without_state, without_creator, creator_count, named_count}};
 
 use crate::candidates::{candidates, note};
 use crate::change::{act, clear, is_over, remove};

@@ -1,19 +1,8 @@
 -- Entries are gathered from front to back, and what is kept of them says what each is answered.
-use Rattle.std.proofs.Common.{◌≡◌, ℕ, zero, suc, ◌+◌, ◌<◌, ◌≤◌, Bool, true, false, not, cond, ◌&&◌, ◌||◌, List, [], ◌∷◌, ◌++◌, length, get_or, take, drop, append-nil, append_assoc, drop-cons, Option, Some, None, is_some, is_none, refl, sym, ap, ◌∙◌, subst, true≢false, arith}
-use Rattle.std.proofs.Math.Seq.{take-suc}
-use Rattle.std.proofs.lemmas.List.{take-append-drop}
-use Rattle.std.proofs.lemmas.List.Folds.{list_any-append}
-use Rattle.std.proofs.lemmas.List.Sums.{fold-append}
-use Rattle.std.specs.Bool.{beq}
-use Rattle.std.specs.List.{list_any, AllByRecursion, fold}
-use Rattle.std.specs.Option.{option_or}
+use Rattle.std.proofs.{Common.{◌≡◌, ℕ, zero, suc, ◌+◌, ◌<◌, ◌≤◌, Bool, true, false, not, cond, ◌&&◌, ◌||◌, List, [], ◌∷◌, ◌++◌, length, get_or, take, drop, append-nil, append_assoc, drop-cons, Option, Some, None, is_some, is_none, refl, sym, ap, ◌∙◌, subst, true≢false, arith}, Math.Seq.take-suc, lemmas.List.take-append-drop, lemmas.List.Folds.list_any-append, lemmas.List.Sums.fold-append}
+use Rattle.std.specs.{Bool.beq, List.{list_any, AllByRecursion, fold}, Option.option_or}
 use Rattle.pf_addr.specs.Address.{Network, IsNetwork}
-use Rattle.pf_table.specs.declared.{answer.Addition.Addition, answer.Deletion.Deletion}
-use Rattle.pf_table.specs.Entries.{Row}
-use Rattle.pf_table.specs.Tables.{sign_of}
-use Rattle.pf_table.specs.Edits.{with_entry, added, addition, additions, is_sign, has_entry, without_entry, deleted, deletion, deletions, same_entry, is_opposite, conflict_behind, conflict_in}
-use Rattle.pf_table.specs.Laws.Edits.{Agree, any_is_sign, agree_push, sorted_agree, sign_added, sorted_added, sign_left, sign_deleted, sorted_deleted, one_table, with_all}
-use Rattle.pf_table.specs.Batches.{mention, firsts_behind, told}
+use Rattle.pf_table.specs.{declared.{answer.Addition.Addition, answer.Deletion.Deletion}, Entries.Row, Tables.sign_of, Edits.{with_entry, added, addition, additions, is_sign, has_entry, without_entry, deleted, deletion, deletions, same_entry, is_opposite, conflict_behind, conflict_in}, Laws.Edits.{Agree, any_is_sign, agree_push, sorted_agree, sign_added, sorted_added, sign_left, sign_deleted, sorted_deleted, one_table, with_all}, Batches.{mention, firsts_behind, told}}
 use Rattle.pf_table.proofs.Sorted.{sorted}
 
 -- ---- lists

@@ -1,16 +1,10 @@
 -- What an edit leaves is a table, or it is refused.
-use Rattle.std.proofs.Common.{◌≡◌, ℕ, ◌<◌, ◌≤◌, nat_lt, true, false, List, [], length, Some, None, All, refl, ap, ◌∙◌, arith}
-use Rattle.std.proofs.lemmas.Bool.Decides.{nat_tests}
-use Rattle.std.proofs.lemmas.List.Elements.{All-from_recursion, recursion_from_All}
+use Rattle.std.proofs.{Common.{◌≡◌, ℕ, ◌<◌, ◌≤◌, nat_lt, true, false, List, [], length, Some, None, All, refl, ap, ◌∙◌, arith}, lemmas.Bool.Decides.nat_tests, lemmas.List.Elements.{All-from_recursion, recursion_from_All}}
 use Rattle.pf_addr.specs.Address.{IsNetwork}
 use Rattle.pf_table.specs.declared.limits.TheConstants.{TABLE_LIMIT}
 use Rattle.pf_table.specs.declared.refusal.TableRefusal.TheVariants as refusal
-use Rattle.pf_table.specs.Entries.{Row}
-use Rattle.pf_table.specs.Tables.{IsTable}
-use Rattle.pf_table.specs.Edits.{added, deleted, replaced, conflict_in, edit_refusal}
-use Rattle.pf_table.specs.Laws.Edits.{sorted_added, sorted_deleted, added_all, deleted_all, deleted_fewer}
-use Rattle.pf_table.proofs.Sorted.{sorted}
-use Rattle.pf_table.proofs.Batches.{added_batch, deleted_batch}
+use Rattle.pf_table.specs.{Entries.Row, Tables.IsTable, Edits.{added, deleted, replaced, conflict_in, edit_refusal}, Laws.Edits.{sorted_added, sorted_deleted, added_all, deleted_all, deleted_fewer}}
+use Rattle.pf_table.proofs.{Sorted.sorted, Batches.{added_batch, deleted_batch}}
 
 pub sorted_batch : (named xs : List Row) → named ≡ replaced xs → sorted named
 sorted_batch named xs is = rw is (sorted_added [] xs tt)

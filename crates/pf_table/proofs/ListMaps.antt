@@ -1,14 +1,8 @@
 -- Maps whose values are lists: what is left of them once lists were replaced in turn.
-use Rattle.std.proofs.Common.{◌≡◌, ◌≢◌, ◌+◌, ◌≤◌, Bool, true, false, cond, List, [], ◌∷◌, length, Option, Some, None, refl, sym, ap, subst, ◌∙◌}
-use Rattle.std.specs.Prelude.{fold}
+use Rattle.std.proofs.{Common.{◌≡◌, ◌≢◌, ◌+◌, ◌≤◌, Bool, true, false, cond, List, [], ◌∷◌, length, Option, Some, None, refl, sym, ap, subst, ◌∙◌}, lemmas.Cmp.eq_by_cmp_equiv}
+use Rattle.std.specs.{Prelude.fold, Cmp.IsTotalOrder, FinMap.find, FinMap.Entries.same_entries, Ordering.eq_by_cmp}
 use Rattle.std.specs.declared.cmp.Ordering.{Ordering}
-use Rattle.std.specs.Cmp.{IsTotalOrder}
-use Rattle.std.specs.FinMap.{find}
-use Rattle.std.specs.FinMap.Entries.{same_entries}
-use Rattle.std.specs.Ordering.{eq_by_cmp}
-use Rattle.std.proofs.lemmas.Cmp.{eq_by_cmp_equiv}
-use Rattle.pf_table.specs.Map.ListMaps.{unless_empty, list_in, list_at, with_list, IsListMap, list_by, ReplacesLists, StaysListMap, OneListMap}
-use Rattle.pf_table.specs.Map.Maps.{IsMap}
+use Rattle.pf_table.specs.{Map.ListMaps.{unless_empty, list_in, list_at, with_list, IsListMap, list_by, ReplacesLists, StaysListMap, OneListMap}, Map.Maps.IsMap}
 use Rattle.pf_table.proofs.Maps.{replaces_the_key, stays_sorted, all_grow}
 
 list_kept : {X : Type 0} (b : Bool) (xs : List X) (old : Option (List X)) → list_in (cond b (unless_empty xs) old) ≡ cond b xs (list_in old)

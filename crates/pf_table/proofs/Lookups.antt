@@ -1,16 +1,10 @@
 -- Of the entries that contain an address the one with the longest front decides.
-use Rattle.std.proofs.Common.{◌≡◌, ℕ, zero, suc, ◌+◌, ◌<◌, ◌≤◌, nat_lt, Bool, true, false, cond, ◌&&◌, List, [], ◌∷◌, length, get_or, drop, drop-cons, Option, Some, None, is_some, refl, sym, ap, ◌∙◌, subst, true≢false, arith, ◌⊎◌, inl, inr}
-use Rattle.std.proofs.lemmas.Bool.Decides.{nat_tests, Decides-eqb}
-use Rattle.std.specs.List.{Contains}
-use Rattle.pf_addr.specs.declared.{addr.Addr.Addr, addr.Family.Family, addr.Family.TheVariants.V4, addr.Family.TheVariants.V6}
-use Rattle.pf_addr.specs.Address.{Network, contains, same_family, family_of, first_bits}
-use Rattle.pf_table.specs.Entries.{Row, net_order}
+use Rattle.std.proofs.{Common.{◌≡◌, ℕ, zero, suc, ◌+◌, ◌<◌, ◌≤◌, nat_lt, Bool, true, false, cond, ◌&&◌, List, [], ◌∷◌, length, get_or, drop, drop-cons, Option, Some, None, is_some, refl, sym, ap, ◌∙◌, subst, true≢false, arith, ◌⊎◌, inl, inr}, lemmas.Bool.Decides.{nat_tests, Decides-eqb}}
+use Rattle.std.specs.{List.Contains, Ordering.{is_eq, ordering_reverse}, Cmp.tied_itself}
+use Rattle.pf_addr.specs.{declared.{addr.Addr.Addr, addr.Family.Family, addr.Family.TheVariants.V4, addr.Family.TheVariants.V6}, Address.{Network, contains, same_family, family_of, first_bits}}
+use Rattle.pf_table.specs.{Entries.{Row, net_order}, Laws.Order.net_total, Tables.{sign_of, Decides, longer, deciding}}
 use Rattle.std.specs.declared.cmp.Ordering.TheVariants.{Less}
-use Rattle.std.specs.Ordering.{is_eq, ordering_reverse}
-use Rattle.std.specs.Cmp.{tied_itself}
-use Rattle.pf_table.specs.Laws.Order.{net_total}
 use Rattle.pf_table.proofs.Sorted.{sorted, first_of, second_of, below_at}
-use Rattle.pf_table.specs.Tables.{sign_of, Decides, longer, deciding}
 
 -- ---- going on from what was found
 

@@ -1,19 +1,7 @@
 -- Maps as lists of entries: what is read of them once a value was replaced, that they stay in order, and by how much they grow.
-use Rattle.std.proofs.Common.{◌≡◌, suc, ◌+◌, ◌≤◌, Bool, true, false, not, cond, List, [], ◌∷◌, length, Option, Some, None, refl, sym, ap, ◌∙◌, arith}
-use Rattle.std.specs.declared.{cmp.Ordering.Ordering, cmp.Ordering.TheVariants.Less, cmp.Ordering.TheVariants.Equal, cmp.Ordering.TheVariants.Greater}
-use Rattle.std.specs.Cmp.{IsTotalOrder}
-use Rattle.std.specs.Prelude.{fold}
-use Rattle.std.specs.FinMap.{find, put}
-use Rattle.std.specs.FinMap.Entries.{by_order, find-put, find-where_key, is_sorted-put, is_sorted-where_key}
-use Rattle.std.specs.List.{AllByRecursion, insert, position, position_or_len}
-use Rattle.std.specs.Option.{unwrap_or}
-use Rattle.std.specs.Ordering.{eq_by_cmp, is_eq, is_lt}
-use Rattle.std.proofs.lemmas.Cmp.{alike_right, eq_by_cmp_equiv}
-use Rattle.std.proofs.lemmas.Bool.Decides.{nat_tests}
-use Rattle.std.proofs.lemmas.List.Elements.{filter_passes, recursion_from_All}
-use Rattle.std.proofs.lemmas.List.Sums.{length-filter, count_by-le-length, prefix_len-le-length}
-use Rattle.pf_table.specs.Laws.Maps.{ReplacesTheKey, StaysSorted, StaysMap}
-use Rattle.pf_table.specs.Map.Maps.{without, with_value, with_entry, IsMap}
+use Rattle.std.proofs.{Common.{◌≡◌, suc, ◌+◌, ◌≤◌, Bool, true, false, not, cond, List, [], ◌∷◌, length, Option, Some, None, refl, sym, ap, ◌∙◌, arith}, lemmas.Cmp.{alike_right, eq_by_cmp_equiv}, lemmas.Bool.Decides.nat_tests, lemmas.List.Elements.{filter_passes, recursion_from_All}, lemmas.List.Sums.{length-filter, count_by-le-length, prefix_len-le-length}}
+use Rattle.std.specs.{declared.{cmp.Ordering.Ordering, cmp.Ordering.TheVariants.Less, cmp.Ordering.TheVariants.Equal, cmp.Ordering.TheVariants.Greater}, Cmp.IsTotalOrder, Prelude.fold, FinMap.{find, put}, FinMap.Entries.{by_order, find-put, find-where_key, is_sorted-put, is_sorted-where_key}, List.{AllByRecursion, insert, position, position_or_len}, Option.unwrap_or, Ordering.{eq_by_cmp, is_eq, is_lt}}
+use Rattle.pf_table.specs.{Laws.Maps.{ReplacesTheKey, StaysSorted, StaysMap}, Map.Maps.{without, with_value, with_entry, IsMap}}
 
 unless : {X : Type 0} (b : Bool) (x : Option X) → cond (not b) x None ≡ cond b None x
 unless true x = refl

@@ -1,14 +1,8 @@
 -- A list in order is changed from front to back: what comes before a network stays as it is while those behind it are added or deleted.
-use Rattle.std.proofs.Common.{◌≡◌, ℕ, zero, suc, ◌+◌, ◌<◌, ◌≤◌, length, get_or, subst, true≢false, arith, drop-cons, Bool, true, false, cond, List, [], ◌∷◌, ◌++◌, take, drop, Option, Some, None, is_some, refl, sym, ap, ◌∙◌, append_assoc}
-use Rattle.std.specs.Bool.{beq}
-use Rattle.std.specs.Cmp.{booleans_Decides}
-use Rattle.std.proofs.lemmas.List.{take-append-drop}
-use Rattle.std.specs.FinMap.{put}
+use Rattle.std.proofs.{Common.{◌≡◌, ℕ, zero, suc, ◌+◌, ◌<◌, ◌≤◌, length, get_or, subst, true≢false, arith, drop-cons, Bool, true, false, cond, List, [], ◌∷◌, ◌++◌, take, drop, Option, Some, None, is_some, refl, sym, ap, ◌∙◌, append_assoc}, lemmas.List.take-append-drop}
+use Rattle.std.specs.{Bool.beq, Cmp.booleans_Decides, FinMap.put}
 use Rattle.pf_addr.specs.Address.{Network}
-use Rattle.pf_table.specs.Entries.{Row, net_order}
-use Rattle.pf_table.specs.Tables.{sign_of}
-use Rattle.pf_table.specs.Edits.{with_entry, added, is_sign, has_entry, without_entry, deleted}
-use Rattle.pf_table.specs.Places.{place_of, first_sign}
+use Rattle.pf_table.specs.{Entries.{Row, net_order}, Tables.sign_of, Edits.{with_entry, added, is_sign, has_entry, without_entry, deleted}, Places.{place_of, first_sign}}
 use Rattle.pf_table.proofs.Sorted.{first_of, sorted, below, Before, before_tail, before_push, before_place, sign_at_place, put_at_place, sign_behind, put_behind, others, others_behind, others_head, sorted_drop}
 
 with_behind : (b es fs : List Row) (x : Row) → Before b (x ∷ fs) → with_entry (b ++ es) x ≡ b ++ with_entry es x

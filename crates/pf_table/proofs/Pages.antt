@@ -1,15 +1,7 @@
 -- A map in pages: what is read and replaced in the page of a key's place is read and replaced in the map.
-use Rattle.std.proofs.Common.{◌≡◌, ℕ, zero, suc, ◌-◌, ◌<◌, T, true, false, Bool, ◌&&◌, cond, List, [], ◌∷◌, ◌++◌, length, take, drop, get_or, Option, Some, None, refl, sym, ap, subst, ◌∙◌, append_assoc, append-nil, arith}
-use Rattle.std.specs.declared.{cmp.Ordering.Ordering, cmp.Ordering.TheVariants.Less, cmp.Ordering.TheVariants.Equal, cmp.Ordering.TheVariants.Greater}
-use Rattle.std.specs.Cmp.{IsTotalOrder}
-use Rattle.std.specs.FinMap.{find, put, is_sorted}
-use Rattle.std.specs.FinMap.Entries.{below_all, by_order}
-use Rattle.std.specs.List.{AllByRecursion}
-use Rattle.std.specs.Ordering.{ordering_reverse, eq_by_cmp, is_eq, is_lt}
-use Rattle.std.proofs.lemmas.List.{take-take}
-use Rattle.std.proofs.lemmas.List.Elements.{filter-append}
-use Rattle.pf_table.specs.Map.Maps.{without, with_value}
-use Rattle.pf_table.specs.Map.Pages.{joined, page_before, starts_behind, IsPlace}
+use Rattle.std.proofs.{Common.{◌≡◌, ℕ, zero, suc, ◌-◌, ◌<◌, T, true, false, Bool, ◌&&◌, cond, List, [], ◌∷◌, ◌++◌, length, take, drop, get_or, Option, Some, None, refl, sym, ap, subst, ◌∙◌, append_assoc, append-nil, arith}, lemmas.List.take-take, lemmas.List.Elements.filter-append}
+use Rattle.std.specs.{declared.{cmp.Ordering.Ordering, cmp.Ordering.TheVariants.Less, cmp.Ordering.TheVariants.Equal, cmp.Ordering.TheVariants.Greater}, Cmp.IsTotalOrder, FinMap.{find, put, is_sorted}, FinMap.Entries.{below_all, by_order}, List.AllByRecursion, Ordering.{ordering_reverse, eq_by_cmp, is_eq, is_lt}}
+use Rattle.pf_table.specs.{Map.Maps.{without, with_value}, Map.Pages.{joined, page_before, starts_behind, IsPlace}}
 
 -- the pages in front of the one just before a place
 abbrev pub front_of : {E : Type 0} → ℕ → List (List E) → List (List E)

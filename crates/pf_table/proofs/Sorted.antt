@@ -1,16 +1,8 @@
 -- Entries in order, and where a network stands among them.
-use Rattle.std.proofs.Common.{◌≡◌, ℕ, zero, suc, T, Bool, true, false, not, cond, ◌&&◌, List, [], ◌∷◌, ◌++◌, take, drop, length, Option, Some, None, is_some, refl, sym, ap, ◌∙◌, subst, true≢false, ◌<◌, ◌≤◌, get_or, ◌-◌, arith}
-use Rattle.std.proofs.lemmas.List.{take_rest}
-use Rattle.std.specs.declared.{cmp.Ordering.Ordering, cmp.Ordering.TheVariants.Less, cmp.Ordering.TheVariants.Equal, cmp.Ordering.TheVariants.Greater}
-use Rattle.std.specs.FinMap.{put, is_sorted}
-use Rattle.std.specs.FinMap.Entries.{by_order, below_all, where_key}
-use Rattle.std.specs.List.Sorted.{IsPartitionedBy, IsPartitionPoint}
-use Rattle.std.specs.Ordering.{eq_by_cmp, is_eq, is_lt, ordering_reverse}
+use Rattle.std.proofs.{Common.{◌≡◌, ℕ, zero, suc, T, Bool, true, false, not, cond, ◌&&◌, List, [], ◌∷◌, ◌++◌, take, drop, length, Option, Some, None, is_some, refl, sym, ap, ◌∙◌, subst, true≢false, ◌<◌, ◌≤◌, get_or, ◌-◌, arith}, lemmas.List.take_rest}
+use Rattle.std.specs.{declared.{cmp.Ordering.Ordering, cmp.Ordering.TheVariants.Less, cmp.Ordering.TheVariants.Equal, cmp.Ordering.TheVariants.Greater}, FinMap.{put, is_sorted}, FinMap.Entries.{by_order, below_all, where_key}, List.Sorted.{IsPartitionedBy, IsPartitionPoint}, Ordering.{eq_by_cmp, is_eq, is_lt, ordering_reverse}}
 use Rattle.pf_addr.specs.Address.{Network}
-use Rattle.pf_table.specs.Entries.{Row, net_order}
-use Rattle.pf_table.specs.Tables.{sign_of}
-use Rattle.pf_table.specs.Places.{place_of, first_sign}
-use Rattle.pf_table.specs.Laws.Order.{net_total}
+use Rattle.pf_table.specs.{Entries.{Row, net_order}, Tables.sign_of, Places.{place_of, first_sign}, Laws.Order.net_total}
 
 -- ---- tests
 

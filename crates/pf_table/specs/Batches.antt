@@ -1,12 +1,8 @@
 -- What is kept of the entries of an edit. Own.
-use Rattle.std.specs.Prelude.{◌≡◌, ◌≢◌, ℕ, Bool, true, false, cond, List, [], ◌∷◌, ◌++◌, is_none, All, Option, Some, None, Result, Ok, Err}
-use Rattle.std.specs.Bool.{beq}
+use Rattle.std.specs.{Prelude.{◌≡◌, ◌≢◌, ℕ, Bool, true, false, cond, List, [], ◌∷◌, ◌++◌, is_none, All, Option, Some, None, Result, Ok, Err}, Bool.beq}
 use Rattle.pf_addr.specs.Address.{IsNetwork}
-use Rattle.pf_table.specs.declared.{answer.Addition.Addition, answer.Addition.TheVariants.Added, answer.Addition.TheVariants.Same, answer.Addition.TheVariants.Conflict, batch.Batch.Batch, refusal.TableRefusal.TableRefusal}
+use Rattle.pf_table.specs.{declared.{answer.Addition.Addition, answer.Addition.TheVariants.Added, answer.Addition.TheVariants.Same, answer.Addition.TheVariants.Conflict, batch.Batch.Batch, refusal.TableRefusal.TableRefusal}, Entries.Row, Tables.sign_of, Edits.{replaced, conflict_in, conflict_refusal}}
 use Rattle.pf_table.specs.declared.refusal.TableRefusal.TheVariants as refusal
-use Rattle.pf_table.specs.Entries.{Row}
-use Rattle.pf_table.specs.Tables.{sign_of}
-use Rattle.pf_table.specs.Edits.{replaced, conflict_in, conflict_refusal}
 
 -- whether an entry is the first of its network, by the sign that the network has so far; None where that is the other one
 abbrev pub mention : Option Bool → Bool → Option Bool

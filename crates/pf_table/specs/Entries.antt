@@ -1,9 +1,7 @@
 -- Entries of tables (pf.conf(5), TABLES): networks, each plain or negated, and the order in which a table has them. The order is own.
-use Rattle.std.specs.Prelude.{ℕ, ◌-◌, ◌*◌, ◌^◌, Bool}
+use Rattle.std.specs.{Prelude.{ℕ, ◌-◌, ◌*◌, ◌^◌, Bool}, Ordering.{ordering_then, nat_cmp}}
 use Rattle.std.specs.declared.cmp.Ordering.{Ordering}
-use Rattle.std.specs.Ordering.{ordering_then, nat_cmp}
-use Rattle.pf_addr.specs.declared.{addr.Family.Family, addr.Family.TheVariants.V4, addr.Family.TheVariants.V6}
-use Rattle.pf_addr.specs.Address.{Network, width}
+use Rattle.pf_addr.specs.{declared.{addr.Family.Family, addr.Family.TheVariants.V4, addr.Family.TheVariants.V6}, Address.{Network, width}}
 
 -- An entry: its network, and its sign, which is true where it is negated.
 abbrev pub Row : Type 0

@@ -1,6 +1,5 @@
 -- Where a network stands in entries in order. Own.
-use Rattle.std.specs.Prelude.{ℕ, suc, slice_get, Bool, cond, List, [], ◌∷◌, Option, Some, None}
-use Rattle.std.specs.Ordering.{is_lt, eq_by_cmp}
+use Rattle.std.specs.{Prelude.{ℕ, suc, slice_get, Bool, cond, List, [], ◌∷◌, Option, Some, None}, Ordering.{is_lt, eq_by_cmp}}
 use Rattle.pf_addr.specs.Address.{Network}
 use Rattle.pf_table.specs.Entries.{Row, net_order}
 

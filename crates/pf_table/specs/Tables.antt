@@ -1,7 +1,5 @@
 -- Tables, and what they say of an address (pf.conf(5), TABLES): of the entries that contain it the most specific one decides.
-use Rattle.std.specs.Prelude.{◌≡◌, ◌≢◌, ◌<◌, ◌≤◌, nat_lt, T, Bool, true, false, not, cond, List, [], ◌∷◌, length, Option, Some, None, All, Contains}
-use Rattle.std.specs.FinMap.{find, is_sorted}
-use Rattle.std.specs.Option.{option_map_or}
+use Rattle.std.specs.{Prelude.{◌≡◌, ◌≢◌, ◌<◌, ◌≤◌, nat_lt, T, Bool, true, false, not, cond, List, [], ◌∷◌, length, Option, Some, None, All, Contains}, FinMap.{find, is_sorted}, Option.option_map_or}
 use Rattle.pf_addr.specs.declared.addr.Addr.{Addr}
 use Rattle.pf_addr.specs.Address.{Network, contains, IsNetwork}
 use Rattle.pf_table.specs.declared.limits.TheConstants.{TABLE_LIMIT}

@@ -1,11 +1,7 @@
 //! The entries of an edit, gathered before the table is looked at.
-ghost use Rattle.std.specs.Prelude.{◌≡◌, ◌++◌, ◌∷◌, T, OnOk, IfOk, cond, is_some, is_none, not};
-ghost use Rattle.std.specs.FinMap.{is_sorted};
+ghost use Rattle.std.specs.{Prelude.{◌≡◌, ◌++◌, ◌∷◌, T, OnOk, IfOk, cond, is_some, is_none, not}, FinMap.is_sorted};
 ghost use Rattle.pf_addr.specs.Address.{IsNetwork};
-ghost use Rattle.pf_table.specs.Entries.{net_order};
-ghost use Rattle.pf_table.specs.Tables.{sign_of};
-ghost use Rattle.pf_table.specs.Edits.{with_entry};
-ghost use Rattle.pf_table.specs.Batches.{Batches, Gathers, mention};
+ghost use Rattle.pf_table.specs.{Entries.net_order, Tables.sign_of, Edits.with_entry, Batches.{Batches, Gathers, mention}};
 
 use crate::entry::Entry;
 use crate::refusal::TableRefusal;

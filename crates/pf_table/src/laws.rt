@@ -1,10 +1,7 @@
 //! What follows from the definitions that contracts cite: functions that do nothing, whose contracts are the laws.
-ghost use Rattle.std.specs.Prelude.{◌≡◌};
-ghost use Rattle.std.specs.Cmp.{IsTotalOrder};
-ghost use Rattle.std.specs.FinMap.{IsAntisymmetric};
+ghost use Rattle.std.specs.{Prelude.◌≡◌, Cmp.IsTotalOrder, FinMap.IsAntisymmetric};
 ghost use Rattle.pf_table.specs.declared.limits.TheConstants.{TABLE_LIMIT};
-ghost use Rattle.pf_table.specs.Entries.{net_order};
-ghost use Rattle.pf_table.specs.Laws.Tables.{TableDecides, TableMatches, FamiliesApart, OneTable, AddsWhatIsNamed, DeletesWhatIsNamed, HoldsTheList, AllElseStays, StaysTable, OneAnswerEach, AnswersInOrder, CountsWhatChanged, RepeatsChangeNothing, TellsTheFirstConflict};
+ghost use Rattle.pf_table.specs.{Entries.net_order, Laws.Tables.{TableDecides, TableMatches, FamiliesApart, OneTable, AddsWhatIsNamed, DeletesWhatIsNamed, HoldsTheList, AllElseStays, StaysTable, OneAnswerEach, AnswersInOrder, CountsWhatChanged, RepeatsChangeNothing, TellsTheFirstConflict}};
 
 /// A table has at most 65,536 entries.
 pub fn the_limit_of_entries()

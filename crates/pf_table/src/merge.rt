@@ -1,10 +1,6 @@
 //! Entries in order, made of a table's and an edit's.
-ghost use Rattle.std.specs.Prelude.{◌≡◌, ◌≤◌, ◌&&◌, T, cond, drop, [], None, is_some, IfOk};
-ghost use Rattle.std.specs.FinMap.{is_sorted};
-ghost use Rattle.pf_table.specs.Entries.{net_order};
-ghost use Rattle.pf_table.specs.Edits.{is_sign, added, deleted, additions, deletion, deletions, conflict_in};
-ghost use Rattle.pf_table.specs.Batches.{firsts_behind, told};
-ghost use Rattle.pf_table.specs.Places.{first_sign};
+ghost use Rattle.std.specs.{Prelude.{◌≡◌, ◌≤◌, ◌&&◌, T, cond, drop, [], None, is_some, IfOk}, FinMap.is_sorted};
+ghost use Rattle.pf_table.specs.{Entries.net_order, Edits.{is_sign, added, deleted, additions, deletion, deletions, conflict_in}, Batches.{firsts_behind, told}, Places.first_sign};
 
 use crate::answer::{Addition, Deletion};
 use crate::entry::Entry;

@@ -1,9 +1,6 @@
 //! Where a network stands in entries in order.
-ghost use Rattle.std.specs.Prelude.{◌≡◌, ◌≤◌, length, T};
-ghost use Rattle.std.specs.FinMap.{is_sorted};
-ghost use Rattle.pf_table.specs.Entries.{net_order};
-ghost use Rattle.pf_table.specs.Tables.{sign_of};
-ghost use Rattle.pf_table.specs.Places.{place_of, first_sign};
+ghost use Rattle.std.specs.{Prelude.{◌≡◌, ◌≤◌, length, T}, FinMap.is_sorted};
+ghost use Rattle.pf_table.specs.{Entries.net_order, Tables.sign_of, Places.{place_of, first_sign}};
 
 use crate::entry::Entry;
 use crate::order::order;

@@ -1,11 +1,8 @@
 //! Tables.
 ghost use Rattle.std.specs.Prelude.{◌≡◌, false, [], cond, is_ok, Contains, IfOk, IfSome, Some, None};
-ghost use Rattle.pf_addr.specs.Refusing.{Refuses};
+ghost use Rattle.pf_addr.specs.{Refusing.Refuses, Address.contains};
 ghost use Rattle.pf_table.specs.declared.refusal.TableRefusal.TheVariants.{Memory};
-ghost use Rattle.pf_addr.specs.Address.{contains};
-ghost use Rattle.pf_table.specs.Entries.{Row};
-ghost use Rattle.pf_table.specs.Tables.{IsTable, Decides, deciding, longer, table_holds};
-ghost use Rattle.pf_table.specs.Edits.{added, additions, deleted, deletions, replaced, conflict_refusal, edit_refusal};
+ghost use Rattle.pf_table.specs.{Entries.Row, Tables.{IsTable, Decides, deciding, longer, table_holds}, Edits.{added, additions, deleted, deletions, replaced, conflict_refusal, edit_refusal}};
 
 use crate::answer::{Addition, Deletion};
 use crate::batch::gather;

@@ -1,24 +1,10 @@
 -- The valid ticket of a ruleset is the one that the latest mention that touched it gave, and what was added and defined since is offered with it.
-use Rattle.std.proofs.Common.{◌≡◌, ℕ, Bool, true, false, cond, ◌&&◌, ◌==◌, List, [], ◌∷◌, ◌++◌, refl, sym, ap, ◌∙◌, subst, Option, Some, None, ◌⊎◌, inl, inr, append_assoc, fold}
-use Rattle.std.specs.Prelude.{flat_map, T}
-use Rattle.std.specs.FinMap.{find, is_sorted}
-use Rattle.std.specs.FinMap.Entries.{find-put, is_sorted-put}
-use Rattle.std.specs.Cmp.Lexicographic.{nat_list_cmp_total}
-use Rattle.std.specs.List.{last_or}
-use Rattle.std.proofs.lemmas.Bool.{eqb-true, and_parts, cond_both}
-use Rattle.std.proofs.lemmas.List.{append-nil}
-use Rattle.std.proofs.lemmas.List.Sums.{fold-append}
+use Rattle.std.proofs.{Common.{◌≡◌, ℕ, Bool, true, false, cond, ◌&&◌, ◌==◌, List, [], ◌∷◌, ◌++◌, refl, sym, ap, ◌∙◌, subst, Option, Some, None, ◌⊎◌, inl, inr, append_assoc, fold}, lemmas.Bool.{eqb-true, and_parts, cond_both}, lemmas.List.append-nil, lemmas.List.Sums.fold-append}
+use Rattle.std.specs.{Prelude.{flat_map, T}, FinMap.{find, is_sorted}, FinMap.Entries.{find-put, is_sorted-put}, Cmp.Lexicographic.nat_list_cmp_total, List.last_or}
 use Rattle.pf_addr.specs.Path.Names.{name_order, same_name as same_table}
 use Rattle.pf_rule.specs.Rules.{PlainRule}
-use Rattle.pf_table.specs.Edits.{replaced}
-use Rattle.pf_table.specs.Entries.{Row}
-use Rattle.pf_ticket.specs.declared.{name.RulesetName.RulesetName, ticket.Ticket.Ticket}
-use Rattle.pf_ticket.specs.Laws.Tickets.{touches, AreQuiet, IsGivenLast, ValidIsGivenLast, GivenLastIsValid, rules_added, OffersTheAdded, tables_defined, OffersTheDefined}
-use Rattle.pf_ticket.specs.Mentions.{Mention, gave, added, defined, switched, dropped, named_in, moved, after}
-use Rattle.pf_ticket.specs.Names.{filter_at, table_ruleset_at, same_name, ticket, same_ticket, is_ticket}
-use Rattle.pf_ticket.specs.Laws.Names.{names_alike, name_is}
-use Rattle.pf_ticket.specs.NamedTables.{Named}
-use Rattle.pf_ticket.specs.Tickets.{Loaded, nothing, with_rule, with_table, Offer, offer, offer_at, Open, fresh, next_ticket, ticket_in, loaded_in, valid_ticket, loaded, is_valid}
+use Rattle.pf_table.specs.{Edits.replaced, Entries.Row}
+use Rattle.pf_ticket.specs.{declared.{name.RulesetName.RulesetName, ticket.Ticket.Ticket}, Laws.Tickets.{touches, AreQuiet, IsGivenLast, ValidIsGivenLast, GivenLastIsValid, rules_added, OffersTheAdded, tables_defined, OffersTheDefined}, Mentions.{Mention, gave, added, defined, switched, dropped, named_in, moved, after}, Names.{filter_at, table_ruleset_at, same_name, ticket, same_ticket, is_ticket}, Laws.Names.{names_alike, name_is}, NamedTables.Named, Tickets.{Loaded, nothing, with_rule, with_table, Offer, offer, offer_at, Open, fresh, next_ticket, ticket_in, loaded_in, valid_ticket, loaded, is_valid}}
 use Rattle.pf_ticket.proofs.Moves.{made_by, reads}
 
 -- two tickets that are the same are one

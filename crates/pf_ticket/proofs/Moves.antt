@@ -1,17 +1,7 @@
 -- What a mention makes of its ruleset's offer, and that it leaves the others: one law for all mentions, and what follows of lists of them.
-use Rattle.std.proofs.Common.{◌≡◌, ℕ, ◌+◌, ◌<◌, Bool, true, false, not, cond, ◌&&◌, ◌||◌, List, [], ◌∷◌, ◌++◌, length, map, take, get_or, refl, sym, ap, ◌∙◌, Option, Some, None, is_some}
+use Rattle.std.proofs.{Common.{◌≡◌, ℕ, ◌+◌, ◌<◌, Bool, true, false, not, cond, ◌&&◌, ◌||◌, List, [], ◌∷◌, ◌++◌, length, map, take, get_or, refl, sym, ap, ◌∙◌, Option, Some, None, is_some}, lemmas.Bool.{or_parts, or_right, cond_both}, lemmas.List.map-id, lemmas.List.Folds.fold-map, lemmas.List.Sums.{fold-append, fold_more}, lemmas.Simd.map-map}
 use Rattle.std.specs.List.{list_any}
-use Rattle.std.proofs.lemmas.Bool.{or_parts, or_right, cond_both}
-use Rattle.std.proofs.lemmas.List.{map-id}
-use Rattle.std.proofs.lemmas.List.Folds.{fold-map}
-use Rattle.std.proofs.lemmas.List.Sums.{fold-append, fold_more}
-use Rattle.std.proofs.lemmas.Simd.{map-map}
-use Rattle.pf_ticket.specs.declared.{entry.Entry.Entry, name.RulesetName.RulesetName, ticket.Ticket.Ticket}
-use Rattle.pf_ticket.specs.Laws.Tickets.{StartsWithNothing, LeavesTheOthers, CommitTakesOut, RollbackDropsExactly, GoesOnAgreeing, CountsTheOpen}
-use Rattle.pf_ticket.specs.Mentions.{Mention, gave, added, defined, switched, dropped, named_in, load, with_offers, take_out, moved, after, opened, gives}
-use Rattle.pf_ticket.specs.Names.{same_name, is_named, is_ticket, IsDistinct}
-use Rattle.pf_ticket.specs.Laws.Names.{name_is}
-use Rattle.pf_ticket.specs.Tickets.{Loaded, nothing, with_rule, with_table, offered_as, Offer, offer, offer_at, put, without, Open, fresh, next_ticket, open_rulesets, ticket_in, loaded_in, loaded, is_valid}
+use Rattle.pf_ticket.specs.{declared.{entry.Entry.Entry, name.RulesetName.RulesetName, ticket.Ticket.Ticket}, Laws.Tickets.{StartsWithNothing, LeavesTheOthers, CommitTakesOut, RollbackDropsExactly, GoesOnAgreeing, CountsTheOpen}, Mentions.{Mention, gave, added, defined, switched, dropped, named_in, load, with_offers, take_out, moved, after, opened, gives}, Names.{same_name, is_named, is_ticket, IsDistinct}, Laws.Names.name_is, Tickets.{Loaded, nothing, with_rule, with_table, offered_as, Offer, offer, offer_at, put, without, Open, fresh, next_ticket, open_rulesets, ticket_in, loaded_in, loaded, is_valid}}
 use Rattle.pf_table.specs.Edits.{replaced}
 use Rattle.pf_ticket.proofs.Offers.{or-false, any-of, read-put, read-without, named-under, length-put, distinct-put, distinct-without}
 

@@ -1,10 +1,6 @@
 -- Where a table comes among those that are offered, and how many there are then.
-use Rattle.std.proofs.Common.{◌≡◌, T, ℕ, ◌<◌, List, [], ◌∷◌, length, set, get_or, refl, sym, ap, ◌∙◌, arith, zero, suc}
-use Rattle.std.specs.declared.{cmp.Ordering.Ordering, cmp.Ordering.TheVariants.Less, cmp.Ordering.TheVariants.Equal, cmp.Ordering.TheVariants.Greater}
-use Rattle.std.proofs.lemmas.Cmp.{nat_list_cmp_total}
-use Rattle.std.specs.FinMap.{put, is_sorted, slice_cmp-IsAntisymmetric, nat_cmp-IsAntisymmetric}
-use Rattle.std.specs.FinMap.Entries.{by_order, is_sorted-put}
-use Rattle.std.specs.List.{insert}
+use Rattle.std.proofs.{Common.{◌≡◌, T, ℕ, ◌<◌, List, [], ◌∷◌, length, set, get_or, refl, sym, ap, ◌∙◌, arith, zero, suc}, lemmas.Cmp.nat_list_cmp_total}
+use Rattle.std.specs.{declared.{cmp.Ordering.Ordering, cmp.Ordering.TheVariants.Less, cmp.Ordering.TheVariants.Equal, cmp.Ordering.TheVariants.Greater}, FinMap.{put, is_sorted, slice_cmp-IsAntisymmetric, nat_cmp-IsAntisymmetric}, FinMap.Entries.{by_order, is_sorted-put}, List.insert}
 use Rattle.pf_addr.specs.Path.Names.{name_order}
 use Rattle.pf_table.specs.Entries.{Row}
 use Rattle.pf_ticket.specs.NamedTables.{Named}

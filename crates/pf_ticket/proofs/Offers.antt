@@ -1,11 +1,8 @@
 -- What is read of a ruleset once an offer was put or taken out, and that no ruleset has two.
-use Rattle.std.proofs.Common.{◌≡◌, ℕ, ◌+◌, ◌<◌, ◌≤◌, Bool, true, false, not, cond, ◌||◌, List, [], ◌∷◌, ◌++◌, length, map, refl, sym, ap, ◌∙◌, Option, Some, None, arith, get_or, zero, suc, is_some}
+use Rattle.std.proofs.{Common.{◌≡◌, ℕ, ◌+◌, ◌<◌, ◌≤◌, Bool, true, false, not, cond, ◌||◌, List, [], ◌∷◌, ◌++◌, length, map, refl, sym, ap, ◌∙◌, Option, Some, None, arith, get_or, zero, suc, is_some}, lemmas.Bool.{not-true, not-false, cond-true, cond-false, cond_both}}
 use Rattle.std.specs.List.{list_any}
-use Rattle.std.proofs.lemmas.Bool.{not-true, not-false, cond-true, cond-false, cond_both}
 use Rattle.pf_ticket.specs.declared.name.RulesetName.{RulesetName}
-use Rattle.pf_ticket.specs.Names.{same_name, is_named, IsDistinct}
-use Rattle.pf_ticket.specs.Laws.Names.{names_alike, name_is}
-use Rattle.pf_ticket.specs.Tickets.{Offer, offer_at, put, without, IsPlace}
+use Rattle.pf_ticket.specs.{Names.{same_name, is_named, IsDistinct}, Laws.Names.{names_alike, name_is}, Tickets.{Offer, offer_at, put, without, IsPlace}}
 
 abbrev pub names_under : List Offer → List RulesetName
 names_under os = map (λ o. o.name) os

@@ -1,15 +1,7 @@
 -- The entry that is found is the first of a ruleset named before it; and tickets that are numbered are given once.
-use Rattle.std.proofs.Common.{◌≡◌, ℕ, suc, zero, ◌+◌, ◌<◌, ◌==◌, Bool, false, cond, ◌||◌, List, [], ◌∷◌, ◌++◌, length, refl, sym, ap, subst, ◌∙◌, append-nil, append_assoc, Option, Some, None, arith, get_or, take, drop}
+use Rattle.std.proofs.{Common.{◌≡◌, ℕ, suc, zero, ◌+◌, ◌<◌, ◌==◌, Bool, false, cond, ◌||◌, List, [], ◌∷◌, ◌++◌, length, refl, sym, ap, subst, ◌∙◌, append-nil, append_assoc, Option, Some, None, arith, get_or, take, drop}, Math.Seq.{take-suc, drop-cons}, lemmas.Bool.{eqb-true, or_parts, or_from, and_right, false_from_ne_true, cond_both}, lemmas.List.{get_or-map, length-map, length-take-le, take-map}, lemmas.List.Folds.list_any-append}
 use Rattle.std.specs.List.{list_any}
-use Rattle.std.proofs.Math.Seq.{take-suc, drop-cons}
-use Rattle.std.proofs.lemmas.Bool.{eqb-true, or_parts, or_from, and_right, false_from_ne_true, cond_both}
-use Rattle.std.proofs.lemmas.List.{get_or-map, length-map, length-take-le, take-map}
-use Rattle.std.proofs.lemmas.List.Folds.{list_any-append}
-use Rattle.pf_ticket.specs.declared.{entry.Entry.Entry, name.RulesetName.RulesetName, ticket.Ticket.Ticket}
-use Rattle.pf_ticket.specs.Laws.Tickets.{IsFirstAgain, TwiceIsFirstAgain, OtherwiseOnce, GivesEachOnce}
-use Rattle.pf_ticket.specs.Names.{same_name, is_named, names_of, ticket, same_ticket, tickets_from, IsDistinct}
-use Rattle.pf_ticket.specs.Laws.Names.{names_alike}
-use Rattle.pf_ticket.specs.Replies.{twice_behind}
+use Rattle.pf_ticket.specs.{declared.{entry.Entry.Entry, name.RulesetName.RulesetName, ticket.Ticket.Ticket}, Laws.Tickets.{IsFirstAgain, TwiceIsFirstAgain, OtherwiseOnce, GivesEachOnce}, Names.{same_name, is_named, names_of, ticket, same_ticket, tickets_from, IsDistinct}, Laws.Names.names_alike, Replies.twice_behind}
 use Rattle.pf_ticket.proofs.Offers.{any-of}
 
 -- ---- one name more

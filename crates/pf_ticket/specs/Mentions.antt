@@ -2,10 +2,8 @@
 -- DIOCRINADEFINE; that a later define of a table takes the place of the earlier is own).
 use Rattle.std.specs.Prelude.{ℕ, ◌+◌, cond, List, map, fold}
 use Rattle.pf_rule.specs.Rules.{PlainRule}
-use Rattle.pf_table.specs.Entries.{Row}
-use Rattle.pf_table.specs.Edits.{replaced}
-use Rattle.pf_ticket.specs.declared.{entry.Entry.Entry, name.RulesetName.RulesetName, ticket.Ticket.Ticket}
-use Rattle.pf_ticket.specs.Tickets.{Loaded, nothing, with_rule, with_table, Offer, offer, put, without, Open, open_with, fresh, next_ticket, loaded, is_valid}
+use Rattle.pf_table.specs.{Entries.Row, Edits.replaced}
+use Rattle.pf_ticket.specs.{declared.{entry.Entry.Entry, name.RulesetName.RulesetName, ticket.Ticket.Ticket}, Tickets.{Loaded, nothing, with_rule, with_table, Offer, offer, put, without, Open, open_with, fresh, next_ticket, loaded, is_valid}}
 
 pub data Mention : Type 0 where
   gave : RulesetName → Mention

@@ -1,16 +1,11 @@
 -- What each step of a transaction is told, and the order of refusals (pf(4), DIOCXBEGIN to DIOCXROLLBACK). The limits and the order of
 -- refusals are own.
-use Rattle.std.specs.Prelude.{ℕ, ◌+◌, ◌-◌, ◌==◌, Bool, not, cond, if◌then◌else◌, ◌||◌, List, [], ◌∷◌, ◌++◌, length, Option, Some, None, Result, Ok, Err, nat_lt, nat_le}
-use Rattle.std.specs.List.{position}
+use Rattle.std.specs.{Prelude.{ℕ, ◌+◌, ◌-◌, ◌==◌, Bool, not, cond, if◌then◌else◌, ◌||◌, List, [], ◌∷◌, ◌++◌, length, Option, Some, None, Result, Ok, Err, nat_lt, nat_le}, List.position}
 use Rattle.pf_addr.specs.Refusing.{and_then, refused_at}
 use Rattle.pf_anchor.specs.declared.limits.TheConstants.{RULE_LIMIT, RULESET_LIMIT}
 use Rattle.pf_table.specs.declared.limits.TheConstants.{TABLE_LIMIT}
-use Rattle.pf_table.specs.Edits.{conflict_in, replaced}
-use Rattle.pf_table.specs.Entries.{Row}
-use Rattle.pf_ticket.specs.declared.{entry.Entry.Entry, limits.TheConstants.ENTRY_LIMIT, limits.TheConstants.LAST_COUNT, limits.TheConstants.OFFERED_TABLE_LIMIT, name.RulesetName.RulesetName, refusal.TicketRefusal.TicketRefusal, refusal.TicketRefusal.TheVariants.BadCount, refusal.TicketRefusal.TheVariants.Twice, refusal.TicketRefusal.TheVariants.Conflict, refusal.TicketRefusal.TheVariants.Busy, refusal.TicketRefusal.TheVariants.RulesetFull, refusal.TicketRefusal.TheVariants.TableFull, refusal.TicketRefusal.TheVariants.TooManyRulesets, refusal.TicketRefusal.TheVariants.TooManyTables, refusal.TicketRefusal.TheVariants.TicketsExhausted, ticket.Ticket.Ticket, ticket.TicketRange.TicketRange}
-use Rattle.pf_ticket.specs.Names.{is_named, names_of}
-use Rattle.pf_ticket.specs.Tickets.{rules_in, with_table, Open, next_ticket, loaded, content, is_valid}
-use Rattle.pf_ticket.specs.Mentions.{gives, after}
+use Rattle.pf_table.specs.{Edits.{conflict_in, replaced}, Entries.Row}
+use Rattle.pf_ticket.specs.{declared.{entry.Entry.Entry, limits.TheConstants.ENTRY_LIMIT, limits.TheConstants.LAST_COUNT, limits.TheConstants.OFFERED_TABLE_LIMIT, name.RulesetName.RulesetName, refusal.TicketRefusal.TicketRefusal, refusal.TicketRefusal.TheVariants.BadCount, refusal.TicketRefusal.TheVariants.Twice, refusal.TicketRefusal.TheVariants.Conflict, refusal.TicketRefusal.TheVariants.Busy, refusal.TicketRefusal.TheVariants.RulesetFull, refusal.TicketRefusal.TheVariants.TableFull, refusal.TicketRefusal.TheVariants.TooManyRulesets, refusal.TicketRefusal.TheVariants.TooManyTables, refusal.TicketRefusal.TheVariants.TicketsExhausted, ticket.Ticket.Ticket, ticket.TicketRange.TicketRange}, Names.{is_named, names_of}, Tickets.{rules_in, with_table, Open, next_ticket, loaded, content, is_valid}, Mentions.{gives, after}}
 
 -- ---- conditions
 

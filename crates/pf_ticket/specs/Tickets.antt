@@ -1,14 +1,10 @@
 -- The open transactions: for each inactive ruleset its valid ticket, and what is offered with it (pf(4), DIOCXBEGIN, DIOCADDRULE,
 -- DIOCRINADEFINE).
-use Rattle.std.specs.Prelude.{◌≡◌, ℕ, Bool, not, cond, List, [], ◌∷◌, ◌++◌, map, set, filter, Option, Some, None}
-use Rattle.std.specs.FinMap.{put as put_entry}
-use Rattle.std.specs.List.{find}
+use Rattle.std.specs.{Prelude.{◌≡◌, ℕ, Bool, not, cond, List, [], ◌∷◌, ◌++◌, map, set, filter, Option, Some, None}, FinMap.put as put_entry, List.find}
 use Rattle.pf_addr.specs.Path.Names.{name_order}
 use Rattle.pf_rule.specs.Rules.{PlainRule}
 use Rattle.pf_table.specs.Entries.{Row}
-use Rattle.pf_ticket.specs.declared.{name.RulesetKind.RulesetKind, name.RulesetKind.TheVariants.Filter, name.RulesetKind.TheVariants.Table, name.RulesetName.RulesetName, offered.Offered.Offered, offered.Offered.TheVariants.Rules, offered.Offered.TheVariants.Tables, ticket.Ticket.Ticket}
-use Rattle.pf_ticket.specs.NamedTables.{Named}
-use Rattle.pf_ticket.specs.Names.{same_name, ticket, is_ticket}
+use Rattle.pf_ticket.specs.{declared.{name.RulesetKind.RulesetKind, name.RulesetKind.TheVariants.Filter, name.RulesetKind.TheVariants.Table, name.RulesetName.RulesetName, offered.Offered.Offered, offered.Offered.TheVariants.Rules, offered.Offered.TheVariants.Tables, ticket.Ticket.Ticket}, NamedTables.Named, Names.{same_name, ticket, is_ticket}}
 
 -- ---- what is offered
 

@@ -1,7 +1,5 @@
 //! Tables that are offered.
-ghost use Rattle.std.specs.Prelude.{◌≡◌, ◌<◌, ◌≤◌, T, [], length, set, nat_lt, List, IfOk, IfErr, OnOk, OnErr};
-ghost use Rattle.std.specs.FinMap.{put, is_sorted};
-ghost use Rattle.std.specs.List.{insert};
+ghost use Rattle.std.specs.{Prelude.{◌≡◌, ◌<◌, ◌≤◌, T, [], length, set, nat_lt, List, IfOk, IfErr, OnOk, OnErr}, FinMap.{put, is_sorted}, List.insert};
 ghost use Rattle.pf_addr.specs.Path.Names.{name_order};
 ghost use Rattle.pf_table.specs.Entries.{Row};
 ghost use Rattle.pf_ticket.specs.declared.limits.TheConstants.{OFFERED_TABLE_LIMIT};

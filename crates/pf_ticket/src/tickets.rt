@@ -1,14 +1,10 @@
 //! The tickets that are valid, and what is offered with them.
-ghost use Rattle.std.specs.Prelude.{◌≡◌, ◌<◌, ◌≤◌, ◌+◌, ◌||◌, not, [], ◌∷◌, IfOk, OnOk, OnErr, IfSome, IfNone, None, is_some, length, get_or, vec_len, vec_capacity};
-ghost use Rattle.std.specs.List.{list_any};
+ghost use Rattle.std.specs.{Prelude.{◌≡◌, ◌<◌, ◌≤◌, ◌+◌, ◌||◌, not, [], ◌∷◌, IfOk, OnOk, OnErr, IfSome, IfNone, None, is_some, length, get_or, vec_len, vec_capacity}, List.list_any};
 ghost use Rattle.pf_anchor.specs.declared.limits.TheConstants.{RULE_LIMIT};
 ghost use Rattle.pf_table.specs.Edits.{conflict_in, replaced};
 ghost use Rattle.pf_addr.specs.Refusing.{OrMemory};
 ghost use Rattle.pf_ticket.specs.declared.refusal.TicketRefusal.TheVariants.{Memory};
-ghost use Rattle.pf_ticket.specs.Mentions.{added, defined, load, moved, take_out, after, gives, switches, drops};
-ghost use Rattle.pf_ticket.specs.Names.{filter_at, table_ruleset_at, is_named, same_name, names_of};
-ghost use Rattle.pf_ticket.specs.Replies.{bad_count, twice_behind, twice_in, busy_in, list_check, commit_check, begin_reply, add_reply, table_reply, define_reply};
-ghost use Rattle.pf_ticket.specs.Tickets.{Offer, offer, offer_at, nothing, loaded, with_rule, with_table, offered_as, put, without, IsPlace, fresh, open_with, content, is_valid};
+ghost use Rattle.pf_ticket.specs.{Mentions.{added, defined, load, moved, take_out, after, gives, switches, drops}, Names.{filter_at, table_ruleset_at, is_named, same_name, names_of}, Replies.{bad_count, twice_behind, twice_in, busy_in, list_check, commit_check, begin_reply, add_reply, table_reply, define_reply}, Tickets.{Offer, offer, offer_at, nothing, loaded, with_rule, with_table, offered_as, put, without, IsPlace, fresh, open_with, content, is_valid}};
 
 use crate::defined::Defined;
 use crate::entry::Entry;

@@ -1,14 +1,8 @@
 -- Lines that were answered, one after another.
-use Rattle.std.proofs.Common.{◌≡◌, ℕ, suc, ◌+◌, ◌<◌, ◌≤◌, List, [], ◌∷◌, ◌++◌, length, take, drop, get_or, Option, Result, Ok, Err, refl, sym, ap, ◌∙◌, subst, append_assoc, append-nil, arith, length-append}
-use Rattle.std.specs.Prelude.{◌≢◌, ◌==◌, cond}
-use Rattle.std.specs.Io.KnownBytes.{Appends, Keeps}
-use Rattle.std.proofs.KnownBytes.{Appends-nil, Appends-trans}
-use Rattle.std.proofs.lemmas.Bool.{ne_eqb}
-use Rattle.std.proofs.lemmas.List.{length-take, take_all, take_more, take-append-le, take-append-drop}
+use Rattle.std.proofs.{Common.{◌≡◌, ℕ, suc, ◌+◌, ◌<◌, ◌≤◌, List, [], ◌∷◌, ◌++◌, length, take, drop, get_or, Option, Result, Ok, Err, refl, sym, ap, ◌∙◌, subst, append_assoc, append-nil, arith, length-append}, KnownBytes.{Appends-nil, Appends-trans}, lemmas.Bool.ne_eqb, lemmas.List.{length-take, take_all, take_more, take-append-le, take-append-drop}}
+use Rattle.std.specs.{Prelude.{◌≢◌, ◌==◌, cond}, Io.KnownBytes.{Appends, Keeps}}
 use Rattle.pf_addr.specs.Writing.{WritesFront, Appends-kept}
-use Rattle.pfd.specs.LineEngine.Lines.{newline, last_line, seen}
-use Rattle.pfd.specs.LineEngine.Sessions.{Answered, CutOff}
-use Rattle.pfd.specs.LineEngine.Pieces.{Answers, SoFar, Failed}
+use Rattle.pfd.specs.{LineEngine.Lines.{newline, last_line, seen}, LineEngine.Sessions.{Answered, CutOff}, LineEngine.Pieces.{Answers, SoFar, Failed}}
 use Rattle.pfd.proofs.Cutting.{cut-nothing, cut-newline, cut-byte, cut-more}
 
 -- what serves lines, and the three laws of it

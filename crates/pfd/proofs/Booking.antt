@@ -1,29 +1,9 @@
 -- One call of a book, from each way out of it.
-use Rattle.std.proofs.Common.{◌≡◌, ℕ, ◌+◌, ◌<◌, ◌≤◌, Bool, true, false, cond, inl, inr, List, [], ◌∷◌, ◌++◌, length, Result, Ok, Err, refl, sym, ap, ◌∙◌, subst, append-nil, arith}
-use Rattle.std.specs.Prelude.{nat_lt, IfErr}
-use Rattle.std.specs.Result.{IsErrAnd}
-use Rattle.std.proofs.lemmas.Bool.Decides.{nat_tests}
-use Rattle.std.proofs.lemmas.List.{length-append, take_all}
-use Rattle.std.proofs.lemmas.List.Sums.{fold_push}
-use Rattle.pf_core.specs.declared.command.Command.{Command}
-use Rattle.pf_core.specs.declared.reply.Answer.{Answer}
-use Rattle.pf_core.specs.declared.reply.Outcome.{Outcome}
-use Rattle.pf_core.specs.declared.reply.Refusal.{Refusal}
-use Rattle.pf_core.specs.declared.reply.Refusal.TheVariants.{HistoryFull, Memory}
-use Rattle.pf_core.specs.declared.reply.Reply.TheVariants.{Answer as Answered, Applied, Refused}
-use Rattle.pf_core.specs.declared.step.Step.{Step}
-use Rattle.pf_core.specs.declared.step.Step.TheVariants.{Done, Wants}
-use Rattle.pf_ticket.specs.Tickets.{Open}
-use Rattle.pf_ticket.specs.Mentions.{after as moved_by, switches}
-use Rattle.pf_core.specs.Calls.{call}
-use Rattle.pf_core.specs.Commands.{unless_unfit, step_by, takes_memory}
-use Rattle.pf_core.specs.Durable.Edits.{Kept, Edit, applied, after, voided_by, fits}
-use Rattle.pf_core.specs.declared.durable.refusal.ChangeRefusal.{ChangeRefusal}
-use Rattle.pf_core.specs.Refusals.{change_refusal_of, OrMemory}
-use Rattle.pf_core.specs.Pages.{Page, IsFolded, IsAt, Leads}
-use Rattle.pf_core.specs.Wholes.{Whole, Ready, ready, prepared}
-use Rattle.pf_core.specs.Laws.Wanted.{fit, wants_memory, wants_mentions, wants_what_fits}
-use Rattle.pf_core.specs.Worlds.{Held, upshot, flat, log_of, durable_of, step_in, if_ok, or_refused, due_at, grouped, group_at, due, group_in, LegalReply}
+use Rattle.std.proofs.{Common.{◌≡◌, ℕ, ◌+◌, ◌<◌, ◌≤◌, Bool, true, false, cond, inl, inr, List, [], ◌∷◌, ◌++◌, length, Result, Ok, Err, refl, sym, ap, ◌∙◌, subst, append-nil, arith}, lemmas.Bool.Decides.nat_tests, lemmas.List.{length-append, take_all}, lemmas.List.Sums.fold_push}
+use Rattle.std.specs.{Prelude.{nat_lt, IfErr}, Result.IsErrAnd}
+use Rattle.pf_core.specs.declared.{command.Command.Command, reply.Answer.Answer, reply.Outcome.Outcome, reply.Refusal.Refusal, reply.Refusal.TheVariants.{HistoryFull, Memory}, reply.Reply.TheVariants.{Answer as Answered, Applied, Refused}, step.Step.Step, step.Step.TheVariants.{Done, Wants}, durable.refusal.ChangeRefusal.ChangeRefusal}
+use Rattle.pf_ticket.specs.{Tickets.Open, Mentions.{after as moved_by, switches}}
+use Rattle.pf_core.specs.{Calls.call, Commands.{unless_unfit, step_by, takes_memory}, Durable.Edits.{Kept, Edit, applied, after, voided_by, fits}, Refusals.{change_refusal_of, OrMemory}, Pages.{Page, IsFolded, IsAt, Leads}, Wholes.{Whole, Ready, ready, prepared}, Laws.Wanted.{fit, wants_memory, wants_mentions, wants_what_fits}, Worlds.{Held, upshot, flat, log_of, durable_of, step_in, if_ok, or_refused, due_at, grouped, group_at, due, group_in, LegalReply}}
 use Rattle.pf_core.proofs.LongerWorlds.{flat-push, refused-leads}
 use Rattle.pfd.specs.Books.{singles, IsMore, told, IsUnkept}
 

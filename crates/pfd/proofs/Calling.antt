@@ -1,18 +1,10 @@
 -- What one line comes to.
 use Rattle.std.proofs.Common.{sym, append-nil, ℕ, List, [], ◌∷◌, Option, Some, None, Ok, Err, inl, inr, refl}
-use Rattle.pf_core.specs.declared.command.Command.{Command}
-use Rattle.pf_core.specs.declared.reply.Refusal.{Refusal}
-use Rattle.pf_core.specs.declared.reply.Refusal.TheVariants.{Memory}
-use Rattle.pf_core.specs.declared.reply.Reply.{Reply}
-use Rattle.pf_core.specs.declared.reply.Reply.TheVariants.{Refused}
-use Rattle.pf_core.specs.Calls.{call}
-use Rattle.pf_core.specs.Pages.{Page}
-use Rattle.pf_core.specs.Worlds.{Upshot, called}
-use Rattle.pf_line.specs.Lines.{Parses, line_at}
-use Rattle.pf_line.specs.Lines.{Refused as IsRefusal}
+use Rattle.pf_core.specs.declared.{command.Command.Command, reply.Refusal.Refusal, reply.Refusal.TheVariants.Memory, reply.Reply.Reply, reply.Reply.TheVariants.Refused}
+use Rattle.pf_core.specs.{Calls.call, Pages.Page, Worlds.{Upshot, called}}
+use Rattle.pf_line.specs.{Lines.{Parses, line_at, Refused as IsRefusal}}
 use Rattle.std.specs.Io.KnownBytes.{Appends}
-use Rattle.pfd.specs.Serving.{Continues, Told}
-use Rattle.pfd.specs.Laws.Serving.{continues-still}
+use Rattle.pfd.specs.{Serving.{Continues, Told}, Laws.Serving.continues-still}
 
 pub told-silence : (line : List ℕ) (page : Page) → Parses (Ok None) (line_at line) → Told line None page page
 told-silence line page (inl means) = ([], inl (Ok None, means, (refl, refl)), continues-still page)

@@ -1,14 +1,7 @@
 -- A text that is cut into lines as it comes.
-use Rattle.std.proofs.Common.{◌≡◌, ℕ, List, [], ◌∷◌, ◌++◌, inl, inr, refl, sym, ap, ◌∙◌, append_assoc, append-nil}
-use Rattle.std.specs.Prelude.{◌==◌, ◌≢◌, All}
-use Rattle.std.specs.List.{slice_split}
-use Rattle.std.proofs.lemmas.Bool.{cases_eq, ne_eqb}
-use Rattle.std.proofs.lemmas.Grind.{flat_map-append}
-use Rattle.std.proofs.lemmas.List.{same_from_push}
-use Rattle.std.proofs.lemmas.List.Elements.{All-nil, All-push, All-head, All-tail}
-use Rattle.std.proofs.lemmas.List.Splits.{slice_split_none, slice_split_at}
-use Rattle.pfd.specs.LineEngine.Lines.{newline, IsLine, ended, IsCut}
-use Rattle.pfd.specs.Laws.Lines.{IsAlwaysCut, CutsOneWay}
+use Rattle.std.proofs.{Common.{◌≡◌, ℕ, List, [], ◌∷◌, ◌++◌, inl, inr, refl, sym, ap, ◌∙◌, append_assoc, append-nil}, lemmas.Bool.{cases_eq, ne_eqb}, lemmas.Grind.flat_map-append, lemmas.List.same_from_push, lemmas.List.Elements.{All-nil, All-push, All-head, All-tail}, lemmas.List.Splits.{slice_split_none, slice_split_at}}
+use Rattle.std.specs.{Prelude.{◌==◌, ◌≢◌, All}, List.slice_split}
+use Rattle.pfd.specs.{LineEngine.Lines.{newline, IsLine, ended, IsCut}, Laws.Lines.{IsAlwaysCut, CutsOneWay}}
 
 -- ---- a byte more, and then any text
 

@@ -3,8 +3,7 @@ use Rattle.std.proofs.Common.{◌≡◌, ℕ, List, Option, Result, Ok, Err, inl
 use Rattle.pf_core.specs.Pages.{Page}
 use Rattle.pfd.specs.declared.line_engine.fault.EngineFault.{EngineFault}
 use Rattle.pfd.specs.declared.line_engine.fault.EngineFault.TheVariants as fault
-use Rattle.pfd.specs.LineEngine.Sessions.{CutOff, Ends}
-use Rattle.pfd.specs.Serving.{Serves}
+use Rattle.pfd.specs.{LineEngine.Sessions.{CutOff, Ends}, Serving.Serves}
 
 cut-limit : {lines : List (List ℕ)} {old new : Page} {held held' : Option (List ℕ)} → CutOff Serves lines old new held held' → new.limit ≡ old.limit
 cut-limit cut = cut.served.book.limit ∙ cut.answered.served.book.limit

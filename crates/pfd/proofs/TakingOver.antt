@@ -1,41 +1,13 @@
 -- The lines of an export, given to a Book one by one.
-use Rattle.std.proofs.Common.{◌≡◌, ◌⊎◌, ◌+◌, ◌<◌, ◌≤◌, ◌||◌, ℕ, Bool, true, false, cond, List, [], ◌∷◌, ◌++◌, length, length-append, map, Option, Some, Result, Ok, Err, inl, inr, refl, sym, subst, ap, ◌∙◌, append_assoc, arith}
-use Rattle.std.specs.Prelude.{nat_lt}
-use Rattle.std.specs.List.{flat_map}
-use Rattle.std.proofs.lemmas.Bool.Decides.{nat_tests}
-use Rattle.std.proofs.lemmas.List.{length-map}
-use Rattle.std.proofs.lemmas.List.Sums.{fold-append, fold_push}
-use Rattle.pf_core.specs.declared.command.Command.{Command}
-use Rattle.pf_core.specs.declared.command.Command.TheVariants.{States}
-use Rattle.pf_core.specs.declared.command.StateCommand.TheVariants.{Peer}
-use Rattle.pf_core.specs.declared.reply.Outcome.{Outcome}
-use Rattle.pf_core.specs.declared.reply.Outcome.TheVariants.{Peered}
-use Rattle.pf_core.specs.declared.reply.Refusal.{Refusal}
-use Rattle.pf_core.specs.declared.reply.Refusal.TheVariants.{HistoryFull, Memory}
-use Rattle.pf_core.specs.declared.reply.Reply.{Reply}
-use Rattle.pf_core.specs.declared.reply.Reply.TheVariants.{Applied, Refused}
-use Rattle.pf_core.specs.declared.step.Step.{Step}
-use Rattle.pf_core.specs.declared.step.Step.TheVariants.{Wants}
-use Rattle.pf_core.specs.declared.durable.refusal.ChangeRefusal.TheVariants.{StatesFull}
-use Rattle.pf_core.specs.Calls.{call}
-use Rattle.pf_core.specs.Commands.{steps_here, states_step, unless_unfit}
+use Rattle.std.proofs.{Common.{◌≡◌, ◌⊎◌, ◌+◌, ◌<◌, ◌≤◌, ◌||◌, ℕ, Bool, true, false, cond, List, [], ◌∷◌, ◌++◌, length, length-append, map, Option, Some, Result, Ok, Err, inl, inr, refl, sym, subst, ap, ◌∙◌, append_assoc, arith}, lemmas.Bool.Decides.nat_tests, lemmas.List.length-map, lemmas.List.Sums.{fold-append, fold_push}}
+use Rattle.std.specs.{Prelude.nat_lt, List.flat_map}
+use Rattle.pf_core.specs.declared.{command.Command.Command, command.Command.TheVariants.States, command.StateCommand.TheVariants.Peer, reply.Outcome.Outcome, reply.Outcome.TheVariants.Peered, reply.Refusal.Refusal, reply.Refusal.TheVariants.{HistoryFull, Memory}, reply.Reply.Reply, reply.Reply.TheVariants.{Applied, Refused}, step.Step.Step, step.Step.TheVariants.Wants, durable.refusal.ChangeRefusal.TheVariants.StatesFull}
+use Rattle.pf_core.specs.{Calls.call, Commands.{steps_here, states_step, unless_unfit}, Durable.Edits.{Kept, Edit, main_sum, kept_nothing, acts, applied, after}, Pages.{Page, IsAt, StandsFor}, Worlds.{Held, State, up, down, flat, log_of, durable_of, step_in, due, due_at, group_in, group_at, or_refused, if_ok, grouped, Upshot, Event, called, opened, setting_with, begun, raised, heard, next, StandsIn, LegalCall, state_after, IsLegalFrom}}
 use Rattle.pf_addr.specs.Refusing.{unless}
-use Rattle.pf_core.specs.Durable.Edits.{Kept, Edit, main_sum, kept_nothing, acts, applied, after}
-use Rattle.pf_core.specs.Pages.{Page, IsAt, StandsFor}
-use Rattle.pf_core.specs.Worlds.{Held, State, up, down, flat, log_of, durable_of, step_in, due, due_at, group_in, group_at, or_refused, if_ok, grouped, Upshot, Event, called, opened, setting_with, begun, raised, heard, next, StandsIn, LegalCall, state_after, IsLegalFrom}
 use Rattle.pf_core.proofs.LongerWorlds.{flat-push}
-use Rattle.pf_line.specs.Laws.Exports.{Message, Step as StateStep, message_text, main_count, exported_lines, TellsOf, CanBeExported, states_there}
-use Rattle.pf_line.specs.Failover.Outgoing.{exported_messages}
-use Rattle.pf_line.specs.Lines.{line_at}
-use Rattle.pf_line.specs.Peer.Written.{Each}
-use Rattle.pf_line.specs.Reply.Replies.{reply_text}
-use Rattle.pf_line.specs.StateTables.{Stated}
-use Rattle.pf_line.specs.Steps.{after as stepped_on, stepped, is_over, passes_limit, counts}
-use Rattle.pf_line.proofs.ExportedLines.{exports_are_read}
-use Rattle.pf_line.proofs.Lines.{one_meaning}
-use Rattle.pf_line.proofs.TakenOver.{takes_over as states_taken}
-use Rattle.pfd.specs.Serving.{Says, IsTold, Served, Serves}
-use Rattle.pfd.specs.Laws.Takeover.{held_in, IsReadyFor, WantedMemory, TakesOver, FreshTakesOver}
+use Rattle.pf_line.specs.{Laws.Exports.{Message, Step as StateStep, message_text, main_count, exported_lines, TellsOf, CanBeExported, states_there}, Failover.Outgoing.exported_messages, Lines.line_at, Peer.Written.Each, Reply.Replies.reply_text, StateTables.Stated, Steps.{after as stepped_on, stepped, is_over, passes_limit, counts}}
+use Rattle.pf_line.proofs.{ExportedLines.exports_are_read, Lines.one_meaning, TakenOver.takes_over as states_taken}
+use Rattle.pfd.specs.{Serving.{Says, IsTold, Served, Serves}, Laws.Takeover.{held_in, IsReadyFor, WantedMemory, TakesOver, FreshTakesOver}}
 
 -- ---- steps in two parts
 

@@ -1,24 +1,10 @@
 -- What contracts see of a Book's fields, what its replies say by themselves, and what keeping a change leaves. Own.
-use Rattle.std.specs.Prelude.{◌≡◌, ◌⊎◌, ℕ, ◌+◌, ◌<◌, ◌≤◌, List, [], ◌∷◌, ◌++◌, length, map, ⊤, Result, Ok, Err}
-use Rattle.std.specs.Arc.{arc_value}
+use Rattle.std.specs.{Prelude.{◌≡◌, ◌⊎◌, ℕ, ◌+◌, ◌<◌, ◌≤◌, List, [], ◌∷◌, ◌++◌, length, map, ⊤, Result, Ok, Err}, Arc.arc_value}
 use Rattle.pf_ticket.specs.declared.refusal.TicketRefusal.{TicketRefusal}
-use Rattle.pf_ticket.specs.Mentions.{after, switches}
-use Rattle.pf_ticket.specs.Replies.{list_check}
-use Rattle.pf_core.specs.declared.command.Command.{Command}
-use Rattle.pf_core.specs.declared.command.Command.TheVariants.{Transact, Ask}
-use Rattle.pf_core.specs.declared.command.Question.TheVariants.{Judge}
-use Rattle.pf_core.specs.declared.command.Transaction.TheVariants.{Rollback}
+use Rattle.pf_ticket.specs.{Mentions.{after, switches}, Replies.list_check}
+use Rattle.pf_core.specs.declared.{command.Command.Command, command.Command.TheVariants.{Transact, Ask}, command.Question.TheVariants.Judge, command.Transaction.TheVariants.Rollback, reply.Refusal.Refusal, reply.Refusal.TheVariants.{HistoryFull, Memory}, reply.Reply.Reply, reply.Reply.TheVariants.{Answer, Applied, Refused}, durable.refusal.ChangeRefusal.ChangeRefusal}
 use Rattle.pf_core.specs.declared.reply.Answer.TheVariants as answer
-use Rattle.pf_core.specs.declared.reply.Refusal.{Refusal}
-use Rattle.pf_core.specs.declared.reply.Refusal.TheVariants.{HistoryFull, Memory}
-use Rattle.pf_core.specs.declared.reply.Reply.{Reply}
-use Rattle.pf_core.specs.declared.reply.Reply.TheVariants.{Answer, Applied, Refused}
-use Rattle.pf_core.specs.declared.durable.refusal.ChangeRefusal.{ChangeRefusal}
-use Rattle.pf_core.specs.Durable.Edits.{Kept, Edit, voided_by, fits, verdict}
-use Rattle.pf_core.specs.Commands.{unless_unfit}
-use Rattle.pf_core.specs.Pages.{Page}
-use Rattle.pf_core.specs.Refusals.{refusal_of}
-use Rattle.pf_core.specs.Worlds.{flat}
+use Rattle.pf_core.specs.{Durable.Edits.{Kept, Edit, voided_by, fits, verdict}, Commands.unless_unfit, Pages.Page, Refusals.refusal_of, Worlds.flat}
 use Rattle.pfd.specs.declared.book.Book.TheInside.{Inside}
 
 -- each change is a group of its own

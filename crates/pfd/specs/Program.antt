@@ -1,16 +1,9 @@
 -- What the program does with the words `pfd run`. Own.
-use Rattle.std.specs.Prelude.{◌≡◌, ℕ, List, [], ◌∷◌, Option, Result, Ok, Err, codes, ◌⊎◌}
-use Rattle.std.specs.Io.KnownBytes.{Keeps}
-use Rattle.std.specs.declared.io.ErrorKind.{ErrorKind}
-use Rattle.std.specs.declared.io.ErrorKind.TheVariants.{OutOfMemory}
-use Rattle.pf_core.specs.Durable.Edits.{kept_nothing}
-use Rattle.pf_core.specs.Pages.{Page, StandsFor}
-use Rattle.pf_core.specs.Worlds.{setting_with, opened}
-use Rattle.pfd.specs.declared.line_engine.fault.EngineFault.{EngineFault}
-use Rattle.pfd.specs.declared.line_engine.fault.EngineFault.TheVariants.{Memory}
-use Rattle.pfd.specs.LineEngine.Sessions.{IsSession}
-use Rattle.pfd.specs.declared.program.TheConstants.{HISTORY_LIMIT}
-use Rattle.pfd.specs.Serving.{Serves}
+use Rattle.std.specs.{Prelude.{◌≡◌, ℕ, List, [], ◌∷◌, Option, Result, Ok, Err, codes, ◌⊎◌}, Io.KnownBytes.Keeps}
+use Rattle.std.specs.declared.{io.ErrorKind.ErrorKind, io.ErrorKind.TheVariants.OutOfMemory}
+use Rattle.pf_core.specs.{Durable.Edits.kept_nothing, Pages.{Page, StandsFor}, Worlds.{setting_with, opened}}
+use Rattle.pfd.specs.declared.{line_engine.fault.EngineFault.EngineFault, line_engine.fault.EngineFault.TheVariants.Memory, program.TheConstants.HISTORY_LIMIT}
+use Rattle.pfd.specs.{LineEngine.Sessions.IsSession, Serving.Serves}
 
 -- the program's name, whatever it is, and `run`
 abbrev pub IsRun : List (List ℕ) → Type 0

@@ -1,16 +1,8 @@
 -- What serves lines: the calls that they come to, as events, and the replies.
 use Rattle.std.specs.Prelude.{◌≡◌, ℕ, List, [], ◌∷◌, ◌++◌, Option, Some, None, Result, Ok, Err, ◌⊎◌}
-use Rattle.pf_core.specs.declared.command.Command.{Command}
-use Rattle.pf_core.specs.declared.reply.Refusal.{Refusal}
-use Rattle.pf_core.specs.declared.reply.Refusal.TheVariants.{Memory}
-use Rattle.pf_core.specs.declared.reply.Reply.{Reply}
-use Rattle.pf_core.specs.declared.reply.Reply.TheVariants.{Refused}
-use Rattle.pf_core.specs.Calls.{call}
-use Rattle.pf_core.specs.Durable.Edits.{Kept}
-use Rattle.pf_core.specs.Pages.{Page, StandsFor}
-use Rattle.pf_core.specs.Worlds.{Upshot, Event, called}
-use Rattle.pf_line.specs.Lines.{line_at, Means, Speaks}
-use Rattle.pf_line.specs.Reply.Replies.{reply_text}
+use Rattle.pf_core.specs.declared.{command.Command.Command, reply.Refusal.Refusal, reply.Refusal.TheVariants.Memory, reply.Reply.Reply, reply.Reply.TheVariants.Refused}
+use Rattle.pf_core.specs.{Calls.call, Durable.Edits.Kept, Pages.{Page, StandsFor}, Worlds.{Upshot, Event, called}}
+use Rattle.pf_line.specs.{Lines.{line_at, Means, Speaks}, Reply.Replies.reply_text}
 
 -- What a line means, the event of the call that it comes to, and what is written for it: nothing for a silent line, the refusal of a
 -- line that is refused, the reply to a command.

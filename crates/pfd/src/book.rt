@@ -1,9 +1,6 @@
 //! A core with the history of what it kept.
 ghost use Rattle.std.specs.Prelude.{◌≡◌, ℕ, ◌≤◌, [], ◌∷◌, ◌++◌, List, IfOk, IfErr, take, false};
-ghost use Rattle.pf_core.specs.Calls.{call};
-ghost use Rattle.pf_core.specs.Durable.Edits.{Kept, kept_nothing, after, verdict};
-ghost use Rattle.pf_core.specs.Worlds.{Held, setting_with, upshot, Event, called, opened, flat, LegalReply, shown_by};
-ghost use Rattle.pf_core.specs.Pages.{IsAt, IsFolded, StandsFor, Leads};
+ghost use Rattle.pf_core.specs.{Calls.call, Durable.Edits.{Kept, kept_nothing, after, verdict}, Worlds.{Held, setting_with, upshot, Event, called, opened, flat, LegalReply, shown_by}, Pages.{IsAt, IsFolded, StandsFor, Leads}};
 ghost use Rattle.pfd.specs.Books.{IsNumbered, IsJudged, IsRolledBack, StaysIfRefused, IsMore, IsUnkept};
 
 use pf_core::{Change, Command, Core, Durable, Refusal, Reply, Step, Verdict};

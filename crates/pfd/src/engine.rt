@@ -1,8 +1,6 @@
 //! Lines that a Book answers.
 ghost use Rattle.std.specs.Prelude.{◌≡◌};
-ghost use Rattle.pfd.specs.LineEngine.Sessions.{IsSession};
-ghost use Rattle.pfd.specs.Serving.{Told, Serves};
-ghost use Rattle.pfd.specs.Laws.Serving.{serves-none, serves-then, serves-seen};
+ghost use Rattle.pfd.specs.{LineEngine.Sessions.IsSession, Serving.{Told, Serves}, Laws.Serving.{serves-none, serves-then, serves-seen}};
 
 use crate::book::Book;
 use crate::line_engine::{AnswerLine, EngineFault, serve};

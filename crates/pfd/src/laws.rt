@@ -1,7 +1,6 @@
 //! Laws of a Book. Each function does nothing; its contract is the law.
 ghost use Rattle.std.specs.Prelude.{◌≡◌};
-ghost use Rattle.pfd.specs.declared.line_engine.answer_line.TheConstants.{LOOKED_AT};
-ghost use Rattle.pfd.specs.declared.program.TheConstants.{HISTORY_LIMIT};
+ghost use Rattle.pfd.specs.declared.{line_engine.answer_line.TheConstants.LOOKED_AT, program.TheConstants.HISTORY_LIMIT};
 ghost use Rattle.pfd.specs.Laws.Takeover.{TakesOver, FreshTakesOver};
 
 /// A Book without states that is given the lines of a peer's export, one by one, holds the states that were exported, unless a line

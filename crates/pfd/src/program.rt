@@ -1,8 +1,6 @@
 //! The program's words, and the status with which it ends.
-ghost use Rattle.std.specs.Prelude.{◌≡◌, ◌≤◌, ◌⊎◌, IfErr, IfOk, map, string_bytes};
-ghost use Rattle.std.specs.Io.KnownBytes.{Keeps};
+ghost use Rattle.std.specs.{Prelude.{◌≡◌, ◌≤◌, ◌⊎◌, IfErr, IfOk, map, string_bytes}, Io.KnownBytes.Keeps, IoError.error_kind};
 ghost use Rattle.clap.specs.Words.{kind_of};
-ghost use Rattle.std.specs.IoError.{error_kind};
 ghost use Rattle.pfd.specs.Program.{IsRun, Runs, RanWith, status_without_words};
 
 use crate::book::Book;

@@ -1,7 +1,6 @@
 //! Rows, played over Books.
 ghost use Rattle.std.specs.Prelude.{◌≡◌, ℕ, List, [], Option, Some, None, Ok};
-ghost use Rattle.pfd.specs.LineEngine.Sessions.{IsSession};
-ghost use Rattle.pfd.specs.Serving.{Serves};
+ghost use Rattle.pfd.specs.{LineEngine.Sessions.IsSession, Serving.Serves};
 
 use crate::spelling::{choose, fill, push_line, reply_bytes};
 use crate::table::Table;

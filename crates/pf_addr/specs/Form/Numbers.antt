@@ -1,7 +1,5 @@
 -- Numbers in decimal digits.
-use Rattle.std.specs.Prelude.{◌≡◌, ℕ, ◌*◌, ◌+◌, ◌-◌, ◌<◌, ◌≤◌, ◌^◌, ◌&&◌, nat_lt, nat_le, Bool, length, fold, Option, Some, None, if◌then◌else◌}
-use Rattle.std.specs.List.{list_all}
-use Rattle.std.specs.Str.Parse.{IsNumeral, digits_value}
+use Rattle.std.specs.{Prelude.{◌≡◌, ℕ, ◌*◌, ◌+◌, ◌-◌, ◌<◌, ◌≤◌, ◌^◌, ◌&&◌, nat_lt, nat_le, Bool, length, fold, Option, Some, None, if◌then◌else◌}, List.list_all, Str.Parse.{IsNumeral, digits_value}}
 use Rattle.pf_addr.specs.Form.Words.{Word}
 
 -- 1 to so many digits, of which the first may be zeros, write the number

@@ -2,12 +2,9 @@
 use Rattle.std.specs.Prelude.{Bool, true, false, ◌≡◌, ◌<◌, List, length, Result, Ok, Err}
 use denote.Ref.{Bor}
 use denote.MutBor.{MutBor}
-use Rattle.pf_addr.specs.declared.form.fault.Kind.{Kind}
-use Rattle.pf_addr.specs.declared.form.fault.Stop.{Stop}
-use Rattle.pf_addr.specs.declared.form.fault.Unread.{Unread}
+use Rattle.pf_addr.specs.declared.{form.fault.Kind.Kind, form.fault.Stop.Stop, form.fault.Unread.Unread}
 use Rattle.pf_addr.specs.declared.form.fault.Unread.TheVariants as unread
-use Rattle.pf_addr.specs.Form.Words.{Word, texts}
-use Rattle.pf_addr.specs.Form.Forms.{Form, nothing, key, or, Reader, reads, read_all, one_or_more_by, ended, ◌>>=◌}
+use Rattle.pf_addr.specs.{Form.Words.{Word, texts}, Form.Forms.{Form, nothing, key, or, Reader, reads, read_all, one_or_more_by, ended, ◌>>=◌}}
 
 -- the kind of the fault, and how many words were left
 abbrev pub Fails : {Y : Type 0} → Stop → Result Y (Kind × List Word) → Type 0

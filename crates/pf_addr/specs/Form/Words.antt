@@ -1,6 +1,5 @@
 -- Words, and the words of a line: what stands between blanks.
-use Rattle.std.specs.Prelude.{ℕ, ◌==◌, ◌||◌, nat_lt, Bool, List, length, filter, map}
-use Rattle.std.specs.List.{slice_split}
+use Rattle.std.specs.{Prelude.{ℕ, ◌==◌, ◌||◌, nat_lt, Bool, List, length, filter, map}, List.slice_split}
 use denote.Ref.{Bor}
 
 abbrev pub Word : Type 0

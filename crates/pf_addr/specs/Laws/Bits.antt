@@ -1,12 +1,7 @@
 -- Which addresses a network contains, bit by bit.
-use Rattle.std.proofs.Common.{◌≡◌, ℕ, ◌+◌, ◌-◌, ◌/◌, ◌%◌, ◌^◌, ◌<◌, ◌≤◌, ◌==◌, Decides, refl, sym, ap, ◌∙◌, subst, arith, true≢false}
-use Rattle.std.proofs.lemmas.Bool.Decides.{Decides-and, Decides-eqb, Decides-like}
-use Rattle.std.proofs.lemmas.Nat.{shr-shr, shr_below}
-use Rattle.std.proofs.lemmas.Nat.Bits.{same_from_bits_below}
-use Rattle.pf_addr.specs.declared.addr.Addr.{Addr}
+use Rattle.std.proofs.{Common.{◌≡◌, ℕ, ◌+◌, ◌-◌, ◌/◌, ◌%◌, ◌^◌, ◌<◌, ◌≤◌, ◌==◌, Decides, refl, sym, ap, ◌∙◌, subst, arith, true≢false}, lemmas.Bool.Decides.{Decides-and, Decides-eqb, Decides-like}, lemmas.Nat.{shr-shr, shr_below}, lemmas.Nat.Bits.same_from_bits_below}
+use Rattle.pf_addr.specs.declared.{addr.Addr.Addr, addr.Family.Family, addr.Family.TheVariants.{V4, V6}}
 use Rattle.pf_addr.specs.declared.addr.Addr.TheVariants as addr
-use Rattle.pf_addr.specs.declared.addr.Family.{Family}
-use Rattle.pf_addr.specs.declared.addr.Family.TheVariants.{V4, V6}
 use Rattle.pf_addr.specs.Address.{Network, IsNetwork, width, family_of, number_in, first_bits, network_from, same_family, contains, IsAddr, bit, BeginsAs, Agree}
 
 one_family : (f g : Family) → Decides (same_family f g) (f ≡ g)

@@ -1,12 +1,7 @@
 -- Laws of digits: which bytes they are, and what their numbers are.
-use Rattle.std.proofs.Common.{◌≡◌, ℕ, ◌<◌, ◌≤◌, ◌==◌, false, List, [], ◌∷◌, None, arith}
-use Rattle.std.specs.Char.{digit_value}
-use Rattle.std.specs.List.{All, position}
-use Rattle.std.specs.Str.Parse.{AllDigits}
-use Rattle.std.proofs.lemmas.Bool.Decides.{nat_tests}
-use Rattle.std.proofs.lemmas.List.Elements.{All-nil, All-cons, All-head, All-tail}
-use Rattle.pf_addr.specs.Laws.Places.{without, first_none, none_first}
-use Rattle.pf_addr.specs.Grammar.{is_other}
+use Rattle.std.proofs.{Common.{◌≡◌, ℕ, ◌<◌, ◌≤◌, ◌==◌, false, List, [], ◌∷◌, None, arith}, lemmas.Bool.Decides.nat_tests, lemmas.List.Elements.{All-nil, All-cons, All-head, All-tail}}
+use Rattle.std.specs.{Char.digit_value, List.{All, position}, Str.Parse.AllDigits}
+use Rattle.pf_addr.specs.{Laws.Places.{without, first_none, none_first}, Grammar.is_other}
 
 -- a byte that is no digit stands nowhere in digits
 pub none_in_digits : (radix c : ℕ) (text : List ℕ) → radix ≤ digit_value c → AllDigits radix text → without c text

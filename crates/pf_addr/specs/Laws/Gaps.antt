@@ -1,13 +1,7 @@
 -- Laws of the first `::` of a text.
-use Rattle.std.proofs.Common.{◌≡◌, ℕ, suc, ◌+◌, ◌<◌, ◌≤◌, ◌==◌, ◌&&◌, Bool, true, false, List, [], ◌∷◌, ◌++◌, length, take, drop, get_or, length-drop, length-append, append-nil, append_assoc, Option, Some, None, refl, sym, ap, ◌∙◌, subst, arith, add-one, drop-cons}
+use Rattle.std.proofs.{Common.{◌≡◌, ℕ, suc, ◌+◌, ◌<◌, ◌≤◌, ◌==◌, ◌&&◌, Bool, true, false, List, [], ◌∷◌, ◌++◌, length, take, drop, get_or, length-drop, length-append, append-nil, append_assoc, Option, Some, None, refl, sym, ap, ◌∙◌, subst, arith, add-one, drop-cons}, lemmas.Bool.and_parts, lemmas.Bool.Decides.nat_tests, lemmas.List.Elements.{All-head, All-tail}, lemmas.List.Splits.join_with_byte-slice_split}
 use Rattle.std.specs.List.{All, join_with_byte}
-use Rattle.std.proofs.lemmas.Bool.{and_parts}
-use Rattle.std.proofs.lemmas.Bool.Decides.{nat_tests}
-use Rattle.std.proofs.lemmas.List.Elements.{All-head, All-tail}
-use Rattle.std.proofs.lemmas.List.Splits.{join_with_byte-slice_split}
-use Rattle.pf_addr.specs.Grammar.{pieces}
-use Rattle.pf_addr.specs.Laws.Places.{without}
-use Rattle.pf_addr.specs.Reading.{gap, later, begins_with_byte}
+use Rattle.pf_addr.specs.{Grammar.pieces, Laws.Places.without, Reading.{gap, later, begins_with_byte}}
 
 later_twice : (m n : ℕ) (o : Option ℕ) → later m (later n o) ≡ later (m + n) o
 later_twice m n (Some i) = ap (λ (k : ℕ). Some k) (omega arith)

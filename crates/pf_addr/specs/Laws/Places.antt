@@ -1,13 +1,6 @@
 -- Laws of the first byte that passes a test, and of a text that is cut there.
-use Rattle.std.proofs.Common.{◌≡◌, ℕ, ◌+◌, ◌<◌, ◌≤◌, ◌==◌, Bool, true, false, List, [], ◌∷◌, ◌++◌, length, take, drop, Some, None, refl, ap, ◌∙◌, subst, arith, get_or}
-use Rattle.std.specs.List.{position, position_or_len, slice_split, All}
-use Rattle.std.specs.Str.Parse.{AllDigits}
-use Rattle.std.proofs.lemmas.Bool.Decides.{nat_tests}
-use Rattle.std.proofs.lemmas.List.{length-append, get_or_append_left, get_or_at}
-use Rattle.std.proofs.lemmas.List.Elements.{All-from_get_or}
-use Rattle.std.proofs.lemmas.List.Splits.{slice_split_first, slice_split_none}
-use Rattle.std.proofs.lemmas.List.Sums.{prefix_len-le-length, position_or_len_is, split_at_first, fails_before_first, passes_at_first}
-use Rattle.std.proofs.lemmas.Str.Parse.{digit_at}
+use Rattle.std.proofs.{Common.{◌≡◌, ℕ, ◌+◌, ◌<◌, ◌≤◌, ◌==◌, Bool, true, false, List, [], ◌∷◌, ◌++◌, length, take, drop, Some, None, refl, ap, ◌∙◌, subst, arith, get_or}, lemmas.Bool.Decides.nat_tests, lemmas.List.{length-append, get_or_append_left, get_or_at}, lemmas.List.Elements.All-from_get_or, lemmas.List.Splits.{slice_split_first, slice_split_none}, lemmas.List.Sums.{prefix_len-le-length, position_or_len_is, split_at_first, fails_before_first, passes_at_first}, lemmas.Str.Parse.digit_at}
+use Rattle.std.specs.{List.{position, position_or_len, slice_split, All}, Str.Parse.AllDigits}
 
 first_some : (p : ℕ → Bool) (text : List ℕ) (i : ℕ) → position p text ≡ Some i → (position_or_len p text < length text) × (position_or_len p text ≡ i)
 first_some p text i e = grind (arith, nat_tests)

@@ -1,30 +1,9 @@
 -- A text is read as an address or a network exactly where it spells it.
-use Rattle.std.proofs.Common.{◌≡◌, ℕ, ◌+◌, ◌-◌, ◌<◌, ◌≤◌, ◌==◌, Bool, true, false, List, [], ◌∷◌, ◌++◌, length, take, drop, replicate, Option, Some, None, Result, Ok, Err, inl, inr, refl, sym, ap, ◌∙◌, subst, arith, append_assoc, eq-eqb}
-use Rattle.std.specs.Prelude.{◌⊎◌, IfOk}
-use Rattle.std.specs.Char.{digit_value}
-use Rattle.std.specs.List.{position, join_with_byte, All}
-use Rattle.std.specs.Option.{ok_or}
-use Rattle.std.specs.Str.Parse.{AllDigits, digits_value}
-use Rattle.std.proofs.lemmas.Bool.{le-leb}
-use Rattle.std.proofs.lemmas.Bool.Decides.{leb_tells, eqb_tells, nat_tests}
-use Rattle.std.proofs.lemmas.List.{length-append, length-replicate, take_at, drop_at}
-use Rattle.std.proofs.lemmas.List.Elements.{All-nil, All-cons, All-append, All-head, All-tail}
-use Rattle.std.proofs.lemmas.List.Splits.{join_with_byte-slice_split}
-use Rattle.pf_addr.specs.Form.Forms.{◌>>=◌}
-use Rattle.pf_addr.specs.Laws.Form.Decided.{bind_ok}
-use Rattle.pf_addr.specs.Form.Numbers.{number_of}
-use Rattle.pf_addr.specs.Laws.Form.Numbers.{number_only, number_found}
-use Rattle.pf_addr.specs.declared.addr.Addr.{Addr}
+use Rattle.std.proofs.{Common.{◌≡◌, ℕ, ◌+◌, ◌-◌, ◌<◌, ◌≤◌, ◌==◌, Bool, true, false, List, [], ◌∷◌, ◌++◌, length, take, drop, replicate, Option, Some, None, Result, Ok, Err, inl, inr, refl, sym, ap, ◌∙◌, subst, arith, append_assoc, eq-eqb}, lemmas.Bool.le-leb, lemmas.Bool.Decides.{leb_tells, eqb_tells, nat_tests}, lemmas.List.{length-append, length-replicate, take_at, drop_at}, lemmas.List.Elements.{All-nil, All-cons, All-append, All-head, All-tail}, lemmas.List.Splits.join_with_byte-slice_split}
+use Rattle.std.specs.{Prelude.{◌⊎◌, IfOk}, Char.digit_value, List.{position, join_with_byte, All}, Option.ok_or, Str.Parse.{AllDigits, digits_value}}
+use Rattle.pf_addr.specs.{Form.Forms.◌>>=◌, Laws.Form.Decided.bind_ok, Form.Numbers.number_of, Laws.Form.Numbers.{number_only, number_found}, Address.{Network, width, family_of, network_from, network_of}, Grammar.{is_other, is_short, pieces, IsNumber, Dotted, v4_number, SpellsV4, IsGroup, Grouped, two_groups, EndGrouped, Shortened, v6_number, SpellsV6, Spells, SpellsAddr, SpellsFront, SpellsNet}, Reading.{kept_to, small_number, part_fault, part_at, piece_by, group_at, single, pieces_at, parts_at, v4_of, v4_at, has, end_at, groups_at, v6_of, v6_around, gap, v6_by, v6_at, family_at, address_at, addr_at, is_slash, length_at, front_at, cut_at, net_at}, Laws.Places.{without, no_place, place_after, cut_there}, Laws.Digits.{none_in_digits, all_digits, digits_all}, Laws.Gaps.{Clean, no_gap, gap_after, gap_cut}, Laws.Pieces.{Alone, zip_length, zip_all, all_read, run_read, run_found, alone_found, run_alone, all_found, has_between, has_there}}
+use Rattle.pf_addr.specs.declared.{addr.Addr.Addr, fault.AddrFault.AddrFault, fault.AddrFault.TheVariants.BadLength}
 use Rattle.pf_addr.specs.declared.addr.Addr.TheVariants as addr
-use Rattle.pf_addr.specs.declared.fault.AddrFault.{AddrFault}
-use Rattle.pf_addr.specs.declared.fault.AddrFault.TheVariants.{BadLength}
-use Rattle.pf_addr.specs.Address.{Network, width, family_of, network_from, network_of}
-use Rattle.pf_addr.specs.Grammar.{is_other, is_short, pieces, IsNumber, Dotted, v4_number, SpellsV4, IsGroup, Grouped, two_groups, EndGrouped, Shortened, v6_number, SpellsV6, Spells, SpellsAddr, SpellsFront, SpellsNet}
-use Rattle.pf_addr.specs.Reading.{kept_to, small_number, part_fault, part_at, piece_by, group_at, single, pieces_at, parts_at, v4_of, v4_at, has, end_at, groups_at, v6_of, v6_around, gap, v6_by, v6_at, family_at, address_at, addr_at, is_slash, length_at, front_at, cut_at, net_at}
-use Rattle.pf_addr.specs.Laws.Places.{without, no_place, place_after, cut_there}
-use Rattle.pf_addr.specs.Laws.Digits.{none_in_digits, all_digits, digits_all}
-use Rattle.pf_addr.specs.Laws.Gaps.{Clean, no_gap, gap_after, gap_cut}
-use Rattle.pf_addr.specs.Laws.Pieces.{Alone, zip_length, zip_all, all_read, run_read, run_found, alone_found, run_alone, all_found, has_between, has_there}
 
 -- ---- one number
 

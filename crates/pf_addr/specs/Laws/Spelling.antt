@@ -1,35 +1,10 @@
 -- What is written is a text of the grammar, and what the values and the texts of the grammar look like.
-use Rattle.std.proofs.Common.{◌≡◌, ℕ, ◌+◌, ◌-◌, ◌*◌, ◌/◌, ◌%◌, ◌^◌, ◌<◌, ◌≤◌, ◌==◌, true, List, [], ◌∷◌, ◌++◌, length, replicate, decimal, map, refl, sym, ap, ◌∙◌, inl, inr, arith, append-nil, length-append, le-leb}
-use Rattle.std.specs.Prelude.{◌⊎◌}
-use Rattle.std.specs.Char.{digit_char}
-use Rattle.std.specs.Int.{to_be_bytes, from_be_bytes, w32}
-use Rattle.std.specs.List.{All, AllZip, slice_split, join_with_byte, slice_index_or}
-use Rattle.std.specs.Net.Text.{hex, leading_zero_digits}
-use Rattle.std.specs.Str.Parse.{AllDigits, IsNumeral, digits_value}
-use Rattle.std.proofs.lemmas.Bool.{cases_lt, lt-leb}
-use Rattle.std.proofs.lemmas.Bool.Decides.{eqb_tells, nat_tests}
-use Rattle.std.proofs.lemmas.List.Elements.{All-nil, All-cons, All-head, All-tail, All-append, All-drop, All-replicate, All-map, All-from_get_or, recursion_from_All}
-use Rattle.std.proofs.lemmas.List.Splits.{slice_split_at, slice_split_none}
-use Rattle.std.proofs.lemmas.Int.Digits.{number_lt, digits_value-lt}
-use Rattle.std.proofs.lemmas.Str.{digit_value-digit_char}
-use Rattle.std.proofs.lemmas.Str.Parse.{digit_at}
-use Rattle.std.proofs.lemmas.Fmt.{decimal_is_IsNumeral, length-decimal-le}
-use Rattle.std.proofs.lemmas.Nat.{from_be_bytes-to_be_bytes_4, shl_below, shl-shr, shr-shr, shr_split, shr_below, mod_below}
-use Rattle.std.proofs.Math.Nat.{pow-le-pow_right}
-use Rattle.pf_addr.specs.declared.addr.Addr.{Addr}
+use Rattle.std.proofs.{Common.{◌≡◌, ℕ, ◌+◌, ◌-◌, ◌*◌, ◌/◌, ◌%◌, ◌^◌, ◌<◌, ◌≤◌, ◌==◌, true, List, [], ◌∷◌, ◌++◌, length, replicate, decimal, map, refl, sym, ap, ◌∙◌, inl, inr, arith, append-nil, length-append, le-leb}, lemmas.Bool.{cases_lt, lt-leb}, lemmas.Bool.Decides.{eqb_tells, nat_tests}, lemmas.List.Elements.{All-nil, All-cons, All-head, All-tail, All-append, All-drop, All-replicate, All-map, All-from_get_or, recursion_from_All}, lemmas.List.Splits.{slice_split_at, slice_split_none}, lemmas.Int.Digits.{number_lt, digits_value-lt}, lemmas.Str.digit_value-digit_char, lemmas.Str.Parse.digit_at, lemmas.Fmt.{decimal_is_IsNumeral, length-decimal-le}, lemmas.Nat.{from_be_bytes-to_be_bytes_4, shl_below, shl-shr, shr-shr, shr_split, shr_below, mod_below}, Math.Nat.pow-le-pow_right}
+use Rattle.std.specs.{Prelude.◌⊎◌, Char.digit_char, Int.{to_be_bytes, from_be_bytes, w32}, List.{All, AllZip, slice_split, join_with_byte, slice_index_or}, Net.Text.{hex, leading_zero_digits}, Str.Parse.{AllDigits, IsNumeral, digits_value}}
+use Rattle.pf_addr.specs.declared.{addr.Addr.Addr, addr.Family.Family, addr.Family.TheVariants.{V4, V6}}
 use Rattle.pf_addr.specs.declared.addr.Addr.TheVariants as addr
-use Rattle.pf_addr.specs.declared.addr.Family.{Family}
-use Rattle.pf_addr.specs.declared.addr.Family.TheVariants.{V4, V6}
-use Rattle.pf_addr.specs.Address.{Network, width, family_of, number_in, network_from, IsAddr}
+use Rattle.pf_addr.specs.{Address.{Network, width, family_of, number_in, network_from, IsAddr}, Laws.Bits.{front_below, number_below}, Laws.Digits.none_in_digits, Grammar.{pieces, IsNumber, Dotted, four_bytes, SpellsV4, IsGroup, Grouped, two_groups, EndGrouped, Shortened, v6_number, SpellsV6, Spells, SpellsAddr, SpellsNet}, Laws.Pieces.{zip_all, zip_numbers}, Laws.Places.without, Reading.{addr_at, net_at}, Laws.Reading.{joined_bytes, dotted_bytes, addr_only, net_only}, Spelling.{group_text, addr_text, addr_in, first_addr, length_text, net_text}}
 pub use Rattle.pf_addr.specs.Address.{IsNetwork}
-use Rattle.pf_addr.specs.Laws.Bits.{front_below, number_below}
-use Rattle.pf_addr.specs.Laws.Digits.{none_in_digits}
-use Rattle.pf_addr.specs.Grammar.{pieces, IsNumber, Dotted, four_bytes, SpellsV4, IsGroup, Grouped, two_groups, EndGrouped, Shortened, v6_number, SpellsV6, Spells, SpellsAddr, SpellsNet}
-use Rattle.pf_addr.specs.Laws.Pieces.{zip_all, zip_numbers}
-use Rattle.pf_addr.specs.Laws.Places.{without}
-use Rattle.pf_addr.specs.Reading.{addr_at, net_at}
-use Rattle.pf_addr.specs.Laws.Reading.{joined_bytes, dotted_bytes, addr_only, net_only}
-use Rattle.pf_addr.specs.Spelling.{group_text, addr_text, addr_in, first_addr, length_text, net_text}
 
 -- ---- pieces that are joined
 

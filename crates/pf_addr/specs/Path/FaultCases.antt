@@ -1,14 +1,7 @@
 -- Which fault a word has that is no name, no path or no reference, by cases on the word. Their order is own.
-use Rattle.std.specs.Prelude.{◌≡◌, ◌≢◌, ℕ, ◌<◌, ◌≤◌, ◌⊎◌, true, false, List, [], ◌∷◌, ◌++◌, length, codes}
-use Rattle.std.specs.List.{AllByRecursion, list_all}
-use Rattle.pf_addr.specs.declared.form.fault.Kind.{Kind}
-use Rattle.pf_addr.specs.declared.form.fault.Kind.TheVariants.{BadWord, NameTooLong, BadProto}
-use Rattle.pf_addr.specs.declared.path.limits.TheConstants.{PATH_LIMIT, COMPONENT_LIMIT, DEPTH_LIMIT, REFERENCE_LIMIT}
-use Rattle.pf_addr.specs.Form.Words.{Word}
-use Rattle.pf_addr.specs.Path.Names.{is_name_byte}
-use Rattle.pf_addr.specs.Path.Paths.{components, is_component}
-use Rattle.pf_addr.specs.Path.PathGrammar.{IsComponent}
-use Rattle.pf_addr.specs.Path.References.{ending, quoted}
+use Rattle.std.specs.{Prelude.{◌≡◌, ◌≢◌, ℕ, ◌<◌, ◌≤◌, ◌⊎◌, true, false, List, [], ◌∷◌, ◌++◌, length, codes}, List.{AllByRecursion, list_all}}
+use Rattle.pf_addr.specs.declared.{form.fault.Kind.Kind, form.fault.Kind.TheVariants.{BadWord, NameTooLong, BadProto}, path.limits.TheConstants.{PATH_LIMIT, COMPONENT_LIMIT, DEPTH_LIMIT, REFERENCE_LIMIT}}
+use Rattle.pf_addr.specs.{Form.Words.Word, Path.Names.is_name_byte, Path.Paths.{components, is_component}, Path.PathGrammar.IsComponent, Path.References.{ending, quoted}}
 
 -- A name past its limit is too long whatever its bytes; a shorter one is empty, or has another byte.
 abbrev pub IsNameFault : ℕ → Word → Kind → Type 0

@@ -1,7 +1,6 @@
 -- How a name is kept: its bytes, then zeros up to the limit. Own.
 use Rattle.std.specs.Prelude.{◌≡◌, ℕ, ◌-◌, ◌≤◌, ◌++◌, List, take, length, replicate}
-use Rattle.std.proofs.Common.{ap, ◌∙◌, sym, arith}
-use Rattle.std.proofs.lemmas.List.{length-take-le}
+use Rattle.std.proofs.{Common.{ap, ◌∙◌, sym, arith}, lemmas.List.length-take-le}
 use Rattle.pf_addr.specs.declared.path.name.Name.TheInside.{Inside}
 use Rattle.pf_addr.specs.Path.Names.{IsName}
 

@@ -1,11 +1,8 @@
 -- How a reference is kept: its names, then zeros up to the limit. Own.
 use Rattle.std.specs.Prelude.{◌≡◌, ℕ, ◌-◌, ◌≤◌, ◌++◌, Bool, List, take, length, replicate}
-use Rattle.std.proofs.Common.{ap, ◌∙◌, sym, arith}
-use Rattle.std.proofs.lemmas.List.{length-take-le}
-use Rattle.pf_addr.specs.declared.path.reference.Reference.TheInside.{Inside}
-use Rattle.pf_addr.specs.declared.path.limits.TheConstants.{REFERENCE_LIMIT}
-use Rattle.pf_addr.specs.Path.References.{PlainReference, refers}
-use Rattle.pf_addr.specs.Path.ReferenceGrammar.{IsReference}
+use Rattle.std.proofs.{Common.{ap, ◌∙◌, sym, arith}, lemmas.List.length-take-le}
+use Rattle.pf_addr.specs.declared.{path.reference.Reference.TheInside.Inside, path.limits.TheConstants.REFERENCE_LIMIT}
+use Rattle.pf_addr.specs.{Path.References.{PlainReference, refers}, Path.ReferenceGrammar.IsReference}
 
 abbrev pub names_kept : Inside → List ℕ
 names_kept n = take n.len n.bytes
@@ -28,4 +25,5 @@ inside_of r = inside (r.names ++ replicate (REFERENCE_LIMIT - length r.names) 0)
 pub inside_of-kept : (n : Inside) → IsKept n → inside_of (reference_kept n) ≡ n
 inside_of-kept n is =
     let len : length (names_kept n) ≡ n.len = length-take-le n.len n.bytes (omega (arith, is.len, is.whole)) in
-    ap (λ (l : ℕ). inside (names_kept n ++ replicate (REFERENCE_LIMIT - l) 0) l n.wildcard) len ∙ ap (λ (bs : List ℕ). inside bs n.len n.wildcard) (sym is.zeros)
+    ap (λ (l : ℕ). inside (names_kept n ++ replicate (REFERENCE_LIMIT - l) 0) l n.wildcard) len ∙ ap
+        (λ (bs : List ℕ). inside bs n.len n.wildcard) (sym is.zeros)

@@ -1,13 +1,8 @@
 -- Names: of interfaces, of tables, and the bytes of a path's components too. Their bytes, and that they are ordered by them, are own.
-use Rattle.std.specs.Prelude.{◌≡◌, ℕ, ◌==◌, ◌||◌, ◌&&◌, ◌<◌, ◌≤◌, nat_le, nat_lt, Bool, true, if◌then◌else◌, List, length, Result, Ok, Err}
-use Rattle.std.specs.List.{list_all}
+use Rattle.std.specs.{Prelude.{◌≡◌, ℕ, ◌==◌, ◌||◌, ◌&&◌, ◌<◌, ◌≤◌, nat_le, nat_lt, Bool, true, if◌then◌else◌, List, length, Result, Ok, Err}, List.list_all, Ordering.{nat_cmp, eq_by_cmp}, Cmp.Lexicographic.slice_cmp}
 use Rattle.std.specs.declared.cmp.Ordering.{Ordering}
-use Rattle.std.specs.Ordering.{nat_cmp, eq_by_cmp}
-use Rattle.std.specs.Cmp.Lexicographic.{slice_cmp}
-use Rattle.pf_addr.specs.declared.form.fault.Kind.{Kind}
-use Rattle.pf_addr.specs.declared.form.fault.Kind.TheVariants.{BadWord, NameTooLong}
+use Rattle.pf_addr.specs.declared.{form.fault.Kind.Kind, form.fault.Kind.TheVariants.{BadWord, NameTooLong}, path.limits.TheConstants.TABLE_NAME_LIMIT}
 use Rattle.pf_addr.specs.Form.Words.{Word}
-use Rattle.pf_addr.specs.declared.path.limits.TheConstants.{TABLE_NAME_LIMIT}
 
 -- a letter, a digit, `_`, `.` or `-`
 abbrev pub is_name_byte : ℕ → Bool

@@ -1,9 +1,6 @@
 -- Paths within one another (pf.conf(5), ANCHORS): a ruleset is attached to the one whose path is its own without the last component.
 -- That names past the limits lead nowhere is own.
-use Rattle.std.specs.Prelude.{ℕ, ◌&&◌, Bool, not, if◌then◌else◌, List, [], ◌∷◌, ◌++◌, length, take, drop, Option, Some, None, nat_lt}
-use Rattle.std.specs.List.{list_any}
-use Rattle.std.specs.Option.{is_none}
-use Rattle.std.specs.Str.{bytes_eq}
+use Rattle.std.specs.{Prelude.{ℕ, ◌&&◌, Bool, not, if◌then◌else◌, List, [], ◌∷◌, ◌++◌, length, take, drop, Option, Some, None, nat_lt}, List.list_any, Option.is_none, Str.bytes_eq}
 use Rattle.pf_addr.specs.Path.Paths.{is_slash, components, path_fault}
 
 -- how many components a path has: the main ruleset's has none

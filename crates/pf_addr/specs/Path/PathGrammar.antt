@@ -1,10 +1,7 @@
 -- Which words spell a path (pf.conf(5), ANCHORS), by cases.
-use Rattle.std.specs.Prelude.{◌≡◌, ◌≢◌, ◌⊎◌, ℕ, ◌<◌, ◌≤◌, true, List, length, codes}
-use Rattle.std.specs.List.{AllByRecursion, list_all, join_with_byte}
-use Rattle.pf_addr.specs.Path.Names.{is_name_byte}
-use Rattle.pf_addr.specs.Form.Words.{Word}
+use Rattle.std.specs.{Prelude.{◌≡◌, ◌≢◌, ◌⊎◌, ℕ, ◌<◌, ◌≤◌, true, List, length, codes}, List.{AllByRecursion, list_all, join_with_byte}}
+use Rattle.pf_addr.specs.{Path.Names.is_name_byte, Form.Words.Word, Path.Paths.main}
 use Rattle.pf_addr.specs.declared.path.limits.TheConstants.{PATH_LIMIT, COMPONENT_LIMIT, DEPTH_LIMIT}
-use Rattle.pf_addr.specs.Path.Paths.{main}
 
 -- 1 to 63 bytes of a name, and neither ".." nor "-"
 pub record IsComponent (c : List ℕ) : Type 0 where

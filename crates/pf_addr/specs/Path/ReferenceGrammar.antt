@@ -1,9 +1,7 @@
 -- Which words spell a reference (pf.conf(5), ANCHORS), by cases.
 use Rattle.std.specs.Prelude.{◌≡◌, ◌⊎◌, ◌≤◌, length}
-use Rattle.pf_addr.specs.Form.Words.{Word}
+use Rattle.pf_addr.specs.{Form.Words.Word, Path.PathGrammar.IsNames, Path.References.{PlainReference, reference_text, quoted}}
 use Rattle.pf_addr.specs.declared.path.limits.TheConstants.{REFERENCE_LIMIT}
-use Rattle.pf_addr.specs.Path.PathGrammar.{IsNames}
-use Rattle.pf_addr.specs.Path.References.{PlainReference, reference_text, quoted}
 
 -- names of a path, and at most 63 bytes with the "/*" behind them
 pub record IsReference (r : PlainReference) : Type 0 where

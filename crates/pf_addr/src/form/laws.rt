@@ -1,8 +1,6 @@
 //! Laws of words and numbers. A function's contract is the law, and its body does nothing.
 ghost use Rattle.std.specs.Prelude.{◌≡◌, ℕ, List, Some, All};
-ghost use Rattle.pf_addr.specs.Form.Words.{Word, words_of};
-ghost use Rattle.pf_addr.specs.Form.Cuts.{IsWord, IsCut};
-ghost use Rattle.pf_addr.specs.Form.Numbers.{IsNumber, number_of, IsNumberIn, number_in};
+ghost use Rattle.pf_addr.specs.{Form.Words.{Word, words_of}, Form.Cuts.{IsWord, IsCut}, Form.Numbers.{IsNumber, number_of, IsNumberIn, number_in}};
 
 /// The words of a line stand between blanks, and are all that stands so.
 #[tactic(auto, using(crate::proofs::Cutting::each_is_word, crate::proofs::Cutting::line_is_cut, crate::proofs::Cutting::cut_only))]

@@ -1,6 +1,5 @@
 //! Numbers in decimal digits.
-ghost use Rattle.std.specs.Prelude.{◌≡◌, ℕ, ◌≤◌, ◌+◌, ◌*◌, ◌-◌, Some};
-ghost use Rattle.std.specs.List.{list_all};
+ghost use Rattle.std.specs.{Prelude.{◌≡◌, ℕ, ◌≤◌, ◌+◌, ◌*◌, ◌-◌, Some}, List.list_all};
 ghost use Rattle.pf_addr.specs.Form.Numbers.{is_digit, decimal_value, number_of, of_bits, number_in};
 
 /// The number that a word of 1 to `most` decimal digits writes, of which the first may be zeros; `None` of any other word.

@@ -1,15 +1,7 @@
 //! What follows from the definitions that contracts cite: functions that do nothing, whose contracts are the laws.
 ghost use Rattle.std.specs.Prelude.{◌≡◌, ℕ};
 ghost use Rattle.pf_addr.specs.declared.path.limits.TheConstants.{PATH_LIMIT, COMPONENT_LIMIT, DEPTH_LIMIT, REFERENCE_LIMIT, TABLE_NAME_LIMIT};
-ghost use Rattle.pf_addr.specs.Form.Told.{TellsFaults};
-ghost use Rattle.pf_addr.specs.Path.FaultCases.{IsNameFault, IsPathFault, IsReferenceFault};
-ghost use Rattle.pf_addr.specs.Path.Names.{name_of};
-ghost use Rattle.pf_addr.specs.Path.Paths.{path_of};
-ghost use Rattle.pf_addr.specs.Path.References.{reference_of};
-ghost use Rattle.pf_addr.specs.Laws.Path.Names.{ReadsANameAlone, ReadsEachName};
-ghost use Rattle.pf_addr.specs.Laws.Path.Paths.{ReadsWhatIsSpelled, ReadsAllThatIsSpelled, WritesWhatWasRead, ReadsWhatIsWritten, SamePathIsEqual};
-ghost use Rattle.pf_addr.specs.Laws.Path.References.{ReferenceIsSpelled, SpelledReferenceIsRead};
-ghost use Rattle.pf_addr.specs.Laws.Path.Nested.{NoDeeper, LeadsDeeper, ChildHasOneMore, EachIsAChild};
+ghost use Rattle.pf_addr.specs.{Form.Told.TellsFaults, Path.FaultCases.{IsNameFault, IsPathFault, IsReferenceFault}, Path.Names.name_of, Path.Paths.path_of, Path.References.reference_of, Laws.Path.Names.{ReadsANameAlone, ReadsEachName}, Laws.Path.Paths.{ReadsWhatIsSpelled, ReadsAllThatIsSpelled, WritesWhatWasRead, ReadsWhatIsWritten, SamePathIsEqual}, Laws.Path.References.{ReferenceIsSpelled, SpelledReferenceIsRead}, Laws.Path.Nested.{NoDeeper, LeadsDeeper, ChildHasOneMore, EachIsAChild}};
 
 /// A word is read as a name exactly where it is one.
 #[tactic(auto, using(crate::proofs::NamesRead::name_found, crate::proofs::NamesRead::name_only))]

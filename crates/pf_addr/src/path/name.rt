@@ -1,8 +1,6 @@
 //! Names that are kept in place.
-ghost use Rattle.std.specs.Prelude.{◌≡◌, ◌≤◌, length};
-ghost use Rattle.std.specs.Str.{bytes_eq};
+ghost use Rattle.std.specs.{Prelude.{◌≡◌, ◌≤◌, length}, Str.bytes_eq, Cmp.Lexicographic.lists_per};
 ghost use Rattle.std.proofs.Common.{rules};
-ghost use Rattle.std.specs.Cmp.Lexicographic.{lists_per};
 ghost use Rattle.pf_addr.specs.Path.Names.{IsName, name_of, name_order, same_name};
 
 use crate::form::Kind;

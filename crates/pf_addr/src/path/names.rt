@@ -1,6 +1,5 @@
 //! Bytes of names.
-ghost use Rattle.std.specs.Prelude.{◌≡◌};
-ghost use Rattle.std.specs.List.{list_all};
+ghost use Rattle.std.specs.{Prelude.◌≡◌, List.list_all};
 ghost use Rattle.pf_addr.specs.Path.Names.{is_name_byte};
 
 fn fits_name(b: u8) -> bool

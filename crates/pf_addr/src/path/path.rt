@@ -1,6 +1,5 @@
 //! Paths of rulesets.
-ghost use Rattle.std.specs.Prelude.{◌≡◌, ◌≤◌, [], true, take, if◌then◌else◌, Some, None};
-ghost use Rattle.std.specs.Option.{is_none};
+ghost use Rattle.std.specs.{Prelude.{◌≡◌, ◌≤◌, [], true, take, if◌then◌else◌, Some, None}, Option.is_none};
 ghost use Rattle.pf_addr.specs.Path.Paths.{path_of, path_fault, is_path, path_order, same_path};
 
 use crate::form::Kind;

@@ -1,6 +1,5 @@
 //! Texts of paths.
-ghost use Rattle.std.specs.Prelude.{◌≡◌, ◌<◌, length, count_by, IfSome};
-ghost use Rattle.std.specs.List.{position};
+ghost use Rattle.std.specs.{Prelude.{◌≡◌, ◌<◌, length, count_by, IfSome}, List.position};
 ghost use Rattle.pf_addr.specs.Path.Paths.{is_slash, components, is_component, component_fault, first_fault, depth_fault, fault_within};
 
 use crate::form::Kind;

@@ -1,7 +1,6 @@
 //! References to rulesets.
 ghost use Rattle.std.specs.Prelude.{◌≡◌, ◌≤◌, length, None};
-ghost use Rattle.pf_addr.specs.Path.References.{refers, unquoted, split_wildcard, reference_in, reference_of};
-ghost use Rattle.pf_addr.specs.Path.ReferenceGrammar.{IsReference};
+ghost use Rattle.pf_addr.specs.{Path.References.{refers, unquoted, split_wildcard, reference_in, reference_of}, Path.ReferenceGrammar.IsReference};
 
 use crate::form::Kind;
 use crate::path::limits::REFERENCE_LIMIT;

@@ -1,12 +1,9 @@
 -- What follows from the definitions of maps, as law functions promise it.
-use Rattle.std.specs.Prelude.{◌≡◌, ℕ, ◌==◌, ◌&&◌, T, Bool, not, List, [], length, fold, map}
-use Rattle.std.specs.List.{list_any}
-use Rattle.std.specs.FinMap.{is_sorted}
+use Rattle.std.specs.{Prelude.{◌≡◌, ℕ, ◌==◌, ◌&&◌, T, Bool, not, List, [], length, fold, map}, List.list_any, FinMap.is_sorted}
 use Rattle.pf_rule.specs.Rules.{PlainRule}
 use Rattle.pf_table.specs.Map.ListMaps.{list_by}
-use Rattle.pf_addr.specs.Path.Paths.{path_order, same_path}
+use Rattle.pf_addr.specs.{Path.Paths.{path_order, same_path}, Path.Nested.is_child}
 use Rattle.pf_anchor.specs.Rulesets.{Ruled, ruled, rules_at, with_rules, children, IsMap}
-use Rattle.pf_addr.specs.Path.Nested.{is_child}
 
 -- ---- the map of rulesets
 

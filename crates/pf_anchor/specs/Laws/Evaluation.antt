@@ -1,20 +1,11 @@
 -- What follows from the definition of evaluation (pf.conf(5), PACKET FILTERING and ANCHORS): laws that say it without the levels, or
 -- without the recursion.
-use Rattle.std.specs.Prelude.{◌≡◌, ◌⊎◌, ℕ, zero, suc, ◌+◌, ◌≤◌, Bool, true, false, not, cond, ◌&&◌, List, [], ◌∷◌, ◌++◌, length, ◌==◌, map, Option, Some, None}
-use Rattle.std.specs.List.{list_all, list_any}
+use Rattle.std.specs.{Prelude.{◌≡◌, ◌⊎◌, ℕ, zero, suc, ◌+◌, ◌≤◌, Bool, true, false, not, cond, ◌&&◌, List, [], ◌∷◌, ◌++◌, length, ◌==◌, map, Option, Some, None}, List.{list_all, list_any}}
 use Rattle.pf_addr.specs.declared.path.limits.TheConstants.{DEPTH_LIMIT}
-use Rattle.pf_addr.specs.Path.Paths.{main, same_path}
-use Rattle.pf_addr.specs.Path.Nested.{path_within}
-use Rattle.pf_addr.specs.Path.References.{PlainReference}
-use Rattle.pf_rule.specs.Packets.{PlainPacket}
-use Rattle.pf_rule.specs.Rules.{PlainRule}
-use Rattle.pf_rule.specs.declared.{rule.Action.Action, rule.Effect.TheVariants.Decide, rule.Effect.TheVariants.Evaluate}
-use Rattle.pf_anchor.specs.declared.{evaluated.Evaluated.Evaluated, evaluated.Evaluated.TheVariants.Open, evaluated.Evaluated.TheVariants.Ended}
+use Rattle.pf_addr.specs.{Path.Paths.{main, same_path}, Path.Nested.path_within, Path.References.PlainReference}
+use Rattle.pf_rule.specs.{Packets.PlainPacket, Rules.PlainRule, declared.{rule.Action.Action, rule.Effect.TheVariants.Decide, rule.Effect.TheVariants.Evaluate}}
+use Rattle.pf_anchor.specs.{declared.{evaluated.Evaluated.Evaluated, evaluated.Evaluated.TheVariants.Open, evaluated.Evaluated.TheVariants.Ended}, Matches.{PlainMatch, found}, Rulesets.{Ruled, ruled, IsMap, rules_at, children, leads_to, targets}, Configurations.{Configuration, with_rulesets}, Evaluation.{Tests, and_then, in_turn, rules_at_path, evaluate_with, levels, evaluation, matching, judged}}
 use Rattle.pf_anchor.specs.declared.verdict.RuleVerdict.TheVariants as by
-use Rattle.pf_anchor.specs.Matches.{PlainMatch, found}
-use Rattle.pf_anchor.specs.Rulesets.{Ruled, ruled, IsMap, rules_at, children, leads_to, targets}
-use Rattle.pf_anchor.specs.Configurations.{Configuration, with_rulesets}
-use Rattle.pf_anchor.specs.Evaluation.{Tests, and_then, in_turn, rules_at_path, evaluate_with, levels, evaluation, matching, judged}
 
 -- ---- one solution
 

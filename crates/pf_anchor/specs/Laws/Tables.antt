@@ -1,18 +1,12 @@
 -- What follows from the definition of tables at paths: what is read after a change, and which table answers a rule (pf.conf(5), TABLES and
 -- ANCHORS).
-use Rattle.std.specs.Prelude.{◌≡◌, ◌≢◌, ◌⊎◌, ℕ, T, Bool, false, List, [], Some, None, fold, map}
-use Rattle.std.specs.FinMap.{find, is_sorted}
+use Rattle.std.specs.{Prelude.{◌≡◌, ◌≢◌, ◌⊎◌, ℕ, T, Bool, false, List, [], Some, None, fold, map}, FinMap.{find, is_sorted}}
 use Rattle.pf_addr.specs.declared.addr.Addr.{Addr}
-use Rattle.pf_table.specs.Map.ListMaps.{list_by}
-use Rattle.pf_addr.specs.Path.Names.{name_order}
-use Rattle.pf_addr.specs.Path.Paths.{main}
+use Rattle.pf_table.specs.{Map.ListMaps.list_by, Entries.Row, Tables.{deciding, table_holds}}
+use Rattle.pf_addr.specs.{Path.Names.name_order, Path.Paths.main}
 use Rattle.pf_rule.specs.declared.host.host.Host.TheVariants.{Table}
 use Rattle.pf_rule.specs.Host.Hosts.{host_holds}
-use Rattle.pf_table.specs.Entries.{Row}
-use Rattle.pf_table.specs.Tables.{deciding, table_holds}
-use Rattle.pf_anchor.specs.Rulesets.{Ruled}
-use Rattle.pf_anchor.specs.Tables.{TableKey, Tabled, tabled, table_order, table_found, table_at, tables_at, with_table, IsTableMap, tables_say}
-use Rattle.pf_anchor.specs.Configurations.{Configuration, with_rulesets, with_tables}
+use Rattle.pf_anchor.specs.{Rulesets.Ruled, Tables.{TableKey, Tabled, tabled, table_order, table_found, table_at, tables_at, with_table, IsTableMap, tables_say}, Configurations.{Configuration, with_rulesets, with_tables}}
 
 -- ---- changes
 

@@ -1,6 +1,5 @@
 -- The values of the types that hold memory.
-use Rattle.pf_core.specs.declared.{durable.change.Kind.Kind, durable.change.Kind.TheVariants.Commit, durable.change.Kind.TheVariants.Add, durable.change.Kind.TheVariants.Delete, durable.change.Kind.TheVariants.Set, durable.change.Kind.TheVariants.States, durable.change.Kind.TheVariants.Remove}
-use Rattle.pf_core.specs.Durable.Edits.{Edit, commits, adds, deletes, sets, acts, removes}
+use Rattle.pf_core.specs.{declared.{durable.change.Kind.Kind, durable.change.Kind.TheVariants.Commit, durable.change.Kind.TheVariants.Add, durable.change.Kind.TheVariants.Delete, durable.change.Kind.TheVariants.Set, durable.change.Kind.TheVariants.States, durable.change.Kind.TheVariants.Remove}, Durable.Edits.{Edit, commits, adds, deletes, sets, acts, removes}}
 
 abbrev pub edit_of : Kind → Edit
 edit_of (Commit items) = commits items.items

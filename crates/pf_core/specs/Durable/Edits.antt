@@ -1,30 +1,15 @@
 -- What is kept, what a change does to it (pf(4), DIOCXCOMMIT and DIOCRADDADDRS to DIOCRSETADDRS), and what it says of a packet
 -- (pf.conf(5), PACKET FILTERING, ANCHORS and TABLES). That an empty table doesn't exist, how a peer's states act, and the limits, are own.
-use Rattle.std.specs.Prelude.{ℕ, ◌==◌, ◌&&◌, Bool, true, not, List, [], ◌∷◌, ◌++◌, fold, length, map, nat_lt, Option, Result, Ok}
-use Rattle.std.specs.FinMap.{is_sorted}
-use Rattle.std.specs.List.{list_any, position}
-use Rattle.std.specs.Option.{option_map_or, option_or}
-use Rattle.pf_addr.specs.Refusing.{and_then, unless, refused_at}
-use Rattle.pf_addr.specs.Path.Names.{name_order}
-use Rattle.pf_addr.specs.Path.Paths.{same_path}
-use Rattle.pf_rule.specs.Packets.{PlainPacket}
+use Rattle.std.specs.{Prelude.{ℕ, ◌==◌, ◌&&◌, Bool, true, not, List, [], ◌∷◌, ◌++◌, fold, length, map, nat_lt, Option, Result, Ok}, FinMap.is_sorted, List.{list_any, position}, Option.{option_map_or, option_or}}
+use Rattle.pf_addr.specs.{Refusing.{and_then, unless, refused_at}, Path.Names.name_order, Path.Paths.same_path}
+use Rattle.pf_rule.specs.{Packets.PlainPacket, Sum.Forms.ruleset_sum}
 use Rattle.pf_table.specs.declared.limits.TheConstants.{TABLE_LIMIT}
-use Rattle.pf_table.specs.Entries.{Row}
-use Rattle.pf_table.specs.Edits.{added, deleted, replaced, conflict_in}
+use Rattle.pf_table.specs.{Entries.Row, Edits.{added, deleted, replaced, conflict_in}}
 use Rattle.pf_anchor.specs.declared.limits.TheConstants.{RULESET_LIMIT, TABLE_COUNT_LIMIT}
-use Rattle.pf_anchor.specs.Configurations.{Configuration, nothing, with_rulesets, with_tables}
-use Rattle.pf_anchor.specs.Evaluation.{judged}
-use Rattle.pf_anchor.specs.Rulesets.{Ruled, rules_at}
-use Rattle.pf_anchor.specs.Tables.{Tabled, tabled, table_at}
-use Rattle.pf_state.specs.declared.{state.StateName.StateName, step.Step.Step}
-use Rattle.pf_state.specs.Flows.{flow_of}
-use Rattle.pf_state.specs.States.{Stated, state_of}
-use Rattle.pf_state.specs.Steps.{after as stepped_on, passes_limit, without_state}
-use Rattle.pf_rule.specs.Sum.Forms.{ruleset_sum}
+use Rattle.pf_anchor.specs.{Configurations.{Configuration, nothing, with_rulesets, with_tables}, Evaluation.judged, Rulesets.{Ruled, rules_at}, Tables.{Tabled, tabled, table_at}}
+use Rattle.pf_state.specs.{declared.{state.StateName.StateName, step.Step.Step}, Flows.flow_of, States.{Stated, state_of}, Steps.{after as stepped_on, passes_limit, without_state}}
 use Rattle.pf_ticket.specs.declared.name.RulesetName.{RulesetName}
-use Rattle.pf_ticket.specs.Names.{filter_at, table_ruleset_at}
-use Rattle.pf_ticket.specs.NamedTables.{Named}
-use Rattle.pf_ticket.specs.Replies.{twice_behind}
+use Rattle.pf_ticket.specs.{Names.{filter_at, table_ruleset_at}, NamedTables.Named, Replies.twice_behind}
 use Rattle.pf_core.specs.declared.{durable.change.Item.Item, durable.refusal.ChangeRefusal.ChangeRefusal, durable.refusal.ChangeRefusal.TheVariants.Twice, durable.refusal.ChangeRefusal.TheVariants.Conflict, durable.refusal.ChangeRefusal.TheVariants.TableFull, durable.refusal.ChangeRefusal.TheVariants.TooManyRulesets, durable.refusal.ChangeRefusal.TheVariants.TooManyTables, durable.refusal.ChangeRefusal.TheVariants.StatesFull, durable.verdict.Verdict.Verdict, durable.verdict.Verdict.TheVariants.State as Stateful, durable.verdict.Verdict.TheVariants.Rules}
 use Rattle.pf_core.specs.declared.durable.change.Item.TheVariants as item
 

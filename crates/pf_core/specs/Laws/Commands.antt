@@ -1,22 +1,11 @@
 -- What follows from the definitions, as law functions promise it.
-use Rattle.std.specs.Prelude.{◌≡◌, ℕ, T, true, false, List, [], ◌∷◌, map, unwrap_or, None, Ok}
-use Rattle.std.specs.FinMap.{find, is_sorted}
-use Rattle.std.specs.List.{list_all}
+use Rattle.std.specs.{Prelude.{◌≡◌, ℕ, T, true, false, List, [], ◌∷◌, map, unwrap_or, None, Ok}, FinMap.{find, is_sorted}, List.list_all}
 use Rattle.pf_addr.specs.Path.Names.{name_order}
 use Rattle.pf_anchor.specs.Rulesets.{rules_at}
-use Rattle.pf_ticket.specs.declared.{entry.Entry.Entry, name.RulesetKind.TheVariants.Filter, name.RulesetKind.TheVariants.Table, name.RulesetName.RulesetName}
-use Rattle.pf_ticket.specs.NamedTables.{Named}
-use Rattle.pf_ticket.specs.Tickets.{rules_in as offered_rules, tables_in as offered_tables, offer_at, Open, valid_ticket, content}
-use Rattle.pf_ticket.specs.Mentions.{named_in, after, switches}
-use Rattle.pf_ticket.specs.Names.{same_kind, is_named, names_of, filter_at, table_ruleset_at}
+use Rattle.pf_ticket.specs.{declared.{entry.Entry.Entry, name.RulesetKind.TheVariants.Filter, name.RulesetKind.TheVariants.Table, name.RulesetName.RulesetName}, NamedTables.Named, Tickets.{rules_in as offered_rules, tables_in as offered_tables, offer_at, Open, valid_ticket, content}, Mentions.{named_in, after, switches}, Names.{same_kind, is_named, names_of, filter_at, table_ruleset_at}}
 use Rattle.pf_rule.specs.Packets.{PlainPacket}
-use Rattle.pf_state.specs.declared.{state.StateName.StateName, step.Insertion.TheVariants.New, step.Step.TheVariants.Insert}
-use Rattle.pf_state.specs.States.{Stated}
-use Rattle.pf_state.specs.Steps.{insertion}
-use Rattle.pf_core.specs.declared.{command.Command.Command, command.StateCommand.TheVariants.Track, command.Command.TheVariants.Transact, command.Transaction.TheVariants.Commit, reply.Outcome.Outcome, reply.Refusal.Refusal, reply.Reply.TheVariants.Applied, reply.Reply.TheVariants.Refused, step.Step.TheVariants.Wants}
-use Rattle.pf_core.specs.Calls.{Call, call, mentions_of}
-use Rattle.pf_core.specs.Commands.{items, step_by, states_step, mentioned, named_by}
-use Rattle.pf_core.specs.Durable.Edits.{Kept, Edit, commits, acts, entries_at, applied, voided_by, fits}
+use Rattle.pf_state.specs.{declared.{state.StateName.StateName, step.Insertion.TheVariants.New, step.Step.TheVariants.Insert}, States.Stated, Steps.insertion}
+use Rattle.pf_core.specs.{declared.{command.Command.Command, command.StateCommand.TheVariants.Track, command.Command.TheVariants.Transact, command.Transaction.TheVariants.Commit, reply.Outcome.Outcome, reply.Refusal.Refusal, reply.Reply.TheVariants.Applied, reply.Reply.TheVariants.Refused, step.Step.TheVariants.Wants}, Calls.{Call, call, mentions_of}, Commands.{items, step_by, states_step, mentioned, named_by}, Durable.Edits.{Kept, Edit, commits, acts, entries_at, applied, voided_by, fits}}
 
 -- the tables that are offered for the table ruleset at a path
 abbrev pub tables_offered : Open → List ℕ → List Named

@@ -1,18 +1,9 @@
 -- What follows from the definitions, as law functions promise it.
-use Rattle.std.specs.Prelude.{◌≡◌, ◌≢◌, ◌⊎◌, ℕ, ◌≤◌, List, [], length, Ok}
-use Rattle.std.specs.List.{AllByRecursion}
-use Rattle.pf_table.specs.Edits.{added, deleted, replaced}
-use Rattle.pf_table.specs.Entries.{Row}
-use Rattle.pf_table.specs.Tables.{AreEntries}
+use Rattle.std.specs.{Prelude.{◌≡◌, ◌≢◌, ◌⊎◌, ℕ, ◌≤◌, List, [], length, Ok}, List.AllByRecursion}
+use Rattle.pf_table.specs.{Edits.{added, deleted, replaced}, Entries.Row, Tables.AreEntries, Map.ListMaps.list_by}
 use Rattle.pf_anchor.specs.declared.limits.TheConstants.{RULE_LIMIT, RULESET_LIMIT, TABLE_COUNT_LIMIT}
-use Rattle.pf_anchor.specs.Configurations.{IsConfiguration}
-use Rattle.pf_anchor.specs.Laws.Configurations.{rules_by}
-use Rattle.pf_table.specs.Map.ListMaps.{list_by}
-use Rattle.pf_anchor.specs.Rulesets.{rules_at}
-use Rattle.pf_anchor.specs.Tables.{table_order, IsTableMap}
-use Rattle.pf_state.specs.declared.{state.StateName.StateName, step.Step.Step}
-use Rattle.pf_state.specs.States.{Stated, IsStates}
-use Rattle.pf_state.specs.Steps.{after as stepped_on, without_state}
+use Rattle.pf_anchor.specs.{Configurations.IsConfiguration, Laws.Configurations.rules_by, Rulesets.rules_at, Tables.{table_order, IsTableMap}}
+use Rattle.pf_state.specs.{declared.{state.StateName.StateName, step.Step.Step}, States.{Stated, IsStates}, Steps.{after as stepped_on, without_state}}
 use Rattle.pf_core.specs.declared.durable.change.Item.{Item}
 use Rattle.pf_core.specs.Durable.Edits.{Kept, commits, adds, deletes, sets, acts, removes, rulesets_in, tables_in, entries_at, applied, fits}
 

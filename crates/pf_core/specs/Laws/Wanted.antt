@@ -4,23 +4,13 @@ use Rattle.std.proofs.Common.{refl, sym, ap, subst, ◌∙◌}
 use Rattle.pf_addr.specs.Refusing.{unless}
 use Rattle.pf_table.specs.Edits.{added, additions, deletions, conflict_behind}
 use Rattle.pf_anchor.specs.declared.{limits.TheConstants.TABLE_COUNT_LIMIT, verdict.RuleVerdict.RuleVerdict}
-use Rattle.pf_ticket.specs.declared.{entry.Entry.Entry, name.RulesetKind.RulesetKind, name.RulesetKind.TheVariants.Filter, name.RulesetKind.TheVariants.Table, name.RulesetName.RulesetName, refusal.TicketRefusal.TicketRefusal}
-use Rattle.pf_ticket.specs.Names.{filter_at, table_ruleset_at, names_of}
-use Rattle.pf_ticket.specs.Laws.Names.{filter_is, table_is}
-use Rattle.pf_ticket.specs.Mentions.{switches}
-use Rattle.pf_ticket.specs.Replies.{begin_reply, add_reply, define_reply, list_check, commit_check}
-use Rattle.pf_ticket.specs.Tickets.{Open, Loaded, offered_as, loaded, content}
-use Rattle.pf_core.specs.declared.{command.Command.Command, command.Command.TheVariants.Transact, command.Command.TheVariants.Edit as Change, command.Command.TheVariants.States as OfStates, command.Command.TheVariants.Ask, durable.refusal.ChangeRefusal.ChangeRefusal, durable.verdict.Verdict.Verdict, durable.verdict.Verdict.TheVariants.State as Stateful, durable.verdict.Verdict.TheVariants.Rules as ByRules, command.StateCommand.StateCommand, command.StateCommand.TheVariants.Track, command.StateCommand.TheVariants.Peer, command.StateCommand.TheVariants.Kill as KillState, command.TableEdit.TableEdit, command.TableEdit.TheVariants.Add as AddTo, command.TableEdit.TheVariants.Delete, command.TableEdit.TheVariants.Set, command.TableEdit.TheVariants.Kill, command.Transaction.TheVariants.Begin, command.Transaction.TheVariants.Add, command.Transaction.TheVariants.Define, command.Transaction.TheVariants.Commit, command.Transaction.TheVariants.Rollback, reply.Answer.Answer, reply.Outcome.Outcome, reply.Outcome.TheVariants.Committed, reply.Refusal.Refusal, durable.refusal.ChangeRefusal.TheVariants.TooManyTables, step.Step.Step, step.Step.TheVariants.Done, step.Step.TheVariants.Wants}
+use Rattle.pf_ticket.specs.{declared.{entry.Entry.Entry, name.RulesetKind.RulesetKind, name.RulesetKind.TheVariants.Filter, name.RulesetKind.TheVariants.Table, name.RulesetName.RulesetName, refusal.TicketRefusal.TicketRefusal}, Names.{filter_at, table_ruleset_at, names_of}, Laws.Names.{filter_is, table_is}, Mentions.switches, Replies.{begin_reply, add_reply, define_reply, list_check, commit_check}, Tickets.{Open, Loaded, offered_as, loaded, content}}
+use Rattle.pf_core.specs.{declared.{command.Command.Command, command.Command.TheVariants.Transact, command.Command.TheVariants.Edit as Change, command.Command.TheVariants.States as OfStates, command.Command.TheVariants.Ask, durable.refusal.ChangeRefusal.ChangeRefusal, durable.verdict.Verdict.Verdict, durable.verdict.Verdict.TheVariants.State as Stateful, durable.verdict.Verdict.TheVariants.Rules as ByRules, command.StateCommand.StateCommand, command.StateCommand.TheVariants.Track, command.StateCommand.TheVariants.Peer, command.StateCommand.TheVariants.Kill as KillState, command.TableEdit.TableEdit, command.TableEdit.TheVariants.Add as AddTo, command.TableEdit.TheVariants.Delete, command.TableEdit.TheVariants.Set, command.TableEdit.TheVariants.Kill, command.Transaction.TheVariants.Begin, command.Transaction.TheVariants.Add, command.Transaction.TheVariants.Define, command.Transaction.TheVariants.Commit, command.Transaction.TheVariants.Rollback, reply.Answer.Answer, reply.Outcome.Outcome, reply.Outcome.TheVariants.Committed, reply.Refusal.Refusal, durable.refusal.ChangeRefusal.TheVariants.TooManyTables, step.Step.Step, step.Step.TheVariants.Done, step.Step.TheVariants.Wants}, Commands.{unless_refused, unless_unfit, if_there, is_table, item_of, items, wanting, commit_step, added_of, deleted_of, edit_step, makes_state, tracked, track_step, steps_here, states_step, step_by, mentioned, edits_in_memory, is_done, changes_states_in_memory, takes_memory}, Durable.Edits.{Kept, Edit, commits, adds, deletes, sets, acts, removes, entries_at, with_entries, name_of, voided_by, no_conflict, fits, verdict}}
 use Rattle.pf_rule.specs.Packets.{PlainPacket}
-use Rattle.pf_state.specs.declared.{state.Bound.Bound, state.StateName.StateName, step.Step.Step as StateStep}
+use Rattle.pf_state.specs.{declared.{state.Bound.Bound, state.StateName.StateName, step.Step.Step as StateStep}, Flows.flow_of, States.{Stated, held_at}, Steps.counts}
 use Rattle.pf_state.specs.declared.step.Step.TheVariants as step
-use Rattle.pf_state.specs.Flows.{flow_of}
-use Rattle.pf_state.specs.States.{Stated, held_at}
-use Rattle.pf_state.specs.Steps.{counts}
 use Rattle.pf_core.specs.declared.reply.Answer.TheVariants as answer
 use Rattle.pf_core.specs.declared.reply.Outcome.TheVariants as outcome
-use Rattle.pf_core.specs.Commands.{unless_refused, unless_unfit, if_there, is_table, item_of, items, wanting, commit_step, added_of, deleted_of, edit_step, makes_state, tracked, track_step, steps_here, states_step, step_by, mentioned, edits_in_memory, is_done, changes_states_in_memory, takes_memory}
-use Rattle.pf_core.specs.Durable.Edits.{Kept, Edit, commits, adds, deletes, sets, acts, removes, entries_at, with_entries, name_of, voided_by, no_conflict, fits, verdict}
 
 -- what the tickets didn't refuse
 pub record IsPassed {A B : Type 0} (r : Result A TicketRefusal) (f : A → Result B Refusal) (x : B) : Type 0 where

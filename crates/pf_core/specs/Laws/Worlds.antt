@@ -1,32 +1,14 @@
 -- What holds after every world.
-use Rattle.std.specs.Prelude.{◌≡◌, ℕ, ◌≤◌, Bool, true, List, [], ◌++◌, length, fold, None, Ok}
-use Rattle.std.specs.List.{list_all}
+use Rattle.std.specs.{Prelude.{◌≡◌, ℕ, ◌≤◌, Bool, true, List, [], ◌++◌, length, fold, None, Ok}, List.list_all}
 use Rattle.pf_addr.specs.declared.addr.Addr.{Addr}
-use Rattle.pf_addr.specs.Path.Paths.{main}
-use Rattle.pf_addr.specs.Path.References.{PlainReference}
+use Rattle.pf_addr.specs.{Path.Paths.main, Path.References.PlainReference}
 use Rattle.pf_rule.specs.Packets.{PlainPacket}
-use Rattle.pf_table.specs.Laws.Tables.{DecidesAbout}
-use Rattle.pf_table.specs.Tables.{deciding}
-use Rattle.pf_anchor.specs.Evaluation.{judged}
-use Rattle.pf_anchor.specs.Laws.Evaluation.{decides, IsToldOfMain, LeadsThere}
-use Rattle.pf_anchor.specs.Rulesets.{rules_at}
-use Rattle.pf_state.specs.Flows.{flow_of}
-use Rattle.pf_state.specs.Laws.States.{IsStateOf}
-use Rattle.pf_state.specs.States.{Stated}
-use Rattle.pf_ticket.specs.declared.{entry.Entry.Entry, ticket.Ticket.Ticket}
-use Rattle.pf_ticket.specs.Replies.{commit_check}
-use Rattle.pf_ticket.specs.Tickets.{content}
-use Rattle.pf_ticket.specs.Laws.Tickets.{AreOnce}
-use Rattle.pf_ticket.specs.Laws.Tickets.{IsWithin as AreTicketsWithin}
-use Rattle.pf_ticket.specs.Mentions.{Mention, opened as left_by}
-use Rattle.pf_ticket.specs.Names.{tickets_from, tickets_of}
-use Rattle.pf_core.specs.declared.{command.Command.TheVariants.Ask, command.Question.TheVariants.Judge, command.Question.TheVariants.Test, durable.verdict.Verdict.TheVariants.State as Stateful, durable.verdict.Verdict.TheVariants.Rules as ByRules, reply.Reply.Reply, reply.Reply.TheVariants.Answer as Answered}
+use Rattle.pf_table.specs.{Laws.Tables.DecidesAbout, Tables.deciding}
+use Rattle.pf_anchor.specs.{Evaluation.judged, Laws.Evaluation.{decides, IsToldOfMain, LeadsThere}, Rulesets.rules_at}
+use Rattle.pf_state.specs.{Flows.flow_of, Laws.States.IsStateOf, States.Stated}
+use Rattle.pf_ticket.specs.{declared.{entry.Entry.Entry, ticket.Ticket.Ticket}, Replies.commit_check, Tickets.content, Laws.Tickets.{AreOnce, IsWithin as AreTicketsWithin}, Mentions.{Mention, opened as left_by}, Names.{tickets_from, tickets_of}}
+use Rattle.pf_core.specs.{declared.{command.Command.TheVariants.Ask, command.Question.TheVariants.Judge, command.Question.TheVariants.Test, durable.verdict.Verdict.TheVariants.State as Stateful, durable.verdict.Verdict.TheVariants.Rules as ByRules, reply.Reply.Reply, reply.Reply.TheVariants.Answer as Answered}, Calls.mentions_of, Commands.items, Durable.Edits.{Kept, named_again, entries_at, verdict}, Laws.Durable.IsWithin, Worlds.{Held, up, down, Event, called, opened, flat, log_of, durable_of, LegalReply, state_after, IsWorld}}
 use Rattle.pf_core.specs.declared.reply.Answer.TheVariants as answer
-use Rattle.pf_core.specs.Calls.{mentions_of}
-use Rattle.pf_core.specs.Commands.{items}
-use Rattle.pf_core.specs.Durable.Edits.{Kept, named_again, entries_at, verdict}
-use Rattle.pf_core.specs.Laws.Durable.{IsWithin}
-use Rattle.pf_core.specs.Worlds.{Held, up, down, Event, called, opened, flat, log_of, durable_of, LegalReply, state_after, IsWorld}
 
 -- ---- tickets
 

@@ -1,13 +1,8 @@
 //! What is kept.
-ghost use Rattle.std.specs.Prelude.{◌≡◌, ◌==◌, ◌++◌, [], T, not, true, map, length, IfOk, OnOk};
-ghost use Rattle.std.specs.FinMap.{is_sorted};
-ghost use Rattle.std.specs.List.{list_all};
-ghost use Rattle.std.specs.Arc.{arc_value};
-ghost use Rattle.pf_addr.specs.Refusing.{refused_at, OrMemory, Meets};
-ghost use Rattle.pf_addr.specs.Path.Names.{name_order};
+ghost use Rattle.std.specs.{Prelude.{◌≡◌, ◌==◌, ◌++◌, [], T, not, true, map, length, IfOk, OnOk}, FinMap.is_sorted, List.list_all, Arc.arc_value};
+ghost use Rattle.pf_addr.specs.{Refusing.{refused_at, OrMemory, Meets}, Path.Names.name_order};
 ghost use Rattle.pf_anchor.specs.Configurations.{with_rulesets};
-ghost use Rattle.pf_table.specs.Edits.{added, additions, deleted, deletions, replaced};
-ghost use Rattle.pf_table.specs.Tables.{deciding};
+ghost use Rattle.pf_table.specs.{Edits.{added, additions, deleted, deletions, replaced}, Tables.deciding};
 ghost use Rattle.pf_state.specs.Steps.{after, counts, without_state};
 ghost use Rattle.pf_ticket.specs.Replies.{twice_behind};
 ghost use Rattle.pf_core.specs.declared.durable.refusal.ChangeRefusal.TheVariants.{Twice, Memory};

@@ -3,17 +3,12 @@ use Rattle.std.specs.Prelude.{◌≡◌, ◌≤◌, ℕ, List, [], length, map, 
 use Rattle.hex.specs.Hex.{IsBytes}
 pub use Rattle.pf_state.specs.declared.peer.message.Message.{Message}
 pub use Rattle.pf_state.specs.declared.step.Step.{Step}
-use Rattle.pf_state.specs.Peer.Written.{Each, message_bytes}
+use Rattle.pf_state.specs.{Peer.Written.{Each, message_bytes}, States.{Stated, IsStates}, Failover.Outgoing.exported_messages, Laws.Failover.{IsState, state_there}}
 use Rattle.pf_anchor.specs.Rulesets.{rules_at}
 use Rattle.pf_core.specs.Durable.Edits.{Kept, main_sum}
-use Rattle.pf_state.specs.States.{Stated, IsStates}
-use Rattle.pf_state.specs.Failover.Outgoing.{exported_messages}
-use Rattle.pf_state.specs.Laws.Failover.{IsState, state_there}
-use Rattle.pf_core.specs.declared.command.Command.TheVariants.{States}
-use Rattle.pf_core.specs.declared.command.StateCommand.TheVariants.{Peer}
+use Rattle.pf_core.specs.declared.{command.Command.TheVariants.States, command.StateCommand.TheVariants.Peer}
 use Rattle.pf_line.specs.declared.line.TheConstants.{LINE_LIMIT}
-use Rattle.pf_line.specs.Lines.{line_at, Means}
-use Rattle.pf_line.specs.Reply.StateTexts.{message_line}
+use Rattle.pf_line.specs.{Lines.{line_at, Means}, Reply.StateTexts.message_line}
 
 -- the line that a peer is given for a message
 abbrev pub message_text : Message → List ℕ

@@ -1,29 +1,19 @@
 -- The text of each reply: one line, before which a shown ruleset has a line for each rule, shown tables and states one for each of them,
 -- and an export one for each message. Own; rules and entries as pfctl(8) shows them.
 use Rattle.std.specs.Prelude.{ℕ, ◌+◌, ◌==◌, Bool, true, false, List, [], ◌∷◌, ◌++◌, length, map, codes, decimal, if◌then◌else◌, Option, Some, None}
-use Rattle.pf_rule.specs.declared.rule.Action.{Action}
-use Rattle.pf_rule.specs.declared.rule.Action.TheVariants.{Pass, Block}
-use Rattle.pf_rule.specs.Rules.{PlainRule}
-use Rattle.pf_rule.specs.RuleText.{rule_text}
+use Rattle.pf_rule.specs.declared.{rule.Action.Action, rule.Action.TheVariants.{Pass, Block}}
+use Rattle.pf_rule.specs.{Rules.PlainRule, RuleText.rule_text}
 use Rattle.pf_table.specs.Entries.{Row}
-use Rattle.pf_core.specs.declared.reply.Answer.{Answer}
+use Rattle.pf_core.specs.declared.{reply.Answer.Answer, reply.Outcome.Outcome, reply.Refusal.Refusal, reply.Reply.Reply, durable.verdict.Verdict.Verdict, durable.verdict.Verdict.TheVariants.{State, Rules}}
 use Rattle.pf_core.specs.declared.reply.Answer.TheVariants as answers
-use Rattle.pf_core.specs.declared.reply.Outcome.{Outcome}
 use Rattle.pf_core.specs.declared.reply.Outcome.TheVariants as outcomes
-use Rattle.pf_core.specs.declared.reply.Refusal.{Refusal}
 use Rattle.pf_core.specs.declared.reply.Refusal.TheVariants as refusals
-use Rattle.pf_core.specs.declared.reply.Reply.{Reply}
 use Rattle.pf_core.specs.declared.reply.Reply.TheVariants as replies
 use Rattle.pf_anchor.specs.Tables.{Tabled}
-use Rattle.pf_anchor.specs.declared.verdict.RuleVerdict.{RuleVerdict}
-use Rattle.pf_anchor.specs.declared.verdict.RuleVerdict.TheVariants.{Rule, Default}
-use Rattle.pf_core.specs.declared.durable.verdict.Verdict.{Verdict}
-use Rattle.pf_core.specs.declared.durable.verdict.Verdict.TheVariants.{State, Rules}
+use Rattle.pf_anchor.specs.declared.{verdict.RuleVerdict.RuleVerdict, verdict.RuleVerdict.TheVariants.{Rule, Default}}
 use Rattle.hex.specs.Hex.{encode_lower}
 use Rattle.pf_ticket.specs.Names.{tickets_of}
-use Rattle.pf_line.specs.Reply.Parts.{lines_text}
-use Rattle.pf_line.specs.Reply.Texts.{tickets_text, entry_text, entries_text}
-use Rattle.pf_line.specs.Reply.StateTexts.{name_text, state_lines, message_lines, counts_text, fault_text}
+use Rattle.pf_line.specs.{Reply.Parts.lines_text, Reply.Texts.{tickets_text, entry_text, entries_text}, Reply.StateTexts.{name_text, state_lines, message_lines, counts_text, fault_text}}
 
 -- ---- verdicts
 

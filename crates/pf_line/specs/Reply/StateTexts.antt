@@ -3,17 +3,10 @@ use Rattle.std.specs.Prelude.{ℕ, List, ◌∷◌, ◌++◌, codes, decimal, ma
 use Rattle.hex.specs.Hex.{encode_lower}
 use Rattle.pf_addr.specs.declared.addr.Addr.{Addr}
 use Rattle.pf_addr.specs.Spelling.{addr_text}
-use Rattle.pf_rule.specs.declared.value.direction.Direction.{Direction}
-use Rattle.pf_rule.specs.declared.value.direction.Direction.TheVariants.{In, Out}
+use Rattle.pf_rule.specs.declared.{value.direction.Direction.Direction, value.direction.Direction.TheVariants.{In, Out}}
 use Rattle.pf_rule.specs.Value.Tests.{protocol_word}
-use Rattle.pf_state.specs.declared.peer.fault.PeerFault.{PeerFault}
-use Rattle.pf_state.specs.declared.peer.fault.PeerFault.TheVariants.{BadVersion, BadLength, BadAction, BadRecord, Ended}
-use Rattle.pf_state.specs.declared.counts.Counts.{Counts}
-use Rattle.pf_state.specs.declared.state.Bound.{Bound}
-use Rattle.pf_state.specs.declared.state.Bound.TheVariants.{Rule, Default}
-use Rattle.pf_state.specs.declared.state.StateName.{StateName}
-use Rattle.pf_state.specs.Flows.{PlainFlow}
-use Rattle.pf_state.specs.States.{Stated}
+use Rattle.pf_state.specs.declared.{peer.fault.PeerFault.PeerFault, peer.fault.PeerFault.TheVariants.{BadVersion, BadLength, BadAction, BadRecord, Ended}, counts.Counts.Counts, state.Bound.Bound, state.Bound.TheVariants.{Rule, Default}, state.StateName.StateName}
+use Rattle.pf_state.specs.{Flows.PlainFlow, States.Stated}
 
 -- a state's number, and its creator's behind a space (32)
 abbrev pub name_text : StateName → List ℕ

@@ -1,11 +1,9 @@
 //! Replies.
 //!
 //! A call that fails has written some front of its text, and no more. None of these calls has an allocator.
-ghost use Rattle.std.specs.Prelude.{◌≡◌, ◌≢◌, IfErr};
-ghost use Rattle.std.specs.IoError.{error_kind};
+ghost use Rattle.std.specs.{Prelude.{◌≡◌, ◌≢◌, IfErr}, IoError.error_kind};
 ghost use Rattle.pf_addr.specs.Writing.{Writes};
-ghost use Rattle.pf_line.specs.Reply.Parts.{HasLines, GoesOn, WroteLines};
-ghost use Rattle.pf_line.specs.Reply.Replies.{last_line, shown_lines, reply_text, line_count};
+ghost use Rattle.pf_line.specs.{Reply.Parts.{HasLines, GoesOn, WroteLines}, Reply.Replies.{last_line, shown_lines, reply_text, line_count}};
 
 use crate::reply::answer::{write_answer, write_applied};
 use crate::reply::part::end_line;

@@ -1,13 +1,9 @@
 -- The two ends of a packet's way, the source and the destination: how they are spelled (pf.conf(5), GRAMMAR), and the words that
 -- they are written as.
 use Rattle.std.specs.Prelude.{List, [], ◌∷◌, ◌++◌, Option, None, IfSome, codes}
-use Rattle.pf_addr.specs.Form.Words.{Word}
-use Rattle.pf_addr.specs.Form.Forms.{Form, nothing, or, pair, making}
-use Rattle.pf_rule.specs.declared.value.ports.PortTest.{PortTest}
-use Rattle.pf_rule.specs.Value.Ports.{IsPortTest, port, port_words}
-use Rattle.pf_rule.specs.declared.host.host.Host.{Host}
-use Rattle.pf_rule.specs.declared.host.host.Host.TheVariants.{Any}
-use Rattle.pf_rule.specs.Host.Hosts.{IsHost, host, host_words}
+use Rattle.pf_addr.specs.{Form.Words.Word, Form.Forms.{Form, nothing, or, pair, making}}
+use Rattle.pf_rule.specs.declared.{value.ports.PortTest.PortTest, host.host.Host.Host, host.host.Host.TheVariants.Any}
+use Rattle.pf_rule.specs.{Value.Ports.{IsPortTest, port, port_words}, Host.Hosts.{IsHost, host, host_words}}
 
 -- one end: a host, and a test of its port
 abbrev pub End : Type 0

@@ -1,23 +1,12 @@
 -- Hosts: which addresses they take, and how their words are spelled (pf.conf(5), PARAMETERS and TABLES). That a table in its brackets
 -- is one word is own.
-use Rattle.std.specs.Prelude.{ℕ, ◌++◌, not, Bool, true, false, List, [], ◌∷◌, drop, codes, Option, Some, None, Result, Ok, if◌then◌else◌}
-use Rattle.std.specs.Option.{option_and_then, option_map_or}
+use Rattle.std.specs.{Prelude.{ℕ, ◌++◌, not, Bool, true, false, List, [], ◌∷◌, drop, codes, Option, Some, None, Result, Ok, if◌then◌else◌}, Option.{option_and_then, option_map_or}}
 use Rattle.std.proofs.Common.{◌≡◌, refl}
-use Rattle.pf_addr.specs.declared.form.fault.Kind.{Kind}
-use Rattle.pf_addr.specs.Form.Words.{Word}
-use Rattle.pf_addr.specs.Form.Forms.{Form, nothing, word, or, ◌>>=◌}
-use Rattle.pf_addr.specs.declared.addr.Addr.{Addr}
+use Rattle.pf_addr.specs.declared.{form.fault.Kind.Kind, addr.Addr.Addr, addr.Family.Family}
+use Rattle.pf_addr.specs.{Form.Words.Word, Form.Forms.{Form, nothing, word, or, ◌>>=◌}, Address.{Network, IsNetwork, network_of, contains}, Spelling.net_text, Grammar.SpellsNet, Reading.{part_at, pieces_at, v4_at, address_at, net_at}, Path.Names.{IsTableName, table_name_of}, Path.References.{behind, before}}
 use Rattle.pf_addr.specs.declared.addr.Addr.TheVariants as addr
-use Rattle.pf_addr.specs.Address.{Network, IsNetwork, network_of, contains}
-use Rattle.pf_addr.specs.Spelling.{net_text}
-use Rattle.pf_addr.specs.declared.addr.Family.{Family}
-use Rattle.pf_addr.specs.Grammar.{SpellsNet}
-use Rattle.pf_addr.specs.Reading.{part_at, pieces_at, v4_at, address_at, net_at}
-use Rattle.pf_addr.specs.Path.Names.{IsTableName, table_name_of}
-use Rattle.pf_addr.specs.Path.References.{behind, before}
 use Rattle.pf_rule.specs.Value.Values.{begins_with, as_word}
-use Rattle.pf_rule.specs.declared.host.host.Host.{Host}
-use Rattle.pf_rule.specs.declared.host.host.Host.TheVariants.{Any, Net, Table}
+use Rattle.pf_rule.specs.declared.{host.host.Host.Host, host.host.Host.TheVariants.{Any, Net, Table}}
 
 -- ---- which addresses they take
 

@@ -1,11 +1,8 @@
 -- What follows from the definition of a match, as law functions promise it.
 use Rattle.std.specs.Prelude.{◌≡◌, Bool, true, false}
 use Rattle.pf_addr.specs.declared.addr.Addr.{Addr}
-use Rattle.pf_rule.specs.declared.host.host.Host.{Host}
-use Rattle.pf_rule.specs.declared.host.host.Host.TheVariants.{Any, Net, Table}
-use Rattle.pf_rule.specs.Host.Hosts.{TableTest, host_holds}
-use Rattle.pf_rule.specs.Packets.{PlainPacket}
-use Rattle.pf_rule.specs.Rules.{PlainRule, matches}
+use Rattle.pf_rule.specs.declared.{host.host.Host.Host, host.host.Host.TheVariants.{Any, Net, Table}}
+use Rattle.pf_rule.specs.{Host.Hosts.{TableTest, host_holds}, Packets.PlainPacket, Rules.{PlainRule, matches}}
 
 abbrev pub is_table : Host → Bool
 is_table Any = false

@@ -1,33 +1,12 @@
 -- The canonical words of a rule spell it, and they are the words of its text.
-use Rattle.std.proofs.Common.{◌≡◌, ℕ, Bool, true, false, List, [], ◌∷◌, length, Option, Some, Result, Ok, inl, inr, refl, sym, ap, ◌∙◌, arith}
-use Rattle.std.specs.Prelude.{codes, nat_lt}
-use Rattle.std.specs.List.{list_all}
-use Rattle.std.proofs.lemmas.Bool.{lt-ltb}
-use Rattle.pf_addr.specs.declared.form.fault.Kind.{Kind}
-use Rattle.pf_addr.specs.Form.Words.{Word, words_of}
-use Rattle.pf_addr.specs.Form.Forms.{Spells, read_all}
-use Rattle.pf_addr.specs.Form.Readers.{if_there}
-use Rattle.pf_addr.specs.Laws.Form.Texts.{only}
-use Rattle.pf_addr.specs.declared.addr.Family.{Family}
-use Rattle.pf_addr.specs.Path.References.{PlainReference, reference_of, reference_text, quoted}
-use Rattle.pf_addr.specs.Path.ReferenceGrammar.{IsReference}
+use Rattle.std.proofs.{Common.{◌≡◌, ℕ, Bool, true, false, List, [], ◌∷◌, length, Option, Some, Result, Ok, inl, inr, refl, sym, ap, ◌∙◌, arith}, lemmas.Bool.lt-ltb}
+use Rattle.std.specs.{Prelude.{codes, nat_lt}, List.list_all}
+use Rattle.pf_addr.specs.declared.{form.fault.Kind.Kind, addr.Family.Family}
+use Rattle.pf_addr.specs.{Form.Words.{Word, words_of}, Form.Forms.{Spells, read_all}, Form.Readers.if_there, Laws.Form.Texts.only, Path.References.{PlainReference, reference_of, reference_text, quoted}, Path.ReferenceGrammar.IsReference}
 use Rattle.pf_addr.proofs.ReferencesRead.{spelled_is_read, quoted_bytes}
-use Rattle.pf_rule.specs.declared.rule.Effect.{Effect}
-use Rattle.pf_rule.specs.declared.rule.Effect.TheVariants.{Decide, Evaluate}
-use Rattle.pf_rule.specs.declared.rule.Opening.{Opening}
+use Rattle.pf_rule.specs.declared.{rule.Effect.Effect, rule.Effect.TheVariants.{Decide, Evaluate}, rule.Opening.Opening, rule.Action.TheVariants.{Pass, Block}, host.host.Host.Host, host.host.Host.TheVariants.{Any, Net, Table}, fault.Mistake.Mistake}
 use Rattle.pf_rule.specs.declared.rule.Opening.TheVariants as openings
-use Rattle.pf_rule.specs.declared.rule.Action.TheVariants.{Pass, Block}
-use Rattle.pf_rule.specs.declared.host.host.Host.{Host}
-use Rattle.pf_rule.specs.declared.host.host.Host.TheVariants.{Any, Net, Table}
-use Rattle.pf_rule.specs.declared.fault.Mistake.{Mistake}
-use Rattle.pf_rule.specs.Host.Hosts.{IsHost, host_family}
-use Rattle.pf_rule.specs.Laws.Host.Ends.{ends_written}
-use Rattle.pf_rule.specs.Rules.{PlainRule, IsEffect, IsRule, HostFits}
-use Rattle.pf_rule.specs.RuleGrammar.{opening, state, passes, effect_of, agreed, agreeing, rule, rule_decided}
-use Rattle.pf_rule.specs.RuleText.{effect_word, reference_words, quick_words, state_words, canonical, rule_text}
-use Rattle.pf_rule.specs.Value.Spacing.{is_word, words_of-join, join_bytes}
-use Rattle.pf_rule.specs.Value.Written.{Written, all_words, both}
-use Rattle.pf_rule.specs.Laws.Value.Tests.{direction_written, interface_written, family_written, protocol_written}
+use Rattle.pf_rule.specs.{Host.Hosts.{IsHost, host_family}, Laws.Host.Ends.ends_written, Rules.{PlainRule, IsEffect, IsRule, HostFits}, RuleGrammar.{opening, state, passes, effect_of, agreed, agreeing, rule, rule_decided}, RuleText.{effect_word, reference_words, quick_words, state_words, canonical, rule_text}, Value.Spacing.{is_word, words_of-join, join_bytes}, Value.Written.{Written, all_words, both}, Laws.Value.Tests.{direction_written, interface_written, family_written, protocol_written}}
 
 -- ---- keywords
 

@@ -26,17 +26,13 @@
 --       6     2 second port
 --       8    16 the network's first address, IPv4 in the first four
 --      24    32 the table's name, filled with zeros
-use Rattle.std.specs.Prelude.{ℕ, ◌-◌, Bool, true, false, List, [], ◌∷◌, ◌++◌, length, replicate, Option, Some, None, unwrap_or}
-use Rattle.std.specs.List.{flat_map}
+use Rattle.std.specs.{Prelude.{ℕ, ◌-◌, Bool, true, false, List, [], ◌∷◌, ◌++◌, length, replicate, Option, Some, None, unwrap_or}, List.flat_map}
 use Rattle.byteorder.specs.Endian.{big_bytes}
 use Rattle.md5.specs.Md5.{md5}
 use Rattle.pf_addr.specs.declared.addr.Family.{Family}
 use Rattle.pf_addr.specs.Spelling.{first_addr}
-use Rattle.pf_rule.specs.declared.{value.direction.Direction.Direction, value.ports.Comparison.Comparison, value.ports.Comparison.TheVariants.Equal, value.ports.Comparison.TheVariants.NotEqual, value.ports.Comparison.TheVariants.Less, value.ports.Comparison.TheVariants.AtMost, value.ports.Comparison.TheVariants.Greater, value.ports.Comparison.TheVariants.AtLeast, value.ports.PortRange.PortRange, value.ports.PortRange.TheVariants.Including, value.ports.PortRange.TheVariants.Excluding, value.ports.PortRange.TheVariants.Except, value.ports.PortTest.PortTest, value.ports.PortTest.TheVariants.Compared, value.ports.PortTest.TheVariants.Ranged, host.host.Host.Host, host.host.Host.TheVariants.Any, host.host.Host.TheVariants.Net, host.host.Host.TheVariants.Table, rule.Effect.Effect, rule.Effect.TheVariants.Decide, rule.Effect.TheVariants.Evaluate, rule.Action.TheVariants.Pass, rule.Action.TheVariants.Block}
+use Rattle.pf_rule.specs.{declared.{value.direction.Direction.Direction, value.ports.Comparison.Comparison, value.ports.Comparison.TheVariants.Equal, value.ports.Comparison.TheVariants.NotEqual, value.ports.Comparison.TheVariants.Less, value.ports.Comparison.TheVariants.AtMost, value.ports.Comparison.TheVariants.Greater, value.ports.Comparison.TheVariants.AtLeast, value.ports.PortRange.PortRange, value.ports.PortRange.TheVariants.Including, value.ports.PortRange.TheVariants.Excluding, value.ports.PortRange.TheVariants.Except, value.ports.PortTest.PortTest, value.ports.PortTest.TheVariants.Compared, value.ports.PortTest.TheVariants.Ranged, host.host.Host.Host, host.host.Host.TheVariants.Any, host.host.Host.TheVariants.Net, host.host.Host.TheVariants.Table, rule.Effect.Effect, rule.Effect.TheVariants.Decide, rule.Effect.TheVariants.Evaluate, rule.Action.TheVariants.Pass, rule.Action.TheVariants.Block}, Bytes.addr_bytes, Host.Hosts.is_negated, Rules.PlainRule}
 use Rattle.pf_rule.specs.Bytes as bytes
-use Rattle.pf_rule.specs.Bytes.{addr_bytes}
-use Rattle.pf_rule.specs.Host.Hosts.{is_negated}
-use Rattle.pf_rule.specs.Rules.{PlainRule}
 
 abbrev pub flag : Bool → ℕ
 flag true = 1

@@ -1,20 +1,11 @@
 -- The words that stand for values: names of interfaces, protocols, addresses and ports. Each is a test of a word, and a form.
-use Rattle.std.specs.Prelude.{ℕ, ◌<◌, ◌==◌, ◌⊎◌, ◌&&◌, ◌||◌, nat_lt, Bool, true, false, List, [], ◌∷◌, take, length, codes, Option, Some, None, Result, Ok, Err, if◌then◌else◌}
-use Rattle.std.specs.Str.{bytes_eq}
+use Rattle.std.specs.{Prelude.{ℕ, ◌<◌, ◌==◌, ◌⊎◌, ◌&&◌, ◌||◌, nat_lt, Bool, true, false, List, [], ◌∷◌, take, length, codes, Option, Some, None, Result, Ok, Err, if◌then◌else◌}, Str.bytes_eq}
 use Rattle.std.proofs.Common.{◌≡◌, refl}
-use Rattle.pf_addr.specs.declared.form.fault.Kind.{Kind}
-use Rattle.pf_addr.specs.declared.form.fault.Kind.TheVariants.{BadWord, BadProto}
-use Rattle.pf_addr.specs.Form.Words.{Word}
-use Rattle.pf_addr.specs.Form.Forms.{Form, word}
-use Rattle.pf_addr.specs.declared.addr.Addr.{Addr}
+use Rattle.pf_addr.specs.declared.{form.fault.Kind.Kind, form.fault.Kind.TheVariants.{BadWord, BadProto}, addr.Addr.Addr, fault.AddrFault.AddrFault}
+use Rattle.pf_addr.specs.{Form.Words.Word, Form.Forms.{Form, word}, Form.Numbers.{IsNumber, number_of}, Reading.{part_at, pieces_at, v4_at, address_at, addr_at}, Path.Names.{IsName, name_of}}
 use Rattle.pf_addr.specs.declared.addr.Addr.TheVariants as addr
-use Rattle.pf_addr.specs.declared.fault.AddrFault.{AddrFault}
-use Rattle.pf_addr.specs.Form.Numbers.{IsNumber, number_of}
-use Rattle.pf_addr.specs.Reading.{part_at, pieces_at, v4_at, address_at, addr_at}
-use Rattle.pf_rule.specs.declared.value.interface.TheConstants.{INTERFACE_LIMIT}
+use Rattle.pf_rule.specs.declared.{value.interface.TheConstants.INTERFACE_LIMIT, value.values.TheConstants.{PROTOCOL_DIGITS, PORT_DIGITS}}
 use Rattle.pf_rule.specs.declared.value.protocol.TheConstants.Protocol as protocols
-use Rattle.pf_rule.specs.declared.value.values.TheConstants.{PROTOCOL_DIGITS, PORT_DIGITS}
-use Rattle.pf_addr.specs.Path.Names.{IsName, name_of}
 
 -- ---- an interface's name; its length is that of pf(4)'s ifname
 

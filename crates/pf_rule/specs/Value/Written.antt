@@ -1,14 +1,7 @@
 -- Words that spell a value and stand in a text. Own.
-use Rattle.std.proofs.Common.{◌≡◌, ℕ, Bool, true, List, ◌++◌, length, Some, refl, arith}
-use Rattle.std.specs.Prelude.{nat_lt}
-use Rattle.std.specs.List.{list_all, slice_index_or}
-use Rattle.std.proofs.lemmas.Bool.{and_parts}
-use Rattle.std.proofs.lemmas.Bool.Decides.{nat_tests}
-use Rattle.std.proofs.lemmas.List.Folds.{list_all-append}
-use Rattle.std.proofs.lemmas.List.Sums.{AllPass-from_list_all, list_all-from_AllPass}
-use Rattle.pf_addr.specs.Form.Numbers.{is_digit, number_of}
-use Rattle.pf_addr.specs.Form.Words.{Word}
-use Rattle.pf_addr.specs.Form.Forms.{Form, pair, Spells}
+use Rattle.std.proofs.{Common.{◌≡◌, ℕ, Bool, true, List, ◌++◌, length, Some, refl, arith}, lemmas.Bool.and_parts, lemmas.Bool.Decides.nat_tests, lemmas.List.Folds.list_all-append, lemmas.List.Sums.{AllPass-from_list_all, list_all-from_AllPass}}
+use Rattle.std.specs.{Prelude.nat_lt, List.{list_all, slice_index_or}}
+use Rattle.pf_addr.specs.{Form.Numbers.{is_digit, number_of}, Form.Words.Word, Form.Forms.{Form, pair, Spells}}
 use Rattle.pf_rule.specs.Value.Spacing.{is_word}
 
 -- words that spell a value, each of which is a word of a line
@@ -16,17 +9,21 @@ pub record Written {A : Type 0} (f : Form A) (x : A) (ws : List Word) : Type 0 w
   pub spells : Spells f x ws
   pub words : list_all is_word ws ≡ true
 
-pub all_words : {A B : Type 0} {f : Form A} {g : Form B} {x : A} {y : B} {a b : List Word} → Written f x a → Written g y b → list_all is_word (a ++ b) ≡ true
+pub all_words : {A B : Type 0} {f : Form A} {g : Form B} {x : A} {y : B} {a b : List Word} → Written f x a → Written g y b →
+    list_all is_word (a ++ b) ≡ true
 all_words p q = rw (list_all-append, p.words, q.words) refl
 
-pub both : {A B : Type 0} {f : Form A} {g : Form B} {x : A} {y : B} {a b : List Word} → Written f x a → Written g y b → Written (pair f g) (x, y) (a ++ b)
+pub both : {A B : Type 0} {f : Form A} {g : Form B} {x : A} {y : B} {a b : List Word} → Written f x a → Written g y b →
+    Written (pair f g) (x, y) (a ++ b)
 both {a = a} {b = b} p q = record { spells = (a, b, p.spells, q.spells, refl); words = all_words p q }
 
 -- ---- words of a line
 
 -- a word whose bytes pass a test that each byte fails up to a space
-pub tested_word : (test : ℕ → Bool) → ((b : ℕ) → test b ≡ true → nat_lt 32 b ≡ true) → (w : Word) → nat_lt 0 (length w) ≡ true → list_all test w ≡ true → is_word w ≡ true
-tested_word test each w some all = rw (some, list_all-from_AllPass (nat_lt 32) w (λ k d lt. each (slice_index_or w k d) (AllPass-from_list_all test w all k d lt))) refl
+pub tested_word : (test : ℕ → Bool) → ((b : ℕ) → test b ≡ true → nat_lt 32 b ≡ true) → (w : Word) → nat_lt 0 (length w) ≡ true →
+    list_all test w ≡ true → is_word w ≡ true
+tested_word test each w some all = rw (some, list_all-from_AllPass (nat_lt 32) w
+    (λ k d lt. each (slice_index_or w k d) (AllPass-from_list_all test w all k d lt))) refl
 
 digit_above_space : (b : ℕ) → is_digit b ≡ true → nat_lt 32 b ≡ true
 digit_above_space b e = grind (arith, nat_tests)

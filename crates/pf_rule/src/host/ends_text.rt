@@ -1,10 +1,7 @@
 //! The texts of the two ends of a packet's way, with a space before each word.
 ghost use Rattle.std.specs.Prelude.{◌≡◌};
 ghost use Rattle.pf_addr.specs.Writing.{Continues};
-ghost use Rattle.pf_rule.specs.Value.Spacing.{spaced};
-ghost use Rattle.pf_rule.specs.Host.Hosts.{host_words};
-ghost use Rattle.pf_rule.specs.Host.Ends.{from_to_words, ends_words};
-ghost use Rattle.pf_rule.specs.Laws.Host.Ends.{end_text};
+ghost use Rattle.pf_rule.specs.{Value.Spacing.spaced, Host.Hosts.host_words, Host.Ends.{from_to_words, ends_words}, Laws.Host.Ends.end_text};
 
 use crate::host::ends::End;
 use crate::host::host::Host;

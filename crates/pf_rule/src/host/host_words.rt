@@ -1,6 +1,5 @@
 //! Reading the words that stand for hosts.
-ghost use Rattle.std.specs.Prelude.{◌≡◌};
-ghost use Rattle.std.specs.Option.{option_map};
+ghost use Rattle.std.specs.{Prelude.◌≡◌, Option.option_map};
 ghost use Rattle.pf_addr.specs.Form.Readers.{Moves};
 ghost use Rattle.pf_rule.specs.Host.Hosts.{bracketed, marked, host_of, a_negated_host, a_host, host};
 

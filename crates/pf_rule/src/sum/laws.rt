@@ -1,14 +1,9 @@
 //! Laws of forms. Each function does nothing; its clauses are what is proved.
 ghost use Rattle.std.specs.Prelude.{◌≡◌, [], ◌∷◌, codes, length, map, Ok};
-ghost use Rattle.pf_rule.specs.Rules.{PlainRule, IsRule};
-ghost use Rattle.pf_addr.specs.Form.Words.{words_of};
-ghost use Rattle.pf_addr.specs.Form.Forms.{read_all};
-ghost use Rattle.pf_rule.specs.RuleGrammar.{rule};
-ghost use Rattle.pf_rule.specs.declared.host.host.Host.TheVariants.{Any};
-ghost use Rattle.pf_rule.specs.declared.sum.form.TheConstants.{RULE_FORM};
-ghost use Rattle.pf_rule.specs.Sum.Forms.{host_form, rule_form, ruleset_sum};
+ghost use Rattle.pf_rule.specs.{Rules.{PlainRule, IsRule}, RuleGrammar.rule, Sum.Forms.{host_form, rule_form, ruleset_sum}, Sum.Reading.read_form};
+ghost use Rattle.pf_addr.specs.{Form.Words.words_of, Form.Forms.read_all};
+ghost use Rattle.pf_rule.specs.declared.{host.host.Host.TheVariants.Any, sum.form.TheConstants.RULE_FORM};
 ghost use Rattle.pf_rule.specs.Laws.Sums as example;
-ghost use Rattle.pf_rule.specs.Sum.Reading.{read_form};
 
 /// The form of each rule has [`RULE_FORM`](crate::sum::RULE_FORM) bytes.
 #[tactic(auto, using(crate::proofs::ReadAgain::form_long))]

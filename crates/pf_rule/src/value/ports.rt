@@ -1,7 +1,6 @@
 //! Tests of ports (pf.conf(5), PARAMETERS).
 ghost use Rattle.std.specs.Prelude.{◌≡◌};
-ghost use Rattle.pf_rule.specs.Value.Tests.{holds};
-ghost use Rattle.pf_rule.specs.Value.Ports.{compares, port_holds, ports_fit};
+ghost use Rattle.pf_rule.specs.{Value.Tests.holds, Value.Ports.{compares, port_holds, ports_fit}};
 
 use crate::value::protocol::Protocol;
 

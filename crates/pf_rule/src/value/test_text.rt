@@ -1,9 +1,7 @@
 //! The texts of a rule's tests, with a space before each word.
 ghost use Rattle.std.specs.Prelude.{◌≡◌, ◌++◌, codes, decimal};
 ghost use Rattle.pf_addr.specs.Writing.{Continues};
-ghost use Rattle.pf_rule.specs.Value.Spacing.{spaced};
-ghost use Rattle.pf_rule.specs.Value.Tests.{direction_words, interface_words, family_words, protocol_words};
-ghost use Rattle.pf_rule.specs.Value.Ports.{operator_word, port_words};
+ghost use Rattle.pf_rule.specs.{Value.Spacing.spaced, Value.Tests.{direction_words, interface_words, family_words, protocol_words}, Value.Ports.{operator_word, port_words}};
 
 use crate::value::direction::Direction;
 use crate::value::interface::Interface;

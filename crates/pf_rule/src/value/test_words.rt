@@ -1,8 +1,6 @@
 //! Reading a rule's tests of the direction, the interface, the family and the protocol.
 ghost use Rattle.std.specs.Prelude.{◌≡◌, Ok};
-ghost use Rattle.pf_addr.specs.Form.Forms.{reads};
-ghost use Rattle.pf_addr.specs.Form.Readers.{Moves};
-ghost use Rattle.pf_addr.specs.Form.Words.{texts};
+ghost use Rattle.pf_addr.specs.{Form.Forms.reads, Form.Readers.Moves, Form.Words.texts};
 ghost use Rattle.pf_rule.specs.Value.Tests.{direction, interface, family, protocol};
 
 use crate::value::direction::Direction;

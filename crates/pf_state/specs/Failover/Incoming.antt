@@ -1,13 +1,7 @@
 -- What a peer's message means for the states here: a step for each record. Own; the messages are pf_state::peer's, after pfsync(4).
-use Rattle.std.specs.Prelude.{ℕ, List, map}
-use Rattle.std.specs.List.{flat_map}
-use Rattle.pf_state.specs.declared.{peer.message.Group.Group, peer.message.Group.TheVariants.Inserts, peer.message.Group.TheVariants.Deletes, peer.message.Group.TheVariants.Clears, peer.message.Message.Message, step.Step.Step, step.Step.TheVariants.Insert, step.Step.TheVariants.Delete, step.Step.TheVariants.Clear}
-use Rattle.pf_state.specs.declared.peer.record.Clear.{Clear as ClearRecord}
-use Rattle.pf_state.specs.declared.peer.record.Delete.{Delete as DeleteRecord}
-use Rattle.pf_state.specs.Peer.Records.{PlainInsert}
-use Rattle.pf_state.specs.Bindings.{bound}
-use Rattle.pf_state.specs.Flows.{PlainFlow}
-use Rattle.pf_state.specs.States.{Stated}
+use Rattle.std.specs.{Prelude.{ℕ, List, map}, List.flat_map}
+use Rattle.pf_state.specs.{declared.{peer.message.Group.Group, peer.message.Group.TheVariants.Inserts, peer.message.Group.TheVariants.Deletes, peer.message.Group.TheVariants.Clears, peer.message.Message.Message, step.Step.Step, step.Step.TheVariants.Insert, step.Step.TheVariants.Delete, step.Step.TheVariants.Clear}, Peer.Records.PlainInsert, Bindings.bound, Flows.PlainFlow, States.Stated}
+use Rattle.pf_state.specs.declared.{peer.record.Clear.Clear as ClearRecord, peer.record.Delete.Delete as DeleteRecord}
 
 -- the flow of the state that an insert tells of
 abbrev pub told_flow : PlainInsert → PlainFlow

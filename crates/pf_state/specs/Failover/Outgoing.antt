@@ -1,11 +1,6 @@
 -- The messages that tell a peer of the states here. Own; the messages are pf_state::peer's, after pfsync(4).
-use Rattle.std.specs.Prelude.{ℕ, List, [], ◌∷◌, length, map}
-use Rattle.std.specs.Simd.{first_chunks}
-use Rattle.std.specs.Slice.Iter.{chunk_count}
-use Rattle.pf_state.specs.declared.{peer.message.Group.TheVariants.Inserts, peer.message.Message.Message, binding.TheConstants.ALL_ONES, failover.outgoing.TheConstants.EXPORT_RECORDS}
-use Rattle.pf_state.specs.Peer.Records.{PlainInsert}
-use Rattle.pf_state.specs.Bindings.{exported}
-use Rattle.pf_state.specs.States.{Stated}
+use Rattle.std.specs.{Prelude.{ℕ, List, [], ◌∷◌, length, map}, Simd.first_chunks, Slice.Iter.chunk_count}
+use Rattle.pf_state.specs.{declared.{peer.message.Group.TheVariants.Inserts, peer.message.Message.Message, binding.TheConstants.ALL_ONES, failover.outgoing.TheConstants.EXPORT_RECORDS}, Peer.Records.PlainInsert, Bindings.exported, States.Stated}
 
 -- The insert that tells of a state where the main rules have this checksum: it names the state's main rule while they are the rules
 -- that it was bound by, and no anchor.

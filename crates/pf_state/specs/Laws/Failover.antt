@@ -1,16 +1,6 @@
 -- What follows from the definitions of what a message asks for and of an export, as law functions promise it. Own.
-use Rattle.std.specs.Prelude.{◌≡◌, ℕ, ◌<◌, ◌≤◌, ◌^◌, ◌&&◌, false, nat_lt, cond, List, [], ◌∷◌, length, map}
-use Rattle.std.specs.List.{concat, flat_map, sum_by}
-use Rattle.std.specs.Str.{bytes_eq}
-use Rattle.pf_state.specs.declared.{peer.message.Group.Group, peer.message.Group.TheVariants.Inserts, peer.message.Group.TheVariants.Deletes, peer.message.Group.TheVariants.Clears, peer.message.Message.Message, peer.message.TheConstants.MESSAGE_LIMIT, binding.TheConstants.ALL_ONES, state.Bound.Bound, state.Bound.TheVariants.Rule, state.Bound.TheVariants.Default, step.Step.Step, step.Step.TheVariants.Insert, failover.outgoing.TheConstants.EXPORT_RECORDS}
-use Rattle.pf_state.specs.Peer.Records.{PlainInsert}
-use Rattle.pf_state.specs.Peer.Streams.{Reads, Unfinished}
-use Rattle.pf_state.specs.Peer.Written.{Each, message_length, message_bytes}
-use Rattle.pf_state.specs.Flows.{IsFlow}
-use Rattle.pf_state.specs.States.{Stated, IsStates}
-use Rattle.pf_state.specs.Steps.{after, passes_limit}
-use Rattle.pf_state.specs.Failover.Incoming.{steps_of}
-use Rattle.pf_state.specs.Failover.Outgoing.{parts, exported_messages}
+use Rattle.std.specs.{Prelude.{◌≡◌, ℕ, ◌<◌, ◌≤◌, ◌^◌, ◌&&◌, false, nat_lt, cond, List, [], ◌∷◌, length, map}, List.{concat, flat_map, sum_by}, Str.bytes_eq}
+use Rattle.pf_state.specs.{declared.{peer.message.Group.Group, peer.message.Group.TheVariants.Inserts, peer.message.Group.TheVariants.Deletes, peer.message.Group.TheVariants.Clears, peer.message.Message.Message, peer.message.TheConstants.MESSAGE_LIMIT, binding.TheConstants.ALL_ONES, state.Bound.Bound, state.Bound.TheVariants.Rule, state.Bound.TheVariants.Default, step.Step.Step, step.Step.TheVariants.Insert, failover.outgoing.TheConstants.EXPORT_RECORDS}, Peer.Records.PlainInsert, Peer.Streams.{Reads, Unfinished}, Peer.Written.{Each, message_length, message_bytes}, Flows.IsFlow, States.{Stated, IsStates}, Steps.{after, passes_limit}, Failover.Incoming.steps_of, Failover.Outgoing.{parts, exported_messages}}
 
 -- ---- a step for each record
 

@@ -3,8 +3,7 @@
 use Rattle.std.specs.Prelude.{List, [], ◌∷◌, ◌++◌, ℕ, replicate}
 use Rattle.pf_addr.specs.declared.addr.Addr.TheVariants.{V4, V6}
 use Rattle.pf_rule.specs.declared.value.direction.Direction.TheVariants.{In, Out}
-use Rattle.pf_state.specs.declared.{peer.message.Group.TheVariants.Inserts, peer.message.Group.TheVariants.Deletes, peer.message.Group.TheVariants.Clears, peer.message.Message.Message}
-use Rattle.pf_state.specs.Peer.Records.{PlainInsert}
+use Rattle.pf_state.specs.{declared.{peer.message.Group.TheVariants.Inserts, peer.message.Group.TheVariants.Deletes, peer.message.Group.TheVariants.Clears, peer.message.Message.Message}, Peer.Records.PlainInsert}
 
 -- a checksum: MD5 of no bytes (RFC 1321, A.5)
 abbrev pub checksum : List ℕ

@@ -1,13 +1,7 @@
 -- What follows from the definitions of flows, states, steps and bindings, as law functions promise it.
-use Rattle.std.specs.Prelude.{◌≡◌, ◌≢◌, ℕ, ◌+◌, ◌<◌, ◌≤◌, ◌==◌, ◌&&◌, ◌↔◌, Bool, true, false, cond, List, [], ◌∷◌, length, take, Option, Some, None}
-use Rattle.std.specs.List.{count_by}
-use Rattle.std.specs.Ordering.{eq_by_cmp}
+use Rattle.std.specs.{Prelude.{◌≡◌, ◌≢◌, ℕ, ◌+◌, ◌<◌, ◌≤◌, ◌==◌, ◌&&◌, ◌↔◌, Bool, true, false, cond, List, [], ◌∷◌, length, take, Option, Some, None}, List.count_by, Ordering.eq_by_cmp}
 use Rattle.pf_rule.specs.Packets.{PlainPacket}
-use Rattle.pf_state.specs.declared.{binding.TheConstants.ALL_ONES, limits.TheConstants.STATE_LIMIT, state.Bound.TheVariants.Rule, state.Bound.TheVariants.Default, state.Held.Held, state.StateName.StateName, step.Insertion.TheVariants.Stale, step.Step.Step, step.Step.TheVariants.Insert, step.Step.TheVariants.Delete, step.Step.TheVariants.Clear}
-use Rattle.pf_state.specs.Flows.{PlainFlow, is_equal, turned, same_flow, flow_of}
-use Rattle.pf_state.specs.States.{Stated, name_order, held_at, state_of, NamesFlows, IsStates}
-use Rattle.pf_state.specs.Steps.{insertion, has_effect, stepped, after, counts, passes_limit}
-use Rattle.pf_state.specs.Bindings.{bound, exported}
+use Rattle.pf_state.specs.{declared.{binding.TheConstants.ALL_ONES, limits.TheConstants.STATE_LIMIT, state.Bound.TheVariants.Rule, state.Bound.TheVariants.Default, state.Held.Held, state.StateName.StateName, step.Insertion.TheVariants.Stale, step.Step.Step, step.Step.TheVariants.Insert, step.Step.TheVariants.Delete, step.Step.TheVariants.Clear}, Flows.{PlainFlow, is_equal, turned, same_flow, flow_of}, States.{Stated, name_order, held_at, state_of, NamesFlows, IsStates}, Steps.{insertion, has_effect, stepped, after, counts, passes_limit}, Bindings.{bound, exported}}
 
 -- ---- flows
 

@@ -6,9 +6,8 @@
 --       2     2 length of the whole message
 --       4    16 checksum
 use Rattle.std.specs.Prelude.{◌≡◌, ◌≤◌, ℕ, List, length, take, drop, Result, Ok, Err}
-use Rattle.pf_state.specs.declared.{peer.fault.PeerFault.PeerFault, peer.message.Group.Group, peer.message.Message.Message, peer.message.TheConstants.VERSION, peer.stream.TheConstants.HEADER}
+use Rattle.pf_state.specs.{declared.{peer.fault.PeerFault.PeerFault, peer.message.Group.Group, peer.message.Message.Message, peer.message.TheConstants.VERSION, peer.stream.TheConstants.HEADER}, Peer.Groups.{AreGroups, BreakBehind}}
 use Rattle.pf_rule.specs.Bytes.{byte_at, number_at}
-use Rattle.pf_state.specs.Peer.Groups.{AreGroups, BreakBehind}
 
 -- the bytes have the header of a message that is as long as they are
 pub record IsWhole (bytes : List ℕ) : Type 0 where

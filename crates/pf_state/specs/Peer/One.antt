@@ -1,7 +1,6 @@
 -- A run of bytes that has to be one whole message, and nothing else. It is read as a stream that ends where they do. Own.
 use Rattle.std.specs.Prelude.{◌≡◌, ℕ, List, [], ◌∷◌, Result, Ok, Err}
-use Rattle.pf_state.specs.declared.{peer.fault.PeerFault.TheVariants.Ended, peer.fault.OneFault.OneFault, peer.fault.OneFault.TheVariants.Fault, peer.fault.OneFault.TheVariants.Count, peer.message.Message.Message}
-use Rattle.pf_state.specs.Peer.Streams.{Ending, Unfinished, Faulty, Reads}
+use Rattle.pf_state.specs.{declared.{peer.fault.PeerFault.TheVariants.Ended, peer.fault.OneFault.OneFault, peer.fault.OneFault.TheVariants.Fault, peer.fault.OneFault.TheVariants.Count, peer.message.Message.Message}, Peer.Streams.{Ending, Unfinished, Faulty, Reads}}
 
 -- What a stream of these messages that ends so is: its fault, wherever it stands; else a message that isn't whole; else how many
 -- messages there are.

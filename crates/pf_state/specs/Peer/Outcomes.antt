@@ -1,8 +1,7 @@
 -- What readers answer.
 use Rattle.std.specs.Prelude.{◌≡◌, Result, Ok, Err, Option, Some, None, List, [], ◌∷◌, ◌++◌, ℕ}
-use Rattle.pf_state.specs.declared.{peer.fault.PeerFault.PeerFault, peer.fault.PeerFault.TheVariants.Ended, peer.fault.FeedError.FeedError, peer.fault.FeedError.TheVariants.Failed, peer.fault.ReadError.ReadError, peer.message.Message.Message}
+use Rattle.pf_state.specs.{declared.{peer.fault.PeerFault.PeerFault, peer.fault.PeerFault.TheVariants.Ended, peer.fault.FeedError.FeedError, peer.fault.FeedError.TheVariants.Failed, peer.fault.ReadError.ReadError, peer.message.Message.Message}, Peer.Streams.{Ending, Unfinished, Faulty, Reads}}
 use Rattle.pf_state.specs.declared.peer.fault.ReadError.TheVariants as errors
-use Rattle.pf_state.specs.Peer.Streams.{Ending, Unfinished, Faulty, Reads}
 
 -- it is what reading gives, unless memory was refused
 abbrev pub Fails : {Y : Type 0} → ReadError → Result Y PeerFault → Type 0

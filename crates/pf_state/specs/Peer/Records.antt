@@ -9,11 +9,8 @@
 --      18     1 protocol          56     4 rule, 60 4 anchor
 use Rattle.std.specs.Prelude.{◌≡◌, ◌<◌, ◌+◌, ◌==◌, ◌^◌, ◌&&◌, ◌||◌, not, ℕ, Bool, false, List, ◌∷◌, ◌++◌, replicate, Option, Some, None, if◌then◌else◌}
 use Rattle.byteorder.specs.Endian.{big_bytes}
-use Rattle.pf_addr.specs.declared.{addr.Addr.Addr, addr.Addr.TheVariants.V4, addr.Addr.TheVariants.V6}
-use Rattle.pf_addr.specs.Address.{IsAddr, family_of}
-use Rattle.pf_rule.specs.Bytes.{byte_at, number_at, addr_bytes, direction_byte, family_byte}
-use Rattle.pf_rule.specs.declared.{value.direction.Direction.Direction, value.direction.Direction.TheVariants.In, value.direction.Direction.TheVariants.Out}
-use Rattle.pf_rule.specs.Value.Values.{IsProtocol, has_ports}
+use Rattle.pf_addr.specs.{declared.{addr.Addr.Addr, addr.Addr.TheVariants.V4, addr.Addr.TheVariants.V6}, Address.{IsAddr, family_of}}
+use Rattle.pf_rule.specs.{Bytes.{byte_at, number_at, addr_bytes, direction_byte, family_byte}, declared.{value.direction.Direction.Direction, value.direction.Direction.TheVariants.In, value.direction.Direction.TheVariants.Out}, Value.Values.{IsProtocol, has_ports}}
 use Rattle.pf_state.specs.declared.{peer.record.InsertFields.InsertFields, peer.record.Delete.Delete, peer.record.Clear.Clear}
 
 -- an insert as contracts see it: its fields

@@ -1,7 +1,6 @@
 -- A stream: messages one after the other, and then a message that isn't whole yet, or a fault. Own.
 use Rattle.std.specs.Prelude.{◌≡◌, ◌≢◌, ◌⊎◌, ◌+◌, ◌*◌, ◌≤◌, ◌<◌, ℕ, List, [], ◌∷◌, ◌++◌, length, take}
-use Rattle.pf_state.specs.declared.{peer.fault.PeerFault.PeerFault, peer.fault.PeerFault.TheVariants.BadVersion, peer.fault.PeerFault.TheVariants.BadLength, peer.message.Message.Message, peer.message.TheConstants.VERSION, peer.stream.TheConstants.HEADER, peer.stream.Front.Front, peer.stream.Front.TheVariants.Partial, peer.stream.Front.TheVariants.Whole, peer.stream.Front.TheVariants.Bad}
-use Rattle.pf_state.specs.Peer.Messages.{IsWhole, IsMessage, IsBroken}
+use Rattle.pf_state.specs.{declared.{peer.fault.PeerFault.PeerFault, peer.fault.PeerFault.TheVariants.BadVersion, peer.fault.PeerFault.TheVariants.BadLength, peer.message.Message.Message, peer.message.TheConstants.VERSION, peer.stream.TheConstants.HEADER, peer.stream.Front.Front, peer.stream.Front.TheVariants.Partial, peer.stream.Front.TheVariants.Whole, peer.stream.Front.TheVariants.Bad}, Peer.Messages.{IsWhole, IsMessage, IsBroken}}
 
 -- how it ends so far
 pub data Ending : Type 0 where

@@ -1,10 +1,6 @@
 //! Messages that tell a peer of the states here.
-ghost use Rattle.std.specs.Prelude.{◌≡◌, ◌≤◌, [], length, map, IfOk};
-ghost use Rattle.std.specs.List.{concat};
-ghost use Rattle.pf_state.specs.Peer.Messages.{IsMessage};
-ghost use Rattle.pf_state.specs.Peer.Streams.{Reads, Unfinished};
-ghost use Rattle.pf_state.specs.Peer.Written.{message_bytes};
-ghost use Rattle.pf_state.specs.Failover.Outgoing.{exported_insert, exported_message, exported_messages};
+ghost use Rattle.std.specs.{Prelude.{◌≡◌, ◌≤◌, [], length, map, IfOk}, List.concat};
+ghost use Rattle.pf_state.specs.{Peer.Messages.IsMessage, Peer.Streams.{Reads, Unfinished}, Peer.Written.message_bytes, Failover.Outgoing.{exported_insert, exported_message, exported_messages}};
 
 use crate::peer::{Group, Insert, InsertFields, Message, Records, write_peer};
 use crate::{ALL_ONES, State, StateTable, exported};

@@ -1,14 +1,8 @@
 //! Laws of streams. Each function does nothing; its clauses are what is proved.
-ghost use Rattle.std.specs.Prelude.{◌≡◌, ◌++◌, ◌↔◌, [], ℕ, List, Result, Ok};
-ghost use Rattle.std.specs.List.{concat};
-ghost use Rattle.pf_state.specs.declared.peer.fault.OneFault.{OneFault};
-ghost use Rattle.pf_state.specs.declared.peer.fault.PeerFault.{PeerFault};
-ghost use Rattle.pf_state.specs.declared.peer.message.Message.{Message};
+ghost use Rattle.std.specs.{Prelude.{◌≡◌, ◌++◌, ◌↔◌, [], ℕ, List, Result, Ok}, List.concat};
+ghost use Rattle.pf_state.specs.declared.{peer.fault.OneFault.OneFault, peer.fault.PeerFault.PeerFault, peer.message.Message.Message};
 ghost use Rattle.pf_state.specs.Laws.Messages as example;
-ghost use Rattle.pf_state.specs.Peer.Messages.{IsMessage};
-ghost use Rattle.pf_state.specs.Peer.One.{IsOne};
-ghost use Rattle.pf_state.specs.Peer.Streams.{Ending, Faulty, Reads, Feeds};
-ghost use Rattle.pf_state.specs.Peer.Written.{message_bytes, CanBeWritten};
+ghost use Rattle.pf_state.specs.{Peer.Messages.IsMessage, Peer.One.IsOne, Peer.Streams.{Ending, Faulty, Reads, Feeds}, Peer.Written.{message_bytes, CanBeWritten}};
 
 use crate::peer::message::{CLEAR, DELETE, INSERT, MESSAGE_LIMIT, VERSION};
 use crate::peer::record::RECORD;

@@ -1,7 +1,6 @@
 //! Reading the messages of a stream so far.
 ghost use Rattle.std.specs.Prelude.{◌≡◌, IfOk};
-ghost use Rattle.pf_state.specs.Peer.Outcomes.{ending};
-ghost use Rattle.pf_state.specs.Peer.Streams.{Reads, IsFront};
+ghost use Rattle.pf_state.specs.{Peer.Outcomes.ending, Peer.Streams.{Reads, IsFront}};
 
 use crate::peer::fault::PeerFault;
 use crate::peer::groups::message_of;

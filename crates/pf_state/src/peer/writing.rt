@@ -3,8 +3,7 @@ ghost use Rattle.std.specs.Prelude.{◌≡◌, ◌++◌, ◌<◌, ◌≤◌, ◌
 ghost use Rattle.byteorder.specs.Endian.{big_bytes};
 ghost use Rattle.pf_addr.specs.Address.{family_of};
 ghost use Rattle.pf_rule.specs.Bytes.{addr_bytes, direction_byte, family_byte};
-ghost use Rattle.pf_state.specs.Peer.Messages.{IsMessage};
-ghost use Rattle.pf_state.specs.Peer.Written.{message_bytes, message_length, groups_bytes, group_bytes, group_with, Each, IsGroup};
+ghost use Rattle.pf_state.specs.{Peer.Messages.IsMessage, Peer.Written.{message_bytes, message_length, groups_bytes, group_bytes, group_with, Each, IsGroup}};
 
 use crate::peer::fields::{FAMILY_4, FAMILY_6, IN, OUT};
 use crate::peer::message::{CLEAR, DELETE, Group, INSERT, MESSAGE_LIMIT, Message, VERSION};

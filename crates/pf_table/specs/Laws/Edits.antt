@@ -1,19 +1,8 @@
 -- What edits leave: the sign that each network then has, and that the table stays in order.
-use Rattle.std.proofs.Common.{◌≡◌, ◌≤◌, T, Bool, true, false, not, cond, ◌&&◌, ◌||◌, List, [], ◌∷◌, ◌++◌, length, Option, Some, None, is_some, refl, sym, ap, ◌∙◌, true≢false, arith}
-use Rattle.std.specs.Bool.{beq}
-use Rattle.std.specs.Cmp.{alike_right, eq_by_cmp_equiv}
-use Rattle.std.specs.FinMap.{put, is_sorted}
-use Rattle.std.specs.FinMap.Entries.{by_order, where_key, below_all, find-put, find-where_key, find_tied, is_sorted-put, is_sorted-where_key, same_entries}
-use Rattle.std.specs.List.{list_any, AllByRecursion}
-use Rattle.std.specs.Option.{option_or}
-use Rattle.std.proofs.lemmas.List.Folds.{list_any-append}
-use Rattle.std.specs.Ordering.{eq_by_cmp, is_eq, is_lt}
-use Rattle.std.specs.declared.{cmp.Ordering.Ordering, cmp.Ordering.TheVariants.Less, cmp.Ordering.TheVariants.Equal, cmp.Ordering.TheVariants.Greater}
+use Rattle.std.proofs.{Common.{◌≡◌, ◌≤◌, T, Bool, true, false, not, cond, ◌&&◌, ◌||◌, List, [], ◌∷◌, ◌++◌, length, Option, Some, None, is_some, refl, sym, ap, ◌∙◌, true≢false, arith}, lemmas.List.Folds.list_any-append}
+use Rattle.std.specs.{Bool.beq, Cmp.{alike_right, eq_by_cmp_equiv}, FinMap.{put, is_sorted}, FinMap.Entries.{by_order, where_key, below_all, find-put, find-where_key, find_tied, is_sorted-put, is_sorted-where_key, same_entries}, List.{list_any, AllByRecursion}, Option.option_or, Ordering.{eq_by_cmp, is_eq, is_lt}, declared.{cmp.Ordering.Ordering, cmp.Ordering.TheVariants.Less, cmp.Ordering.TheVariants.Equal, cmp.Ordering.TheVariants.Greater}}
 use Rattle.pf_addr.specs.Address.{Network}
-use Rattle.pf_table.specs.Entries.{Row, net_order}
-use Rattle.pf_table.specs.Laws.Order.{net_total, net_same}
-use Rattle.pf_table.specs.Tables.{sign_of}
-use Rattle.pf_table.specs.Edits.{with_entry, added, is_sign, has_entry, without_entry, deleted, same_entry, is_opposite}
+use Rattle.pf_table.specs.{Entries.{Row, net_order}, Laws.Order.{net_total, net_same}, Tables.sign_of, Edits.{with_entry, added, is_sign, has_entry, without_entry, deleted, same_entry, is_opposite}}
 
 tied_of : (r : Ordering) → is_eq r ≡ true → r ≡ Equal
 tied_of Less e = absurd (true≢false (sym e))

@@ -1,8 +1,6 @@
 -- What follows from the definitions of maps, as law functions promise it.
-use Rattle.std.specs.Prelude.{◌≡◌, T, cond, List, Option, fold}
+use Rattle.std.specs.{Prelude.{◌≡◌, T, cond, List, Option, fold}, FinMap.{find, is_sorted}, Ordering.eq_by_cmp}
 use Rattle.std.specs.declared.cmp.Ordering.{Ordering}
-use Rattle.std.specs.FinMap.{find, is_sorted}
-use Rattle.std.specs.Ordering.{eq_by_cmp}
 use Rattle.pf_table.specs.Map.Maps.{with_value, with_entry, IsMap}
 
 -- a key that was replaced has the new value, or none, and all else stays

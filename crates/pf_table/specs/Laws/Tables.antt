@@ -1,15 +1,8 @@
 -- What follows from the definitions of tables, as law functions promise it.
-use Rattle.std.specs.Prelude.{◌≡◌, ◌≢◌, ℕ, ◌+◌, ◌<◌, ◌≤◌, ◌↔◌, T, Bool, true, false, not, List, length, slice_get, take, filter, Some, None, All, Contains}
-use Rattle.std.specs.FinMap.{is_sorted}
-use Rattle.std.specs.List.{list_any}
-use Rattle.std.specs.Option.{option_or}
+use Rattle.std.specs.{Prelude.{◌≡◌, ◌≢◌, ℕ, ◌+◌, ◌<◌, ◌≤◌, ◌↔◌, T, Bool, true, false, not, List, length, slice_get, take, filter, Some, None, All, Contains}, FinMap.is_sorted, List.list_any, Option.option_or}
 use Rattle.pf_addr.specs.declared.addr.Addr.{Addr}
 use Rattle.pf_addr.specs.Address.{Network, contains, family_of, IsNetwork}
-use Rattle.pf_table.specs.declared.{answer.Addition.Addition, answer.Addition.TheVariants.Added, answer.Addition.TheVariants.Same, answer.Addition.TheVariants.Conflict, answer.Deletion.Deletion, answer.Deletion.TheVariants.Deleted, answer.Deletion.TheVariants.Absent, limits.TheConstants.TABLE_LIMIT}
-use Rattle.pf_table.specs.Entries.{Row, net_order}
-use Rattle.pf_table.specs.Tables.{IsTable, sign_of, Decides, deciding, table_holds}
-use Rattle.pf_table.specs.Edits.{added, addition, additions, with_entry, replaced, has_entry, without_entry, deleted, deletions, is_opposite, conflict_in}
-use Rattle.pf_table.specs.Laws.Edits.{sign_left}
+use Rattle.pf_table.specs.{declared.{answer.Addition.Addition, answer.Addition.TheVariants.Added, answer.Addition.TheVariants.Same, answer.Addition.TheVariants.Conflict, answer.Deletion.Deletion, answer.Deletion.TheVariants.Deleted, answer.Deletion.TheVariants.Absent, limits.TheConstants.TABLE_LIMIT}, Entries.{Row, net_order}, Tables.{IsTable, sign_of, Decides, deciding, table_holds}, Edits.{added, addition, additions, with_entry, replaced, has_entry, without_entry, deleted, deletions, is_opposite, conflict_in}, Laws.Edits.sign_left}
 
 -- ---- which entry decides
 

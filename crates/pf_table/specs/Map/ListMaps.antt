@@ -1,9 +1,7 @@
 -- Finite maps whose values are lists, where a key whose list is empty has no entry. Own.
-use Rattle.std.specs.Prelude.{◌≡◌, ◌≢◌, T, cond, List, [], ◌∷◌, Option, Some, None, fold, is_some}
+use Rattle.std.specs.{Prelude.{◌≡◌, ◌≢◌, T, cond, List, [], ◌∷◌, Option, Some, None, fold, is_some}, FinMap.{IsAntisymmetric, find, is_sorted}, Ordering.eq_by_cmp}
 use Rattle.std.proofs.Common.{sym, ap, subst}
 use Rattle.std.specs.declared.cmp.Ordering.{Ordering}
-use Rattle.std.specs.FinMap.{IsAntisymmetric, find, is_sorted}
-use Rattle.std.specs.Ordering.{eq_by_cmp}
 use Rattle.pf_table.specs.Map.Maps.{with_value}
 
 abbrev pub unless_empty : {X : Type 0} → List X → Option (List X)

@@ -1,10 +1,6 @@
 -- Finite maps, as the list of their entries in the order of their keys. `put`, `where_key`, `find` and `is_sorted` are std's. Own.
-use Rattle.std.specs.Prelude.{◌≡◌, T, not, List, Option, Some, None}
+use Rattle.std.specs.{Prelude.{◌≡◌, T, not, List, Option, Some, None}, FinMap.{find, put, is_sorted}, FinMap.Entries.where_key, Option.option_map, Ordering.eq_by_cmp}
 use Rattle.std.specs.declared.cmp.Ordering.{Ordering}
-use Rattle.std.specs.FinMap.{find, put, is_sorted}
-use Rattle.std.specs.FinMap.Entries.{where_key}
-use Rattle.std.specs.Option.{option_map}
-use Rattle.std.specs.Ordering.{eq_by_cmp}
 
 module _ {K X : Type 0} (R : K → K → Ordering) where
   -- the map with no value at a key

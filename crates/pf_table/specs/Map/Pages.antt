@@ -1,7 +1,6 @@
 -- Maps in pages, which are lists of entries that follow one another, and the page where a key's entry is. Own.
-use Rattle.std.specs.Prelude.{◌≡◌, ℕ, zero, suc, ◌<◌, ◌≤◌, Bool, true, false, List, [], ◌∷◌, length, get_or, flat_map}
+use Rattle.std.specs.{Prelude.{◌≡◌, ℕ, zero, suc, ◌<◌, ◌≤◌, Bool, true, false, List, [], ◌∷◌, length, get_or, flat_map}, Ordering.is_lt}
 use Rattle.std.specs.declared.cmp.Ordering.{Ordering}
-use Rattle.std.specs.Ordering.{is_lt}
 
 -- the entries of pages one after the other
 abbrev pub joined : {E : Type 0} → List (List E) → List E

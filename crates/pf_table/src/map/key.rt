@@ -1,8 +1,5 @@
 //! Keys, and what is looked for by them.
-ghost use Rattle.std.specs.Prelude.{◌≡◌};
-ghost use Rattle.std.specs.Cmp.{IsTotalOrder, then_total, on_total};
-ghost use Rattle.std.specs.FinMap.{IsAntisymmetric};
-ghost use Rattle.std.specs.Ordering.{eq_by_cmp};
+ghost use Rattle.std.specs.{Prelude.◌≡◌, Cmp.{IsTotalOrder, then_total, on_total}, FinMap.IsAntisymmetric, Ordering.eq_by_cmp};
 ghost use Rattle.std.specs.declared.cmp.Ordering.{Ordering};
 ghost use Rattle.pf_table.specs.Map.Pairs.{pair_order, pairs_alike};
 

@@ -1,8 +1,6 @@
 //! The keys that there are: paths and names, by their bytes.
-ghost use Rattle.std.specs.FinMap.{slice_cmp-IsAntisymmetric, nat_cmp-IsAntisymmetric};
-ghost use Rattle.std.specs.Cmp.Lexicographic.{nat_list_cmp_total};
-ghost use Rattle.pf_addr.specs.Path.Names.{name_order};
-ghost use Rattle.pf_addr.specs.Path.Paths.{path_order};
+ghost use Rattle.std.specs.{FinMap.{slice_cmp-IsAntisymmetric, nat_cmp-IsAntisymmetric}, Cmp.Lexicographic.nat_list_cmp_total};
+ghost use Rattle.pf_addr.specs.{Path.Names.name_order, Path.Paths.path_order};
 
 use crate::map::key::Key;
 use pf_addr::path::{Name, Path};

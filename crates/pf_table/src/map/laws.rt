@@ -1,6 +1,5 @@
 //! What follows from the definitions that contracts cite: functions that do nothing, whose contracts are the laws.
-ghost use Rattle.pf_table.specs.Laws.Maps.{ReplacesTheKey, StaysSorted, OneList, StaysMap};
-ghost use Rattle.pf_table.specs.Map.ListMaps.{ReplacesLists, StaysListMap, OneListMap};
+ghost use Rattle.pf_table.specs.{Laws.Maps.{ReplacesTheKey, StaysSorted, OneList, StaysMap}, Map.ListMaps.{ReplacesLists, StaysListMap, OneListMap}};
 
 use crate::map::entry::Content;
 use crate::map::key::Key;

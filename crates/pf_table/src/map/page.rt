@@ -1,9 +1,6 @@
 //! Parts of maps.
-ghost use Rattle.std.specs.Prelude.{◌≡◌, ◌<◌, ◌++◌, length, IfOk, OnOk, IfSome};
-ghost use Rattle.std.specs.List.{position};
-ghost use Rattle.std.specs.Ordering.{is_lt};
-ghost use Rattle.pf_table.specs.Map.Maps.{without, with_entry};
-ghost use Rattle.pf_table.specs.Map.Pages.{joined};
+ghost use Rattle.std.specs.{Prelude.{◌≡◌, ◌<◌, ◌++◌, length, IfOk, OnOk, IfSome}, List.position, Ordering.is_lt};
+ghost use Rattle.pf_table.specs.{Map.Maps.{without, with_entry}, Map.Pages.joined};
 
 use crate::map::entry::{Content, Entry};
 use crate::map::key::Key;

@@ -1,9 +1,6 @@
 //! Maps in pages.
-ghost use Rattle.std.specs.Prelude.{◌≡◌, ◌≤◌, ◌<◌, T, [], ◌++◌, length, IfOk, OnOk, fold, nat_lt};
-ghost use Rattle.std.specs.FinMap.{is_sorted};
-ghost use Rattle.std.specs.Option.{option_map};
-ghost use Rattle.pf_table.specs.Map.Maps.{with_entry, entry_at, IsMap};
-ghost use Rattle.pf_table.specs.Map.Pages.{joined, starts_behind, page_before, IsPlace};
+ghost use Rattle.std.specs.{Prelude.{◌≡◌, ◌≤◌, ◌<◌, T, [], ◌++◌, length, IfOk, OnOk, fold, nat_lt}, FinMap.is_sorted, Option.option_map};
+ghost use Rattle.pf_table.specs.{Map.Maps.{with_entry, entry_at, IsMap}, Map.Pages.{joined, starts_behind, page_before, IsPlace}};
 
 use crate::map::entry::{Content, Entry};
 use crate::map::key::{Key, Probe};

@@ -1,11 +1,7 @@
 -- Two names of one ruleset are alike, and one.
-use Rattle.std.specs.Prelude.{◌≡◌, ℕ, true, List}
-use Rattle.std.proofs.Common.{refl, ap, ◌∙◌}
-use Rattle.std.proofs.lemmas.Cmp.{eq_by_cmp_equiv, nat_list_cmp_total, and_equiv, on_equiv}
-use Rattle.std.proofs.lemmas.Bool.{and_parts}
-use Rattle.std.specs.Cmp.{IsEquivalence}
-use Rattle.pf_ticket.specs.declared.{name.RulesetKind.RulesetKind, name.RulesetKind.TheVariants.Filter, name.RulesetKind.TheVariants.Table, name.RulesetName.RulesetName}
-use Rattle.pf_ticket.specs.Names.{filter_at, table_ruleset_at, same_kind, same_name}
+use Rattle.std.specs.{Prelude.{◌≡◌, ℕ, true, List}, Cmp.IsEquivalence}
+use Rattle.std.proofs.{Common.{refl, ap, ◌∙◌}, lemmas.Cmp.{eq_by_cmp_equiv, nat_list_cmp_total, and_equiv, on_equiv}, lemmas.Bool.and_parts}
+use Rattle.pf_ticket.specs.{declared.{name.RulesetKind.RulesetKind, name.RulesetKind.TheVariants.Filter, name.RulesetKind.TheVariants.Table, name.RulesetName.RulesetName}, Names.{filter_at, table_ruleset_at, same_kind, same_name}}
 use Rattle.pf_addr.specs.Path.Paths.{same_path}
 use Rattle.pf_addr.proofs.PathsRead.{same_path_is}
 

@@ -1,19 +1,10 @@
 -- What follows from the definitions, as law functions promise it.
-use Rattle.std.specs.Prelude.{◌≡◌, T, ℕ, ◌+◌, ◌≤◌, ◌&&◌, Bool, true, false, cond, List, [], ◌∷◌, ◌++◌, length, map, flat_map, is_some, Some, None, Ok}
-use Rattle.std.specs.FinMap.{find, is_sorted}
-use Rattle.std.specs.List.{AllByRecursion, list_any, slice_get, last_or}
+use Rattle.std.specs.{Prelude.{◌≡◌, T, ℕ, ◌+◌, ◌≤◌, ◌&&◌, Bool, true, false, cond, List, [], ◌∷◌, ◌++◌, length, map, flat_map, is_some, Some, None, Ok}, FinMap.{find, is_sorted}, List.{AllByRecursion, list_any, slice_get, last_or}}
 use Rattle.pf_addr.specs.Path.Names.{name_order, same_name as same_table}
-use Rattle.pf_table.specs.Edits.{replaced}
-use Rattle.pf_table.specs.Entries.{Row}
-use Rattle.pf_table.specs.Tables.{AreEntries}
+use Rattle.pf_table.specs.{Edits.replaced, Entries.Row, Tables.AreEntries}
 use Rattle.pf_rule.specs.Rules.{PlainRule}
 use Rattle.pf_anchor.specs.declared.limits.TheConstants.{RULE_LIMIT, RULESET_LIMIT}
-use Rattle.pf_ticket.specs.declared.{entry.Entry.Entry, limits.TheConstants.LAST_COUNT, limits.TheConstants.OFFERED_TABLE_LIMIT, offered.Offered.Offered, name.RulesetName.RulesetName, ticket.Ticket.Ticket, ticket.TicketRange.TicketRange}
-use Rattle.pf_ticket.specs.Names.{filter_at, table_ruleset_at, same_name, same_ticket, is_named, names_of, tickets_from, tickets_of, IsDistinct}
-use Rattle.pf_ticket.specs.NamedTables.{Named}
-use Rattle.pf_ticket.specs.Tickets.{nothing_for, rules_in, tables_in, offer_at, Open, fresh, next_ticket, open_rulesets, valid_ticket, content, is_valid}
-use Rattle.pf_ticket.specs.Mentions.{Mention, gave, added, defined, switched, dropped, named_in, moved, after, opened, gives, switches, drops}
-use Rattle.pf_ticket.specs.Replies.{twice_in, begin_reply, add_reply, define_reply}
+use Rattle.pf_ticket.specs.{declared.{entry.Entry.Entry, limits.TheConstants.LAST_COUNT, limits.TheConstants.OFFERED_TABLE_LIMIT, offered.Offered.Offered, name.RulesetName.RulesetName, ticket.Ticket.Ticket, ticket.TicketRange.TicketRange}, Names.{filter_at, table_ruleset_at, same_name, same_ticket, is_named, names_of, tickets_from, tickets_of, IsDistinct}, NamedTables.Named, Tickets.{nothing_for, rules_in, tables_in, offer_at, Open, fresh, next_ticket, open_rulesets, valid_ticket, content, is_valid}, Mentions.{Mention, gave, added, defined, switched, dropped, named_in, moved, after, opened, gives, switches, drops}, Replies.{twice_in, begin_reply, add_reply, define_reply}}
 
 -- ---- which ticket is valid, and what is offered with it
 

@@ -1,6 +1,5 @@
 -- The lines of a text. A line ends at a newline, and the last one also at the end of the text. Own.
-use Rattle.std.specs.Prelude.{◌≡◌, ◌≢◌, ℕ, List, [], ◌∷◌, ◌++◌, take, All}
-use Rattle.std.specs.List.{flat_map}
+use Rattle.std.specs.{Prelude.{◌≡◌, ◌≢◌, ℕ, List, [], ◌∷◌, ◌++◌, take, All}, List.flat_map}
 use Rattle.pfd.specs.declared.line_engine.answer_line.TheConstants.{LOOKED_AT}
 
 abbrev pub newline : ℕ

@@ -1,7 +1,6 @@
 -- What the parts of the engine do, wherever a session has come to.
 use Rattle.std.specs.Prelude.{◌≡◌, ℕ, List, Option, Result, Ok, Err}
-use Rattle.pfd.specs.LineEngine.Lines.{IsCut, seen}
-use Rattle.pfd.specs.LineEngine.Sessions.{Answered, CutOff}
+use Rattle.pfd.specs.{LineEngine.Lines.{IsCut, seen}, LineEngine.Sessions.{Answered, CutOff}}
 
 -- the lines were answered, or a failed write cut them off
 abbrev pub Answers : {S A E : Type 0} → (S → S → List (List ℕ) → List ℕ → Type 0)

@@ -1,7 +1,6 @@
 -- What a session does, over whatever answers a line: `Serves old new lines text` says that these lines took the old
 -- state to the new one and that this text was their reply.
-use Rattle.std.specs.Prelude.{◌≡◌, ℕ, ◌≤◌, List, [], ◌++◌, length, Option, Result, Ok, Err, ◌⊎◌}
-use Rattle.std.specs.Io.KnownBytes.{Appends, Consumes, Keeps, IsAtEnd}
+use Rattle.std.specs.{Prelude.{◌≡◌, ℕ, ◌≤◌, List, [], ◌++◌, length, Option, Result, Ok, Err, ◌⊎◌}, Io.KnownBytes.{Appends, Consumes, Keeps, IsAtEnd}}
 use Rattle.pf_addr.specs.Writing.{WritesFront}
 use Rattle.pfd.specs.declared.line_engine.fault.EngineFault.{EngineFault}
 use Rattle.pfd.specs.declared.line_engine.fault.EngineFault.TheVariants as fault

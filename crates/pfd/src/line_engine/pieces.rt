@@ -1,8 +1,6 @@
 //! An input that comes in pieces, cut into lines, and each line answered.
 ghost use Rattle.std.specs.Prelude.{◌≡◌, ℕ, ◌≤◌, ◌++◌, List, length, take, Option, IfOk, MatchResult};
-ghost use Rattle.pfd.specs.LineEngine.Lines.{last_line, seen};
-ghost use Rattle.pfd.specs.LineEngine.Sessions.{Answered};
-ghost use Rattle.pfd.specs.LineEngine.Pieces.{Answers, SoFar, Failed};
+ghost use Rattle.pfd.specs.{LineEngine.Lines.{last_line, seen}, LineEngine.Sessions.Answered, LineEngine.Pieces.{Answers, SoFar, Failed}};
 
 use crate::line_engine::answer_line::{AnswerLine, LOOKED_AT};
 use std::alloc::Global;

@@ -1,9 +1,5 @@
-use Rattle.std.proofs.Common.{◌≡◌, ℕ, ◌+◌, ◌*◌, ◌<◌, ◌≤◌, ◌^◌, List, length, take, get_or, refl, arith}
-use Rattle.std.specs.Char.{digit_value}
-use Rattle.std.specs.Str.Parse.{AllDigits, digits_value}
-use Rattle.std.proofs.lemmas.Int.Digits.{digits_value_more, digits_value-lt}
-use Rattle.std.proofs.lemmas.Str.Parse.{digits_value-take-le}
-use Rattle.std.proofs.Math.Nat.{pow-le-pow_right}
+use Rattle.std.proofs.{Common.{◌≡◌, ℕ, ◌+◌, ◌*◌, ◌<◌, ◌≤◌, ◌^◌, List, length, take, get_or, refl, arith}, lemmas.Int.Digits.{digits_value_more, digits_value-lt}, lemmas.Str.Parse.digits_value-take-le, Math.Nat.pow-le-pow_right}
+use Rattle.std.specs.{Char.digit_value, Str.Parse.{AllDigits, digits_value}}
 use Rattle.pf_addr.proofs.groups.hex_value.Goals as goal
 
 fits : (ds : List ℕ) (i v : ℕ) → AllDigits 16 ds → length ds ≤ 4 → i < length ds → v ≡ digits_value 16 (take i ds) → v * 16 + digit_value (get_or ds i 0) < 65536

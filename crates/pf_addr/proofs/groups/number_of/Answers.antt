@@ -1,6 +1,4 @@
-use Rattle.std.proofs.Common.{◌≡◌, ℕ, ◌+◌, ◌*◌, ◌<◌, ◌≤◌, ◌^◌, length, refl, arith, add-one}
-use Rattle.std.proofs.lemmas.Int.Digits.{number_more}
-use Rattle.std.proofs.Math.Nat.{pow-le-pow_right, pow-succ'}
+use Rattle.std.proofs.{Common.{◌≡◌, ℕ, ◌+◌, ◌*◌, ◌<◌, ◌≤◌, ◌^◌, length, refl, arith, add-one}, lemmas.Int.Digits.number_more, Math.Nat.{pow-le-pow_right, pow-succ'}}
 use Rattle.pf_addr.proofs.groups.number_of.Goals as goal
 
 grows : (i n g : ℕ) → n < 65536 ^ i → g < 65536 → n * 65536 + g < 65536 ^ (i + 1)

@@ -1,7 +1,6 @@
 use Rattle.std.proofs.Common.{rules, ap, ◌∙◌, append_assoc, Ok}
 use Rattle.pf_addr.specs.Collected.{groups_of}
-use Rattle.pf_addr.proofs.Addresses.{last_v4_fault, last_v4, last_group_fault, last_group}
-use Rattle.pf_addr.proofs.Numbers.{group_pushed}
+use Rattle.pf_addr.proofs.{Addresses.{last_v4_fault, last_v4, last_group_fault, last_group}, Numbers.group_pushed}
 use Rattle.pf_addr.proofs.groups.push_last.Goals as goal
 
 pub returns-in_err-number : goal.returns-in_err-number

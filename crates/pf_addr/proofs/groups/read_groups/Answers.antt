@@ -1,6 +1,5 @@
 use Rattle.std.proofs.Common.{rules, sym, ◌∙◌}
-use Rattle.pf_addr.specs.Collected.{groups_of}
-use Rattle.pf_addr.specs.Reading.{group_at, end_at}
+use Rattle.pf_addr.specs.{Collected.groups_of, Reading.{group_at, end_at}}
 use Rattle.pf_addr.proofs.Numbers.{no_text, at_start, at_next, at_fault, at_last, group_pushed}
 use Rattle.pf_addr.proofs.groups.read_groups.Goals as goal
 

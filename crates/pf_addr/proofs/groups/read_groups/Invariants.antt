@@ -1,6 +1,5 @@
 use Rattle.std.proofs.Common.{length}
-use Rattle.pf_addr.specs.Collected.{groups_of}
-use Rattle.pf_addr.specs.Reading.{group_at, end_at}
+use Rattle.pf_addr.specs.{Collected.groups_of, Reading.{group_at, end_at}}
 use Rattle.pf_addr.proofs.Numbers.{SoFar}
 use Rattle.pf_addr.proofs.groups.read_groups.Given as goal
 

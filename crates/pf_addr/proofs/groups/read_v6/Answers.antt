@@ -1,8 +1,6 @@
-use Rattle.std.proofs.Common.{◌+◌, ◌<◌, rules, refl, sym, ap, Ok, arith}
-use Rattle.std.proofs.lemmas.List.{take_rest}
-use Rattle.pf_addr.proofs.Addresses.{whole_fault, whole_wrong, whole_read, front_fault, back_fault, cut_wrong, cut_read}
+use Rattle.std.proofs.{Common.{◌+◌, ◌<◌, rules, refl, sym, ap, Ok, arith}, lemmas.List.take_rest}
+use Rattle.pf_addr.proofs.{Addresses.{whole_fault, whole_wrong, whole_read, front_fault, back_fault, cut_wrong, cut_read}, groups.read_v6.Goals.{then-front-ge-GROUPS-via-then-front-ge-GROUPS, then-front-ge-GROUPS-via-else-front-ge-GROUPS+then-back-front}}
 use Rattle.pf_addr.proofs.groups.read_v6.Goals as goal
-use Rattle.pf_addr.proofs.groups.read_v6.Goals.{then-front-ge-GROUPS-via-then-front-ge-GROUPS, then-front-ge-GROUPS-via-else-front-ge-GROUPS+then-back-front}
 
 pub returns-in_err-groups : goal.returns-in_err-groups
 returns-in_err-groups c = rw (whole_fault c.args.text.now c.in_err-groups.field-0.0 (search rules) c.in_err-groups.ensures) (search rules)

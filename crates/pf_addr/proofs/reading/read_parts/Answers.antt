@@ -1,6 +1,5 @@
 use Rattle.std.proofs.Common.{rules, Ok, sym, ap}
-use Rattle.pf_addr.specs.Collected.{parts_of}
-use Rattle.pf_addr.specs.Reading.{part_at, single}
+use Rattle.pf_addr.specs.{Collected.parts_of, Reading.{part_at, single}}
 use Rattle.pf_addr.proofs.Numbers.{no_text, at_start, at_next, at_fault, at_last, part_pushed}
 use Rattle.pf_addr.proofs.reading.read_parts.Goals as goal
 

@@ -1,6 +1,5 @@
 use Rattle.std.proofs.Common.{length}
-use Rattle.pf_addr.specs.Collected.{parts_of}
-use Rattle.pf_addr.specs.Reading.{part_at, single}
+use Rattle.pf_addr.specs.{Collected.parts_of, Reading.{part_at, single}}
 use Rattle.pf_addr.proofs.Numbers.{SoFar}
 use Rattle.pf_addr.proofs.reading.read_parts.Given as goal
 

@@ -1,7 +1,5 @@
-use Rattle.std.proofs.Common.{rules}
-use Rattle.std.proofs.lemmas.Bool.{ne_eqb}
-use Rattle.pf_addr.specs.Address.{width}
-use Rattle.pf_addr.specs.Writing.{Continues-then}
+use Rattle.std.proofs.{Common.rules, lemmas.Bool.ne_eqb}
+use Rattle.pf_addr.specs.{Address.width, Writing.Continues-then}
 use Rattle.pf_addr.proofs.write.write_more_len.Goals as goal
 
 pub returns : goal.returns

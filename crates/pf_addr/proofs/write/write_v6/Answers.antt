@@ -1,6 +1,5 @@
 use Rattle.std.proofs.Common.{◌≡◌, append-nil, arith}
-use Rattle.pf_addr.specs.Spelling.{group_text}
-use Rattle.pf_addr.specs.Writing.{Continues-then}
+use Rattle.pf_addr.specs.{Spelling.group_text, Writing.Continues-then}
 use Rattle.pf_addr.proofs.Writers.{groups_more}
 use Rattle.pf_addr.proofs.write.write_v6.Goals as goal
 

@@ -1,14 +1,8 @@
 -- What holds of a form: its grammar and its reader belong together.
-use Rattle.std.proofs.Common.{◌≡◌, ◌<◌, Bool, true, false, List, [], ◌∷◌, ◌++◌, length, Result, Ok, Err, ◌⊎◌, inl, inr, refl, sym, ap, ◌∙◌, append_assoc, arith}
-use Rattle.std.specs.Prelude.{◌&&◌, ◌||◌, not}
-use Rattle.std.specs.Str.{bytes_eq}
-use Rattle.std.proofs.lemmas.List.{length-append, append_cancel_right}
-use Rattle.std.proofs.lemmas.Slice.Eq.{bytes_eq-Decides}
-use Rattle.pf_addr.specs.declared.form.fault.Kind.{Kind}
-use Rattle.pf_addr.specs.declared.form.fault.Kind.TheVariants.{BadWord}
-use Rattle.pf_addr.specs.Form.Words.{Word}
-use Rattle.pf_addr.specs.Form.Forms.{Form, Grammar, Spells, Faults, Begins, Read, Reader, ◌>>=◌, reads, misplaced, empties, begins, Follow, but, the_end, follow, plus, none_of, may_follow}
-use Rattle.pf_addr.specs.Form.Readers.{Shrinks}
+use Rattle.std.proofs.{Common.{◌≡◌, ◌<◌, Bool, true, false, List, [], ◌∷◌, ◌++◌, length, Result, Ok, Err, ◌⊎◌, inl, inr, refl, sym, ap, ◌∙◌, append_assoc, arith}, lemmas.List.{length-append, append_cancel_right}, lemmas.Slice.Eq.bytes_eq-Decides}
+use Rattle.std.specs.{Prelude.{◌&&◌, ◌||◌, not}, Str.bytes_eq}
+use Rattle.pf_addr.specs.declared.{form.fault.Kind.Kind, form.fault.Kind.TheVariants.BadWord}
+use Rattle.pf_addr.specs.{Form.Words.Word, Form.Forms.{Form, Grammar, Spells, Faults, Begins, Read, Reader, ◌>>=◌, reads, misplaced, empties, begins, Follow, but, the_end, follow, plus, none_of, may_follow}, Form.Readers.Shrinks}
 
 -- ---- what may follow
 

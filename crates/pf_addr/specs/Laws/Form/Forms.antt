@@ -1,12 +1,7 @@
 -- The laws of every form, by induction over forms.
 use Rattle.std.proofs.Common.{◌≡◌, Bool, true, false, List}
 use Rattle.std.specs.Prelude.{◌&&◌, not}
-use Rattle.pf_addr.specs.Form.Words.{Word}
-use Rattle.pf_addr.specs.Form.Forms.{Form, nothing, word, key, or, pair, pair_by, any_number, making, Spells, Faults, reads, empties, begins, Follow, plus, follow, may_follow, is_decided, either}
-use Rattle.pf_addr.specs.Laws.Form.Decided.{Clear, clear_both, both, or_left, or_right, is_not, Lawful, weaken}
-use Rattle.pf_addr.specs.Laws.Form.Words.{nothing_laws, word_laws, key_laws, or_laws}
-use Rattle.pf_addr.specs.Laws.Form.Pairs.{both_laws, made_laws}
-use Rattle.pf_addr.specs.Laws.Form.Lists.{items_laws}
+use Rattle.pf_addr.specs.{Form.Words.Word, Form.Forms.{Form, nothing, word, key, or, pair, pair_by, any_number, making, Spells, Faults, reads, empties, begins, Follow, plus, follow, may_follow, is_decided, either}, Laws.Form.Decided.{Clear, clear_both, both, or_left, or_right, is_not, Lawful, weaken}, Laws.Form.Words.{nothing_laws, word_laws, key_laws, or_laws}, Laws.Form.Pairs.{both_laws, made_laws}, Laws.Form.Lists.items_laws}
 
 at_flag : (t : Bool → Bool) (b : Bool) → t b ≡ true → either t ≡ true
 at_flag t true e = or_left (t true) (t false) e

@@ -1,11 +1,7 @@
 -- The laws of a part one time after the other, up to the last word.
-use Rattle.std.proofs.Common.{◌≡◌, ℕ, zero, suc, ◌<◌, ◌≤◌, Bool, false, true, List, [], ◌∷◌, ◌++◌, length, Result, Ok, Err, inl, inr, refl, sym, ap, subst, ◌∙◌, append_assoc, append-nil, arith}
-use Rattle.std.proofs.lemmas.List.{length-append}
+use Rattle.std.proofs.{Common.{◌≡◌, ℕ, zero, suc, ◌<◌, ◌≤◌, Bool, false, true, List, [], ◌∷◌, ◌++◌, length, Result, Ok, Err, inl, inr, refl, sym, ap, subst, ◌∙◌, append_assoc, append-nil, arith}, lemmas.List.length-append}
 use Rattle.pf_addr.specs.declared.form.fault.Kind.{Kind}
-use Rattle.pf_addr.specs.Form.Words.{Word}
-use Rattle.pf_addr.specs.Form.Forms.{Form, any_number, InOrder, Spells, Faults, Read, Reader, reads, empties, begins, follow, ◌>>=◌, the_end, may_follow, at_most, any_by}
-use Rattle.pf_addr.specs.Form.Readers.{Shrinks}
-use Rattle.pf_addr.specs.Laws.Form.Decided.{Clear, Heads, clears, clears_heads, bind_ok, bind_err, leaves, ok_is, seen_ok, seen_err, not_both, Stopped, Lawful, takes_some, stopped_behind}
+use Rattle.pf_addr.specs.{Form.Words.Word, Form.Forms.{Form, any_number, InOrder, Spells, Faults, Read, Reader, reads, empties, begins, follow, ◌>>=◌, the_end, may_follow, at_most, any_by}, Form.Readers.Shrinks, Laws.Form.Decided.{Clear, Heads, clears, clears_heads, bind_ok, bind_err, leaves, ok_is, seen_ok, seen_err, not_both, Stopped, Lawful, takes_some, stopped_behind}}
 
 abbrev pub in_front : {A : Type 0} → A → List A × List Word → Read (List A)
 in_front x y = Ok (x ∷ y.0, y.1)

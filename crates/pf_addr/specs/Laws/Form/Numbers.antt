@@ -1,12 +1,7 @@
 -- A number is read from a word exactly where the word writes it.
-use Rattle.std.proofs.Common.{◌≡◌, ℕ, ◌+◌, ◌*◌, ◌-◌, ◌<◌, ◌≤◌, ◌^◌, ◌&&◌, Bool, true, false, List, length, Some, None, Option, refl, sym, ◌∙◌, rules, arith}
-use Rattle.std.specs.Prelude.{fold, if◌then◌else◌, nat_lt, nat_le}
-use Rattle.std.specs.List.{list_all}
-use Rattle.std.proofs.lemmas.Bool.{and_parts, ltb-true, leb-true, lt-ltb, le-leb}
-use Rattle.std.proofs.lemmas.Bool.Decides.{nat_tests}
-use Rattle.std.proofs.lemmas.Str.Parse.{IsNumeralModel, numerals_by_fold, digits_value_short}
-use Rattle.pf_addr.specs.Form.Words.{Word}
-use Rattle.pf_addr.specs.Form.Numbers.{is_digit, decimal_value, number_of, of_bits, number_in, IsNumber, IsNumberIn}
+use Rattle.std.proofs.{Common.{◌≡◌, ℕ, ◌+◌, ◌*◌, ◌-◌, ◌<◌, ◌≤◌, ◌^◌, ◌&&◌, Bool, true, false, List, length, Some, None, Option, refl, sym, ◌∙◌, rules, arith}, lemmas.Bool.{and_parts, ltb-true, leb-true, lt-ltb, le-leb}, lemmas.Bool.Decides.nat_tests, lemmas.Str.Parse.{IsNumeralModel, numerals_by_fold, digits_value_short}}
+use Rattle.std.specs.{Prelude.{fold, if◌then◌else◌, nat_lt, nat_le}, List.list_all}
+use Rattle.pf_addr.specs.{Form.Words.Word, Form.Numbers.{is_digit, decimal_value, number_of, of_bits, number_in, IsNumber, IsNumberIn}}
 
 abbrev IsDigits : List ℕ → Type 0
 IsDigits ds = list_all is_digit ds ≡ true

@@ -2,9 +2,7 @@
 use Rattle.std.proofs.Common.{◌≡◌, Bool, true, false, List, [], ◌∷◌, ◌++◌, Result, Ok, Err, ◌⊎◌, inl, inr, refl, sym, ap, subst, ◌∙◌, append_assoc}
 use Rattle.std.specs.Prelude.{◌&&◌, ◌||◌}
 use Rattle.pf_addr.specs.declared.form.fault.Kind.{Kind}
-use Rattle.pf_addr.specs.Form.Words.{Word}
-use Rattle.pf_addr.specs.Form.Forms.{Form, making, Grammar, Read, Reader, reads, ◌>>=◌, Follow, plus, where_empty, may_follow}
-use Rattle.pf_addr.specs.Laws.Form.Decided.{Clear, Heads, clear_both, clears, clears_heads, or_left, or_right, and_join, bind_ok, bind_err, leaves, leaves_is, seen_ahead, seen_ok, seen_err, Faulting, Stopped, Laws, Lawful, splits, stopped_behind}
+use Rattle.pf_addr.specs.{Form.Words.Word, Form.Forms.{Form, making, Grammar, Read, Reader, reads, ◌>>=◌, Follow, plus, where_empty, may_follow}, Laws.Form.Decided.{Clear, Heads, clear_both, clears, clears_heads, or_left, or_right, and_join, bind_ok, bind_err, leaves, leaves_is, seen_ahead, seen_ok, seen_err, Faulting, Stopped, Laws, Lawful, splits, stopped_behind}}
 
 module _ (A B : Type 0) (spells : Grammar A) (spells' : A → Grammar B) (faults : Faulting) (faults' : A → Faulting) (e e' : Bool) (b b' : Word → Bool) (f f' : Follow) (read : Reader A) (read' : A → Reader B)
     (p : Laws A spells faults e b f read) (q : (x : A) → Laws B (spells' x) (faults' x) e' b' f' (read' x)) (decided : may_follow f b' ≡ true) where

@@ -1,13 +1,9 @@
 -- A reader that takes a word, or finds that it isn't there, goes on as the form's part does.
 use Rattle.std.proofs.Common.{◌≡◌, Bool, true, false, List, [], ◌∷◌, Result, Ok, Err, sym, ap, subst, ◌∙◌}
-use Rattle.std.specs.Prelude.{if◌then◌else◌}
-use Rattle.std.specs.Str.{bytes_eq}
+use Rattle.std.specs.{Prelude.if◌then◌else◌, Str.bytes_eq}
 use denote.Ref.{Bor}
 use Rattle.pf_addr.specs.declared.form.fault.Stop.{Stop}
-use Rattle.pf_addr.specs.Form.Words.{Word, texts}
-use Rattle.pf_addr.specs.Form.Forms.{Form, or, Read, reads}
-use Rattle.pf_addr.specs.Form.Readers.{Fails, Moves, if_there}
-use Rattle.pf_addr.specs.Laws.Form.Decided.{ok_is}
+use Rattle.pf_addr.specs.{Form.Words.{Word, texts}, Form.Forms.{Form, or, Read, reads}, Form.Readers.{Fails, Moves, if_there}, Laws.Form.Decided.ok_is}
 
 module _ {A : Type 0} (k : Word) (f g : Form A) where
   reads_taken : (ws vs : List Word) → reads (if_there k) ws ≡ Ok (true, vs) → reads (or k f g) ws ≡ reads f vs

@@ -1,12 +1,7 @@
 -- The laws of whole texts: a text is read exactly where the grammar has it, and a refusal stands at the place, and is of the kind, that the grammar gives.
-use Rattle.std.proofs.Common.{◌≡◌, ℕ, zero, suc, ◌+◌, ◌-◌, ◌<◌, ◌≤◌, true, List, [], ◌∷◌, ◌++◌, length, take, drop, Result, Ok, Err, ◌⊎◌, inl, inr, refl, sym, ap, subst, ◌∙◌, append_assoc, append-nil, arith}
-use Rattle.std.proofs.lemmas.List.{length-append, take_at, drop_at}
-use Rattle.pf_addr.specs.declared.form.fault.Kind.{Kind}
-use Rattle.pf_addr.specs.declared.form.fault.Kind.TheVariants.{BadWord}
-use Rattle.pf_addr.specs.Form.Words.{Word}
-use Rattle.pf_addr.specs.Form.Forms.{Form, Spells, Faults, Grammar, Begins, StopsAt, StandsAt, RefusedAt, reads, ended, read_all, is_decided}
-use Rattle.pf_addr.specs.Laws.Form.Decided.{bind_ok, bind_err, leaves, err_is, not_both, Stopped, Lawful}
-use Rattle.pf_addr.specs.Laws.Form.Forms.{lawful}
+use Rattle.std.proofs.{Common.{◌≡◌, ℕ, zero, suc, ◌+◌, ◌-◌, ◌<◌, ◌≤◌, true, List, [], ◌∷◌, ◌++◌, length, take, drop, Result, Ok, Err, ◌⊎◌, inl, inr, refl, sym, ap, subst, ◌∙◌, append_assoc, append-nil, arith}, lemmas.List.{length-append, take_at, drop_at}}
+use Rattle.pf_addr.specs.declared.{form.fault.Kind.Kind, form.fault.Kind.TheVariants.BadWord}
+use Rattle.pf_addr.specs.{Form.Words.Word, Form.Forms.{Form, Spells, Faults, Grammar, Begins, StopsAt, StandsAt, RefusedAt, reads, ended, read_all, is_decided}, Laws.Form.Decided.{bind_ok, bind_err, leaves, err_is, not_both, Stopped, Lawful}, Laws.Form.Forms.lawful}
 
 -- ---- a text is refused at one place, and in one way
 

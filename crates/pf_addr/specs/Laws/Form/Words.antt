@@ -1,12 +1,8 @@
 -- The laws of no word, one word, a word that has to stand, and a word that chooses.
-use Rattle.std.proofs.Common.{◌≡◌, ◌≢◌, Bool, true, false, List, [], ◌∷◌, ◌++◌, length, Result, Ok, Err, ◌⊎◌, inl, inr, refl, sym, ap, ◌∙◌, arith}
+use Rattle.std.proofs.{Common.{◌≡◌, ◌≢◌, Bool, true, false, List, [], ◌∷◌, ◌++◌, length, Result, Ok, Err, ◌⊎◌, inl, inr, refl, sym, ap, ◌∙◌, arith}, lemmas.List.length-append}
 use Rattle.std.specs.Str.{bytes_eq}
-use Rattle.std.proofs.lemmas.List.{length-append}
-use Rattle.pf_addr.specs.declared.form.fault.Kind.{Kind}
-use Rattle.pf_addr.specs.declared.form.fault.Kind.TheVariants.{BadWord, NameTooLong, BadProto}
-use Rattle.pf_addr.specs.Form.Words.{Word}
-use Rattle.pf_addr.specs.Form.Forms.{Form, nothing, word, key, or, Test, Spells, Faults, reads, empties, begins, knows, follow, tested, but, plus, where_empty}
-use Rattle.pf_addr.specs.Laws.Form.Decided.{Clear, Heads, clear_both, differs, or_left, or_right, word_is, word_same, leaves, leaves_is, ok_is, still, Stopped, Lawful, heads_more, splits, misplaced_here, stopped_behind}
+use Rattle.pf_addr.specs.declared.{form.fault.Kind.Kind, form.fault.Kind.TheVariants.{BadWord, NameTooLong, BadProto}}
+use Rattle.pf_addr.specs.{Form.Words.Word, Form.Forms.{Form, nothing, word, key, or, Test, Spells, Faults, reads, empties, begins, knows, follow, tested, but, plus, where_empty}, Laws.Form.Decided.{Clear, Heads, clear_both, differs, or_left, or_right, word_is, word_same, leaves, leaves_is, ok_is, still, Stopped, Lawful, heads_more, splits, misplaced_here, stopped_behind}}
 
 -- ---- no word
 

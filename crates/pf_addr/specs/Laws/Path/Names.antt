@@ -1,7 +1,6 @@
 -- What follows from the definitions of names, as law functions promise it.
 use Rattle.std.specs.Prelude.{◌≡◌, ℕ, List, Ok}
-use Rattle.pf_addr.specs.Form.Words.{Word}
-use Rattle.pf_addr.specs.Path.Names.{IsName, name_of}
+use Rattle.pf_addr.specs.{Form.Words.Word, Path.Names.{IsName, name_of}}
 
 -- what is read is the word, and is a name
 abbrev pub ReadsANameAlone : Type 0

@@ -1,8 +1,7 @@
 -- What follows from the definitions of paths within one another, as law functions promise it.
 use Rattle.std.specs.Prelude.{◌≡◌, ℕ, ◌<◌, ◌≤◌, ◌+◌, true, List, Some}
 use Rattle.pf_addr.specs.declared.path.limits.TheConstants.{DEPTH_LIMIT}
-use Rattle.pf_addr.specs.Path.Paths.{is_path}
-use Rattle.pf_addr.specs.Path.Nested.{depth, within, path_within, is_single, is_child}
+use Rattle.pf_addr.specs.{Path.Paths.is_path, Path.Nested.{depth, within, path_within, is_single, is_child}}
 
 -- a path has no more components than it may have
 abbrev pub NoDeeper : Type 0

@@ -1,8 +1,6 @@
 -- What follows from the definitions of paths, as law functions promise it.
 use Rattle.std.specs.Prelude.{◌≡◌, ℕ, true, List, Ok}
-use Rattle.pf_addr.specs.Form.Words.{Word}
-use Rattle.pf_addr.specs.Path.Paths.{path_of, path_text, is_path, same_path}
-use Rattle.pf_addr.specs.Path.PathGrammar.{SpellsPath}
+use Rattle.pf_addr.specs.{Form.Words.Word, Path.Paths.{path_of, path_text, is_path, same_path}, Path.PathGrammar.SpellsPath}
 
 -- what is read is what the word spells
 abbrev pub ReadsWhatIsSpelled : Type 0

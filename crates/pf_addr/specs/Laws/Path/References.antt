@@ -1,8 +1,6 @@
 -- What follows from the definitions of references, as law functions promise it.
 use Rattle.std.specs.Prelude.{◌≡◌, Ok}
-use Rattle.pf_addr.specs.Form.Words.{Word}
-use Rattle.pf_addr.specs.Path.References.{PlainReference, reference_of}
-use Rattle.pf_addr.specs.Path.ReferenceGrammar.{SpellsReference}
+use Rattle.pf_addr.specs.{Form.Words.Word, Path.References.{PlainReference, reference_of}, Path.ReferenceGrammar.SpellsReference}
 
 -- what is read is what the word spells
 abbrev pub ReferenceIsSpelled : Type 0

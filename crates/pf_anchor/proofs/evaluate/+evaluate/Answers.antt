@@ -1,18 +1,12 @@
-use Rattle.std.proofs.Common.{◌≡◌, ℕ, ◌+◌, List, ◌∷◌, Bool, Option, drop, ap, true, false, sym, ◌∙◌, arith}
+use Rattle.std.proofs.{Common.{◌≡◌, ℕ, ◌+◌, List, ◌∷◌, Bool, Option, drop, ap, true, false, sym, ◌∙◌, arith}, lemmas.Grind.common_steps}
 use Rattle.std.specs.Prelude.{filter}
-use Rattle.std.proofs.lemmas.Grind.{common_steps}
 use Rattle.pf_addr.specs.Path.Nested.{depth, path_within, is_child}
 use Rattle.pf_addr.proofs.Nesting.{leads_deeper}
 use Rattle.pf_rule.specs.Rules.{PlainRule}
-use Rattle.pf_anchor.specs.declared.{evaluated.Evaluated.Evaluated, evaluated.Evaluated.TheVariants.Open, evaluated.Evaluated.TheVariants.Ended}
-use Rattle.pf_anchor.specs.Matches.{PlainMatch}
+use Rattle.pf_anchor.specs.{declared.{evaluated.Evaluated.Evaluated, evaluated.Evaluated.TheVariants.Open, evaluated.Evaluated.TheVariants.Ended}, Matches.PlainMatch, Rulesets.{Ruled, ruled}, Evaluation.{and_then, settled, rules_give, effected, in_turn, evaluation, evaluate_with, matching}}
 use Rattle.pf_table.specs.Map.Pages.{joined}
-use Rattle.pf_anchor.specs.Rulesets.{Ruled, ruled}
-use Rattle.pf_anchor.specs.Evaluation.{and_then, settled, rules_give, effected, in_turn, evaluation, evaluate_with, matching}
-use Rattle.pf_anchor.proofs.Evaluations.{unrolled, none_and_then, no_rules}
-use Rattle.pf_anchor.proofs.Turns.{rule_goes_on, rule_passed, child_deeper, then_open, page_step, no_targets, targets_from, plain_turn}
+use Rattle.pf_anchor.proofs.{Evaluations.{unrolled, none_and_then, no_rules}, Turns.{rule_goes_on, rule_passed, child_deeper, then_open, page_step, no_targets, targets_from, plain_turn}, evaluate.+evaluate.Goals.{evaluate-then-matches+in-Open, evaluate-else-matches}}
 use Rattle.pf_anchor.proofs.evaluate.+evaluate.Goals as goal
-use Rattle.pf_anchor.proofs.evaluate.+evaluate.Goals.{evaluate-then-matches+in-Open, evaluate-else-matches}
 
 pub evaluate-loop-number-init : goal.evaluate-loop-number-init
 evaluate-loop-number-init t c =

@@ -1,9 +1,6 @@
 use Rattle.std.proofs.Common.{◌≡◌, true, ℕ, length, map, take, sym, ◌∙◌, ap, subst}
-use Rattle.pf_disk.specs.Calls.{State, at_rest, after, fits_in}
-use Rattle.pf_disk.specs.Filled.{Shows}
-use Rattle.pf_disk.proofs.Calls.{size-after}
-use Rattle.pf_disk.proofs.Replaying.{fit_at, after-more}
-use Rattle.pf_disk.specs.Kept.{event_of}
+use Rattle.pf_disk.specs.{Calls.{State, at_rest, after, fits_in}, Filled.Shows, Kept.event_of}
+use Rattle.pf_disk.proofs.{Calls.size-after, Replaying.{fit_at, after-more}}
 use Rattle.pf_disk.proofs.image.replayed.Goals as goal
 
 pub apply-requires : goal.apply-requires

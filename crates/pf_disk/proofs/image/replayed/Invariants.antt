@@ -1,7 +1,5 @@
 use Rattle.std.proofs.Common.{◌≡◌, length, map, take}
-use Rattle.pf_disk.specs.Calls.{at_rest, after}
-use Rattle.pf_disk.specs.Kept.{event_of}
-use Rattle.pf_disk.specs.Filled.{Shows}
+use Rattle.pf_disk.specs.{Calls.{at_rest, after}, Kept.event_of, Filled.Shows}
 use Rattle.pf_disk.proofs.image.replayed.Given as goal
 
 abbrev pub invariant-loop-call : goal.invariant-loop-call

@@ -1,8 +1,6 @@
 use Rattle.std.proofs.Common.{List, ℕ, sym, ◌∙◌, subst}
-use Rattle.pf_journal.specs.declared.fault.ReadFault.{ReadFault}
-use Rattle.pf_journal.specs.declared.fault.ReadFault.TheVariants.{Memory, Corrupt, Fault}
-use Rattle.pf_journal.specs.Faults.{IsCorrupt, IfCorrupt}
-use Rattle.pf_journal.specs.Records.{AreRecords, Breaks, contents}
+use Rattle.pf_journal.specs.declared.{fault.ReadFault.ReadFault, fault.ReadFault.TheVariants.{Memory, Corrupt, Fault}}
+use Rattle.pf_journal.specs.{Faults.{IsCorrupt, IfCorrupt}, Records.{AreRecords, Breaks, contents}}
 use Rattle.pf_journal.proofs.Parsing.{torn_end}
 use Rattle.pf_journal.proofs.reading.read_all.Goals as goal
 

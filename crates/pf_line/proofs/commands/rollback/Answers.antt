@@ -1,7 +1,5 @@
 use Rattle.std.proofs.Common.{Ok, Err, refl, Vec, Global}
-use Rattle.pf_addr.specs.Form.Words.{texts}
-use Rattle.pf_addr.specs.Form.Forms.{reads, read_all}
-use Rattle.pf_addr.specs.Form.Lists.{shrinks, listed, handed_on}
+use Rattle.pf_addr.specs.{Form.Words.texts, Form.Forms.{reads, read_all}, Form.Lists.{shrinks, listed, handed_on}}
 use Rattle.pf_ticket.specs.declared.entry.Entry.{Entry}
 use Rattle.pf_line.specs.Grammar.{entry, rollback_of, rolled_back}
 use Rattle.pf_line.proofs.commands.rollback.Goals as goal

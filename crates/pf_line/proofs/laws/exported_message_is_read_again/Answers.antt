@@ -1,5 +1,4 @@
-use Rattle.pf_line.proofs.ExportedLines.{exports_are_read}
-use Rattle.pf_line.proofs.SpelledStates.{message_said}
+use Rattle.pf_line.proofs.{ExportedLines.exports_are_read, SpelledStates.message_said}
 use Rattle.pf_line.proofs.laws.exported_message_is_read_again.Goals as goal
 
 pub returns-clause-words : goal.returns-clause-words

@@ -1,10 +1,8 @@
 use Rattle.std.proofs.Common.{sym, subst}
 use Rattle.std.specs.Prelude.{codes, Result, List}
-use Rattle.pf_addr.specs.Form.Words.{Word, texts}
-use Rattle.pf_addr.specs.Form.Forms.{making}
+use Rattle.pf_addr.specs.{Form.Words.{Word, texts}, Form.Forms.making}
 use Rattle.pf_addr.specs.declared.form.fault.Kind.{Kind}
-use Rattle.pf_line.specs.Grammar.{Spoken, Says, Tells, hex, command}
-use Rattle.pf_line.specs.Lines.{Parses, said}
+use Rattle.pf_line.specs.{Grammar.{Spoken, Says, Tells, hex, command}, Lines.{Parses, said}}
 use Rattle.pf_line.proofs.Choices.{here, elsewhere}
 use Rattle.pf_line.proofs.line.say.Goals as goal
 

@@ -1,7 +1,5 @@
 use Rattle.std.proofs.Common.{refl, Vec, Global}
-use Rattle.pf_addr.specs.Form.Words.{texts}
-use Rattle.pf_addr.specs.Form.Forms.{reads, read_all, one_or_more}
-use Rattle.pf_addr.specs.Form.Lists.{shrinks, handed_on}
+use Rattle.pf_addr.specs.{Form.Words.texts, Form.Forms.{reads, read_all, one_or_more}, Form.Lists.{shrinks, handed_on}}
 use Rattle.pf_table.specs.Entries.{Row}
 use Rattle.pf_line.specs.Grammar.{row}
 use Rattle.pf_line.proofs.lists.read_some_rows.Goals as goal

@@ -1,15 +1,8 @@
 -- The words that the two ends are written as spell them, and their text, part by part.
-use Rattle.std.proofs.Common.{◌≡◌, ℕ, List, [], ◌∷◌, ◌++◌, Some, None, inl, inr, refl, ap, ◌∙◌}
+use Rattle.std.proofs.{Common.{◌≡◌, ℕ, List, [], ◌∷◌, ◌++◌, Some, None, inl, inr, refl, ap, ◌∙◌}, lemmas.List.Folds.list_all-append}
 use Rattle.std.specs.Prelude.{codes}
-use Rattle.std.proofs.lemmas.List.Folds.{list_all-append}
-use Rattle.pf_rule.specs.Value.Ports.{port_words}
-use Rattle.pf_rule.specs.Laws.Value.Ports.{port_written}
-use Rattle.pf_rule.specs.Value.Spacing.{is_word, spaced, spaced-append}
-use Rattle.pf_rule.specs.Value.Written.{Written, both}
+use Rattle.pf_rule.specs.{Value.Ports.port_words, Laws.Value.Ports.port_written, Value.Spacing.{is_word, spaced, spaced-append}, Value.Written.{Written, both}, Host.Hosts.host_words, Laws.Host.Hosts.host_written, Host.Ends.{End, IsEnd, end, destination, ends, end_words, from_to_words, ends_words}}
 use Rattle.pf_rule.specs.declared.host.host.Host.TheVariants.{Any, Net, Table}
-use Rattle.pf_rule.specs.Host.Hosts.{host_words}
-use Rattle.pf_rule.specs.Laws.Host.Hosts.{host_written}
-use Rattle.pf_rule.specs.Host.Ends.{End, IsEnd, end, destination, ends, end_words, from_to_words, ends_words}
 
 end_written : (e : End) → IsEnd e → Written end e (end_words e)
 unfolding end

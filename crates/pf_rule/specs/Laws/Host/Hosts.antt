@@ -1,34 +1,11 @@
 -- A host's word is read exactly where it spells a host, and the words that a host is written as spell it.
-use Rattle.std.proofs.Common.{◌≡◌, ℕ, ◌==◌, Bool, true, false, [], ◌∷◌, ◌++◌, length, drop, Option, Some, None, Result, Ok, Err, inl, inr, refl, sym, ap, ◌∙◌, subst, arith}
-use Rattle.std.specs.Prelude.{codes, nat_lt, if◌then◌else◌}
-use Rattle.std.specs.List.{slice_index_or}
-use Rattle.std.specs.Option.{option_and_then}
-use Rattle.std.proofs.lemmas.Bool.{lt-ltb}
-use Rattle.std.proofs.lemmas.List.Elements.{All-head}
-use Rattle.std.proofs.lemmas.List.Folds.{list_all-append}
-use Rattle.std.proofs.lemmas.List.Sums.{list_all-from_AllPass}
-use Rattle.pf_addr.specs.Form.Words.{Word}
-use Rattle.pf_addr.specs.Laws.Form.Decided.{bind_ok}
-use Rattle.pf_addr.specs.declared.fault.AddrFault.{AddrFault}
-use Rattle.pf_addr.specs.Address.{Network, IsNetwork}
-use Rattle.pf_addr.specs.Grammar.{SpellsNet}
-use Rattle.pf_addr.specs.Reading.{net_at}
-use Rattle.pf_addr.specs.Laws.Reading.{net_found, net_only, net_without}
-use Rattle.pf_addr.specs.Laws.Places.{without}
-use Rattle.pf_addr.specs.Spelling.{net_text}
-use Rattle.pf_addr.specs.Laws.Spelling.{IsNetByte, net_text_spells, net_text_is_word}
-use Rattle.pf_addr.specs.declared.path.limits.TheConstants.{TABLE_NAME_LIMIT}
-use Rattle.pf_addr.specs.Path.Names.{IsTableName, table_name_of}
-use Rattle.pf_addr.specs.Path.References.{behind, before}
-use Rattle.pf_addr.proofs.NamesRead.{name_found, name_only, name_bytes}
-use Rattle.pf_addr.proofs.ReferencesRead.{behind_is, before_is, before_end}
-use Rattle.pf_rule.specs.Value.Values.{begins_with, as_word}
-use Rattle.pf_rule.specs.Laws.Value.Reading.{front_is}
-use Rattle.pf_rule.specs.Value.Spacing.{is_word}
-use Rattle.pf_rule.specs.Value.Written.{Written}
-use Rattle.pf_rule.specs.declared.host.host.Host.{Host}
-use Rattle.pf_rule.specs.declared.host.host.Host.TheVariants.{Any, Net, Table}
-use Rattle.pf_rule.specs.Host.Hosts.{in_brackets, is_negated, SpellsUnmarked, SpellsMarked, SpellsHost, bracketed, net_of, marked_by, marked, a_negated_host, host_of, a_host, IsHost, host, host_words}
+use Rattle.std.proofs.{Common.{◌≡◌, ℕ, ◌==◌, Bool, true, false, [], ◌∷◌, ◌++◌, length, drop, Option, Some, None, Result, Ok, Err, inl, inr, refl, sym, ap, ◌∙◌, subst, arith}, lemmas.Bool.lt-ltb, lemmas.List.Elements.All-head, lemmas.List.Folds.list_all-append, lemmas.List.Sums.list_all-from_AllPass}
+use Rattle.std.specs.{Prelude.{codes, nat_lt, if◌then◌else◌}, List.slice_index_or, Option.option_and_then}
+use Rattle.pf_addr.specs.{Form.Words.Word, Laws.Form.Decided.bind_ok, Address.{Network, IsNetwork}, Grammar.SpellsNet, Reading.net_at, Laws.Reading.{net_found, net_only, net_without}, Laws.Places.without, Spelling.net_text, Laws.Spelling.{IsNetByte, net_text_spells, net_text_is_word}, Path.Names.{IsTableName, table_name_of}, Path.References.{behind, before}}
+use Rattle.pf_addr.specs.declared.{fault.AddrFault.AddrFault, path.limits.TheConstants.TABLE_NAME_LIMIT}
+use Rattle.pf_addr.proofs.{NamesRead.{name_found, name_only, name_bytes}, ReferencesRead.{behind_is, before_is, before_end}}
+use Rattle.pf_rule.specs.{Value.Values.{begins_with, as_word}, Laws.Value.Reading.front_is, Value.Spacing.is_word, Value.Written.Written, Host.Hosts.{in_brackets, is_negated, SpellsUnmarked, SpellsMarked, SpellsHost, bracketed, net_of, marked_by, marked, a_negated_host, host_of, a_host, IsHost, host, host_words}}
+use Rattle.pf_rule.specs.declared.{host.host.Host.Host, host.host.Host.TheVariants.{Any, Net, Table}}
 
 -- ---- a table in its brackets
 

@@ -1,25 +1,9 @@
 -- The words that a port test is written as spell it.
-use Rattle.std.proofs.Common.{◌≡◌, ℕ, ◌<◌, true, List, [], ◌∷◌, ◌++◌, length, decimal, Option, Some, None, Ok, inl, inr, refl, arith}
-use Rattle.std.specs.Prelude.{IfSome, nat_lt}
-use Rattle.std.specs.List.{list_all}
-use Rattle.std.proofs.lemmas.Bool.{and_parts, lt-ltb}
-use Rattle.std.proofs.lemmas.Fmt.{decimal_is_IsNumeral, length-decimal-le}
-use Rattle.std.proofs.lemmas.List.{length-append}
-use Rattle.std.proofs.lemmas.List.Folds.{list_all-append}
-use Rattle.pf_addr.specs.Form.Words.{Word}
-use Rattle.pf_addr.specs.Form.Forms.{Spells}
-use Rattle.pf_addr.specs.Laws.Form.Numbers.{number_only}
-use Rattle.pf_rule.specs.declared.value.ports.Comparison.{Comparison}
-use Rattle.pf_rule.specs.declared.value.ports.Comparison.TheVariants.{Equal, NotEqual, Less, AtMost, Greater, AtLeast}
-use Rattle.pf_rule.specs.declared.value.ports.PortRange.TheVariants.{Including, Excluding, Except}
-use Rattle.pf_rule.specs.declared.value.ports.PortTest.{PortTest}
-use Rattle.pf_rule.specs.declared.value.ports.PortTest.TheVariants.{Compared, Ranged}
-use Rattle.pf_rule.specs.declared.value.port_words.PortStart.TheVariants.{Test, Number}
-use Rattle.pf_rule.specs.Value.Values.{port_of}
-use Rattle.pf_rule.specs.Laws.Value.Reading.{port_read, start_only}
-use Rattle.pf_rule.specs.Value.Ports.{IsPort, IsPortTest, start_of, range_end, ranged, compared, order_or_range, port_test, port, operator_word, test_words, port_words}
-use Rattle.pf_rule.specs.Value.Spacing.{is_word}
-use Rattle.pf_rule.specs.Value.Written.{Written, number_word}
+use Rattle.std.proofs.{Common.{◌≡◌, ℕ, ◌<◌, true, List, [], ◌∷◌, ◌++◌, length, decimal, Option, Some, None, Ok, inl, inr, refl, arith}, lemmas.Bool.{and_parts, lt-ltb}, lemmas.Fmt.{decimal_is_IsNumeral, length-decimal-le}, lemmas.List.length-append, lemmas.List.Folds.list_all-append}
+use Rattle.std.specs.{Prelude.{IfSome, nat_lt}, List.list_all}
+use Rattle.pf_addr.specs.{Form.Words.Word, Form.Forms.Spells, Laws.Form.Numbers.number_only}
+use Rattle.pf_rule.specs.declared.{value.ports.Comparison.Comparison, value.ports.Comparison.TheVariants.{Equal, NotEqual, Less, AtMost, Greater, AtLeast}, value.ports.PortRange.TheVariants.{Including, Excluding, Except}, value.ports.PortTest.PortTest, value.ports.PortTest.TheVariants.{Compared, Ranged}, value.port_words.PortStart.TheVariants.{Test, Number}}
+use Rattle.pf_rule.specs.{Value.Values.port_of, Laws.Value.Reading.{port_read, start_only}, Value.Ports.{IsPort, IsPortTest, start_of, range_end, ranged, compared, order_or_range, port_test, port, operator_word, test_words, port_words}, Value.Spacing.is_word, Value.Written.{Written, number_word}}
 
 -- ---- one number
 

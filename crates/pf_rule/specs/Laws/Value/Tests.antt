@@ -1,22 +1,11 @@
 -- The words that a test of the direction, the interface, the family or the protocol is written as spell it.
-use Rattle.std.proofs.Common.{◌≡◌, ℕ, ◌<◌, true, false, [], ◌∷◌, length, decimal, Option, Some, None, Ok, inl, inr, refl, sym, ap, ◌∙◌, arith}
-use Rattle.std.specs.Prelude.{codes, IfSome}
-use Rattle.std.specs.Str.{bytes_eq}
-use Rattle.std.proofs.lemmas.Bool.{lt-ltb}
-use Rattle.std.proofs.lemmas.Bool.Decides.{nat_tests}
-use Rattle.std.proofs.lemmas.Slice.Eq.{bytes_eq-Decides}
-use Rattle.pf_addr.specs.Form.Numbers.{number_of}
-use Rattle.pf_addr.specs.Laws.Form.Numbers.{number_only}
-use Rattle.pf_addr.specs.Form.Words.{Word}
+use Rattle.std.proofs.{Common.{◌≡◌, ℕ, ◌<◌, true, false, [], ◌∷◌, length, decimal, Option, Some, None, Ok, inl, inr, refl, sym, ap, ◌∙◌, arith}, lemmas.Bool.lt-ltb, lemmas.Bool.Decides.nat_tests, lemmas.Slice.Eq.bytes_eq-Decides}
+use Rattle.std.specs.{Prelude.{codes, IfSome}, Str.bytes_eq}
+use Rattle.pf_addr.specs.{Form.Numbers.number_of, Laws.Form.Numbers.number_only, Form.Words.Word, Laws.Spelling.IsNumber-decimal}
 use Rattle.pf_addr.specs.declared.addr.Family.{Family}
-use Rattle.pf_addr.specs.Laws.Spelling.{IsNumber-decimal}
 use Rattle.pf_addr.proofs.NamesRead.{name_only, name_bytes}
-use Rattle.pf_rule.specs.declared.value.direction.Direction.{Direction}
-use Rattle.pf_rule.specs.declared.value.interface.TheConstants.{INTERFACE_LIMIT}
-use Rattle.pf_rule.specs.Value.Values.{IsInterfaceName, IsProtocol, protocol_names, number_named, protocol_of}
-use Rattle.pf_rule.specs.Value.Tests.{direction, interface, family, protocol, direction_words, interface_words, family_words, protocol_word, protocol_words}
-use Rattle.pf_rule.specs.Value.Spacing.{is_word}
-use Rattle.pf_rule.specs.Value.Written.{Written, number_word}
+use Rattle.pf_rule.specs.declared.{value.direction.Direction.Direction, value.interface.TheConstants.INTERFACE_LIMIT}
+use Rattle.pf_rule.specs.{Value.Values.{IsInterfaceName, IsProtocol, protocol_names, number_named, protocol_of}, Value.Tests.{direction, interface, family, protocol, direction_words, interface_words, family_words, protocol_word, protocol_words}, Value.Spacing.is_word, Value.Written.{Written, number_word}}
 
 pub direction_written : (d : Option Direction) → Written direction d (direction_words d)
 unfolding direction

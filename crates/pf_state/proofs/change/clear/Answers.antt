@@ -1,6 +1,5 @@
-use Rattle.std.proofs.Common.{rules, not}
+use Rattle.std.proofs.{Common.{rules, not}, lemmas.Fn.filter_same}
 use Rattle.std.specs.Prelude.{◌==◌}
-use Rattle.std.proofs.lemmas.Fn.{filter_same}
 use Rattle.pf_state.specs.States.{Stated}
 use Rattle.pf_state.proofs.change.clear.Goals as goal
 

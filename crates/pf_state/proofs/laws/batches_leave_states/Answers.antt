@@ -1,5 +1,4 @@
-use Rattle.pf_state.proofs.Leaves.{last_step_stands}
-use Rattle.pf_state.proofs.Tables.{stays_states, refused_by_any_step}
+use Rattle.pf_state.proofs.{Leaves.last_step_stands, Tables.{stays_states, refused_by_any_step}}
 use Rattle.pf_state.proofs.laws.batches_leave_states.Goals as goal
 
 pub returns-clause-last : goal.returns-clause-last

@@ -1,5 +1,4 @@
-use Rattle.std.proofs.Common.{◌∙◌, sym}
-use Rattle.std.proofs.lemmas.List.Elements.{All-from_recursion}
+use Rattle.std.proofs.{Common.{◌∙◌, sym}, lemmas.List.Elements.All-from_recursion}
 use Rattle.pf_table.proofs.Batches.{gathering_nothing, gathering_sorted, gathers_next, gathers_no_more, gathered_all}
 use Rattle.pf_table.proofs.batch.gathered.Goals as goal
 

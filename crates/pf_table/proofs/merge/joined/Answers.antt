@@ -1,8 +1,6 @@
 use Rattle.std.proofs.Common.{rules, ◌∙◌}
-use Rattle.pf_table.proofs.Sorted.{sorted_drop}
-use Rattle.pf_table.proofs.Merging.{joins, past_end}
+use Rattle.pf_table.proofs.{Sorted.sorted_drop, Merging.{joins, past_end}, merge.joined.Goals.{then-not-starts_with+in_ok-push, else-not-starts_with}}
 use Rattle.pf_table.proofs.merge.joined.Goals as goal
-use Rattle.pf_table.proofs.merge.joined.Goals.{then-not-starts_with+in_ok-push, else-not-starts_with}
 
 pub loop-entry-preserved : goal.loop-entry-preserved
 loop-entry-preserved c =

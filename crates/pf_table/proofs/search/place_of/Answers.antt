@@ -1,5 +1,4 @@
-use Rattle.std.proofs.Common.{rules}
-use Rattle.std.proofs.lemmas.List.Sorted.{IsPartitionPoint-from_clause}
+use Rattle.std.proofs.{Common.rules, lemmas.List.Sorted.IsPartitionPoint-from_clause}
 use Rattle.pf_table.proofs.Sorted.{is_before, cut_in_two, place_is}
 use Rattle.pf_table.proofs.search.place_of.Goals as goal
 

@@ -1,5 +1,4 @@
-use Rattle.std.proofs.Common.{arith, sym, ap, ◌∙◌}
-use Rattle.std.proofs.lemmas.Grind.{common_steps}
+use Rattle.std.proofs.{Common.{arith, sym, ap, ◌∙◌}, lemmas.Grind.common_steps}
 use Rattle.pf_addr.specs.Path.Names.{name_order}
 use Rattle.pf_ticket.specs.NamedTables.{Named}
 use Rattle.pf_ticket.proofs.NamedTables.{put-at, put-between, put-last}

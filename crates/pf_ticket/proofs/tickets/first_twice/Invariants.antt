@@ -1,6 +1,5 @@
 use Rattle.std.proofs.Common.{◌≡◌, take, drop}
-use Rattle.pf_ticket.specs.Names.{names_of}
-use Rattle.pf_ticket.specs.Replies.{twice_in, twice_behind}
+use Rattle.pf_ticket.specs.{Names.names_of, Replies.{twice_in, twice_behind}}
 use Rattle.pf_ticket.proofs.tickets.first_twice.Given as goal
 
 -- no entry so far names a ruleset named before it

@@ -1,5 +1,4 @@
-use Rattle.std.proofs.Common.{rules, arith}
-use Rattle.std.proofs.lemmas.Grind.{common_steps}
+use Rattle.std.proofs.{Common.{rules, arith}, lemmas.Grind.common_steps}
 use Rattle.pf_ticket.proofs.Offers.{is-place, is-nowhere}
 use Rattle.pf_ticket.proofs.tickets.place_of.Goals as goal
 

@@ -1,6 +1,5 @@
 use Rattle.std.proofs.Common.{◌≡◌, ℕ, ◌<◌, false, get_or}
-use Rattle.pf_ticket.specs.Names.{same_name}
-use Rattle.pf_ticket.specs.Tickets.{Offer}
+use Rattle.pf_ticket.specs.{Names.same_name, Tickets.Offer}
 use Rattle.pf_ticket.proofs.tickets.place_of.Given as goal
 
 -- no slot so far is the ruleset's

@@ -1,6 +1,5 @@
 use Rattle.std.proofs.Common.{rules, ap, ap₂, refl, codes, true, [], ◌∷◌, ◌≡◌, ◌∙◌}
-use Rattle.clap.specs.Words.{App, Text, app_of, new_app, takes, with_subcommand}
-use Rattle.clap.specs.Simple.{on_top}
+use Rattle.clap.specs.{Words.{App, Text, app_of, new_app, takes, with_subcommand}, Simple.on_top}
 use Rattle.clap.proofs.OnLiterals.{clap_on_literals}
 use Rattle.pfd.proofs.program.check_words.Goals as goal
 

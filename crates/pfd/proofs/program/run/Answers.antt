@@ -1,5 +1,4 @@
-use Rattle.std.proofs.Common.{inr, refl}
-use Rattle.std.proofs.KnownBytes.{Keeps-refl}
+use Rattle.std.proofs.{Common.{inr, refl}, KnownBytes.Keeps-refl}
 use Rattle.pfd.proofs.program.run.Goals as goal
 
 pub returns-in_default : goal.returns-in_default

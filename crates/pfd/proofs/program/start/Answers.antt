@@ -1,6 +1,5 @@
-use Rattle.std.proofs.Common.{Err, inr, refl}
+use Rattle.std.proofs.{Common.{Err, inr, refl}, KnownBytes.Keeps-refl}
 use Rattle.pfd.specs.declared.line_engine.fault.EngineFault.TheVariants.{Memory}
-use Rattle.std.proofs.KnownBytes.{Keeps-refl}
 use Rattle.pfd.proofs.program.start.Goals as goal
 
 pub returns-in-Err-clause-run : goal.returns-in-Err-clause-run

@@ -1,6 +1,5 @@
 use Rattle.std.proofs.Common.{sym, ap, ◌∙◌, ◌++◌, ◌∷◌, []}
-use Rattle.pf_addr.specs.Form.Words.{texts}
-use Rattle.pf_addr.specs.Form.Forms.{any_by}
+use Rattle.pf_addr.specs.{Form.Words.texts, Form.Forms.any_by}
 use Rattle.pf_addr.proofs.Collecting.{after, first_read, first_fault, further_fault, one_further, all_read}
 use Rattle.pf_addr.proofs.form.reading.each.Goals as goal
 

@@ -1,7 +1,5 @@
 use Rattle.std.proofs.Common.{◌≡◌, length}
-use Rattle.pf_addr.specs.Form.Words.{texts}
-use Rattle.pf_addr.specs.Form.Forms.{Reader, any_by, one_or_more_by}
-use Rattle.pf_addr.specs.Form.Readers.{IsReadBy, Shrinks}
+use Rattle.pf_addr.specs.{Form.Words.texts, Form.Forms.{Reader, any_by, one_or_more_by}, Form.Readers.{IsReadBy, Shrinks}}
 use Rattle.pf_addr.proofs.Collecting.{after}
 use Rattle.pf_addr.proofs.form.reading.each.Given as goal
 

@@ -1,7 +1,5 @@
-use Rattle.std.proofs.Common.{length, rules, tests}
+use Rattle.std.proofs.{Common.{length, rules, tests}, lemmas.Iterator.Consumers.{map_from_collect, YieldsList-from_filter, YieldsList-at}, lemmas.Iterator.Splits.YieldsList-from_slice_split}
 use Rattle.std.specs.Prelude.{nat_lt}
-use Rattle.std.proofs.lemmas.Iterator.Consumers.{map_from_collect, YieldsList-from_filter, YieldsList-at}
-use Rattle.std.proofs.lemmas.Iterator.Splits.{YieldsList-from_slice_split}
 use Rattle.pf_addr.specs.Form.Words.{is_blank}
 use Rattle.pf_addr.proofs.form.splitting.words.Goals as goal
 

@@ -1,6 +1,5 @@
 use Rattle.std.proofs.Common.{sym, ap, ◌∙◌}
-use Rattle.pf_addr.specs.Nets.{filled}
-use Rattle.pf_addr.specs.Spelling.{addr_in, first_addr}
+use Rattle.pf_addr.specs.{Nets.filled, Spelling.{addr_in, first_addr}}
 use Rattle.pf_addr.proofs.net.Net.addr.Goals as goal
 
 pub returns-in-V4-clause-value : goal.returns-in-V4-clause-value

@@ -1,6 +1,5 @@
 use Rattle.std.proofs.Common.{◌^◌, ◌<◌, subst}
-use Rattle.pf_addr.specs.Address.{Network, width}
-use Rattle.pf_addr.specs.Laws.Bits.{front_below}
+use Rattle.pf_addr.specs.{Address.{Network, width}, Laws.Bits.front_below}
 use Rattle.pf_addr.proofs.net.Net.family.Goals as goal
 
 pub returns-clause-front : goal.returns-clause-front

@@ -1,11 +1,7 @@
-use Rattle.std.proofs.Common.{◌≡◌, ◌==◌, ◌&&◌, Bool, true, false, refl, rules}
-use Rattle.std.proofs.Math.Bool.{and_comm}
+use Rattle.std.proofs.{Common.{◌≡◌, ◌==◌, ◌&&◌, Bool, true, false, refl, rules}, Math.Bool.and_comm}
 use denote.Enum.Bare.{sameb}
-use Rattle.pf_addr.specs.contracts.addr.Family.{the_type}
-use Rattle.pf_addr.specs.declared.addr.Family.{Family}
-use Rattle.pf_addr.specs.declared.net.Net.TheInside.{Inside}
-use Rattle.pf_addr.specs.Address.{Network}
-use Rattle.pf_addr.specs.Nets.{network_in, IsWithin, inside_of, filled}
+use Rattle.pf_addr.specs.{contracts.addr.Family.the_type, Address.Network, Nets.{network_in, IsWithin, inside_of, filled}}
+use Rattle.pf_addr.specs.declared.{addr.Family.Family, net.Net.TheInside.Inside}
 use Rattle.pf_addr.proofs.net.NetPartialEq.eq.Goals as goal
 
 turned : (a b c : Bool) → ((a && b) && c) ≡ (a && (c && b))

@@ -1,6 +1,4 @@
-use Rattle.std.proofs.Common.{◌≡◌, ℕ, ◌+◌, ◌++◌, ◌∷◌, [], List, take, ap, sym, ◌∙◌, arith, append-nil}
-use Rattle.std.proofs.lemmas.Grind.{common_steps}
-use Rattle.std.proofs.lemmas.List.Concat.{flat_map-append}
+use Rattle.std.proofs.{Common.{◌≡◌, ℕ, ◌+◌, ◌++◌, ◌∷◌, [], List, take, ap, sym, ◌∙◌, arith, append-nil}, lemmas.Grind.common_steps, lemmas.List.Concat.flat_map-append}
 use Rattle.pf_table.specs.Map.Pages.{joined}
 use Rattle.pf_anchor.specs.Rulesets.{Ruled, children}
 use Rattle.pf_anchor.proofs.Turns.{children_append}

@@ -1,7 +1,6 @@
 use Rattle.std.proofs.Common.{subst}
 use Rattle.pf_table.proofs.ListMaps.{list_map_is}
-use Rattle.pf_anchor.specs.Tables.{IsTableMap}
-use Rattle.pf_anchor.specs.Configurations.{Configuration}
+use Rattle.pf_anchor.specs.{Tables.IsTableMap, Configurations.Configuration}
 use Rattle.pf_anchor.proofs.config.Config.table_at.Goals as goal
 
 pub returns-in-Some-clause-map : goal.returns-in-Some-clause-map

@@ -1,8 +1,7 @@
 use Rattle.std.proofs.Common.{◌≡◌, length, nat_lt, IfOk, subst}
 use Rattle.std.specs.Prelude.{fold}
 use Rattle.pf_anchor.specs.declared.limits.TheConstants.{RULESET_LIMIT}
-use Rattle.pf_anchor.specs.Rulesets.{with_rules}
-use Rattle.pf_anchor.specs.Configurations.{Configuration}
+use Rattle.pf_anchor.specs.{Rulesets.with_rules, Configurations.Configuration}
 use Rattle.pf_anchor.proofs.config.Config.would_be_too_many.Goals as goal
 
 pub returns : goal.returns

@@ -1,8 +1,7 @@
 use Rattle.std.proofs.Common.{◌≡◌, length, nat_lt, IfOk, subst}
 use Rattle.std.specs.Prelude.{fold}
 use Rattle.pf_anchor.specs.declared.limits.TheConstants.{TABLE_COUNT_LIMIT}
-use Rattle.pf_anchor.specs.Tables.{with_table}
-use Rattle.pf_anchor.specs.Configurations.{Configuration}
+use Rattle.pf_anchor.specs.{Tables.with_table, Configurations.Configuration}
 use Rattle.pf_anchor.proofs.config.Config.would_be_too_many_tables.Goals as goal
 
 pub returns : goal.returns

@@ -1,8 +1,6 @@
-use Rattle.std.proofs.Common.{◌≡◌, ◌+◌, ◌-◌, ◌≤◌, ◌++◌, ◌∷◌, [], List, ℕ, refl, ap, ◌∙◌, length, take, drop, replicate, arith}
-use Rattle.std.proofs.lemmas.List.{length-take, length-drop}
+use Rattle.std.proofs.{Common.{◌≡◌, ◌+◌, ◌-◌, ◌≤◌, ◌++◌, ◌∷◌, [], List, ℕ, refl, ap, ◌∙◌, length, take, drop, replicate, arith}, lemmas.List.{length-take, length-drop}}
 use Rattle.pf_disk.specs.declared.file.FileDisk.{FileDisk}
-use Rattle.pf_disk.specs.Disk.{overwritten}
-use Rattle.pf_disk.specs.Calls.{Event, writing}
+use Rattle.pf_disk.specs.{Disk.overwritten, Calls.{Event, writing}}
 use Rattle.pf_disk.proofs.Calls.{Wrote, wrote, written_again}
 use Rattle.pf_disk.proofs.file.FileDiskDisk.write_at.Goals as goal
 

@@ -1,5 +1,5 @@
 -- An empty body. The borrow is opened and closed at another ghost value.
-use Rattle.std.proofs.Common.{ℕ, List, [], ◌∷◌, ◌++◌, refl, MutBor}
+use Rattle.std.proofs.{Common.{ℕ, List, [], ◌∷◌, ◌++◌, refl, MutBor, ◌<◌, ◌^◌, length}}
 use seplogic.Ra.Ura.{Ura}
 use mir.Syntax.{named}
 use mir.Val.{Val, vunit, vptr}
@@ -26,9 +26,8 @@ use denote.Triple.Spec.{Meets, triple_of}
 use denote.Triple.Table.{entered}
 use denote.Triple.Walked.{says, Stays, stay_ref, walk_of, AllGo, Goes-ref, Walks, ends_at, walked, walk_Meets}
 use Rattle.pf_disk.specs.declared.history.History.{History}
-use Rattle.pf_disk.specs.Noted.{noted}
+use Rattle.pf_disk.specs.{Noted.noted, contracts.history.History.note.Key.name as #it}
 use Rattle.pf_disk.specs.contracts.history.History as T
-use Rattle.pf_disk.specs.contracts.history.History.note.Key.{name as #it}
 use Rattle.pf_disk.specs.contracts.history.History.note as it
 use Rattle.pf_disk.proofs.history.History.note.Statement as stated
 use Rattle.pf_disk.proofs.history.History.note.Code as code
@@ -37,7 +36,6 @@ use denote.Builtin.{u8, usize}
 use denote.Exit.{yes}
 use denote.Slice.{ShrSlice, slice_val, shr_slice_vals, shr_slice_Tells}
 use denote.Triple.Walked.{stay_none_slice, Goes-none_slice}
-use Rattle.std.proofs.Common.{◌<◌, ◌^◌, length}
 
 abbrev Arg : Type 0
 Arg = MutBor History × (Bor (List ℕ) × (Bor (List ℕ) × Unit {0}))

@@ -1,6 +1,5 @@
 use Rattle.std.proofs.Common.{◌≡◌, suc, ℕ, ◌+◌, ◌-◌, Bool, true, false, cond, take, map, sym, ◌∙◌, ap, arith}
-use Rattle.pf_disk.specs.Kept.{event_of}
-use Rattle.pf_disk.specs.Calls.{is_sync}
+use Rattle.pf_disk.specs.{Kept.event_of, Calls.is_sync}
 use Rattle.pf_disk.proofs.Replaying.{counting_is, not_sync}
 use Rattle.pf_disk.proofs.memory.MemDisk.counting.Goals as goal
 

@@ -1,8 +1,5 @@
-use Rattle.std.proofs.Common.{◌≡◌, List, ℕ, length, map, take, sym, ◌∙◌, ap, subst}
-use Rattle.std.proofs.lemmas.List.{take-map}
-use Rattle.pf_disk.specs.Kept.{event_of}
-use Rattle.pf_disk.specs.Calls.{State, at_rest, after, all_fit, state_at}
-use Rattle.pf_disk.specs.Filled.{Shows}
+use Rattle.std.proofs.{Common.{◌≡◌, List, ℕ, length, map, take, sym, ◌∙◌, ap, subst}, lemmas.List.take-map}
+use Rattle.pf_disk.specs.{Kept.event_of, Calls.{State, at_rest, after, all_fit, state_at}, Filled.Shows}
 use Rattle.pf_disk.proofs.Replaying.{all_fit-take, size-after_all}
 use Rattle.pf_disk.proofs.memory.MemDisk.replay.Goals as goal
 

@@ -1,6 +1,5 @@
 use Rattle.std.proofs.Common.{[], ◌∷◌, ◌++◌, List, ℕ, ◌∙◌, arith, ap, length, length-append, ◌≡◌, ◌+◌}
-use Rattle.pf_disk.proofs.Images.{only_read}
-use Rattle.pf_disk.proofs.Moments.{weakened}
+use Rattle.pf_disk.proofs.{Images.only_read, Moments.weakened}
 use Rattle.pf_journal.specs.Records.{counted}
 use Rattle.pf_journal.proofs.Gates as Gates
 use Rattle.pf_journal.proofs.journal.Journal.append.Goals as goal

@@ -1,6 +1,5 @@
 use Rattle.std.proofs.Common.{take}
-use Rattle.pf_line.specs.Reply.Parts.{GoesOn}
-use Rattle.pf_line.specs.Reply.Texts.{entries_text}
+use Rattle.pf_line.specs.{Reply.Parts.GoesOn, Reply.Texts.entries_text}
 use Rattle.pf_line.proofs.reply.entry.write_entries.Given as goal
 
 abbrev pub invariant-loop-entry : goal.invariant-loop-entry

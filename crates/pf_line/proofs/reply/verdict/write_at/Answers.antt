@@ -1,7 +1,6 @@
 use Rattle.std.proofs.Common.{ap, ◌∙◌}
 use Rattle.pf_line.specs.Reply.Parts.{newlines}
-use Rattle.pf_line.proofs.Newlines.{path_plain}
-use Rattle.pf_line.proofs.Writers.{goes_on}
+use Rattle.pf_line.proofs.{Newlines.path_plain, Writers.goes_on}
 use Rattle.pf_line.proofs.reply.verdict.write_at.Goals as goal
 
 pub write_part-requires : goal.write_part-requires

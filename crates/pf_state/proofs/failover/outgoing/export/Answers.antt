@@ -1,5 +1,4 @@
-use Rattle.std.proofs.Common.{◌≡◌, ℕ, map, length, min, subst, ap, ◌∙◌}
-use Rattle.std.proofs.lemmas.List.{map-append}
+use Rattle.std.proofs.{Common.{◌≡◌, ℕ, map, length, min, subst, ap, ◌∙◌}, lemmas.List.map-append}
 use Rattle.pf_state.specs.Failover.Outgoing.{parts}
 use Rattle.pf_state.proofs.Parts.{one_more_part, all_parts, one_read_more, all_read, read_in_turn}
 use Rattle.pf_state.proofs.failover.outgoing.export.Goals as goal

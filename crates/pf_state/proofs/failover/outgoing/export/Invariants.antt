@@ -1,7 +1,6 @@
 use Rattle.std.proofs.Common.{◌≡◌, ◌++◌, map}
-use Rattle.pf_state.specs.Peer.Written.{Each, message_bytes}
+use Rattle.pf_state.specs.{Peer.Written.{Each, message_bytes}, Failover.Outgoing.{parts, exported_messages}}
 use Rattle.pf_state.specs.declared.failover.outgoing.TheConstants.{EXPORT_RECORDS}
-use Rattle.pf_state.specs.Failover.Outgoing.{parts, exported_messages}
 use Rattle.pf_state.proofs.Parts.{IsRead}
 use Rattle.pf_state.proofs.failover.outgoing.export.Given as goal
 

@@ -1,5 +1,4 @@
-use Rattle.std.proofs.Common.{sym}
-use Rattle.std.proofs.lemmas.Result.{err_from_is_err_and}
+use Rattle.std.proofs.{Common.sym, lemmas.Result.err_from_is_err_and}
 use Rattle.pf_state.proofs.Grouped.{fault_in, all_groups, none_left, some_left}
 use Rattle.pf_state.proofs.peer.groups.groups_of.Goals as goal
 

@@ -1,6 +1,5 @@
 use Rattle.std.proofs.Common.{◌++◌, List, length}
-use Rattle.pf_state.specs.declared.{peer.message.Group.Group, peer.fault.PeerFault.PeerFault}
-use Rattle.pf_state.specs.Peer.Groups.{AreGroups, BreakBehind}
+use Rattle.pf_state.specs.{declared.{peer.message.Group.Group, peer.fault.PeerFault.PeerFault}, Peer.Groups.{AreGroups, BreakBehind}}
 use Rattle.pf_state.proofs.peer.groups.groups_of.Given as goal
 
 -- what is left are groups, or has a fault, as the whole is or has

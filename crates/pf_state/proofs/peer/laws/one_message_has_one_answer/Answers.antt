@@ -1,5 +1,4 @@
-use Rattle.pf_state.proofs.OneMessage.{one_answer, message_alone}
-use Rattle.pf_state.proofs.SomeReading.{some_answer}
+use Rattle.pf_state.proofs.{OneMessage.{one_answer, message_alone}, SomeReading.some_answer}
 use Rattle.pf_state.proofs.peer.laws.one_message_has_one_answer.Goals as goal
 
 pub returns-clause-some : goal.returns-clause-some

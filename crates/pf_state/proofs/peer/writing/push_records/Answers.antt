@@ -1,5 +1,4 @@
-use Rattle.std.proofs.Common.{arith}
-use Rattle.std.proofs.lemmas.Grind.{common_steps}
+use Rattle.std.proofs.{Common.arith, lemmas.Grind.common_steps}
 use Rattle.pf_state.proofs.Appended.{each_of, one_more}
 use Rattle.pf_state.proofs.peer.writing.push_records.Goals as goal
 

@@ -1,5 +1,4 @@
-use Rattle.std.proofs.Common.{◌≡◌, arith}
-use Rattle.std.proofs.lemmas.Grind.{common_steps}
+use Rattle.std.proofs.{Common.{◌≡◌, arith}, lemmas.Grind.common_steps}
 use Rattle.pf_state.specs.Peer.Written.{Each, IsGroup, message_bytes}
 use Rattle.pf_state.proofs.RoundTrip.{message_again}
 use Rattle.pf_state.proofs.peer.writing.write_peer.Goals as goal

@@ -1,8 +1,6 @@
 use Rattle.std.proofs.Common.{◌+◌, ◌<◌, ◌^◌, sym, ap, ◌∙◌, subst, arith}
-use Rattle.pf_state.specs.States.{IsStates}
-use Rattle.pf_state.specs.Steps.{is_over}
-use Rattle.pf_state.proofs.Batches.{acting_none, acting_next, acting_over, acting_all, counted_fits}
-use Rattle.pf_state.proofs.Clashing.{named_at_first, named_here, named_behind}
+use Rattle.pf_state.specs.{States.IsStates, Steps.is_over}
+use Rattle.pf_state.proofs.{Batches.{acting_none, acting_next, acting_over, acting_all, counted_fits}, Clashing.{named_at_first, named_here, named_behind}}
 use Rattle.pf_state.proofs.table.StateTable.after_batch.Goals as goal
 
 pub and-counts-requires : goal.and-counts-requires

@@ -1,6 +1,4 @@
-use Rattle.std.proofs.Common.{List, length, ap, sym, ◌∙◌, arith}
-use Rattle.std.proofs.lemmas.Bool.{lt-ltb}
-use Rattle.std.proofs.lemmas.List.Folds.{length-flat_map-take}
+use Rattle.std.proofs.{Common.{List, length, ap, sym, ◌∙◌, arith}, lemmas.Bool.lt-ltb, lemmas.List.Folds.length-flat_map-take}
 use Rattle.pf_table.proofs.map.paged_map.are_more_than.Goals as goal
 
 pub returns-then-count-left : goal.returns-then-count-left

@@ -1,5 +1,4 @@
-use Rattle.std.proofs.Common.{List, append_assoc, ap, sym, ◌∙◌}
-use Rattle.std.proofs.lemmas.List.Concat.{flat_map-append}
+use Rattle.std.proofs.{Common.{List, append_assoc, ap, sym, ◌∙◌}, lemmas.List.Concat.flat_map-append}
 use Rattle.pf_table.specs.Map.Pages.{joined}
 use Rattle.pf_table.proofs.Pages.{replaced_there, front_is}
 use Rattle.pf_table.proofs.map.paged_map.replace.Goals as goal

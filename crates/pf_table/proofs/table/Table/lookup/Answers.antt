@@ -1,7 +1,6 @@
 use Rattle.std.proofs.Common.{◌≡◌, ◌<◌, ◌+◌, drop, ◌≤◌, length, get_or, Option, Some, None, ◌∙◌, sym, ap, subst}
 use Rattle.std.specs.Prelude.{IfSome}
-use Rattle.pf_table.specs.Entries.{Row}
-use Rattle.pf_table.specs.Tables.{longer, deciding, Decides}
+use Rattle.pf_table.specs.{Entries.Row, Tables.{longer, deciding, Decides}}
 use Rattle.pf_table.proofs.Lookups.{goes_on, found_all, none_contains, decides}
 use Rattle.pf_table.proofs.table.Table.lookup.Goals as goal
 

@@ -1,6 +1,5 @@
 use Rattle.std.proofs.Common.{◌≡◌, ◌+◌, ◌≤◌, drop, length, vec_len, vec_capacity}
-use Rattle.pf_ticket.specs.Mentions.{after, gives}
-use Rattle.pf_ticket.specs.Tickets.{open_with}
+use Rattle.pf_ticket.specs.{Mentions.{after, gives}, Tickets.open_with}
 use Rattle.pf_ticket.proofs.tickets.Tickets.begin.Given as goal
 
 abbrev pub invariant-loop-name : goal.invariant-loop-name

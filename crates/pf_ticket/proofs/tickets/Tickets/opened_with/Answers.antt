@@ -1,5 +1,4 @@
-use Rattle.std.proofs.Common.{◌≡◌, ◌+◌, cond, arith, length, take}
-use Rattle.std.proofs.lemmas.Grind.{common_steps}
+use Rattle.std.proofs.{Common.{◌≡◌, ◌+◌, cond, arith, length, take}, lemmas.Grind.common_steps}
 use Rattle.pf_ticket.specs.Mentions.{after, gives}
 use Rattle.pf_ticket.proofs.Moves.{opened_more}
 use Rattle.pf_ticket.proofs.tickets.Tickets.opened_with.Goals as goal

@@ -1,7 +1,5 @@
-use Rattle.std.proofs.Common.{rules, List, ◌≡◌, ap, ◌∙◌}
-use Rattle.std.proofs.lemmas.Fn.{filter_same}
-use Rattle.pf_ticket.specs.Mentions.{take_out}
-use Rattle.pf_ticket.specs.Tickets.{Offer, Open, open_with, without, is_other}
+use Rattle.std.proofs.{Common.{rules, List, ◌≡◌, ap, ◌∙◌}, lemmas.Fn.filter_same}
+use Rattle.pf_ticket.specs.{Mentions.take_out, Tickets.{Offer, Open, open_with, without, is_other}}
 use Rattle.pf_ticket.proofs.tickets.Tickets.take_out.Goals as goal
 
 pub returns : goal.returns

@@ -1,7 +1,6 @@
 use Rattle.std.proofs.Common.{◌≡◌, sym, ap, ◌∙◌, subst, refl}
 use Rattle.pf_core.specs.declared.reply.Reply.TheVariants.{Answer}
-use Rattle.pf_core.specs.Pages.{Page, IsAt}
-use Rattle.pf_core.specs.Wholes.{Whole}
+use Rattle.pf_core.specs.{Pages.{Page, IsAt}, Wholes.Whole}
 use Rattle.pf_core.proofs.LongerWorlds.{nothing-leads, refused-leads}
 use Rattle.pfd.specs.Books.{page_in, IsMore, IsUnkept}
 use Rattle.pfd.proofs.Booking.{with_core, answer-is-legal, refusal-is-legal, kept-leads, number-is, unkept-leads}

@@ -1,10 +1,7 @@
 use Rattle.std.proofs.Common.{refl, ap, ◌∙◌, arith}
-use Rattle.std.specs.Prelude.{map}
-use Rattle.std.specs.Arc.{arc_value}
-use Rattle.pf_core.specs.Durable.Edits.{Kept, kept_nothing}
+use Rattle.std.specs.{Prelude.map, Arc.arc_value}
+use Rattle.pf_core.specs.{Durable.Edits.{Kept, kept_nothing}, Wholes.Whole, Worlds.setting_with}
 use Rattle.pf_ticket.specs.Tickets.{fresh}
-use Rattle.pf_core.specs.Wholes.{Whole}
-use Rattle.pf_core.specs.Worlds.{setting_with}
 use Rattle.pf_core.proofs.LongerWorlds.{stands-opened}
 use Rattle.pfd.specs.Books.{singles}
 use Rattle.pfd.proofs.book.Book.fresh.Goals as goal

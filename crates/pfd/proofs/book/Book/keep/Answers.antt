@@ -1,12 +1,7 @@
-use Rattle.std.proofs.Common.{◌≡◌, ◌≤◌, ◌<◌, ◌+◌, ◌++◌, ◌∷◌, [], List, length, refl, sym, ap, ◌∙◌, subst, inl, inr, arith}
-use Rattle.std.proofs.lemmas.Grind.{common_steps}
-use Rattle.std.proofs.lemmas.List.{map-append}
-use Rattle.std.specs.Prelude.{map}
-use Rattle.std.specs.Arc.{arc_value}
+use Rattle.std.proofs.{Common.{◌≡◌, ◌≤◌, ◌<◌, ◌+◌, ◌++◌, ◌∷◌, [], List, length, refl, sym, ap, ◌∙◌, subst, inl, inr, arith}, lemmas.Grind.common_steps, lemmas.List.map-append}
+use Rattle.std.specs.{Prelude.map, Arc.arc_value}
 use Rattle.pf_ticket.specs.Mentions.{after, switches}
-use Rattle.pf_core.specs.Durable.Edits.{Edit}
-use Rattle.pf_core.specs.Pages.{Page}
-use Rattle.pf_core.specs.Wholes.{Whole, Ready}
+use Rattle.pf_core.specs.{Durable.Edits.Edit, Pages.Page, Wholes.{Whole, Ready}}
 use Rattle.pf_core.specs.declared.reply.Refusal.TheVariants.{HistoryFull}
 use Rattle.pfd.specs.Books.{page_in, singles, IsUnkept}
 use Rattle.pfd.proofs.Booking.{flat-singles, more-from, folded-more, is-ready, not-kept}

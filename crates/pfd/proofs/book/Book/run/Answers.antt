@@ -1,6 +1,5 @@
 use Rattle.std.proofs.Common.{false}
-use Rattle.pf_core.specs.Calls.{call}
-use Rattle.pf_core.specs.Worlds.{upshot}
+use Rattle.pf_core.specs.{Calls.call, Worlds.upshot}
 use Rattle.pf_core.proofs.LongerWorlds.{stands-on}
 use Rattle.pfd.proofs.book.Book.run.Goals as goal
 

@@ -1,7 +1,5 @@
-use Rattle.std.proofs.Common.{ℕ, [], take, ◌++◌, Result, Err, inl, arith}
-use Rattle.std.proofs.KnownBytes.{Consumes-nil, Consumes-trans, Consumes-kept}
-use Rattle.pfd.proofs.Answering.{flushed, nothing-yet, still-so_far}
-use Rattle.pfd.proofs.line_engine.engine.serve_lines.Goals.{in-Ok+else-n-eq0+in-Ok-answer_piece, in-Err+else-ne}
+use Rattle.std.proofs.{Common.{ℕ, [], take, ◌++◌, Result, Err, inl, arith}, KnownBytes.{Consumes-nil, Consumes-trans, Consumes-kept}}
+use Rattle.pfd.proofs.{Answering.{flushed, nothing-yet, still-so_far}, line_engine.engine.serve_lines.Goals.{in-Ok+else-n-eq0+in-Ok-answer_piece, in-Err+else-ne}}
 use Rattle.pfd.proofs.line_engine.engine.serve_lines.Goals as goal
 
 pub loop-init : goal.loop-init

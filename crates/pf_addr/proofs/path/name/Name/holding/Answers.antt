@@ -1,8 +1,6 @@
-use Rattle.std.proofs.Common.{◌≡◌, ℕ, ◌-◌, List, ◌++◌, length, drop, refl, sym, ap, subst, arith}
+use Rattle.std.proofs.{Common.{◌≡◌, ℕ, ◌-◌, List, ◌++◌, length, drop, refl, sym, ap, subst, arith}, lemmas.List.{take_at, drop-replicate, length-append, length-replicate}}
 use Rattle.std.specs.Prelude.{replicate}
-use Rattle.std.proofs.lemmas.List.{take_at, drop-replicate, length-append, length-replicate}
-use Rattle.pf_addr.specs.Path.Names.{IsName}
-use Rattle.pf_addr.specs.Path.KeptNames.{IsKept, inside}
+use Rattle.pf_addr.specs.{Path.Names.IsName, Path.KeptNames.{IsKept, inside}}
 use Rattle.pf_addr.proofs.path.name.Name.holding.Goals as goal
 
 kept : (limit : ℕ) (name front : List ℕ) → front ≡ name → IsName limit name → IsKept limit (inside limit (front ++ drop (length name) (replicate limit 0)) (length name))

@@ -1,9 +1,6 @@
-use Rattle.std.proofs.Common.{◌≡◌, ℕ, ◌-◌, ◌≤◌, Bool, List, ◌++◌, length, drop, refl, sym, ap, subst, arith}
+use Rattle.std.proofs.{Common.{◌≡◌, ℕ, ◌-◌, ◌≤◌, Bool, List, ◌++◌, length, drop, refl, sym, ap, subst, arith}, lemmas.List.{take_at, drop-replicate, length-append, length-replicate}}
 use Rattle.std.specs.Prelude.{replicate, if◌then◌else◌, []}
-use Rattle.std.proofs.lemmas.List.{take_at, drop-replicate, length-append, length-replicate}
-use Rattle.pf_addr.specs.Path.References.{refers, ending}
-use Rattle.pf_addr.specs.Path.ReferenceGrammar.{IsReference}
-use Rattle.pf_addr.specs.Path.KeptReferences.{IsKept, inside}
+use Rattle.pf_addr.specs.{Path.References.{refers, ending}, Path.ReferenceGrammar.IsReference, Path.KeptReferences.{IsKept, inside}}
 use Rattle.pf_addr.proofs.path.reference.Reference.holding.Goals as goal
 
 kept : (names front : List ℕ) (wildcard : Bool) → front ≡ names → IsReference (refers names wildcard) → IsKept (inside (front ++ drop (length names) (replicate 63 0)) (length names) wildcard)

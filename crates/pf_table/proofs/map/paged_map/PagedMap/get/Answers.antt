@@ -1,7 +1,6 @@
 use Rattle.std.proofs.Common.{ap, sym, ◌∙◌}
 use Rattle.std.specs.Option.{option_map}
-use Rattle.pf_table.specs.Map.Maps.{entry_at}
-use Rattle.pf_table.specs.Map.Pages.{page_before}
+use Rattle.pf_table.specs.{Map.Maps.entry_at, Map.Pages.page_before}
 use Rattle.pf_table.proofs.Pages.{read_there}
 use Rattle.pf_table.proofs.map.paged_map.PagedMap.get.Goals as goal
 

@@ -1,7 +1,6 @@
 use Rattle.std.proofs.Common.{◌≡◌, take}
 use Rattle.std.specs.Prelude.{fold}
-use Rattle.pf_table.specs.Map.Maps.{with_entry}
-use Rattle.pf_table.specs.Map.Pages.{joined}
+use Rattle.pf_table.specs.{Map.Maps.with_entry, Map.Pages.joined}
 use Rattle.pf_table.proofs.map.paged_map.PagedMap.with.Given as goal
 
 abbrev pub invariant-loop-change : goal.invariant-loop-change

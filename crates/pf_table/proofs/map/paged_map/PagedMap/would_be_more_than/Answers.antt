@@ -1,6 +1,4 @@
-use Rattle.std.proofs.Common.{arith}
-use Rattle.std.proofs.lemmas.Grind.{common_steps}
-use Rattle.std.proofs.lemmas.Bool.Decides.{nat_tests}
+use Rattle.std.proofs.{Common.arith, lemmas.Grind.common_steps, lemmas.Bool.Decides.nat_tests}
 use Rattle.pf_table.proofs.Maps.{all_grow}
 use Rattle.pf_table.proofs.map.paged_map.PagedMap.would_be_more_than.Goals as goal
 
