@@ -66,8 +66,11 @@ Continues-then {s = s} {new = new} {a = a} {b = b} first second = record {
 pub Continues-ok : {A B : Type 0} (q : Result A Error) (u : A) (r : Result B Error) (mid new : Option (List ℕ)) (text : List ℕ) → q ≡ Ok u →
     Writes r mid new text → IfErr r (λ e. error_kind e ≢ Interrupted) → Continues q mid r new text
 Continues-ok {A = A} q u r mid new text is p retried = record {
-  behind = λ old front w. (Writes-then r old mid new front text (let h : Wrote {A = A} (Ok u) old mid front =
-      subst (λ (x : Result A Error). Wrote x old mid front) is w in h.0) p, retried);
+  behind = λ old front w. (
+    Writes-then r old mid new front text (let h : Wrote {A = A} (Ok u) old mid front =
+        subst (λ (x : Result A Error). Wrote x old mid front) is w in h.0) p,
+    retried,
+  );
 }
 
 pub Continues-err : {A B : Type 0} (q : Result A Error) (e : Error) (mid : Option (List ℕ)) (text : List ℕ) → q ≡ Err e →

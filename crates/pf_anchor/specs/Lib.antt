@@ -5,7 +5,6 @@ pub mod Limits
 pub mod Matches
 pub mod Evaluation
 pub mod Laws
-
 -- what public clauses cite of the crates below
 pub use Rattle.pf_addr.specs.Refusing
 pub use Rattle.pf_rule.specs.Rules

@@ -6,7 +6,6 @@ pub mod Wholes
 pub mod Worlds
 pub mod Pages
 pub mod Laws
-
 -- what public clauses cite of the crates below
 pub use Rattle.pf_addr.specs.Path.Names
 pub use Rattle.pf_addr.specs.Refusing

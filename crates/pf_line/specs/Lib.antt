@@ -5,7 +5,6 @@ pub mod States
 pub mod Grammar
 pub mod Lines
 pub mod Laws
-
 -- what public clauses cite of the crates below
 pub use Rattle.pf_state.specs.Peer
 pub use Rattle.pf_state.specs.Failover

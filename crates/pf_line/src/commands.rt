@@ -4,8 +4,7 @@ ghost use Rattle.pf_line.specs.Grammar.{begun, added, defined, committed, rolled
 
 use crate::lists::{read_rows, read_some_rows};
 use crate::words::{
-    path_word, read_entry, read_name, read_offered, read_state, read_table,
-    ticket_word,
+    path_word, read_entry, read_name, read_offered, read_state, read_table, ticket_word,
 };
 use pf_addr::form::{Stop, Unread, Words, each, end, expect, takes};
 use pf_core::{Command, Question, StateCommand, TableEdit, Transaction};

@@ -6,6 +6,6 @@ pub in_order : (r : PlainRule) → rule_text r ≡ effect_word r.effect
     ++ (spaced (reference_words r.effect) ++ (spaced (direction_words r.direction)
     ++ (spaced (quick_words r.quick) ++ (spaced (interface_words r.interface) ++ (spaced (family_words r.family)
     ++ (spaced (protocol_words r.protocol) ++ (spaced (ends_words (r.source, r.source_port) (r.destination, r.destination_port))
-        ++ spaced (state_words r.effect))))))))
+    ++ spaced (state_words r.effect))))))))
 unfolding rule_text
 in_order r = first_spaced (effect_word r.effect) _ ∙ ap (λ (t : List ℕ). effect_word r.effect ++ t) (simp spaced-append)

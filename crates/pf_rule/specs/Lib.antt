@@ -11,7 +11,6 @@ pub mod RuleText
 pub mod InOrder
 pub mod Refusals
 pub mod Laws
-
 -- what public clauses cite of the crates below
 pub use Rattle.pf_addr.specs.Form.Forms
 pub use Rattle.pf_addr.specs.Form.Readers

@@ -35,5 +35,5 @@ unfolding ends_hold
 ends_in_turn says r p =
     rw (in_parts says r.source p.source, in_parts says r.destination p.destination)
     (in_turn (network_holds r.source p.source) (table_holds says r.source p.source) (holds r.source_port (λ t. port_holds t p.source_port))
-        (network_holds r.destination p.destination) (table_holds says r.destination p.destination)
-        (holds r.destination_port (λ t. port_holds t p.destination_port)))
+    (network_holds r.destination p.destination) (table_holds says r.destination p.destination)
+    (holds r.destination_port (λ t. port_holds t p.destination_port)))

@@ -5,7 +5,6 @@ pub mod Edits
 pub mod Places
 pub mod Batches
 pub mod Laws
-
 -- what public clauses cite of the crates below
 pub use Rattle.pf_addr.specs.Address
 pub use Rattle.pf_addr.specs.Refusing

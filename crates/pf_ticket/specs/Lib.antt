@@ -4,7 +4,6 @@ pub mod Tickets
 pub mod Mentions
 pub mod Replies
 pub mod Laws
-
 -- what public clauses cite of the crates below
 pub use Rattle.pf_addr.specs.Path.Names as AddrNames
 pub use Rattle.pf_addr.specs.Refusing

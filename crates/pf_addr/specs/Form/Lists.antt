@@ -38,7 +38,7 @@ pub handed_on : {X Y A : Type 0} (view : X → A) (other : Y → A) (e : Unread)
 handed_on view other e (Ok y) q h is = absurd is
 handed_on {Y = Y} {A = A} view other e (Err d) q h is = subst (λ (u : Unread). GivesAll {X = Y} {A = A} other (Err u) q) (sym is)
     (same view other e q h) where
-  same : {X Y A : Type 0} (view : X → A) (other : Y → A) (e : Unread) (q : Result A (Kind × List Word)) → GivesAll view (Err e) q →
-      GivesAll other (Err e) q
-  same view other (unread.Stopped s) q h = h
-  same view other unread.Memory q h = h
+      same : {X Y A : Type 0} (view : X → A) (other : Y → A) (e : Unread) (q : Result A (Kind × List Word)) → GivesAll view (Err e) q →
+          GivesAll other (Err e) q
+      same view other (unread.Stopped s) q h = h
+      same view other unread.Memory q h = h

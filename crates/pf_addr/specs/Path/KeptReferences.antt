@@ -26,4 +26,4 @@ pub inside_of-kept : (n : Inside) → IsKept n → inside_of (reference_kept n) 
 inside_of-kept n is =
     let len : length (names_kept n) ≡ n.len = length-take-le n.len n.bytes (omega (arith, is.len, is.whole)) in
     ap (λ (l : ℕ). inside (names_kept n ++ replicate (REFERENCE_LIMIT - l) 0) l n.wildcard) len ∙ ap
-        (λ (bs : List ℕ). inside bs n.len n.wildcard) (sym is.zeros)
+    (λ (bs : List ℕ). inside bs n.len n.wildcard) (sym is.zeros)

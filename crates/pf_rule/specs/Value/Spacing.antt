@@ -34,9 +34,11 @@ no_control b e = grind (arith, nat_tests)
 parts : (w : Word) → is_word w ≡ true → (nat_lt 0 (length w) ≡ true) × All (λ b. is_blank b ≡ false) w × (list_all (nat_lt 31) w ≡ true)
 parts w is =
     let both = and_parts (nat_lt 0 (length w)) (list_all (nat_lt 32) w) is in
-    let each = AllPass-from_list_all (nat_lt 32) w both.1 in
-    (both.0, (λ k d lt. not_blank (slice_index_or w k d) (each k d lt)),
-        list_all-from_AllPass (nat_lt 31) w (λ k d lt. no_control (slice_index_or w k d) (each k d lt)))
+    let each = AllPass-from_list_all (nat_lt 32) w both.1 in (
+      both.0,
+      (λ k d lt. not_blank (slice_index_or w k d) (each k d lt)),
+      list_all-from_AllPass (nat_lt 31) w (λ k d lt. no_control (slice_index_or w k d) (each k d lt)),
+    )
 
 pub words_of-join : (ws : List Word) → list_all is_word ws ≡ true → words_of (join_with_byte 32 ws) ≡ ws
 words_of-join [] all = refl
@@ -46,7 +48,7 @@ words_of-join (w ∷ v ∷ vs) all =
     let both = and_parts (is_word w) (list_all is_word (v ∷ vs)) all in
     let is = parts w both.0 in
     ap (filter (λ v. nat_lt 0 (length v))) (slice_split_at is_blank w 32 (join_with_byte 32 (v ∷ vs)) is.1 refl) ∙ rw is.0
-        (ap (λ (t : List Word). w ∷ t) (words_of-join (v ∷ vs) both.1))
+    (ap (λ (t : List Word). w ∷ t) (words_of-join (v ∷ vs) both.1))
 
 -- a text of words between spaces has no byte below a space
 pub join_bytes : (ws : List Word) → list_all is_word ws ≡ true → list_all (nat_lt 31) (join_with_byte 32 ws) ≡ true

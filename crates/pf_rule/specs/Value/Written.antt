@@ -22,8 +22,11 @@ both {a = a} {b = b} p q = record { spells = (a, b, p.spells, q.spells, refl); w
 -- a word whose bytes pass a test that each byte fails up to a space
 pub tested_word : (test : ℕ → Bool) → ((b : ℕ) → test b ≡ true → nat_lt 32 b ≡ true) → (w : Word) → nat_lt 0 (length w) ≡ true →
     list_all test w ≡ true → is_word w ≡ true
-tested_word test each w some all = rw (some, list_all-from_AllPass (nat_lt 32) w
-    (λ k d lt. each (slice_index_or w k d) (AllPass-from_list_all test w all k d lt))) refl
+tested_word test each w some all = rw (
+  some,
+  list_all-from_AllPass (nat_lt 32) w
+      (λ k d lt. each (slice_index_or w k d) (AllPass-from_list_all test w all k d lt)),
+) refl
 
 digit_above_space : (b : ℕ) → is_digit b ≡ true → nat_lt 32 b ≡ true
 digit_above_space b e = grind (arith, nat_tests)
