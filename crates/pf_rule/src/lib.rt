@@ -1,4 +1,19 @@
-//! Filter rules and packets: which rule matches which packet, and how both are read from text and written.
+//! Filter rules and packets (pf.conf(5), PACKET FILTERING and PARAMETERS): which rule matches which packet, how both are read from text
+//! and written, and the form of a rule in bytes with the checksum of rules in order.
+//!
+//! A rule's type keeps that it is exactly what some text spells, so its canonical text is read back as that rule, and so is its form.
+//! Which addresses the table of a name takes is asked through `TableAnswers`: a rule knows names alone.
+//!
+//! The crate knows no list of rules at a path, no table, no ticket, no state and no line; which ruleset an anchor rule leads to is
+//! `pf_anchor`'s to say.
+//!
+//! Read `specs/Rules.antt` first (what a rule is, and when it matches), `specs/Packets.antt`, and `specs/RuleGrammar.antt` with
+//! `specs/PacketGrammar.antt` (their texts); then `specs/RuleText.antt` (the canonical text), `specs/Refusals.antt` (what reading a text
+//! may answer) and `specs/Sum/Forms.antt` (the form's table of places, and the checksum). `specs/Bytes.antt` has what forms of rules
+//! share with a peer's messages.
+//!
+//! `value` (protocols, ports, interfaces, directions) uses no other module; `host` uses `value`; rules and packets, at the root, use both
+//! and know no checksum; `sum` uses all three. `laws` may name all.
 #![tactic(auto)]
 
 mod fault;

@@ -15,4 +15,5 @@ HostAsksNoTable = (says other : TableTest) (h : Host) (a : Addr) → is_table h 
 
 -- nor to a rule without one
 abbrev pub RuleAsksNoTable : Type 0
-RuleAsksNoTable = (says other : TableTest) (r : PlainRule) (p : PlainPacket) → is_table r.source ≡ false → is_table r.destination ≡ false → matches says r p ≡ matches other r p
+RuleAsksNoTable = (says other : TableTest) (r : PlainRule) (p : PlainPacket) → is_table r.source ≡ false → is_table r.destination ≡ false →
+    matches says r p ≡ matches other r p

@@ -147,15 +147,19 @@ pub record Stopped (A : Type 0) (spells : Grammar A) (faults : Faulting) (ws : L
 
 -- There is a text. What a text, or a word that is faulted, begins with; what is read is a text, and a text is read where
 -- what follows may; what is faulted is refused so; where reading stops; and behind the first word that is left nothing counts.
-pub record Laws (A : Type 0) (spells : Grammar A) (faults : Faulting) (empty : Bool) (begin : Word → Bool) (follow : Follow) (read : Reader A) : Type 0 where
+pub record Laws (A : Type 0) (spells : Grammar A) (faults : Faulting) (empty : Bool) (begin : Word → Bool) (follow : Follow)
+    (read : Reader A) : Type 0 where
   pub some : Begins spells []
   pub heads : (x : A) (ws : List Word) → spells x ws → Heads empty begin ws
   pub fault_heads : (front : List Word) (w : Word) (k : Kind) → faults front w k → Heads false begin (front ++ w ∷ [])
-  pub takes : (ws : List Word) (x : A) (rest : List Word) → read ws ≡ Ok (x, rest) → (part : List Word) × spells x part × (ws ≡ part ++ rest)
+  pub takes : (ws : List Word) (x : A) (rest : List Word) → read ws ≡ Ok (x, rest) → (part : List Word) × spells x part
+      × (ws ≡ part ++ rest)
   pub again : (x : A) (part rest : List Word) → spells x part → Clear follow rest → read (part ++ rest) ≡ Ok (x, rest)
-  pub faulty : (front : List Word) (w : Word) (k : Kind) (tail : List Word) → faults front w k → read (front ++ w ∷ tail) ≡ Err (k, w ∷ tail)
+  pub faulty : (front : List Word) (w : Word) (k : Kind) (tail : List Word) → faults front w k →
+      read (front ++ w ∷ tail) ≡ Err (k, w ∷ tail)
   pub stops : (ws : List Word) (k : Kind) (rest : List Word) → read ws ≡ Err (k, rest) → Stopped A spells faults ws k rest
-  pub ahead : (o : Result A Kind) (part left : List Word) (v : Word) (r s : List Word) → read (part ++ v ∷ r) ≡ leaves o (left ++ v ∷ r) → read (part ++ v ∷ s) ≡ leaves o (left ++ v ∷ s)
+  pub ahead : (o : Result A Kind) (part left : List Word) (v : Word) (r s : List Word) → read (part ++ v ∷ r) ≡ leaves o (left ++ v ∷ r) →
+      read (part ++ v ∷ s) ≡ leaves o (left ++ v ∷ s)
 
 abbrev pub Lawful : {A : Type 0} → Form A → Type 0
 Lawful {A = A} f = Laws A (Spells f) (Faults f) (empties f) (begins f) (follow f) (reads f)
