@@ -1,6 +1,6 @@
 -- The components of a text, as the reader finds them: up to the first slash, and from behind it.
-use Rattle.std.proofs.{Common.{◌≡◌, ℕ, ◌+◌, ◌-◌, ◌<◌, ◌≤◌, false, List, [], ◌∷◌, length, take, drop, Some, None, Option, refl, sym, ap, subst, ◌∙◌, arith}, lemmas.List.take_rest, lemmas.Bool.Decides.nat_tests, lemmas.List.Splits.{length-slice_split, slice_split_first, slice_split_none}, lemmas.List.Sums.{prefix_len-le-length, fails_before_first}, lemmas.Map.Text.is_eq-slice_cmp}
-use Rattle.std.specs.{Prelude.count_by, List.{position, position_or_len, All}, Option.option_or, Str.bytes_eq}
+use Rattle.std.proofs.{Common.{◌≡◌, ℕ, ◌+◌, ◌-◌, ◌<◌, ◌≤◌, Bool, true, false, List, [], ◌∷◌, length, take, drop, Some, None, Option, refl, sym, ap, subst, ◌∙◌, arith}, lemmas.List.take_rest, lemmas.Bool.Decides.nat_tests, lemmas.List.Splits.{length-slice_split, slice_split_first, slice_split_none}, lemmas.List.Sums.{prefix_len-le-length, fails_before_first}, lemmas.Map.Text.is_eq-slice_cmp, lemmas.Slice.Eq.bytes_eq-Decides}
+use Rattle.std.specs.{Prelude.{◌≢◌, count_by, slice_index}, List.{position, position_or_len, All}, Option.option_or, Str.bytes_eq}
 use Rattle.pf_addr.specs.declared.form.fault.Kind.{Kind}
 use Rattle.pf_addr.specs.Path.Paths.{is_slash, components, component_fault, first_fault, same_path}
 
@@ -46,3 +46,11 @@ fault_none w e = ap first_fault (split_none w e) ∙ none_else (component_fault 
 -- paths that have the same bytes are the same
 pub same_bytes : (p q : List ℕ) → bytes_eq p q ≡ same_path p q
 same_bytes p q = sym (is_eq-slice_cmp p q)
+
+-- ---- names that differ in their last byte
+
+pub last_differs : (p q : List ℕ) → slice_index p (length p - 1) ≢ slice_index q (length q - 1) → bytes_eq p q ≡ false
+last_differs p q other = by (bytes_eq p q) refl where
+  by : (t : Bool) → bytes_eq p q ≡ t → t ≡ false
+  by false e = refl
+  by true e = absurd (other (ap (λ (w : List ℕ). slice_index w (length w - 1)) ((bytes_eq-Decides p q).0 e)))

@@ -42,7 +42,7 @@ impl Net {
         match addr {
             Addr::V4(number) => Net {
                 family: Family::V4,
-                number: first_of(u128::from(number), V4_BITS - len),
+                number: u128::from(first_of_v4(number, V4_BITS - len)),
                 len,
             },
             Addr::V6(number) => Net {
@@ -98,7 +98,7 @@ impl Net {
     {
         match (self.family, addr) {
             (Family::V4, Addr::V4(number)) => {
-                first_of(u128::from(number), V4_BITS - self.len) == self.number
+                u128::from(first_of_v4(number, V4_BITS - self.len)) == self.number
             }
             (Family::V6, Addr::V6(number)) => first_of(number, V6_BITS - self.len) == self.number,
             _ => false,
@@ -151,7 +151,17 @@ impl Net {
     }
 }
 
-// The number with its last bits cleared, the `host` lowest of them.
+// The number of a V4 address with its last bits cleared, the `host` lowest of them.
+fn first_of_v4(number: u32, host: u8) -> u64
+    requires { host ≤ 32 }
+    ensures value { result ≡ number / 2 ^ host * 2 ^ host }
+    ensures front { result / 2 ^ host ≡ number / 2 ^ host }
+{
+    // of 64 bits, so that a shift by all 32 is one
+    (u64::from(number) >> host) << host
+}
+
+// The same of a number of up to 128 bits.
 fn first_of(number: u128, host: u8) -> u128
     requires { host ≤ 128 }
     ensures value { result ≡ number / 2 ^ host * 2 ^ host }

@@ -1,10 +1,10 @@
 //! Addresses as text, and the numbers between the dots of an IPv4 address.
-ghost use Rattle.std.specs.{Prelude.{◌≡◌, ◌+◌, ◌^◌, ◌<◌, ◌==◌, ◌-◌, length, set, IfSome}, Char.digit_value, List.position};
-ghost use Rattle.pf_addr.specs.{Grammar.is_other, Collected.parts_kept, Reading.{small_number, part_at, part_fault, v4_at, address_at, length_at}};
+ghost use Rattle.std.specs.{Prelude.{◌≡◌, ◌+◌, ◌^◌, ◌<◌, ◌==◌, ◌-◌, [], ◌∷◌, length, set, IfSome}, Char.digit_value, List.position};
+ghost use Rattle.pf_addr.specs.declared.reading.TheConstants.{NUMBER_DIGITS};
+ghost use Rattle.pf_addr.specs.{Form.Numbers.number_of, Grammar.is_other, Collected.parts_kept, Reading.{small_number, part_at, part_fault, v4_at, address_at, length_at}};
 
 use crate::addr::Addr;
 use crate::fault::AddrFault;
-use crate::form::read_number;
 use crate::groups::read_v6;
 
 /// How many digits a part or a prefix length may have, leading zeros among them.
@@ -139,9 +139,26 @@ pub(crate) fn figure(b: u8) -> u16
 fn small_number(most: u8, text: &[u8]) -> Option<u8>
     ensures { result ≡ small_number most text.now }
 {
-    match read_number(text, NUMBER_DIGITS) {
-        Some(number) if number <= u64::from(most) => Some(number as u8),
+    let number = match *text {
+        [c] => three_digits(b'0', b'0', c),
+        [b, c] => three_digits(b'0', b, c),
+        [a, b, c] => three_digits(a, b, c),
         _ => None,
+    };
+    match number {
+        Some(number) if number <= u16::from(most) => Some(number as u8),
+        _ => None,
+    }
+}
+
+/// The number that three digits write; fewer have zeros before them.
+fn three_digits(a: u8, b: u8, c: u8) -> Option<u16>
+    ensures { result ≡ number_of NUMBER_DIGITS (a ∷ b ∷ c ∷ []) }
+{
+    if a.is_ascii_digit() && b.is_ascii_digit() && c.is_ascii_digit() {
+        Some(u16::from(a - b'0') * 100 + u16::from(b - b'0') * 10 + u16::from(c - b'0'))
+    } else {
+        None
     }
 }
 

@@ -6,7 +6,6 @@ use Rattle.pf_addr.specs.{Path.Paths.{path_order, same_path, is_path}, Path.Nest
 use Rattle.pf_addr.proofs.{PathsRead.same_path_is, Nesting.{path_few, has_one_more}}
 use Rattle.pf_rule.specs.Rules.{PlainRule}
 use Rattle.pf_anchor.specs.{declared.{evaluated.Evaluated.Evaluated, evaluated.Evaluated.TheVariants.Open}, Rulesets.{Ruled, ruled, rules_in, rules_at, leads_from, targets, children}, Evaluation.{and_then, settled, rules_give, in_turn}}
-use Rattle.pf_table.specs.Map.Pages.{joined}
 use Rattle.pf_anchor.proofs.Evaluations.{none_and_then, and_then_none, and_then_assoc}
 
 pub placed_is : (e : Ruled) (p : List ℕ) (es rest : List Ruled) → same_path p e.0 ≡ true → rules_at p es ≡ rules_at p (e ∷ rest) → e ≡ ruled p (rules_at p es)
@@ -24,10 +23,6 @@ pub turns_append : {M : Type 0} (f : Ruled → Evaluated M) (a b : List Ruled) �
 turns_append f [] b = sym (none_and_then (in_turn f b))
 turns_append f (e ∷ a) b = ap (and_then (f e)) (turns_append f a b) ∙ sym (and_then_assoc (f e) (in_turn f a) (in_turn f b))
 
-page_turn : {M : Type 0} (f : Ruled → Evaluated M) (test : Ruled → Bool) (page : List Ruled) (pages : List (List Ruled)) →
-    in_turn f (filter test (joined (page ∷ pages))) ≡ and_then (in_turn f (filter test page)) (in_turn f (filter test (joined pages)))
-page_turn f test page pages = ap (in_turn f) (filter-append test page (joined pages)) ∙ turns_append f (filter test page) (filter test (joined pages))
-
 -- a rule before others: it matches and the evaluation goes on, or it doesn't match
 pub rule_goes_on : {M : Type 0} (effect : ℕ → PlainRule → Evaluated M) (test : PlainRule → Bool) (last latest : Option M) (n : ℕ) (rules : List PlainRule) (r : PlainRule) (rest : List PlainRule) →
     rules ≡ r ∷ rest → test r ≡ true → Open latest ≡ settled r.quick (effect n r) → and_then (Open last) (rules_give effect test n rules) ≡ and_then (Open (option_or latest last)) (rules_give effect test (n + 1) rest)
@@ -44,12 +39,16 @@ rule_passed effect test last n rules r rest left is =
     ∙ ap (λ (b : Bool). and_then (Open last) (and_then (cond b (settled r.quick (effect n r)) (Open None)) (rules_give effect test (n + 1) rest))) is
     ∙ ap (and_then (Open last)) (none_and_then (rules_give effect test (n + 1) rest))
 
--- a page before others
-pub page_step : {M : Type 0} (f : Ruled → Evaluated M) (test : Ruled → Bool) (last : Option M) (pages : List (List Ruled)) (page : List Ruled) (rest : List (List Ruled)) (x : Evaluated M) →
-    pages ≡ page ∷ rest → x ≡ in_turn f (filter test page) → and_then (Open last) (in_turn f (filter test (joined pages))) ≡ and_then (Open last) (and_then x (in_turn f (filter test (joined rest))))
-page_step {M} f test last pages page rest x left is =
-    ap (λ (ps : List (List Ruled)). and_then (Open last) (in_turn f (filter test (joined ps)))) left
-    ∙ ap (and_then (Open last)) (page_turn f test page rest ∙ ap (λ (y : Evaluated M). and_then y (in_turn f (filter test (joined rest)))) (sym is))
+-- a ruleset before others: it is a child and the evaluation goes on or ends with it, or it is none
+pub child_step : {M : Type 0} (f : Ruled → Evaluated M) (test : Ruled → Bool) (last : Option M) (e : Ruled) (rest : List Ruled) (x : Evaluated M) →
+    test e ≡ true → x ≡ f e → and_then (Open last) (in_turn f (filter test (e ∷ rest))) ≡ and_then (Open last) (and_then x (in_turn f (filter test rest)))
+child_step {M} f test last e rest x is gives =
+    ap (λ (b : Bool). and_then (Open last) (in_turn f (cond b (e ∷ filter test rest) (filter test rest)))) is
+    ∙ ap (λ (y : Evaluated M). and_then (Open last) (and_then y (in_turn f (filter test rest)))) (sym gives)
+
+pub no_child_step : {M : Type 0} (f : Ruled → Evaluated M) (test : Ruled → Bool) (last : Option M) (e : Ruled) (rest : List Ruled) →
+    test e ≡ false → and_then (Open last) (in_turn f (filter test (e ∷ rest))) ≡ and_then (Open last) (in_turn f (filter test rest))
+no_child_step f test last e rest is = ap (λ (b : Bool). and_then (Open last) (in_turn f (cond b (e ∷ filter test rest) (filter test rest)))) is
 
 -- ---- what a reference leads to
 

@@ -9,4 +9,3 @@ pub mod Laws
 pub use Rattle.pf_addr.specs.Refusing
 pub use Rattle.pf_rule.specs.Rules
 pub use Rattle.pf_table.specs.Map.ListMaps
-pub use Rattle.pf_table.specs.Map.Pages

@@ -1,7 +1,6 @@
 //! What is active: rulesets and tables.
 ghost use Rattle.std.specs.{Prelude.{◌≡◌, [], ◌∷◌, length, IfOk, nat_lt}, Option.{MatchOption, option_map}};
 ghost use Rattle.pf_anchor.specs.{Tables.{tabled, table_found, tables_at, named_table, IsTableMap}, Rulesets.{ruled, rules_at, children, IsMap}, Configurations.{nothing, with_rulesets, with_tables}, Limits.{ruleset_refusal, table_refusal}, Evaluation.judged};
-ghost use Rattle.pf_table.specs.Map.Pages.{joined};
 ghost use Rattle.pf_addr.specs.Refusing.{Refuses};
 ghost use Rattle.pf_anchor.specs.declared.fault.ConfigFault.TheVariants.{Memory};
 
@@ -9,8 +8,8 @@ use crate::evaluate::evaluate;
 use crate::fault::ConfigFault;
 use crate::limits::{RULESET_LIMIT, TABLE_COUNT_LIMIT};
 use crate::rule_list::RuleList;
-use crate::rulesets::{Placed, PlacedPage, Rulesets, push_children};
-use crate::tables::{Place, PlacedTable, Tables, push_tables_at};
+use crate::rulesets::{EachRuleset, Placed, Rulesets};
+use crate::tables::{Place, PlacedTable, Tables};
 use crate::verdict::RuleVerdict;
 use pf_addr::path::{Path, TableName};
 use pf_rule::Packet;
@@ -20,10 +19,18 @@ use std::alloc::{AllocError, Global};
 use std::marker::Model;
 
 /// What is active: the rulesets and the tables, each at its path. Contracts see it as a `Configuration`.
-#[derive(Drop)]
 pub struct Config {
     rulesets: Rulesets,
     tables: Tables,
+}
+
+impl Drop for Config {
+    fn drop(self) {
+        let Config {
+            rulesets: _,
+            tables: _,
+        } = self;
+    }
 }
 
 impl Model for Config {
@@ -36,12 +43,12 @@ impl Model for Config {
 
 impl Config {
     /// No rulesets and no tables. It takes no memory.
-    pub fn empty(alloc: Global) -> Config
+    pub fn empty() -> Config
         ensures { result ≡ nothing }
     {
         Config {
-            rulesets: PagedMap::empty(alloc),
-            tables: PagedMap::empty(alloc),
+            rulesets: PagedMap::empty(),
+            tables: PagedMap::empty(),
         }
     }
 
@@ -147,9 +154,10 @@ impl Config {
         ensures { IfOk result (λ v. v.items ≡ tables_at path.now self.now.tables) }
     {
         let mut found = Vec::new(alloc);
-        let pages = self.tables.pages();
-        for page in pages {
-            push_tables_at(&mut found, page.as_slice(), path)?;
+        for placed in self.tables.entries() {
+            if path.same(&placed.key().0) {
+                found.push(placed.shared()?)?;
+            }
         }
         Ok(found)
     }
@@ -171,9 +179,10 @@ impl Config {
         ensures { IfOk result (λ v. v.items ≡ children self.now.rulesets path.now) }
     {
         let mut found = Vec::new(alloc);
-        let pages = self.ruleset_pages();
-        for page in pages {
-            push_children(&mut found, page.as_slice(), path)?;
+        for placed in self.each_ruleset() {
+            if placed.key().is_child_of(path) {
+                found.push(placed.key().copied())?;
+            }
         }
         Ok(found)
     }
@@ -199,11 +208,11 @@ impl Config {
         self.rulesets.get(path)
     }
 
-    /// The pages of rulesets, in order.
-    pub(crate) fn ruleset_pages(&self) -> &[PlacedPage]
-        ensures { joined result.now ≡ self.now.rulesets }
+    /// The rulesets, in the order of their paths. It takes no memory.
+    pub(crate) fn each_ruleset(&self) -> EachRuleset<'_>
+        ensures { result ≡ self.now.rulesets }
     {
-        self.rulesets.pages()
+        self.rulesets.entries()
     }
 
     /// What the rules say of a packet: the rule that decides by the main ruleset's evaluation (pf.conf(5), Packet Filtering

@@ -89,35 +89,13 @@ fn evaluate_targets<'a>(
 
 // The children of a path, in turn.
 #[cycle(evaluate)]
+#[tactic(auto, using(crate::proofs::Evaluations::none_and_then))]
 fn evaluate_children<'a>(config: &'a Config, path: &Path, packet: &Packet) -> Evaluated<Match<'a>>
     ensures { result ≡ in_turn (evaluation config.now.rulesets (matching config.now.tables packet.now))
         (filter (λ e. is_child path.now e.0) config.now.rulesets) }
 {
     let mut last = None;
-    let pages = config.ruleset_pages();
-    for page in pages {
-        match evaluate_among(config, page.as_slice(), path, packet) {
-            Evaluated::Open(later) => last = later.or(last),
-            Evaluated::Ended(end) => return Evaluated::Ended(end),
-        }
-    }
-    Evaluated::Open(last)
-}
-
-// Those among some rulesets that are children of a path, in turn.
-#[cycle(evaluate)]
-#[tactic(auto, using(crate::proofs::Evaluations::none_and_then))]
-fn evaluate_among<'a>(
-    config: &'a Config,
-    entries: &'a [Placed],
-    path: &Path,
-    packet: &Packet,
-) -> Evaluated<Match<'a>>
-    ensures { result ≡ in_turn (evaluation config.now.rulesets (matching config.now.tables packet.now))
-        (filter (λ e. is_child path.now e.0) entries.now) }
-{
-    let mut last = None;
-    for placed in entries {
+    for placed in config.each_ruleset() {
         if placed.key().is_child_of(path) {
             match evaluate(config, placed, packet) {
                 Evaluated::Open(found) => last = found.or(last),

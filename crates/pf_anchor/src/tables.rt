@@ -1,11 +1,8 @@
 //! The active tables.
-ghost use Rattle.std.specs.Prelude.{◌≡◌, ◌++◌, OnOk};
-ghost use Rattle.pf_anchor.specs.Tables.{tables_at};
 
 use pf_addr::path::{Path, TableName};
 use pf_table::Table;
-use pf_table::map::{Entry, PagedMap, Probe};
-use std::alloc::AllocError;
+use pf_table::map::{Entry, Key, PagedMap, Probe};
 use std::cmp::Ordering;
 
 /// A table where it is: its path, its name, and its entries, shared by all that hold it. Contracts see it as a `Tabled`.
@@ -31,20 +28,8 @@ impl<'a> Probe<(Path, TableName)> for Place<'a> {
     fn same(&self, other: &(Path, TableName)) -> bool {
         self.path.same(&other.0) && self.name.same(&other.1)
     }
-}
 
-/// Adds those among some tables that are at a path.
-pub(crate) fn push_tables_at(
-    found: &mut Vec<PlacedTable>,
-    tables: &[PlacedTable],
-    path: &Path,
-) -> Result<(), AllocError>
-    ensures { OnOk result (found.new.items ≡ found.old.items ++ tables_at path.now tables.now) }
-{
-    for placed in tables {
-        if path.same(&placed.key().0) {
-            found.push(placed.shared()?)?;
-        }
+    fn hint(&self) -> u64 {
+        Key::hint(self.path)
     }
-    Ok(())
 }

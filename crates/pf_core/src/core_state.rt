@@ -147,7 +147,7 @@ fn answer(alloc: Global, durable: &Durable, question: &Question) -> Result<Answe
             durable.config().tables_at(alloc, path)?,
         ))),
         Question::ShowStates => {
-            let states = Vec::from_slice(alloc, durable.states().states())?;
+            let states = durable.states().listed(alloc)?;
             Ok(Answer::States(StateList::new(states)))
         }
         Question::Sum => Ok(Answer::Sum(durable.sum())),

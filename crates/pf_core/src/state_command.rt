@@ -1,6 +1,7 @@
 //! Changes of states: which change each one wants, and what it is told.
-ghost use Rattle.std.specs.Prelude.{◌≡◌, length, not, IfOk};
+ghost use Rattle.std.specs.Prelude.{◌≡◌, ◌∷◌, [], length, not, IfOk};
 ghost use Rattle.pf_anchor.specs.Rulesets.{rules_at};
+ghost use Rattle.pf_state.specs.declared.step.Step.TheVariants as step_kind;
 ghost use Rattle.pf_core.specs.{Durable.Edits.verdict, Commands.{bound_here, makes_state, make_step, track_step, steps_here, states_step, is_done, changes_states_in_memory}, Refusals.OrMemory};
 
 use crate::command::StateCommand;
@@ -42,14 +43,29 @@ fn makes_state(durable: &Durable, by: &RuleVerdict) -> Option<Bound>
     }
 }
 
-// Makes a state, unless its name is taken.
-fn make(alloc: Global, durable: &Durable, by: RuleVerdict, state: State) -> Result<Step, Refusal>
-    ensures { let due = make_step durable.now by state in OrMemory (not (is_done due)) result due }
+// The steps that insert a state.
+fn insert(alloc: Global, name: StateName, held: Held) -> Result<StepList, AllocError>
+    ensures { IfOk result (λ l. l ≡ step_kind.Insert (name, held) ∷ []) }
 {
-    if durable.states().held_at(state.name()).is_some() {
+    let mut steps = Vec::new(alloc);
+    steps.push(StateStep::Insert(State::new(alloc, name, held)?))?;
+    Ok(StepList::new(steps))
+}
+
+// Makes a state, unless its name is taken.
+fn make(
+    alloc: Global,
+    durable: &Durable,
+    by: RuleVerdict,
+    name: StateName,
+    held: Held,
+) -> Result<Step, Refusal>
+    ensures { let due = make_step durable.now by (name, held) in OrMemory (not (is_done due)) result due }
+{
+    if durable.states().held_at(name).is_some() {
         return Ok(Step::Done(Answer::Stale(by)));
     }
-    let steps = StepList::new(Vec::from_slice(alloc, &[StateStep::Insert(state)])?);
+    let steps = insert(alloc, name, held)?;
     durable.with_stepped(alloc, steps.as_slice())?;
     Ok(Step::Wants(Change::states(steps), Outcome::Tracked(by)))
 }
@@ -75,7 +91,7 @@ fn track(
         flow: Flow::of(packet),
         bound,
     };
-    make(alloc, durable, by, State::new(name, held))
+    make(alloc, durable, by, name, held)
 }
 
 // What a peer's message does to the states here.

@@ -3,18 +3,18 @@ use Rattle.std.proofs.Common.{◌≡◌, Bool, true, false, List, [], ◌∷◌,
 use Rattle.std.specs.{Prelude.if◌then◌else◌, Str.bytes_eq}
 use Rattle.pf_addr.specs.{Form.Words.Word, Form.Forms.{Form, or, Read, reads, ended, ◌>>=◌, read_all}, Form.Readers.if_there}
 
-abbrev flag_of : Read Bool → Bool
+abbrev pub flag_of : Read Bool → Bool
 flag_of (Ok x) = x.0
 flag_of (Err e) = false
 
-abbrev rest_of : Read Bool → List Word
+abbrev pub rest_of : Read Bool → List Word
 rest_of (Ok x) = x.1
 rest_of (Err e) = []
 
-abbrev as_read : Bool → List Word → Read Bool
+abbrev pub as_read : Bool → List Word → Read Bool
 as_read t ws = Ok (t, ws)
 
-never : (t : Bool) → t ≡ false → t ≡ true → ⊥
+pub never : (t : Bool) → t ≡ false → t ≡ true → ⊥
 never t e f = cc
 
 -- the word was taken

@@ -7,4 +7,6 @@ pub mod SpelledTickets
 pub mod SpelledEntries
 pub mod SpelledStates
 pub mod Choices
+pub mod Cutting
+pub mod JudgeLines
 pub mod ExportedLines

@@ -1,6 +1,6 @@
 -- What a line is answered, and why.
-use Rattle.std.proofs.{Common.{◌≡◌, ℕ, ◌-◌, ◌==◌, Bool, true, false, cond, List, [], ◌∷◌, length, Option, Some, None, Result, Ok, Err, inl, inr, refl, sym, ap, ◌∙◌, subst, arith}, lemmas.List.length-map, lemmas.Bool.Decides.nat_tests}
-use Rattle.std.specs.{Prelude.{IfOk, IfErr, IfSome, not, filter, nat_lt}, List.{slice_split, onto_first, find}}
+use Rattle.std.proofs.{Common.{◌≡◌, ℕ, ◌-◌, ◌<◌, ◌≤◌, ◌==◌, Bool, true, false, cond, List, [], ◌∷◌, length, Option, Some, None, Result, Ok, Err, inl, inr, refl, sym, ap, ◌∙◌, subst, arith}, lemmas.List.length-map, lemmas.Bool.{lt-ltb, Decides.nat_tests}}
+use Rattle.std.specs.{Prelude.{◌||◌, IfOk, IfErr, IfSome, not, filter, nat_lt}, List.{slice_split, onto_first, find, list_all}}
 use denote.Ref.{Bor}
 use Rattle.pf_addr.specs.declared.{form.fault.Kind.Kind, form.fault.Stop.Stop}
 use Rattle.pf_addr.specs.declared.form.fault.Kind.TheVariants as kinds
@@ -13,7 +13,7 @@ use Rattle.pf_state.proofs.OneMessage.{one_answer}
 use Rattle.pf_core.specs.declared.{command.Command.Command, reply.Refusal.Refusal}
 use Rattle.pf_core.specs.declared.reply.Refusal.TheVariants as refusals
 use Rattle.pf_line.specs.Grammar as grammar
-use Rattle.pf_line.specs.{Grammar.{Spoken, Says, Tells, decided}, Lines.{is_bad_line, is_comment, no_command, is_silent, refusal_at, said, said_by, line_at, peer_command, Means, SpellsLine, IsCommand, Parses, Speaks, Refused, Answers}}
+use Rattle.pf_line.specs.{Grammar.{Spoken, Says, Tells, decided}, Lines.{is_line_byte, is_bad_line, is_comment, no_command, is_silent, refusal_at, said, said_by, line_at, peer_command, Means, SpellsLine, IsCommand, Parses, Speaks, Refused, Answers}}
 
 -- ---- words that spell a line are no comment
 
@@ -163,6 +163,28 @@ said_words items seen ws n r e same l h =
     let count : n ≡ length ws = l ∙ ap length same ∙ sym (length-map items (λ w. w.now)) ∙ ap length e in
     let all : texts seen ≡ ws = ap texts same ∙ e in
     subst (λ (m : ℕ). Parses r (said m (read_all grammar.line ws))) count (subst (λ (vs : List Word). Parses r (said n (read_all grammar.line vs))) all h)
+
+-- ---- a line that was cut
+
+pub not_bad : (line : List ℕ) → length line ≤ 4096 → list_all is_line_byte line ≡ true → is_bad_line line ≡ false
+not_bad line short bytes =
+    let few : nat_lt 4096 (length line) ≡ false = grind (arith, nat_tests, short) in
+    rw (few, bytes) refl
+
+either : (t : Bool) → (t || true) ≡ true
+either true = refl
+either false = refl
+
+pub bad_bytes : (line : List ℕ) → list_all is_line_byte line ≡ false → Answers line (Err refusals.BadLine)
+bad_bytes line bytes = bad_answered line (rw bytes (either (nat_lt 4096 (length line))))
+
+pub too_long : (line : List ℕ) → 4096 < length line → Answers line (Err refusals.BadLine)
+too_long line long = let t : nat_lt 4096 (length line) ≡ true = lt-ltb 4096 (length line) long in bad_answered line (rw t refl)
+
+-- by its words, in a slice of as many
+pub said_cut : (line : List ℕ) (items seen : List (Bor Word)) (n : ℕ) (r : Answer) → is_silent line ≡ false → length line ≤ 4096 → texts items ≡ words_of line → list_all is_line_byte line ≡ true → seen ≡ items → n ≡ length seen →
+    Parses r (said n (read_all grammar.line (texts seen))) → Answers line r
+said_cut line items seen n r loud short e bytes same l h = answered line r (not_bad line short bytes) loud (said_words items seen (words_of line) n r e same l h)
 
 -- ---- a line is silent by its first byte that is no blank
 

@@ -77,15 +77,27 @@ last_entry : (rows : List Row) (row : Row) → entries_text (rows ++ row ∷ [])
 last_entry [] row = append-nil (32 ∷ entry_text row)
 last_entry (first ∷ rows) row = ap (λ (t : List ℕ). 32 ∷ entry_text first ++ t) (last_entry rows row) ∙ sym (append_assoc (32 ∷ entry_text first) (entries_text rows) (32 ∷ entry_text row))
 
-entries_before : (rows : List Row) (i : ℕ) (row : Row) → i < length rows → row ≡ get_or rows i row → entries_text (take (i + 1) rows) ≡ entries_text (take i rows) ++ (32 ∷ entry_text row)
-entries_before rows i row lt is =
-    let more : take (i + 1) rows ≡ take i rows ++ row ∷ [] = take_more rows i row lt ∙ ap (λ (x : Row). take i rows ++ x ∷ []) (sym is) in
-    ap entries_text more ∙ last_entry (take i rows) row
+-- what was written so far: some of the entries, of which the others are left
+pub record WroteSome (p : Result (Unit {0}) Error) (old : Option (List ℕ)) (q : Result (Unit {0}) Error) (mid : Option (List ℕ))
+    (rows left : List Row) : Type 0 where
+  pub some : List Row
+  pub whole : some ++ left ≡ rows
+  pub written : GoesOn p old q mid (entries_text some)
 
 -- a space, and one more entry
-pub one_more_entry : (p q s t : Result (Unit {0}) Error) (old mid more new : Option (List ℕ)) (rows : List Row) (i : ℕ) (row : Row) → i < length rows → row ≡ get_or rows i row → GoesOn p old q mid (entries_text (take i rows)) → GoesOn q mid s more (32 ∷ []) → GoesOn s more t new (entry_text row) → GoesOn p old t new (entries_text (take (i + 1) rows))
-one_more_entry p q s t old mid more new rows i row lt is a b c =
-    subst (λ (text : List ℕ). GoesOn p old t new text) (sym (entries_before rows i row lt is)) (goes_on a (goes_on b c))
+pub one_more_entry : (p q s t : Result (Unit {0}) Error) (old mid more new : Option (List ℕ)) (rows left rest : List Row) (row : Row) →
+    left ≡ row ∷ rest → WroteSome p old q mid rows left → GoesOn q mid s more (32 ∷ []) → GoesOn s more t new (entry_text row) →
+    WroteSome p old t new rows rest
+one_more_entry p q s t old mid more new rows left rest row is so_far b c = record {
+  some = so_far.some ++ row ∷ [];
+  whole = append_assoc so_far.some (row ∷ []) rest ∙ ap (λ (l : List Row). so_far.some ++ l) (sym is) ∙ so_far.whole;
+  written = subst (λ (text : List ℕ). GoesOn p old t new text) (sym (last_entry so_far.some row)) (goes_on so_far.written (goes_on b c));
+}
+
+pub all_entries : (p q : Result (Unit {0}) Error) (old new : Option (List ℕ)) (rows left : List Row) → left ≡ [] → WroteSome p old q new rows left → GoesOn p old q new (entries_text rows)
+all_entries p q old new rows left none so_far =
+    let whole : so_far.some ≡ rows = sym (append-nil so_far.some) ∙ ap (λ (l : List Row). so_far.some ++ l) (sym none) ∙ so_far.whole in
+    subst (λ (r : List Row). GoesOn p old q new (entries_text r)) whole so_far.written
 
 -- ---- tickets
 

@@ -160,8 +160,11 @@ state_killed = making (λ n. Ok (States (KillState n))) state
 
 -- ---- questions
 
+abbrev pub asking : Result PlainPacket Mistake → Result Command Mistake
+asking = as_command (λ p. Ask (Judge p))
+
 unfoldable pub judged : Form (Result Command Mistake)
-judged = making (as_command (λ p. Ask (Judge p))) packet
+judged = making asking packet
 
 -- PATH NAME ADDRESS
 unfoldable pub tested : Form (Result Command Mistake)

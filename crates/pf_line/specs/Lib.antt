@@ -4,6 +4,7 @@ pub mod Entries
 pub mod States
 pub mod Grammar
 pub mod Lines
+pub mod Cutting
 pub mod Laws
 -- what public clauses cite of the crates below
 pub use Rattle.pf_state.specs.Peer

@@ -5,11 +5,12 @@ use Rattle.pf_addr.specs.declared.{form.fault.Kind.Kind, form.fault.Unread.Unrea
 use Rattle.pf_addr.specs.declared.form.fault.Kind.TheVariants as kinds
 use Rattle.pf_addr.specs.declared.form.fault.Unread.TheVariants as unread
 use Rattle.pf_addr.specs.{Form.Words.{Word, words_of}, Form.Forms.{Spells, RefusedAt, read_all}}
+use Rattle.pf_rule.specs.Packets.{PlainPacket}
 use Rattle.pf_rule.specs.declared.fault.Mistake.{Mistake}
 use Rattle.pf_rule.specs.declared.fault.Mistake.TheVariants as mistakes
 use Rattle.pf_state.specs.declared.{peer.fault.OneFault.OneFault, peer.fault.OneFault.TheVariants.{Fault, Count}, peer.message.Message.Message}
 use Rattle.pf_state.specs.Peer.One.{IsOne}
-use Rattle.pf_core.specs.declared.{command.Command.Command, command.Command.TheVariants.States, command.StateCommand.TheVariants.Peer, reply.Refusal.Refusal, reply.Refusal.TheVariants.{BadLine, BadWord, NameTooLong, BadProto, MixedFamily, PortNeedsProto, BadPeer, PeerCount, Memory}}
+use Rattle.pf_core.specs.declared.{command.Command.Command, command.Command.TheVariants.{States, Ask}, command.Question.TheVariants.Judge, command.StateCommand.TheVariants.Peer, reply.Refusal.Refusal, reply.Refusal.TheVariants.{BadLine, BadWord, NameTooLong, BadProto, MixedFamily, PortNeedsProto, BadPeer, PeerCount, Memory}}
 use Rattle.pf_line.specs.declared.line.TheConstants.{LINE_LIMIT}
 use Rattle.pf_line.specs.Grammar as grammar
 use Rattle.pf_line.specs.Grammar.{Spoken, Says, Tells}
@@ -26,6 +27,11 @@ is_bad_line line = nat_lt LINE_LIMIT (length line) || not (list_all is_line_byte
 abbrev pub is_comment : Word → Bool
 is_comment [] = false
 is_comment (b ∷ bs) = b == 35
+
+-- begins with a j (106), as `judge` does
+abbrev pub may_judge : List ℕ → Bool
+may_judge [] = false
+may_judge (b ∷ bs) = b == 106
 
 abbrev pub no_command : List Word → Bool
 no_command [] = true
@@ -74,6 +80,11 @@ Means (Ok (Some (Says (Ok c)))) r = r ≡ Ok (Some c)
 Means (Ok (Some (Says (Err mistake)))) r = r ≡ Err (refusal_for mistake)
 Means (Ok (Some (Tells bytes))) r = (one : Result Message OneFault) × IsOne bytes one × (r ≡ peer_command one)
 Means (Err e) r = r ≡ Err e
+
+-- what a line is told that asks what happens to a packet, or why it is refused
+abbrev pub asked : Result PlainPacket Refusal → Result (Option Command) Refusal
+asked (Ok p) = Ok (Some (Ask (Judge p)))
+asked (Err e) = Err e
 
 -- The words of a line say the command.
 abbrev pub SpellsLine : Command → List Word → Type 0

@@ -18,7 +18,9 @@
 #![tactic(auto)]
 
 mod commands;
+mod cut;
 mod entries;
+mod judge_line;
 pub mod laws;
 mod line;
 mod lists;
@@ -27,5 +29,6 @@ mod state;
 mod ticket;
 mod words;
 
+pub use judge_line::{may_judge, parse_judge};
 pub use line::{LINE_LIMIT, parse_line};
-pub use reply::write_reply;
+pub use reply::{write_judged, write_reply};

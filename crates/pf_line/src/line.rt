@@ -1,12 +1,13 @@
 //! Lines.
-ghost use Rattle.std.specs.{Prelude.{◌≡◌, ◌-◌, ℕ, not, true, false, Some, None, Ok, Err, IfOk, IfErr, IfSome, length}, List.{list_all, find}};
+ghost use Rattle.std.specs.{Prelude.{◌≡◌, ◌-◌, ◌≤◌, ℕ, not, true, false, Some, None, Ok, Err, IfOk, IfErr, IfSome, length}, List.{list_all, find}};
 ghost use Rattle.pf_addr.specs.{Form.Forms.{making, read_all}, Form.Words.{is_blank, words_of, texts}};
 ghost use Rattle.pf_core.specs.declared.{command.Command.Command, reply.Refusal.TheVariants.BadLine};
 ghost use Rattle.pf_line.specs.{Grammar.{Says, Tells, hex, command, line as the_grammar}, Lines.{is_line_byte, is_bad_line, is_silent, line_at, said_by, refusal_at, refusal_for, said, refusal_of, SpellsLine, IsCommand, Parses, Answers, Refused}};
 
 use crate::commands::command;
+use crate::cut::{Uncut, cut, cut_list, line_byte};
 use crate::state::read_bytes;
-use pf_addr::form::{Kind, Unread, Words, is_blank, takes, words};
+use pf_addr::form::{Kind, Unread, Words, is_blank, takes};
 use pf_core::{Command, Refusal, StateCommand};
 use pf_rule::Mistake;
 use pf_state::peer::{OneFault, read_one};
@@ -15,11 +16,10 @@ use std::alloc::Global;
 /// How many bytes a line may have, without its newline.
 pub const LINE_LIMIT: usize = 4096;
 
-fn line_byte(b: u8) -> bool
-    ensures { result ≡ is_line_byte b }
-{
-    (b' ' <= b && b <= b'~') || b == b'\t' || b == b'\r'
-}
+/// Lines of so many bytes are cut in place, into so many words at most; longer ones mostly list more.
+const SHORT: usize = 128;
+
+const PLACES: usize = 32;
 
 fn all_line_bytes(line: &[u8]) -> bool
     ensures { result ≡ list_all is_line_byte line.now }
@@ -53,7 +53,7 @@ fn silent(line: &[u8]) -> bool
 }
 
 /// The refusal of a line of so many words that weren't read for this.
-fn refusal(unread: Unread, count: usize) -> Refusal
+pub(crate) fn refusal(unread: Unread, count: usize) -> Refusal
     ensures { result ≡ refusal_of unread count }
 {
     match unread {
@@ -73,7 +73,8 @@ fn refusal_at(kind: Kind, at: usize) -> Refusal
     }
 }
 
-fn refusal_for(mistake: Mistake) -> Refusal
+/// The refusal of a line that makes this mistake.
+pub(crate) fn refusal_for(mistake: Mistake) -> Refusal
     ensures { result ≡ refusal_for mistake }
 {
     match mistake {
@@ -106,22 +107,69 @@ pub fn parse_line(alloc: Global, line: &[u8]) -> Result<Option<Command>, Refusal
 fn tell(alloc: Global, line: &[u8]) -> Result<Option<Command>, Refusal>
     ensures { Answers line.now result }
 {
-    if bad_line(line) {
-        return Err(Refusal::BadLine);
-    }
     if silent(line) {
+        if bad_line(line) {
+            return Err(Refusal::BadLine);
+        }
         return Ok(None);
     }
-    read(alloc, line)
+    if LINE_LIMIT < line.len() {
+        return Err(Refusal::BadLine);
+    }
+    tell_loud(alloc, line)
 }
 
-fn read(alloc: Global, line: &[u8]) -> Result<Option<Command>, Refusal>
-    ensures { Parses result (said_by (words_of line.now)) }
+/// What a line is told that isn't silent and isn't too long.
+fn tell_loud(alloc: Global, line: &[u8]) -> Result<Option<Command>, Refusal>
+    requires loud { is_silent line.now ≡ false }
+    requires short { length line.now ≤ LINE_LIMIT }
+    ensures { Answers line.now result }
 {
-    let Ok(words) = words(alloc, line) else {
-        return Err(Refusal::Memory);
-    };
-    say(alloc, &words, words.len())
+    if line.len() <= SHORT {
+        tell_short(alloc, line)
+    } else {
+        tell_long(alloc, line)
+    }
+}
+
+/// The same of a short line, whose words take no memory.
+fn tell_short(alloc: Global, line: &[u8]) -> Result<Option<Command>, Refusal>
+    requires loud { is_silent line.now ≡ false }
+    requires short { length line.now ≤ LINE_LIMIT }
+    ensures { Answers line.now result }
+{
+    let mut places = [b"".as_slice(); PLACES];
+    match cut(line, &mut places) {
+        Ok(count) => say(alloc, &places[..count], count),
+        Err(Uncut::BadByte) => Err(Refusal::BadLine),
+        Err(Uncut::NoPlace) => tell_long(alloc, line),
+    }
+}
+
+/// The same of any line, whose words take memory.
+fn tell_long(alloc: Global, line: &[u8]) -> Result<Option<Command>, Refusal>
+    requires loud { is_silent line.now ≡ false }
+    requires short { length line.now ≤ LINE_LIMIT }
+    ensures { Answers line.now result }
+{
+    match cut_list(alloc, line) {
+        Ok(words) => say(alloc, &words, words.len()),
+        Err(Uncut::BadByte) => Err(Refusal::BadLine),
+        Err(Uncut::NoPlace) => no_memory(line),
+    }
+}
+
+/// What it is told where memory was refused before all of its bytes were looked at.
+#[tactic(auto, using(crate::proofs::Lines::bad_answered))]
+fn no_memory(line: &[u8]) -> Result<Option<Command>, Refusal>
+    requires { is_silent line.now ≡ false }
+    ensures { Answers line.now result }
+{
+    if bad_line(line) {
+        Err(Refusal::BadLine)
+    } else {
+        Err(Refusal::Memory)
+    }
 }
 
 /// What so many words say.

@@ -10,4 +10,4 @@ mod state_line;
 mod ticket;
 mod verdict;
 
-pub use reply::write_reply;
+pub use reply::{write_judged, write_reply};

@@ -1,10 +1,10 @@
 -- By how much states grow and shrink, and what is counted.
-use Rattle.std.proofs.{Common.{◌≡◌, ℕ, suc, ◌+◌, Bool, true, false, not, cond, List, [], ◌∷◌, length, Option, Some, None, is_some, refl, ap, ◌∙◌, arith}, lemmas.Bool.Decides.nat_tests, lemmas.List.Sums.sum_by-cons}
+use Rattle.std.proofs.{Common.{◌≡◌, ℕ, suc, ◌+◌, ◌-◌, Bool, true, false, not, cond, List, [], ◌∷◌, length, Option, Some, None, is_some, refl, ap, ◌∙◌, arith}, lemmas.Bool.Decides.nat_tests, lemmas.List.Sums.sum_by-cons}
 use Rattle.std.specs.{Prelude.{◌==◌, nat_lt}, FinMap.Entries.{length-put, length_without}, List.count_by}
 use Rattle.pf_table.specs.Map.Maps.{with_value}
 use Rattle.pf_table.proofs.Maps.{stays_sorted}
-use Rattle.pf_state.specs.{declared.{counts.Counts.Counts, state.Held.Held, state.StateName.StateName, step.Insertion.Insertion, step.Insertion.TheVariants.Stale, step.Insertion.TheVariants.Clash, step.Insertion.TheVariants.Replaced, step.Insertion.TheVariants.New, step.Step.Step, step.Step.TheVariants.Insert, step.Step.TheVariants.Delete, step.Step.TheVariants.Clear}, States.{Stated, name_order, held_at, NamesFlows, IsStates}, Steps.{is_stale, is_clash, insertion, has_effect, without_creator, without_state, stepped, after, one_insertion, named_count, creator_count, counted, counts}, Laws.States.{is_insert, CountsAddUp}}
-use Rattle.pf_state.proofs.{Names.{name_total, same_itself}, Leaves.reads_delete, Tables.{names_step, names_delete, names_clear}}
+use Rattle.pf_state.specs.{Orders.name_total, declared.{counts.Counts.Counts, state.Held.Held, state.StateName.StateName, step.Insertion.Insertion, step.Insertion.TheVariants.Stale, step.Insertion.TheVariants.Clash, step.Insertion.TheVariants.Replaced, step.Insertion.TheVariants.New, step.Step.Step, step.Step.TheVariants.Insert, step.Step.TheVariants.Delete, step.Step.TheVariants.Clear}, States.{Stated, name_order, held_at, NamesFlows, IsStates}, Steps.{is_stale, is_clash, insertion, has_effect, without_creator, without_state, stepped, after, one_insertion, only_deleted, named_count, creator_count, counted, counts}, Laws.States.{is_insert, CountsAddUp}}
+use Rattle.pf_state.proofs.{Names.same_itself, Leaves.reads_delete, Tables.{names_step, names_delete, names_clear}}
 
 counted_more : {X : Type 0} (p : X → Bool) (x : X) (xs : List X) → count_by p (x ∷ xs) ≡ cond (p x) 1 0 + count_by p xs
 counted_more p x xs = sum_by-cons (λ y. cond (p y) 1 0) x xs
@@ -20,6 +20,17 @@ shrinks_clear (e ∷ es) creator = by (e.0.creator == creator) (shrinks_clear es
   by : (t : Bool) → length (without_creator es creator) + creator_count es creator ≡ length es → creator_count (e ∷ es) creator ≡ cond t 1 0 + creator_count es creator → length (cond (not t) (e ∷ without_creator es creator) (without_creator es creator)) + creator_count (e ∷ es) creator ≡ suc (length es)
   by true rest more = omega (arith, rest, more)
   by false rest more = omega (arith, rest, more)
+
+-- how many are less, so
+pub counts_deleted : (es : List Stated) (n : StateName) → NamesFlows es → only_deleted (length es - length (without_state es n)) ≡ counted es (Delete n)
+unfolding counted
+counts_deleted es n is =
+    let taken = shrinks_delete es n is in
+    let less : length es - length (without_state es n) ≡ named_count es n = omega (arith, taken) in
+    ap only_deleted less
+
+pub cleared_count : (es : List Stated) (creator : ℕ) → length es - length (without_creator es creator) ≡ creator_count es creator
+cleared_count es creator = let taken = shrinks_clear es creator in omega (arith, taken)
 
 -- both
 pub shrinks : ((es : List Stated) (n : StateName) → NamesFlows es → length (without_state es n) + named_count es n ≡ length es)

@@ -15,10 +15,10 @@ pub mod ReadBack
 pub mod TakenOver
 pub mod Names
 pub mod Flows
+pub mod FlowKeys
 pub mod Leaves
-pub mod Places
 pub mod Tables
 pub mod Counting
 pub mod Batches
-pub mod Clashing
+pub mod Indexed
 pub mod Computed

@@ -1,17 +1,8 @@
--- Names of states are in a total order, and no two of them tie.
-use Rattle.std.proofs.{Common.{◌≡◌, true, not, T, refl, ap, subst}, lemmas.Cmp.{nat_cmp_total, tied_itself}}
-use Rattle.std.specs.{Cmp.{IsTotalOrder, on_total, then_total}, FinMap.{IsAntisymmetric, nat_cmp-IsAntisymmetric}, Ordering.{is_eq, eq_by_cmp}, declared.{cmp.Ordering.Ordering, cmp.Ordering.TheVariants.Less, cmp.Ordering.TheVariants.Equal, cmp.Ordering.TheVariants.Greater}}
-use Rattle.pf_table.specs.Map.Pairs.{pairs_alike}
+-- Only a name ties with itself.
+use Rattle.std.proofs.{Common.{◌≡◌, true, not, T, refl, ap, subst}, lemmas.Cmp.tied_itself}
+use Rattle.std.specs.{Ordering.{is_eq, eq_by_cmp}, declared.{cmp.Ordering.Ordering, cmp.Ordering.TheVariants.Less, cmp.Ordering.TheVariants.Equal, cmp.Ordering.TheVariants.Greater}}
 use Rattle.pf_state.specs.declared.state.StateName.{StateName}
-use Rattle.pf_state.specs.States.{name_order}
-
-pub name_total : IsTotalOrder name_order
-name_total = then_total (on_total (λ (n : StateName). n.id) nat_cmp_total) (on_total (λ (n : StateName). n.creator) nat_cmp_total)
-
-pub name_alike : IsAntisymmetric name_order
-name_alike a b tied =
-    let pair : (a.id, a.creator) ≡ (b.id, b.creator) = pairs_alike nat_cmp-IsAntisymmetric nat_cmp-IsAntisymmetric (a.id, a.creator) (b.id, b.creator) tied in
-    λ i. record { id = (pair i).0; creator = (pair i).1 }
+use Rattle.pf_state.specs.{Orders.{name_total, name_alike}, States.name_order}
 
 ties : (r : Ordering) → is_eq r ≡ true → r ≡ Equal
 ties Less e = absurd (subst (λ b. T (not b)) e tt)

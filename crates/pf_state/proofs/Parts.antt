@@ -1,5 +1,5 @@
 -- The parts of an export, and how long its messages are.
-use Rattle.std.proofs.{Common.{◌≡◌, ◌+◌, ◌-◌, ◌*◌, ◌<◌, ◌≤◌, ℕ, suc, List, [], ◌∷◌, ◌++◌, length, map, take, drop, min, refl, sym, subst, ap, ◌∙◌, append_assoc, length-append, arith}, lemmas.List.{append-nil, length-drop, length-map, take_all, drop_all, take_at, drop_at}}
+use Rattle.std.proofs.{Common.{◌≡◌, ◌+◌, ◌-◌, ◌*◌, ◌/◌, ◌%◌, ◌<◌, ◌≤◌, ℕ, zero, suc, List, [], ◌∷◌, ◌++◌, length, map, take, drop, min, refl, sym, subst, ap, ◌∙◌, append_assoc, length-append, arith}, lemmas.List.{append-nil, take-append-drop, length-take, length-drop, length-map, take_all, drop_all, take_at, drop_at}}
 use Rattle.std.specs.{List.{concat, flat_map}, Slice.Iter.chunk_count}
 use Rattle.pf_state.specs.{Peer.Records.{PlainInsert, insert_bytes}, Peer.Messages.IsMessage, Peer.Streams.{Reads, Unfinished}, Peer.Written.{Each, message_length, message_bytes}, States.Stated, Failover.Outgoing.{exported_insert, exported_message, parts, exported_messages}}
 use Rattle.pf_state.specs.declared.failover.outgoing.TheConstants.{EXPORT_RECORDS}
@@ -94,3 +94,52 @@ read_in_turn current (p ∷ ps) each = (
   each.0,
   read_in_turn current ps each.1,
 )
+
+-- ---- a part is taken one state after the other
+
+pub taken_one : (told : ℕ) (part rest : List Stated) (s : Stated) (behind all : List Stated) → told < 31 → rest ≡ s ∷ behind
+    → part ++ take (31 - told) rest ≡ all → (part ++ s ∷ []) ++ take (31 - (told + 1)) behind ≡ all
+taken_one told part rest s behind all more split so =
+    let one : 31 - told ≡ suc (31 - (told + 1)) = omega arith in
+    append_assoc part (s ∷ []) (take (31 - (told + 1)) behind)
+    ∙ ap (λ (n : ℕ). part ++ take n (s ∷ behind)) (sym one) ∙ ap (λ (l : List Stated). part ++ take (31 - told) l) (sym split) ∙ so
+
+pub dropped_one : (told : ℕ) (rest : List Stated) (s : Stated) (behind left : List Stated) → told < 31 → rest ≡ s ∷ behind
+    → drop (31 - told) rest ≡ left → drop (31 - (told + 1)) behind ≡ left
+dropped_one told rest s behind left more split so =
+    let one : 31 - told ≡ suc (31 - (told + 1)) = omega arith in
+    ap (λ (n : ℕ). drop n (s ∷ behind)) (sym one) ∙ ap (λ (l : List Stated). drop (31 - told) l) (sym split) ∙ so
+
+-- where none is left
+pub all_taken : (n : ℕ) (part rest all : List Stated) → rest ≡ [] → part ++ take n rest ≡ all → part ≡ all
+all_taken n part rest all none so = by n (ap (λ (l : List Stated). part ++ take n l) (sym none) ∙ so) where
+  by : (n : ℕ) → part ++ take n [] ≡ all → part ≡ all
+  by zero e = sym (append-nil part) ∙ e
+  by (suc n) e = sym (append-nil part) ∙ e
+
+pub part_fits : (rest : List Stated) → length (take 31 rest) ≤ 31
+part_fits rest = omega (arith, length-take 31 rest)
+
+pub part_long : (rest : List Stated) → length (take 31 rest) ≡ min 31 (length rest)
+part_long rest = length-take 31 rest
+
+-- the next part of those that are left
+pub split_off : (rest : List Stated) → rest ≡ take 31 rest ++ drop 31 rest
+split_off rest = sym (take-append-drop 31 rest)
+
+parts_count : (n : ℕ) → n / 31 + min 1 (n % 31) ≡ chunk_count n 31
+parts_count n = omega arith
+
+pub some_left : (rest : List Stated) (message n : ℕ) → chunk_count (length rest) 31 + message ≡ chunk_count n 31 → message < n / 31 + min 1 (n % 31) → 0 < length rest
+some_left rest message n is more = let count = parts_count n in omega (arith, is, more, count)
+
+pub none_left : (rest : List Stated) (message n : ℕ) → chunk_count (length rest) 31 + message ≡ chunk_count n 31 → n / 31 + min 1 (n % 31) ≤ message → length rest ≡ 0
+none_left rest message n is end = let count = parts_count n in omega (arith, is, end, count)
+
+pub counted_on : (rest : List Stated) (message count : ℕ) → 0 < length rest → chunk_count (length rest) 31 + message ≡ count
+    → chunk_count (length (drop 31 rest)) 31 + (message + 1) ≡ count
+counted_on rest message count some is =
+    let one = one_part_more (length rest) some in
+    let behind = length-drop 31 rest in
+    let later : chunk_count (length (drop 31 rest)) 31 ≡ chunk_count (length rest - 31) 31 = ap (λ (n : ℕ). chunk_count n 31) behind in
+    omega (arith, one, later, is)

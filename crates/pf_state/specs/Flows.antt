@@ -1,12 +1,16 @@
 -- Flows: what a state is looked for by (pf.conf(5)). That the interface is no part of a flow is own.
-use Rattle.std.specs.Prelude.{◌≡◌, ◌<◌, ◌==◌, ◌&&◌, ◌||◌, Bool, false}
+use Rattle.std.specs.Prelude.{◌≡◌, ℕ, ◌<◌, ◌==◌, ◌&&◌, ◌||◌, Bool, false}
 use Rattle.pf_addr.specs.{declared.{addr.Addr.Addr, addr.Addr.TheVariants.V4, addr.Addr.TheVariants.V6}, Address.{family_of, same_family, IsAddr}}
 use Rattle.pf_rule.specs.{declared.{value.direction.Direction.Direction, value.direction.Direction.TheVariants.In, value.direction.Direction.TheVariants.Out}, Value.Values.{IsProtocol, has_ports}, Value.Tests.same_direction, Packets.PlainPacket}
-use Rattle.pf_state.specs.declared.flow.FlowParts.{FlowParts}
 
--- a flow as contracts see it: its fields, which are those of its first packet
-abbrev pub PlainFlow : Type 0
-PlainFlow = FlowParts
+-- a flow as contracts see it: what its packets have in common, as the first of them has it
+pub record PlainFlow : Type 0 where
+  pub direction : Direction
+  pub protocol : ℕ
+  pub source : Addr
+  pub source_port : ℕ
+  pub destination : Addr
+  pub destination_port : ℕ
 
 -- what a flow keeps: addresses of one family, and no ports but for a protocol that has them
 pub record IsFlow (f : PlainFlow) : Type 0 where

@@ -1,10 +1,11 @@
 pub mod Peer
 pub mod Failover
 pub mod Flows
+pub mod FlowKeys
 pub mod States
+pub mod Orders
 pub mod Steps
 pub mod Bindings
-pub mod Candidates
 pub mod Laws
 -- what public clauses cite of the crates below
 pub use Rattle.pf_addr.specs.Address

@@ -1,37 +1,45 @@
-//! Changes of a list of states.
-ghost use Rattle.std.specs.{Prelude.{◌≡◌, ◌∷◌, [], nat_le, false, T, IfOk, OnOk, Some}, FinMap.is_sorted, Option.option_map_or};
-ghost use Rattle.pf_state.specs.{Candidates.AreNamed, States.{NamesFlows, name_order}, Steps.{insertion, stepped, counted, without_state, without_creator, named_count, creator_count, is_over}};
+//! Changes of states.
+ghost use Rattle.std.specs.{Prelude.{◌≡◌, ◌-◌, ◌≤◌, length, nat_le, false, T, IfOk}, FinMap.is_sorted, Option.option_map_or};
+ghost use Rattle.pf_state.specs.{States.{NamesFlows, held_at, name_order}, Steps.{insertion, stepped, counted, only_deleted, without_creator, is_over}};
 ghost use Rattle.pf_state.specs.declared.step.Step.TheVariants as step_kind;
-ghost use Rattle.pf_table.specs.Map.Maps.{with_value};
 
-use crate::candidates::is_clash;
 use crate::counts::Counts;
+use crate::keys::States;
 use crate::limits::STATE_LIMIT;
-use crate::search::{held_at, place_of};
 use crate::state::{Held, State, StateName};
 use crate::step::{Insertion, Step};
-use std::alloc::AllocError;
+use std::alloc::{AllocError, Global};
+
+/// What is held under a name.
+pub(crate) fn held_at(states: &States, name: StateName) -> Option<Held>
+    ensures { result ≡ held_at name states.now }
+{
+    match states.get(&name) {
+        Some(state) => Some(*state.value()),
+        None => None,
+    }
+}
 
 // Whether what is held under the state's name has a generation that isn't less.
 fn is_stale(known: Option<Held>, new: &State) -> bool
     ensures { result ≡ option_map_or (λ held. nat_le new.now.1.generation held.generation) known false }
 {
     match known {
-        Some(held) => new.held().generation <= held.generation,
+        Some(held) => new.value().generation <= held.generation,
         None => false,
     }
 }
 
 // What becomes of a state that is inserted.
-fn judge(states: &[State], candidates: &[StateName], new: &State) -> Insertion
-    requires names { NamesFlows states.now }
-    requires named { AreNamed candidates.now states.now (step_kind.Insert new.now ∷ []) }
+#[tactic(auto, using(crate::proofs::Indexed::clash_is))]
+fn judge(states: &States, new: &State) -> Insertion
+    requires { NamesFlows states.now }
     ensures { result ≡ insertion states.now new.now }
 {
-    let known = held_at(states, new.name());
+    let known = held_at(states, *new.key());
     if is_stale(known, new) {
         Insertion::Stale
-    } else if is_clash(states, candidates, new) {
+    } else if states.is_clash(new) {
         Insertion::Clash
     } else if known.is_some() {
         Insertion::Replaced
@@ -40,79 +48,71 @@ fn judge(states: &[State], candidates: &[StateName], new: &State) -> Insertion
     }
 }
 
-/// Takes out the state of a name.
-pub(crate) fn remove(states: &mut Vec<State>, name: StateName)
-    requires { T (is_sorted name_order states.old.items) }
-    ensures { states.new.items ≡ without_state states.old.items name }
-{
-    if let Ok(place) = place_of(states, name) {
-        states.remove(place);
-    }
-}
-
-/// Takes out a creator's states.
-pub(crate) fn clear(states: &mut Vec<State>, creator: u32)
-    ensures { states.new.items ≡ without_creator states.old.items creator }
-{
-    states.retain(|state| state.name().creator != creator);
-}
-
-// Puts a state in its place, in that of its name if there is one.
-fn put(states: &mut Vec<State>, new: State) -> Result<(), AllocError>
-    requires { T (is_sorted name_order states.old.items) }
-    ensures { OnOk result (states.new.items ≡ with_value name_order states.old.items new.0 (Some new.1)) }
-{
-    match place_of(states, new.name()) {
-        Ok(place) => states[place] = new,
-        Err(place) => states.insert(place, new)?,
-    }
-    Ok(())
-}
-
-// Inserts a state, unless it is stale or clashes.
+// The states with one that is inserted, unless it is stale or clashes, and what becomes of it.
 #[tactic(auto, unfolding(crate::specs::Steps::stepped))]
-fn insert(
-    states: &mut Vec<State>,
-    candidates: &[StateName],
-    new: State,
-) -> Result<Insertion, AllocError>
-    requires names { NamesFlows states.old.items }
-    requires named { AreNamed candidates.now states.old.items (step_kind.Insert new ∷ []) }
-    ensures judged { IfOk result (λ j. j ≡ insertion states.old.items new) }
-    ensures after { OnOk result (states.new.items ≡ stepped states.old.items (step_kind.Insert new)) }
+fn insert(alloc: Global, states: States, new: &State) -> Result<(States, Insertion), AllocError>
+    requires { NamesFlows states }
+    ensures judged { IfOk result (λ r. r.1 ≡ insertion states new.now) }
+    ensures after { IfOk result (λ r. r.0 ≡ stepped states (step_kind.Insert new.now)) }
 {
-    let judged = judge(states, candidates, &new);
-    match judged {
-        Insertion::Stale | Insertion::Clash => {}
-        Insertion::Replaced | Insertion::New => put(states, new)?,
+    let judged = judge(&states, new);
+    let left = match judged {
+        Insertion::Stale | Insertion::Clash => states,
+        Insertion::Replaced | Insertion::New => states.with(alloc, new)?,
+    };
+    Ok((left, judged))
+}
+
+/// The states of all other creators. `AllocError`: nothing is left of these; what shares them stays.
+pub(crate) fn clear(alloc: Global, states: States, creator: u32) -> Result<States, AllocError>
+    requires { T (is_sorted name_order states) }
+    ensures { IfOk result (λ s. s ≡ without_creator states creator) }
+{
+    let all = states.shared()?;
+    let mut left = states;
+    for state in all.entries() {
+        if state.key().creator == creator {
+            left = left.without(alloc, state.key())?;
+        }
     }
-    Ok(judged)
+    Ok(left)
 }
 
 /// Whether there are more states than there may be.
-pub(crate) fn is_over(states: &[State]) -> bool
+pub(crate) fn is_over(states: &States) -> bool
     ensures { result ≡ is_over states.now }
 {
     states.len() > STATE_LIMIT
 }
 
-/// Acts on one step, where the candidates name all states whose flow it inserts. `AllocError`: what the states are then isn't said.
+// What is left of so many states, and how many were taken out.
+fn taken_out(before: usize, left: States) -> (States, Counts)
+    requires { length left ≤ before }
+    ensures left { result.0 ≡ left }
+    ensures counted { result.1 ≡ only_deleted (before - length left) }
+{
+    let deleted = (before - left.len()) as u64;
+    (left, Counts::of_deletion(deleted))
+}
+
+/// The states after one step, and what became of it. `AllocError`: nothing is left of these; what shares them stays.
 #[tactic(auto, using(crate::proofs::Counting::shrinks), unfolding(crate::specs::Steps::stepped, crate::specs::Steps::counted))]
 pub(crate) fn act(
-    states: &mut Vec<State>,
-    candidates: &[StateName],
+    alloc: Global,
+    states: States,
     step: &Step,
-) -> Result<Counts, AllocError>
-    requires names { NamesFlows states.old.items }
-    requires named { AreNamed candidates.now states.old.items (step.now ∷ []) }
-    ensures counted { IfOk result (λ c. c ≡ counted states.old.items step.now) }
-    ensures after { OnOk result (states.new.items ≡ stepped states.old.items step.now) }
+) -> Result<(States, Counts), AllocError>
+    requires { NamesFlows states }
+    ensures counted { IfOk result (λ r. r.1 ≡ counted states step.now) }
+    ensures after { IfOk result (λ r. r.0 ≡ stepped states step.now) }
 {
     let before = states.len();
     match step {
-        Step::Insert(new) => return Ok(Counts::of_insertion(insert(states, candidates, *new)?)),
-        Step::Delete(name) => remove(states, *name),
-        Step::Clear { creator } => clear(states, *creator),
+        Step::Insert(new) => {
+            let (left, judged) = insert(alloc, states, new)?;
+            Ok((left, Counts::of_insertion(judged)))
+        }
+        Step::Delete(name) => Ok(taken_out(before, states.without(alloc, name)?)),
+        Step::Clear { creator } => Ok(taken_out(before, clear(alloc, states, *creator)?)),
     }
-    Ok(Counts::of_deletion((before - states.len()) as u64))
 }

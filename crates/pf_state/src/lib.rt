@@ -11,7 +11,7 @@
 //! - [`failover`], which knows both: the steps that a message asks for, and the messages that tell a peer of all states.
 //!
 //! It knows packets and addresses, and of rules only how many main rules there are and the 16 bytes of their checksum: not what they
-//! say, no rulesets at paths, no lines and no disk. Of pf_table it has the definition of a map with one value put or taken out.
+//! say, no rulesets at paths, no lines and no disk. Of pf_table it has the maps in which states stand by name and by flow.
 //!
 //! To read first: `specs/Flows.antt`, `States.antt`, `Steps.antt` and `Bindings.antt` say what the table does, `specs/Peer/Records.antt`,
 //! `Groups.antt`, `Messages.antt` and `Streams.antt` what bytes mean, `specs/Failover/` how both meet. [`laws`], [`peer`] and
@@ -19,16 +19,16 @@
 #![tactic(auto)]
 
 mod binding;
-mod candidates;
 mod change;
 mod counts;
 pub mod failover;
 mod flow;
+mod flow_key;
+mod keys;
 pub mod laws;
 mod limits;
 pub mod peer;
 mod refusal;
-mod search;
 mod state;
 mod step;
 mod table;
@@ -36,6 +36,7 @@ mod table;
 pub use binding::{ALL_ONES, bind, exported};
 pub use counts::Counts;
 pub use flow::Flow;
+pub use flow_key::{FlowEnds, FlowKey};
 pub use limits::STATE_LIMIT;
 pub use peer::{Fed, FeedError, Message, OneFault, PeerFault, PeerReader, write_peer};
 pub use refusal::StatesRefusal;

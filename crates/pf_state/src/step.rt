@@ -5,7 +5,7 @@ use crate::state::{State, StateName};
 use std::marker::Model;
 
 /// What a record of a peer, or the judging of a packet, does with the states.
-#[derive(Clone, Copy)]
+#[derive(Drop)]
 pub enum Step {
     /// Makes this state, or replaces the one of its name.
     Insert(State),

@@ -1,23 +1,30 @@
 //! The table of states.
 ghost use Rattle.std.specs.{Prelude.{◌≡◌, ◌+◌, [], cond, is_ok, is_some, length, IfOk, IfSome, Contains, Some, None, true, false}, Option.option_map};
-ghost use Rattle.pf_state.specs.{Flows.{flow_of, same_flow}, States.{Stated, IsStates, held_at, state_of}, Steps.{Refuses, passes_limit, after, counts, without_state, without_creator, creator_count, named_count}};
+ghost use Rattle.pf_state.specs.{Flows.flow_of, States.{Stated, IsStates, held_at, state_of}, Steps.{Refuses, passes_limit, after, counts, without_state, without_creator, creator_count}};
 
-use crate::candidates::{candidates, note};
-use crate::change::{act, clear, is_over, remove};
+use crate::change::{act, clear, held_at, is_over};
 use crate::counts::Counts;
 use crate::flow::Flow;
+use crate::keys::States;
 use crate::refusal::StatesRefusal;
-use crate::search::held_at;
 use crate::state::{Held, State, StateName};
 use crate::step::Step;
 use pf_rule::Packet;
+use pf_table::map::Entries;
 use std::alloc::{AllocError, Global};
 use std::marker::Model;
 
 /// At most 65,536 states, no name and no flow twice. Contracts see the list of them in the order of their names.
-#[derive(Drop)]
+///
+/// A changed table shares with the old one all states that stay, and nearly all of what finds them.
 pub struct StateTable {
-    states: Vec<State>,
+    index: States,
+}
+
+impl Drop for StateTable {
+    fn drop(self) {
+        let StateTable { index: _ } = self;
+    }
 }
 
 impl Model for StateTable {
@@ -26,72 +33,71 @@ impl Model for StateTable {
 
     ghost Value = { List Stated };
 
-    ghost view = { λ t. t.states.items };
+    ghost view = { λ t. t.index };
 
-    ghost invariant = { λ t. IsStates t.states.items };
-}
-
-// The first state of a flow.
-fn state_of<'a>(states: &'a [State], flow: &Flow) -> Option<&'a State>
-    ensures { option_map (λ s. s.now) result ≡ state_of flow.now states.now }
-{
-    let turned = flow.turned();
-    for state in states {
-        if state.has_flow(flow, &turned) {
-            return Some(state);
-        }
-    }
-    None
-}
-
-// A list of the same states, with room for some more.
-fn copied(alloc: Global, states: &[State], room: usize) -> Result<Vec<State>, AllocError>
-    ensures { IfOk result (λ v. v.items ≡ states.now) }
-{
-    let mut all = Vec::with_capacity(alloc, states.len().saturating_add(room))?;
-    all.extend_from_slice(states)?;
-    Ok(all)
+    ghost invariant = { λ t. IsStates t.index };
 }
 
 impl StateTable {
-    /// No states. It is never refused for memory.
-    pub fn empty(alloc: Global) -> StateTable
+    /// No states. It takes no memory.
+    pub fn empty() -> StateTable
         ensures { result ≡ [] }
     {
         StateTable {
-            states: Vec::new(alloc),
+            index: States::empty(),
         }
     }
 
-    /// A table of the same states. `AllocError`: none is made.
-    pub fn copied(&self, alloc: Global) -> Result<StateTable, AllocError>
+    /// The same table, with one owner more. No state and no page is copied. `AllocError`: none is made.
+    pub fn shared(&self) -> Result<StateTable, AllocError>
         ensures { IfOk result (λ t. t ≡ self.now) }
     {
-        let states = copied(alloc, &self.states, 0)?;
-        Ok(StateTable { states })
+        Ok(StateTable {
+            index: self.index.shared()?,
+        })
     }
 
-    /// The states, in the order of their names.
-    pub fn states(&self) -> &[State]
-        ensures value { result.now ≡ self.now }
+    /// How many states there are.
+    pub fn len(&self) -> usize
+        ensures { result ≡ length self.now }
+    {
+        self.index.len()
+    }
+
+    /// The states, in the order of their names. It takes no memory.
+    pub fn states(&self) -> Entries<'_, StateName, Held, State>
+        ensures value { result ≡ self.now }
         // what each table keeps
         ensures table { IsStates self.now }
     {
-        &self.states
+        self.index.entries()
+    }
+
+    /// The states in a list, in the order of their names, each shared. `AllocError`: none is made.
+    pub fn listed(&self, alloc: Global) -> Result<Vec<State>, AllocError>
+        ensures { IfOk result (λ v. v.items ≡ self.now) }
+    {
+        let mut listed = Vec::with_capacity(alloc, self.index.len())?;
+        for state in self.index.entries() {
+            listed.push(state.shared()?)?;
+        }
+        Ok(listed)
     }
 
     /// The state of a packet's flow, of which there is one at most. It is never refused for memory.
+    #[tactic(auto, using(crate::proofs::Indexed::of_flow_is))]
     pub fn find(&self, packet: &Packet) -> Option<&State>
         ensures { option_map (λ s. s.now) result ≡ state_of (flow_of packet.now) self.now }
     {
-        state_of(&self.states, &Flow::of(packet))
+        let flow = Flow::of(packet);
+        self.index.of_flow(flow.key())
     }
 
     /// What is held under a name, if it is known. It is never refused for memory.
     pub fn held_at(&self, name: StateName) -> Option<Held>
         ensures { result ≡ held_at name self.now }
     {
-        held_at(&self.states, name)
+        held_at(&self.index, name)
     }
 
     /// The table after steps in turn, and what became of them. This one stays as it is.
@@ -107,18 +113,17 @@ impl StateTable {
         ensures counts { IfOk result (λ r. r.1 ≡ counts self.now steps.now) }
         ensures after { IfOk result (λ r. r.0 ≡ after self.now steps.now) }
     {
-        let mut states = copied(alloc, &self.states, steps.len())?;
-        let mut candidates = candidates(alloc, &self.states, steps)?;
+        let mut states = self.index.shared()?;
         let mut counts = Counts::NONE;
         for step in steps {
-            let counted = act(&mut states, &candidates, step)?;
-            note(&mut candidates, step)?;
+            let (left, counted) = act(alloc, states, step)?;
+            states = left;
             counts = counts.and(counted);
             if is_over(&states) {
                 return Err(StatesRefusal::StatesFull);
             }
         }
-        Ok((StateTable { states }, counts))
+        Ok((StateTable { index: states }, counts))
     }
 
     /// Acts on steps in turn, and counts what became of them. It is refused as `after_batch` is, and then the table is as before.
@@ -132,25 +137,29 @@ impl StateTable {
         Ok(counts)
     }
 
-    /// Takes out the state of a name, whatever its generation. Answers whether there was one. It is never refused for memory.
+    /// Takes out the state of a name, whatever its generation. Answers whether there was one. `AllocError`: the table is as before.
     #[tactic(auto, using(crate::proofs::Counting::found_by_length))]
-    pub fn remove(&mut self, name: StateName) -> bool
-        ensures found { result ≡ is_some (held_at name self.old) }
-        ensures after { self.new ≡ without_state self.old name }
+    pub fn remove(&mut self, alloc: Global, name: StateName) -> Result<bool, AllocError>
+        ensures found { IfOk result (λ found. found ≡ is_some (held_at name self.old)) }
+        ensures after { self.new ≡ cond (is_ok result) (without_state self.old name) self.old }
     {
-        let before = self.states.len();
-        remove(&mut self.states, name);
-        self.states.len() < before
+        let before = self.index.len();
+        let left = self.index.shared()?.without(alloc, &name)?;
+        let found = left.len() < before;
+        *self = StateTable { index: left };
+        Ok(found)
     }
 
-    /// Takes out all states of one creator. Answers how many there were. It is never refused for memory.
+    /// Takes out all states of one creator. Answers how many there were. `AllocError`: the table is as before.
     #[tactic(auto, using(crate::proofs::Counting::shrinks_clear))]
-    pub fn clear_creator(&mut self, creator: u32) -> usize
-        ensures count { result ≡ creator_count self.old creator }
-        ensures after { self.new ≡ without_creator self.old creator }
+    pub fn clear_creator(&mut self, alloc: Global, creator: u32) -> Result<usize, AllocError>
+        ensures count { IfOk result (λ count. count ≡ creator_count self.old creator) }
+        ensures after { self.new ≡ cond (is_ok result) (without_creator self.old creator) self.old }
     {
-        let before = self.states.len();
-        clear(&mut self.states, creator);
-        before - self.states.len()
+        let before = self.index.len();
+        let left = clear(alloc, self.index.shared()?, creator)?;
+        let count = before - left.len();
+        *self = StateTable { index: left };
+        Ok(count)
     }
 }

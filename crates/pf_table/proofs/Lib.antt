@@ -1,9 +1,11 @@
 pub mod Maps
-pub mod Pages
+pub mod Parts
+pub mod Fronts
 pub mod ListMaps
+pub mod Indexes
 pub mod Sorted
-pub mod Merging
 pub mod Batches
+pub mod Prefixes
 pub mod Lookups
 pub mod Edits
 pub mod TableLaws

@@ -1,46 +1,11 @@
 -- Of the entries that contain an address the one with the longest front decides.
-use Rattle.std.proofs.{Common.{◌≡◌, ℕ, zero, suc, ◌+◌, ◌<◌, ◌≤◌, nat_lt, Bool, true, false, cond, ◌&&◌, List, [], ◌∷◌, length, get_or, drop, drop-cons, Option, Some, None, is_some, refl, sym, ap, ◌∙◌, subst, true≢false, arith, ◌⊎◌, inl, inr}, lemmas.Bool.Decides.{nat_tests, Decides-eqb}}
-use Rattle.std.specs.{List.Contains, Ordering.{is_eq, ordering_reverse}, Cmp.tied_itself}
-use Rattle.pf_addr.specs.{declared.{addr.Addr.Addr, addr.Family.Family, addr.Family.TheVariants.V4, addr.Family.TheVariants.V6}, Address.{Network, contains, same_family, family_of, first_bits}}
-use Rattle.pf_table.specs.{Entries.{Row, net_order}, Laws.Order.net_total, Tables.{sign_of, Decides, longer, deciding}}
-use Rattle.std.specs.declared.cmp.Ordering.TheVariants.{Less}
-use Rattle.pf_table.proofs.Sorted.{sorted, first_of, second_of, below_at}
-
--- ---- going on from what was found
-
-longer_thrice : (a b c : Option Row) → longer (longer a b) c ≡ longer a (longer b c)
-longer_thrice None b c = refl
-longer_thrice (Some a) None c = refl
-longer_thrice (Some a) (Some b) None = by (nat_lt a.0.len b.0.len) where
-  by : (t : Bool) → longer (cond t (Some b) (Some a)) None ≡ cond t (Some b) (Some a)
-  by true = refl
-  by false = refl
-longer_thrice (Some a) (Some b) (Some c) = by (nat_lt a.0.len b.0.len) refl (nat_lt b.0.len c.0.len) refl where
-  by : (s : Bool) → nat_lt a.0.len b.0.len ≡ s → (t : Bool) → nat_lt b.0.len c.0.len ≡ t → longer (cond s (Some b) (Some a)) (Some c) ≡ longer (Some a) (cond t (Some c) (Some b))
-  by true p true q = let chain : nat_lt a.0.len c.0.len ≡ true = grind (arith, nat_tests) in rw (chain, q) refl
-  by true p false q = rw (p, q) refl
-  by false p true q = refl
-  by false p false q = let chain : nat_lt a.0.len c.0.len ≡ false = grind (arith, nat_tests) in rw (chain, p) refl
-
-pub goes_on : (es : List Row) (a : Addr) (found : Option Row) (i : ℕ) (e : Row) → i < length es → e ≡ get_or es i e → longer found (deciding (drop i es) a) ≡ longer (longer found (cond (contains e.0 a) (Some e) None)) (deciding (drop (i + 1) es) a)
-unfolding deciding
-goes_on es a found i e lt at =
-    let next : suc i ≡ i + 1 = omega arith in
-    let rest : drop i es ≡ e ∷ drop (i + 1) es = drop-cons es i e lt ∙ ap (λ f. f ∷ drop (suc i) es) (sym at) ∙ ap (λ n. e ∷ drop n es) next in
-    ap (λ l. longer found (deciding l a)) rest ∙ sym (longer_thrice found (cond (contains e.0 a) (Some e) None) (deciding (drop (i + 1) es) a))
-
-pub found_all : (es : List Row) (a : Addr) (found : Option Row) (i : ℕ) → length es ≤ i → longer found (deciding (drop i es) a) ≡ found
-unfolding deciding
-found_all es a found i le = ap (λ l. longer found (deciding l a)) (none_left es i le) ∙ own found where
-  none_left : (fs : List Row) (n : ℕ) → length fs ≤ n → drop n fs ≡ []
-  none_left [] zero le = refl
-  none_left [] (suc n) le = refl
-  none_left (f ∷ fs) zero le = absurd (omega arith)
-  none_left (f ∷ fs) (suc n) le = none_left fs n (omega arith)
-
-  own : (o : Option Row) → longer o None ≡ o
-  own None = refl
-  own (Some e) = refl
+use Rattle.std.proofs.{Common.{◌≡◌, ◌≢◌, ℕ, zero, suc, ◌-◌, ◌*◌, ◌/◌, ◌^◌, ◌<◌, ◌≤◌, ◌==◌, bit_xor, nat_lt, Bool, true, false, not, cond, ◌&&◌, List, [], ◌∷◌, Option, Some, None, is_some, refl, sym, ap, ◌∙◌, subst, true≢false, arith, ◌⊎◌, inl, inr}, lemmas.{Bool.Decides.{nat_tests, Decides-eqb}, Cmp.{nat_cmp_total, ranked}, Map.Keys.ge_from_not_lt, Nat.shl-shr, List.Elements.All-contains}, Math.Nat.div-mul-le_self}
+use Rattle.std.specs.{List.{Contains, All}, Ordering.{is_eq, is_lt, nat_cmp, ordering_then, ordering_reverse}, Cmp.tied_itself, Int.Count.count_leading_zeros}
+use Rattle.pf_addr.specs.{declared.{addr.Addr.Addr, addr.Family.Family, addr.Family.TheVariants.V4, addr.Family.TheVariants.V6}, Address.{Network, IsNetwork, contains, same_family, family_of, width, number_in, first_bits, network_from}, Spelling.{addr_in, first_addr}}
+use Rattle.pf_addr.specs.declared.addr.Addr.TheVariants as addr
+use Rattle.pf_table.specs.{Entries.{Row, rank, first_number, net_order}, Map.Maps.{at_or_before, last_where}, Laws.Order.net_total, Shared.Share, Tables.{sign_of, Decides, longer, deciding}}
+use Rattle.std.specs.declared.cmp.Ordering.{Ordering, TheVariants.Less, TheVariants.Equal, TheVariants.Greater}
+use Rattle.pf_table.proofs.{Prefixes.{cut_off, cut_less, between, share_fewer, shared_bits}, Sorted.{sorted, first_of, second_of, below_at}}
 
 -- ---- what is found decides
 
@@ -62,7 +27,8 @@ pub is_there : (es : List Row) (a : Addr) (e : Row) → deciding es a ≡ Some e
 unfolding deciding
 is_there [] a e is = absurd (true≢false (sym (ap is_some is)))
 is_there (f ∷ es) a e is = by (contains f.0 a) refl (is_there es a e) where
-  by : (t : Bool) → contains f.0 a ≡ t → (deciding es a ≡ Some e → Contains es e × (contains e.0 a ≡ true)) → Contains (f ∷ es) e × (contains e.0 a ≡ true)
+  by : (t : Bool) → contains f.0 a ≡ t → (deciding es a ≡ Some e → Contains es e × (contains e.0 a ≡ true)) →
+      Contains (f ∷ es) e × (contains e.0 a ≡ true)
   by false no_ rest = let there : deciding es a ≡ Some e = rw no_ at is in let (at_, holds) = rest there in (later f e es at_, holds)
   by true yes_ rest = let found : longer (Some f) (deciding es a) ≡ Some e = rw yes_ at is in
       elim (either (deciding es a) f) [
@@ -81,7 +47,8 @@ pub none_contains : (es : List Row) (a : Addr) → deciding es a ≡ None → (e
 unfolding deciding
 none_contains [] a is e (k, lt, at) = absurd (omega arith)
 none_contains (f ∷ es) a is e there = by (contains f.0 a) refl (none_contains es a) there where
-  by : (t : Bool) → contains f.0 a ≡ t → (deciding es a ≡ None → (x : Row) → Contains es x → contains x.0 a ≡ false) → Contains (f ∷ es) e → contains e.0 a ≡ false
+  by : (t : Bool) → contains f.0 a ≡ t → (deciding es a ≡ None → (x : Row) → Contains es x → contains x.0 a ≡ false) →
+      Contains (f ∷ es) e → contains e.0 a ≡ false
   by true yes_ rest at_ = let found : longer (Some f) (deciding es a) ≡ None = rw yes_ at is in absurd (none_of f (deciding es a) found)
   by false no_ rest (zero, lt, at) = ap (λ (x : Row). contains x.0 a) (sym at) ∙ no_
   by false no_ rest (suc k, lt, at) = let found : deciding es a ≡ None = rw no_ at is in rest found e (k, omega arith, at)
@@ -91,7 +58,8 @@ at_least f e None is = (ap_le f e (inside f e is), λ g none. absurd (true≢fal
   ap_le : (x y : Row) → x ≡ y → x.0.len ≤ y.0.len
   ap_le x y same = subst (λ (z : Row). x.0.len ≤ z.0.len) same (omega arith)
 at_least f e (Some g) is = by (nat_lt f.0.len g.0.len) refl is where
-  by : (t : Bool) → nat_lt f.0.len g.0.len ≡ t → cond t (Some g) (Some f) ≡ Some e → (f.0.len ≤ e.0.len) × ((h : Row) → Some g ≡ Some h → h.0.len ≤ e.0.len)
+  by : (t : Bool) → nat_lt f.0.len g.0.len ≡ t → cond t (Some g) (Some f) ≡ Some e →
+      (f.0.len ≤ e.0.len) × ((h : Row) → Some g ≡ Some h → h.0.len ≤ e.0.len)
   by true lt is = let same : g.0.len ≡ e.0.len = ap (λ (z : Row). z.0.len) (inside g e is) in
       let below : f.0.len < g.0.len = grind (arith, nat_tests) in
       (omega (arith, same, below), λ h other. omega (arith, same, ap (λ (z : Row). z.0.len) (inside g h other)))
@@ -100,16 +68,23 @@ at_least f e (Some g) is = by (nat_lt f.0.len g.0.len) refl is where
       (omega (arith, same), λ h other. omega (arith, same, above, ap (λ (z : Row). z.0.len) (inside g h other)))
 
 -- no entry that contains the address has a longer front
-pub none_longer : (es : List Row) (a : Addr) (e : Row) → deciding es a ≡ Some e → (f : Row) → Contains es f → contains f.0 a ≡ true → f.0.len ≤ e.0.len
+pub none_longer : (es : List Row) (a : Addr) (e : Row) → deciding es a ≡ Some e → (f : Row) → Contains es f → contains f.0 a ≡ true →
+    f.0.len ≤ e.0.len
 unfolding deciding
 none_longer [] a e is f (k, lt, at) holds = absurd (omega arith)
 none_longer (g ∷ es) a e is f there holds = by (contains g.0 a) refl (none_longer es a) there where
-  by : (t : Bool) → contains g.0 a ≡ t → ((x : Row) → deciding es a ≡ Some x → (y : Row) → Contains es y → contains y.0 a ≡ true → y.0.len ≤ x.0.len) → Contains (g ∷ es) f → f.0.len ≤ e.0.len
-  by true yes_ rest (zero, lt, at) = let found : longer (Some g) (deciding es a) ≡ Some e = rw yes_ at is in omega (arith, ap (λ (x : Row). x.0.len) at, (at_least g e (deciding es a) found).0)
-  by true yes_ rest (suc k, lt, at) = let found : longer (Some g) (deciding es a) ≡ Some e = rw yes_ at is in some (deciding es a) refl found rest (k, omega arith, at) where
-    some : (r : Option Row) → deciding es a ≡ r → longer (Some g) r ≡ Some e → ((x : Row) → deciding es a ≡ Some x → (y : Row) → Contains es y → contains y.0 a ≡ true → y.0.len ≤ x.0.len) → Contains es f → f.0.len ≤ e.0.len
-    some None none found rest at_ = absurd (true≢false (sym holds ∙ none_contains es a none f at_))
-    some (Some x) is found rest at_ = omega (arith, rest x is f at_ holds, (at_least g e (Some x) found).1 x refl)
+  by : (t : Bool) → contains g.0 a ≡ t →
+      ((x : Row) → deciding es a ≡ Some x → (y : Row) → Contains es y → contains y.0 a ≡ true → y.0.len ≤ x.0.len) → Contains (g ∷ es) f →
+      f.0.len ≤ e.0.len
+  by true yes_ rest (zero, lt, at) = let found : longer (Some g) (deciding es a) ≡ Some e = rw yes_ at is in
+      omega (arith, ap (λ (x : Row). x.0.len) at, (at_least g e (deciding es a) found).0)
+  by true yes_ rest (suc k, lt, at) = let found : longer (Some g) (deciding es a) ≡ Some e = rw yes_ at is in
+      some (deciding es a) refl found rest (k, omega arith, at) where
+        some : (r : Option Row) → deciding es a ≡ r → longer (Some g) r ≡ Some e →
+            ((x : Row) → deciding es a ≡ Some x → (y : Row) → Contains es y → contains y.0 a ≡ true → y.0.len ≤ x.0.len) → Contains es f →
+            f.0.len ≤ e.0.len
+        some None none found rest at_ = absurd (true≢false (sym holds ∙ none_contains es a none f at_))
+        some (Some x) is found rest at_ = omega (arith, rest x is f at_ holds, (at_least g e (Some x) found).1 x refl)
   by false no_ rest (zero, lt, at) = absurd (true≢false (sym holds ∙ ap (λ (x : Row). contains x.0 a) (sym at) ∙ no_))
   by false no_ rest (suc k, lt, at) = let found : deciding es a ≡ Some e = rw no_ at is in rest e found f (k, omega arith, at) holds
 
@@ -132,19 +107,25 @@ one_network m n a of_m of_n same =
     let (m_family, m_front) = both_true _ _ of_m in
     let (n_family, n_front) = both_true _ _ of_n in
     let family = one_family m.family (family_of a) m_family ∙ sym (one_family n.family (family_of a) n_family) in
-    let front = sym ((Decides-eqb (first_bits m.len a) m.front).0 m_front) ∙ ap (λ (k : ℕ). first_bits k a) same ∙ (Decides-eqb (first_bits n.len a) n.front).0 n_front in
+    let front = sym ((Decides-eqb (first_bits m.len a) m.front).0 m_front) ∙ ap (λ (k : ℕ). first_bits k a) same
+    ∙ (Decides-eqb (first_bits n.len a) n.front).0 n_front in
     λ i. record { family = family i; len = same i; front = front i }
 
 -- in a table the sign of an entry's network is the entry's
 pub sign_there : (es : List Row) (e : Row) → sorted es → Contains es e → sign_of e.0 es ≡ Some e.1
 sign_there [] e is (k, lt, at) = absurd (omega arith)
-sign_there (f ∷ es) e is (zero, lt, at) = subst (λ (x : Row). sign_of x.0 (f ∷ es) ≡ Some x.1) at (ap (λ r. cond (is_eq r) (Some f.1) (sign_of f.0 es)) (tied_itself net_total f.0))
+sign_there (f ∷ es) e is (zero, lt, at) =
+    subst (λ (x : Row). sign_of x.0 (f ∷ es) ≡ Some x.1) at (ap (λ r. cond (is_eq r) (Some f.1) (sign_of f.0 es))
+    (tied_itself net_total f.0))
 sign_there (f ∷ es) e is (suc k, lt, at) =
-    let behind : net_order f.0 e.0 ≡ Less = ap (λ (x : Row). net_order f.0 x.0) (sym at) ∙ below_at f.0 es k e (first_of _ _ is) (omega arith) in
-    ap (λ r. cond (is_eq r) (Some f.1) (sign_of e.0 es)) (net_total.antisymm e.0 f.0 ∙ ap ordering_reverse behind) ∙ sign_there es e (second_of _ _ is) (k, omega arith, at)
+    let behind : net_order f.0 e.0 ≡ Less = ap (λ (x : Row). net_order f.0 x.0) (sym at)
+    ∙ below_at f.0 es k e (first_of _ _ is) (omega arith) in
+    ap (λ r. cond (is_eq r) (Some f.1) (sign_of e.0 es)) (net_total.antisymm e.0 f.0 ∙ ap ordering_reverse behind)
+    ∙ sign_there es e (second_of _ _ is) (k, omega arith, at)
 
 one_entry : (es : List Row) (e f : Row) → sorted es → Contains es e → Contains es f → e.0 ≡ f.0 → e ≡ f
-one_entry es e f is at_e at_f same = λ i. (same i, inside e.1 f.1 (sym (sign_there es e is at_e) ∙ ap (λ n. sign_of n es) same ∙ sign_there es f is at_f) i)
+one_entry es e f is at_e at_f same =
+    λ i. (same i, inside e.1 f.1 (sym (sign_there es e is at_e) ∙ ap (λ n. sign_of n es) same ∙ sign_there es f is at_f) i)
 
 lower_or_same : (m n : ℕ) → m ≤ n → (m < n) ⊎ (m ≡ n)
 lower_or_same m n le = by (nat_lt m n) refl where
@@ -176,9 +157,283 @@ decided es a e is d = by (deciding es a) refl where
       ])
     where
       apart : (g : Row) → Contains es g → contains g.0 a ≡ true → e.0.len < g.0.len → ⊥
-      apart g there holds lt = let less : g.0.len < e.0.len = d.longest g there holds (λ same. absurd (omega (arith, lt, ap (λ (x : Row). x.0.len) same))) in absurd (omega (arith, lt, less))
+      apart g there holds lt = let less : g.0.len < e.0.len =
+          d.longest g there holds (λ same. absurd (omega (arith, lt, ap (λ (x : Row). x.0.len) same))) in absurd (omega (arith, lt, less))
 
 -- a network contains addresses of its own family alone
 pub contains_family : (net : Network) (a : Addr) → contains net a ≡ true → net.family ≡ family_of a
 unfolding contains
 contains_family net a is = one_family net.family (family_of a) (both_true _ _ is).0
+
+-- ---- the last entry that isn't behind a network
+
+-- an entry is not behind another one: a key comes before it or is it
+abbrev up_to : Network → Row → Bool
+up_to net e = not (is_lt (net_order net e.0))
+
+-- where an entry isn't behind a network, it isn't by family, first address and length, in this order
+record IsUpTo (net f : Network) : Type 0 where
+  family : rank f.family ≤ rank net.family
+  first : rank f.family ≡ rank net.family → first_number f ≤ first_number net
+  len : rank f.family ≡ rank net.family → first_number f ≡ first_number net → f.len ≤ net.len
+
+not_less : (r s : Ordering) → is_lt (ordering_then r s) ≡ false → (is_lt r ≡ false) × (r ≡ Equal → is_lt s ≡ false)
+not_less Less s e = absurd (true≢false e)
+not_less Equal s e = (refl, λ _. e)
+not_less Greater s e = (refl, λ tied. absurd (true≢false (sym (ap is_eq tied))))
+
+tied_numbers : (m n : ℕ) → m ≡ n → nat_cmp n m ≡ Equal
+tied_numbers m n same = subst (λ (k : ℕ). nat_cmp n k ≡ Equal) (sym same) (tied_itself nat_cmp_total n)
+
+by_parts : (net f : Network) → is_lt (net_order net f) ≡ false → IsUpTo net f
+unfolding net_order
+by_parts net f is =
+    let (family, behind) = not_less _ _ is in
+    let parts : rank f.family ≡ rank net.family →
+    (is_lt (nat_cmp (first_number net) (first_number f)) ≡ false) × (nat_cmp (first_number net) (first_number f) ≡ Equal →
+    is_lt (nat_cmp net.len f.len) ≡ false) = λ same. not_less _ _ (behind (tied_numbers _ _ same)) in
+    record {
+      family = ge_from_not_lt _ _ family;
+      first = λ same. ge_from_not_lt _ _ (parts same).0;
+      len = λ same first. ge_from_not_lt _ _ ((parts same).1 (tied_numbers _ _ first));
+    }
+
+not_before : (m n : ℕ) → n ≤ m → (r : Ordering) → nat_cmp m n ≡ r → is_lt r ≡ false
+not_before m n le Less is = let less : m < n = ranked _ _ Less (sym is) in absurd (omega (arith, less, le))
+not_before m n le Equal is = refl
+not_before m n le Greater is = refl
+
+from_parts : (net f : Network) → rank f.family ≡ rank net.family → first_number f ≤ first_number net → f.len ≤ net.len →
+    is_lt (net_order net f) ≡ false
+unfolding net_order
+from_parts net f family first len = rw (tied_numbers _ _ family) (by (nat_cmp (first_number net) (first_number f)) refl) where
+  by : (r : Ordering) → nat_cmp (first_number net) (first_number f) ≡ r → is_lt (ordering_then r (nat_cmp net.len f.len)) ≡ false
+  by Less is = let less : first_number net < first_number f = ranked _ _ Less (sym is) in absurd (omega (arith, less, first))
+  by Equal is = not_before net.len f.len len (nat_cmp net.len f.len) refl
+  by Greater is = refl
+
+-- what stands before an entry that isn't behind a network isn't either
+record IsLastUpTo (net : Network) (es : List Row) (e : Row) : Type 0 where
+  member : Contains es e
+  up_to : is_lt (net_order net e.0) ≡ false
+  last : (f : Row) → Contains es f → is_lt (net_order net f.0) ≡ false → is_lt (net_order e.0 f.0) ≡ false
+
+none_up_to : (net : Network) (es : List Row) → at_or_before net_order net es ≡ None → (f : Row) → Contains es f →
+    is_lt (net_order net f.0) ≡ true
+none_up_to net [] is f (k, lt, at) = absurd (omega arith)
+none_up_to net (e ∷ es) is f there = by (last_where (up_to net) es) refl (is_lt (net_order net e.0)) refl (none_up_to net es) there where
+  by : (o : Option Row) → last_where (up_to net) es ≡ o → (t : Bool) → is_lt (net_order net e.0) ≡ t →
+      (last_where (up_to net) es ≡ None → (x : Row) → Contains es x → is_lt (net_order net x.0) ≡ true) → Contains (e ∷ es) f →
+      is_lt (net_order net f.0) ≡ true
+  by (Some x) found t here rest at_ = let gone : Some x ≡ None = rw found at is in absurd (true≢false (ap is_some gone))
+  by None none false here rest at_ = let gone : Some e ≡ None = rw (none, here) at is in absurd (true≢false (ap is_some gone))
+  by None none true here rest (zero, lt, at) = ap (λ (x : Row). is_lt (net_order net x.0)) (sym at) ∙ here
+  by None none true here rest (suc k, lt, at) = rest none f (k, omega arith, at)
+
+last_up_to : (net : Network) (es : List Row) (e : Row) → sorted es → at_or_before net_order net es ≡ Some e → IsLastUpTo net es e
+last_up_to net [] e order is = absurd (true≢false (sym (ap is_some is)))
+last_up_to net (x ∷ es) e order is =
+    by (last_where (up_to net) es) refl (is_lt (net_order net x.0)) refl (last_up_to net es e (second_of _ _ order)) where
+      before : IsLastUpTo net es e → (f : Row) → Contains (x ∷ es) f → is_lt (net_order net f.0) ≡ false → is_lt (net_order e.0 f.0) ≡ false
+      before behind f (zero, lt, at) holds =
+          let (k, within, there) = behind.member in
+          let less : net_order x.0 e.0 ≡ Less = ap (λ (y : Row). net_order x.0 y.0) (sym there)
+          ∙ below_at x.0 es k e (first_of _ _ order) within in
+          subst (λ (y : Row). is_lt (net_order e.0 y.0) ≡ false) at (ap is_lt (net_total.antisymm e.0 x.0 ∙ ap ordering_reverse less))
+      before behind f (suc k, lt, at) holds = behind.last f (k, omega arith, at) holds
+
+      alone : last_where (up_to net) es ≡ None → x ≡ e → (f : Row) → Contains (x ∷ es) f → is_lt (net_order net f.0) ≡ false →
+          is_lt (net_order e.0 f.0) ≡ false
+      alone none same f (zero, lt, at) holds =
+          subst (λ (y : Row). is_lt (net_order e.0 y.0) ≡ false) (sym same ∙ at) (ap is_lt (tied_itself net_total e.0))
+      alone none same f (suc k, lt, at) holds = absurd (true≢false (sym (none_up_to net es none f (k, omega arith, at)) ∙ holds))
+
+      by : (o : Option Row) → last_where (up_to net) es ≡ o → (t : Bool) → is_lt (net_order net x.0) ≡ t →
+          (last_where (up_to net) es ≡ Some e → IsLastUpTo net es e) → IsLastUpTo net (x ∷ es) e
+      by (Some y) found t here rest =
+          let same : Some y ≡ Some e = rw found at is in
+          let behind = rest (found ∙ same) in
+          record { member = later x e es behind.member; up_to = behind.up_to; last = λ f at_ holds. before behind f at_ holds }
+      by None none true here rest = let gone : None ≡ Some e = rw (none, here) at is in absurd (true≢false (sym (ap is_some gone)))
+      by None none false here rest =
+          let same : x ≡ e = let own : Some x ≡ Some e = rw (none, here) at is in inside x e own in
+          record {
+            member = (0, omega arith, same);
+            up_to = subst (λ (y : Row). is_lt (net_order net y.0) ≡ false) same here;
+            last =
+                λ f at_ holds. alone none same f at_ holds;
+          }
+
+-- ---- looking for the entry that decides, from the longest front down
+
+-- no entry that contains the address has a longer front than this
+abbrev pub NoneLonger : List Row → Addr → ℕ → Type 0
+NoneLonger es a len = (f : Row) → Contains es f → contains f.0 a ≡ true → f.0.len ≤ len
+
+-- a network that contains an address is of its family, and its first address is the address cut to its front
+record Holds (n : Network) (a : Addr) : Type 0 where
+  family : n.family ≡ family_of a
+  front : number_in a / 2 ^ (width (family_of a) - n.len) ≡ n.front
+  first : first_number n ≡ cut_off (width (family_of a) - n.len) (number_in a)
+
+holds_of : (n : Network) (a : Addr) → contains n a ≡ true → Holds n a
+unfolding contains
+holds_of n a is =
+    let (same, front) = both_true _ _ is in
+    let family = one_family n.family (family_of a) same in
+    let own = (Decides-eqb (first_bits n.len a) n.front).0 front in
+    record { family = family; front = own; first = λ i. sym own i * 2 ^ (width (family i) - n.len) }
+
+holds_from : (n : Network) (a : Addr) → n.family ≡ family_of a → number_in a / 2 ^ (width (family_of a) - n.len) ≡ n.front →
+    contains n a ≡ true
+unfolding contains
+holds_from n a family front =
+    let same : same_family n.family (family_of a) ≡ true =
+    subst (λ (f : Family). same_family f (family_of a) ≡ true) (sym family) (own (family_of a)) in
+    let begins : (first_bits n.len a == n.front) ≡ true = (Decides-eqb (first_bits n.len a) n.front).1 front in
+    rw (same, begins) refl
+  where
+    own : (f : Family) → same_family f f ≡ true
+    own V4 = refl
+    own V6 = refl
+
+-- an entry that contains the address isn't behind the network of its first bits, if it has no more of them
+contains_up_to : (n : Network) (a : Addr) (len : ℕ) → contains n a ≡ true → n.len ≤ len → is_lt (net_order (network_from a len) n) ≡ false
+contains_up_to n a len is le =
+    let own = holds_of n a is in
+    from_parts (network_from a len) n (ap rank own.family)
+    (subst (λ (m : ℕ). m ≤ first_number (network_from a len)) (sym own.first)
+    (cut_less (width (family_of a) - len) (width (family_of a) - n.len) (number_in a) (omega (arith, le))))
+    le
+
+same_rank : (f g : Family) → rank f ≡ rank g → f ≡ g
+same_rank V4 V4 e = refl
+same_rank V4 V6 e = absurd (omega (arith, e))
+same_rank V6 V4 e = absurd (omega (arith, e))
+same_rank V6 V6 e = refl
+
+pub none_longer_at_first : (es : List Row) (a : Addr) (len : ℕ) → All (λ e. IsNetwork e.0) es → len ≡ width (family_of a) →
+    NoneLonger es a len
+none_longer_at_first es a len networks is f there holds =
+    let within : f.0.len ≤ width f.0.family = (All-contains (λ e. IsNetwork e.0) es f networks there).len in
+    subst (λ (m : ℕ). f.0.len ≤ m) (ap width (holds_of f.0 a holds).family ∙ sym is) within
+
+pub none_left : (es : List Row) (a : Addr) (len : ℕ) → NoneLonger es a len → at_or_before net_order (network_from a len) es ≡ None →
+    deciding es a ≡ None
+none_left es a len most is = by (deciding es a) refl where
+  by : (o : Option Row) → deciding es a ≡ o → o ≡ None
+  by None none = refl
+  by (Some e) found =
+      let (there, holds) = is_there es a e found in
+      absurd (true≢false (sym (none_up_to (network_from a len) es is e there) ∙ contains_up_to e.0 a len holds (most e there holds)))
+
+pub longest_holds : (es : List Row) (a : Addr) (len : ℕ) (e : Row) → sorted es → NoneLonger es a len →
+    at_or_before net_order (network_from a len) es ≡ Some e → contains e.0 a ≡ true → deciding es a ≡ Some e
+longest_holds es a len e order most is holds =
+    let last = last_up_to (network_from a len) es e order is in
+    decided es a e order (record {
+      member = last.member;
+      holds = holds;
+      longest =
+          λ f there of_f other. shorter_front last f there of_f other (nat_lt f.0.len e.0.len) refl;
+    })
+  where
+    shorter_front : IsLastUpTo (network_from a len) es e → (f : Row) → Contains es f → contains f.0 a ≡ true → f ≢ e → (t : Bool) →
+        nat_lt f.0.len e.0.len ≡ t → f.0.len < e.0.len
+    shorter_front last f there of_f other true lt = grind (arith, nat_tests)
+    shorter_front last f there of_f other false ge =
+        let more : e.0.len ≤ f.0.len = grind (arith, nat_tests) in
+        let mine = holds_of e.0 a holds in
+        let own = holds_of f.0 a of_f in
+        let parts = by_parts e.0 f.0 (last.last f there (contains_up_to f.0 a len of_f (most f there of_f))) in
+        let family : rank f.0.family ≡ rank e.0.family = ap rank (own.family ∙ sym mine.family) in
+        let up : first_number e.0 ≤ first_number f.0 =
+        subst (λ (m : ℕ). m ≤ first_number f.0) (sym mine.first)
+        (subst (λ (m : ℕ). cut_off (width (family_of a) - e.0.len) (number_in a) ≤ m) (sym own.first)
+        (cut_less (width (family_of a) - f.0.len) (width (family_of a) - e.0.len) (number_in a) (omega (arith, more)))) in
+        let first : first_number f.0 ≡ first_number e.0 = omega (arith, up, parts.first family) in
+        let same : f.0.len ≡ e.0.len = omega (arith, more, parts.len family first) in
+        absurd (other (one_entry es f e order there last.member (one_network f.0 e.0 a of_f holds same)))
+
+pub other_family : (es : List Row) (a : Addr) (len : ℕ) (e : Row) → sorted es → NoneLonger es a len →
+    at_or_before net_order (network_from a len) es ≡ Some e → e.0.family ≢ family_of a → deciding es a ≡ None
+other_family es a len e order most is other = by (deciding es a) refl where
+  by : (o : Option Row) → deciding es a ≡ o → o ≡ None
+  by None none = refl
+  by (Some f) found =
+      let (there, holds) = is_there es a f found in
+      let last = last_up_to (network_from a len) es e order is in
+      let own = holds_of f.0 a holds in
+      let low : rank f.0.family ≤ rank e.0.family =
+      (by_parts e.0 f.0 (last.last f there (contains_up_to f.0 a len holds (most f there holds)))).family in
+      let high : rank e.0.family ≤ rank (family_of a) = (by_parts (network_from a len) e.0 last.up_to).family in
+      let same : rank f.0.family ≡ rank (family_of a) = ap rank own.family in
+      absurd (other (same_rank e.0.family (family_of a) (omega (arith, low, high, same))))
+
+first_family : (f : Family) (n : ℕ) → family_of (addr_in f n) ≡ f
+first_family V4 n = refl
+first_family V6 n = refl
+
+first_number_in : (f : Family) (n : ℕ) → number_in (addr_in f n) ≡ n
+first_number_in V4 n = refl
+first_number_in V6 n = refl
+
+pub shorter : (es : List Row) (a : Addr) (len : ℕ) (e : Row) (n : ℕ) → sorted es → All (λ f. IsNetwork f.0) es →
+    len ≤ width (family_of a) → NoneLonger es a len → at_or_before net_order (network_from a len) es ≡ Some e → contains e.0 a ≡ false →
+    Share a (first_addr e.0) n → NoneLonger es a n × (n < len)
+shorter es a len e n order networks le most is other share = (none_more, fewer (nat_lt n len) refl) where
+  found : IsLastUpTo (network_from a len) es e
+  found = last_up_to (network_from a len) es e order is
+
+  family : e.0.family ≡ family_of a
+  family = sym (share.family ∙ first_family e.0.family (first_number e.0))
+
+  parts : IsUpTo (network_from a len) e.0
+  parts = by_parts (network_from a len) e.0 (found).up_to
+
+  w : ℕ
+  w = width (family_of a)
+
+  shared : (k : ℕ) → first_bits k (first_addr e.0) ≡ first_number e.0 / 2 ^ (w - k)
+  shared k = ap (λ (m : ℕ). m / 2 ^ (width (family_of (first_addr e.0)) - k)) (first_number_in e.0.family (first_number e.0))
+      ∙ ap (λ (f : Family). first_number e.0 / 2 ^ (width f - k)) (sym share.family)
+
+  low : first_number e.0 ≤ cut_off (w - len) (number_in a)
+  low = parts.first (ap rank family)
+
+  none_more : NoneLonger es a n
+  none_more f there holds =
+      let own = holds_of f.0 a holds in
+      let within : f.0.len ≤ w =
+      subst (λ (g : Family). f.0.len ≤ width g) own.family (All-contains (λ g. IsNetwork g.0) es f networks there).len in
+      let behind = by_parts e.0 f.0 ((found).last f there (contains_up_to f.0 a len holds (most f there holds))) in
+      let up : cut_off (w - f.0.len) (number_in a) ≤ first_number e.0 =
+      subst (λ (m : ℕ). m ≤ first_number e.0) own.first (behind.first (ap rank (own.family ∙ sym family))) in
+      let whole : first_number e.0 ≤ number_in a = omega (arith, low, div-mul-le_self (number_in a) (2 ^ (w - len))) in
+      share.most f.0.len within (sym (shared f.0.len ∙ between (w - f.0.len) (number_in a) (first_number e.0) up whole))
+
+  fewer : (t : Bool) → nat_lt n len ≡ t → n < len
+  fewer true lt = grind (arith, nat_tests)
+  fewer false ge =
+      let more : len ≤ n = grind (arith, nat_tests) in
+      let same = share_fewer (w - n) (w - len) (number_in a) (first_number e.0) (omega (arith, more)) (share.shared ∙ shared n) in
+      let up : cut_off (w - len) (first_number e.0) ≤ first_number e.0 = div-mul-le_self (first_number e.0) (2 ^ (w - len)) in
+      let high : cut_off (w - len) (number_in a) ≤ first_number e.0 =
+      subst (λ (m : ℕ). m * 2 ^ (w - len) ≤ first_number e.0) (sym same) up in
+      let first : first_number e.0 ≡ cut_off (w - len) (number_in a) = omega (arith, low, high) in
+      let short : e.0.len ≤ len = parts.len (ap rank family) first in
+      let front : number_in a / 2 ^ (w - e.0.len) ≡ e.0.front =
+      share_fewer (w - n) (w - e.0.len) (number_in a) (first_number e.0) (omega (arith, more, short)) (share.shared ∙ shared n)
+      ∙ ap (λ (f : Family). e.0.front * 2 ^ (width f - e.0.len) / 2 ^ (w - e.0.len)) family ∙ shl-shr e.0.front (w - e.0.len) in
+      absurd (true≢false (sym (holds_from e.0 a family front) ∙ other))
+
+-- ---- how many first bits two addresses share
+
+pub shares_v4 : (m n : ℕ) → m < 2 ^ 32 → n < 2 ^ 32 → (k : ℕ) → k ≡ count_leading_zeros 32 (bit_xor m n) → Share (addr.V4 m) (addr.V4 n) k
+shares_v4 m n lt_m lt_n k is = let (within, same, most) = shared_bits 32 m n lt_m lt_n k is in
+    record { family = refl; within = within; shared = same; most = most }
+
+pub shares_v6 : (m n : ℕ) → m < 2 ^ 128 → n < 2 ^ 128 → (k : ℕ) → k ≡ count_leading_zeros 128 (bit_xor m n) →
+    Share (addr.V6 m) (addr.V6 n) k
+shares_v6 m n lt_m lt_n k is = let (within, same, most) = shared_bits 128 m n lt_m lt_n k is in
+    record { family = refl; within = within; shared = same; most = most }

@@ -1,6 +1,6 @@
 -- Maps as lists of entries: what is read of them once a value was replaced, that they stay in order, and by how much they grow.
-use Rattle.std.proofs.{Common.{◌≡◌, suc, ◌+◌, ◌≤◌, Bool, true, false, not, cond, List, [], ◌∷◌, length, Option, Some, None, refl, sym, ap, ◌∙◌, arith}, lemmas.Cmp.{alike_right, eq_by_cmp_equiv}, lemmas.Bool.Decides.nat_tests, lemmas.List.Elements.{filter_passes, recursion_from_All}, lemmas.List.Sums.{length-filter, count_by-le-length, prefix_len-le-length}}
-use Rattle.std.specs.{declared.{cmp.Ordering.Ordering, cmp.Ordering.TheVariants.Less, cmp.Ordering.TheVariants.Equal, cmp.Ordering.TheVariants.Greater}, Cmp.IsTotalOrder, Prelude.fold, FinMap.{find, put}, FinMap.Entries.{by_order, find-put, find-where_key, is_sorted-put, is_sorted-where_key}, List.{AllByRecursion, insert, position, position_or_len}, Option.unwrap_or, Ordering.{eq_by_cmp, is_eq, is_lt}}
+use Rattle.std.proofs.{Common.{◌≡◌, ◌+◌, ◌≤◌, Bool, true, false, not, cond, List, [], ◌∷◌, length, T, ℕ, Option, Some, None, option_map, refl, sym, ap, ◌∙◌, arith}, lemmas.Cmp.{alike_right, eq_by_cmp_equiv, tied_itself}, lemmas.List.Sums.{length-filter, count_by-le-length}}
+use Rattle.std.specs.{declared.{cmp.Ordering.Ordering, cmp.Ordering.TheVariants.Less, cmp.Ordering.TheVariants.Equal, cmp.Ordering.TheVariants.Greater}, Cmp.IsTotalOrder, Prelude.{fold, is_some}, FinMap.{find, put, is_sorted}, FinMap.Entries.{by_order, find-put, find-where_key, is_sorted-put, is_sorted-where_key, length-put, length_without}, Ordering.{eq_by_cmp, is_eq}}
 use Rattle.pf_table.specs.{Laws.Maps.{ReplacesTheKey, StaysSorted, StaysMap}, Map.Maps.{without, with_value, with_entry, IsMap}}
 
 unless : {X : Type 0} (b : Bool) (x : Option X) → cond (not b) x None ≡ cond b None x
@@ -41,23 +41,37 @@ pub with_grows : {K X : Type 0} (R : K → K → Ordering) (es : List (K × X)) 
 with_grows R es k None = omega (arith, without_shrinks R es k)
 with_grows R es k (Some v) = omega (arith, put_grows R k v (without R es k), without_shrinks R es k)
 
-first_or_end : {X : Type 0} (p : X → Bool) (xs : List X) → unwrap_or (position p xs) (length xs) ≡ position_or_len p xs
-first_or_end p xs = let within = prefix_len-le-length (λ x. not (p x)) xs in grind (arith, nat_tests)
+-- one entry less where there was one, and one more where there is one
+count_with : {K X : Type 0} {R : K → K → Ordering} → IsTotalOrder R → (es : List (K × X)) (k : K) (v : Option X) → T (is_sorted R es) →
+    cond (is_some (find R k es)) 1 0 + length (with_value R es k v) ≡ length es + cond (is_some v) 1 0
+count_with {R = R} o es k None is = length_without R o k es is ∙ omega arith
+count_with {X = X} {R = R} o es k (Some v) is =
+    let left = without R es k in
+    let gone : find R k left ≡ None = find-without o es k k ∙ ap (λ (b : Bool). cond b None (find R k es)) (ap is_eq (tied_itself o k)) in
+    let put_in : length (put R k v left) ≡ length left + 1 = length-put R o k v left (is_sorted-where_key R (λ x. not (eq_by_cmp R k x)) es is)
+    ∙ ap (λ (x : Option X). cond (is_some x) (length left) (length left + 1)) gone in
+    let taken : cond (is_some (find R k es)) 1 0 + length left ≡ length es = length_without R o k es is in
+    omega arith
 
-put_first : {K X : Type 0} (R : K → K → Ordering) (k : K) (v : X) (es : List (K × X)) → AllByRecursion (λ e. not (eq_by_cmp R k e.0) ≡ true) es → put R k v es ≡ insert es (position_or_len (λ e. is_lt (R k e.0)) es) (k, v)
-put_first R k v [] new = refl
-put_first R k v (e ∷ es) new = by (R k e.0) refl (put_first R k v es new.1) where
-  by : (r : Ordering) → R k e.0 ≡ r → put R k v es ≡ insert es (position_or_len (λ x. is_lt (R k x.0)) es) (k, v) → put R k v (e ∷ es) ≡ insert (e ∷ es) (position_or_len (λ x. is_lt (R k x.0)) (e ∷ es)) (k, v)
-  by Less is rest = rw is refl
-  by Equal is rest = absurd (cc (ap (λ r. not (is_eq r)) is, new.0))
-  by Greater is rest = let next : 1 + position_or_len (λ x. is_lt (R k x.0)) es ≡ suc (position_or_len (λ x. is_lt (R k x.0)) es) = omega arith in rw (is, next) (ap (λ z. e ∷ z) rest)
+-- a count that was changed so is that of the entries
+pub recounted : {K X : Type 0} {R : K → K → Ordering} → IsTotalOrder R → (es : List (K × X)) (k : K) (v : Option X) (count after : ℕ) (had has : Bool) →
+    T (is_sorted R es) → count ≡ length es → had ≡ is_some (find R k es) → has ≡ is_some v → after + cond had 1 0 ≡ count + cond has 1 0 →
+    after ≡ length (with_value R es k v)
+recounted {R = R} o es k v count after had has is counted had_is has_is sum =
+    let there = count_with o es k v is in
+    let same : after + cond (is_some (find R k es)) 1 0 ≡ count + cond (is_some v) 1 0 = rw (had_is, has_is) at sum in
+    omega arith
 
--- a value that is replaced is put in front of the first entry behind its key
-pub with_some : {K X : Type 0} (R : K → K → Ordering) (es : List (K × X)) (k : K) (v : X) (others : List (K × X)) → others ≡ without R es k →
-    insert others (unwrap_or (position (λ e. is_lt (R k e.0)) others) (length others)) (k, v) ≡ with_value R es k (Some v)
-with_some {K} {X} R es k v others is =
-    let test : K × X → Bool = λ e. not (eq_by_cmp R k e.0) in
-    rw (is, first_or_end (λ e. is_lt (R k e.0)) (without R es k)) (sym (put_first R k v (without R es k) (recursion_from_All _ (without R es k) (filter_passes test es))))
+-- whether there is an entry, and whether it has a value
+pub is_there : {A K X : Type 0} (now : A → K × X) (k : K) (r : Option A) (x : Option X) → option_map now r ≡ option_map (λ v. (k, v)) x → is_some r ≡ is_some x
+is_there now k None None is = refl
+is_there now k None (Some v) is = absurd (cc (is))
+is_there now k (Some a) None is = absurd (cc (is))
+is_there now k (Some a) (Some v) is = refl
+
+pub is_some-map : {A B : Type 0} (f : A → B) (r : Option A) → is_some r ≡ is_some (option_map f r)
+is_some-map f None = refl
+is_some-map f (Some a) = refl
 
 -- ---- changes in turn
 

@@ -2,8 +2,7 @@ pub mod Map
 pub mod Entries
 pub mod Tables
 pub mod Edits
-pub mod Places
-pub mod Batches
+pub mod Shared
 pub mod Laws
 -- what public clauses cite of the crates below
 pub use Rattle.pf_addr.specs.Address

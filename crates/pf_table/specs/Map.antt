@@ -1,4 +1,8 @@
 pub mod Maps
 pub mod Pairs
-pub mod Pages
+pub mod Hints
+pub mod Fronts
+pub mod Parts
+pub mod Pieces
 pub mod ListMaps
+pub mod Indexes

@@ -9,7 +9,7 @@ impl Content for Table {
 
     // An empty table doesn't exist.
     fn is_none(&self) -> bool {
-        self.entries().is_empty()
+        self.is_empty()
     }
 
     ghost keeps = { kept_again };

@@ -2,8 +2,13 @@
 ghost use Rattle.std.specs.Prelude.{◌≡◌};
 ghost use Rattle.pf_addr.specs.Address.{IsNetwork};
 
+use crate::map::{Held, TreeMap};
 use pf_addr::Net;
+use std::alloc::AllocError;
 use std::marker::Model;
+
+/// Entries in the order of their networks, each by itself in its page.
+pub(crate) type EntryMap = TreeMap<Net, bool, Entry>;
 
 /// A network in a table, plain or negated. Contracts see the pair of the network and whether it is negated.
 #[derive(Clone, Copy)]
@@ -52,5 +57,17 @@ impl Entry {
     {
         let Entry { is_negated, .. } = self;
         is_negated
+    }
+}
+
+impl Held<Net, bool> for Entry {
+    ghost pair = { λ e. e };
+
+    fn share(&self) -> Result<Entry, AllocError> {
+        Ok(*self)
+    }
+
+    fn held_key(&self) -> &Net {
+        &self.net
     }
 }

@@ -5,23 +5,24 @@
 //!
 //! A table is the list of its entries in the order of their networks, none of them twice; of those that contain an address the one with
 //! the longest prefix decides. Read first specs/Tables.antt, which says so, and specs/Edits.antt, what an edit leaves and answers;
-//! specs/Laws.antt says the same without the recursion. Callers use `Table`: an edit gathers its list (`batch`), merges it with the
-//! entries that are there (`merge`) and finds places by halving (`search`, `order`).
+//! specs/Laws.antt says the same without the recursion. Callers use `Table`, whose entries stand in a map in the order of their
+//! networks (`order`): an edit gathers its list (`batch`) and changes the map entry by entry (`change`), and a look-up takes a few
+//! searches (`lookup`).
 //!
-//! `map` uses no other module of this crate, and only `content` uses it: a table can be a map's value. Its definitions are in specs/Map.
+//! `map` uses no other module of this crate. A table can be a map's value (`content`). Its definitions are in specs/Map.
 #![tactic(auto)]
 
 mod answer;
 mod batch;
+mod change;
 mod content;
 mod entry;
 pub mod laws;
 mod limits;
+mod lookup;
 pub mod map;
-mod merge;
 mod order;
 mod refusal;
-mod search;
 mod table;
 
 pub use answer::{Addition, Deletion};

@@ -1,54 +1,43 @@
 //! Tables.
-ghost use Rattle.std.specs.Prelude.{◌≡◌, false, [], cond, is_ok, Contains, IfOk, IfSome, Some, None};
+ghost use Rattle.std.specs.Prelude.{◌≡◌, ◌==◌, false, [], cond, length, is_ok, Contains, IfOk, IfSome, None};
 ghost use Rattle.pf_addr.specs.{Refusing.Refuses, Address.contains};
 ghost use Rattle.pf_table.specs.declared.refusal.TableRefusal.TheVariants.{Memory};
-ghost use Rattle.pf_table.specs.{Entries.Row, Tables.{IsTable, Decides, deciding, longer, table_holds}, Edits.{added, additions, deleted, deletions, replaced, conflict_refusal, edit_refusal}};
+ghost use Rattle.pf_table.specs.{Entries.Row, Tables.{IsTable, Decides, deciding, table_holds}, Edits.{added, additions, deleted, deletions, replaced, conflict_refusal, edit_refusal}};
 
 use crate::answer::{Addition, Deletion};
 use crate::batch::gather;
-use crate::entry::Entry;
+use crate::change::{add_all, delete_all};
+use crate::entry::{Entry, EntryMap};
 use crate::limits::TABLE_LIMIT;
-use crate::merge::{additions, deletions, joined, without};
+use crate::lookup::decider;
+use crate::map::Entries;
 use crate::refusal::TableRefusal;
-use pf_addr::Addr;
+use pf_addr::{Addr, Net};
 use std::alloc::{AllocError, Global};
 use std::marker::Model;
-use std::sync::Arc;
 
 /// At most 65,536 networks, none of them twice, each plain or negated. Contracts see the list of its entries in order: V4
 /// before V6, then by the first address, then the shorter prefix before the longer.
-#[derive(Drop)]
 pub struct Table {
-    // None where there are no entries, so that an empty table takes no memory.
-    entries: Option<Arc<Vec<Entry>>>,
+    entries: EntryMap,
+}
+
+impl Drop for Table {
+    fn drop(self) {
+        let Table { entries: _ } = self;
+    }
 }
 
 impl Model for Table {
-    ghost use Rattle.std.specs.Prelude.{List, []};
-    ghost use Rattle.std.specs.Arc.{arc_value};
-    ghost use Rattle.std.specs.Option.{option_map, option_map_or};
-    ghost use Rattle.std.specs.Vec.{vec_items};
+    ghost use Rattle.std.specs.Prelude.{List};
     ghost use Rattle.pf_table.specs.Entries.{Row};
     ghost use Rattle.pf_table.specs.Tables.{IsTable};
 
     ghost Value = { List Row };
 
-    ghost view = { λ t. option_map_or vec_items (option_map arc_value t.entries) [] };
+    ghost view = { λ t. t.entries };
 
-    ghost invariant = { λ t. IsTable (option_map_or vec_items (option_map arc_value t.entries) []) };
-}
-
-// Of an entry that was found, if any, and another one, if it contains the address, the one with the longer prefix.
-fn decides_of(found: Option<Entry>, other: Entry, addr: Addr) -> Option<Entry>
-    ensures { result ≡ longer found (cond (contains other.0 addr) (Some other) None) }
-{
-    if !other.net().contains(addr) {
-        return found;
-    }
-    match found {
-        Some(entry) if entry.net().prefix_len() >= other.net().prefix_len() => Some(entry),
-        _ => Some(other),
-    }
+    ghost invariant = { λ t. IsTable t.entries };
 }
 
 impl Table {
@@ -56,7 +45,9 @@ impl Table {
     pub fn empty() -> Table
         ensures { result ≡ [] }
     {
-        Table { entries: None }
+        Table {
+            entries: EntryMap::empty(),
+        }
     }
 
     /// The same entries, none of them copied. `AllocError`: they can't have another owner.
@@ -64,20 +55,24 @@ impl Table {
         ensures { IfOk result (λ t. t ≡ self.now) }
     {
         Ok(Table {
-            entries: self.entries.clone()?,
+            entries: self.entries.shared()?,
         })
     }
 
-    /// The entries in order.
-    pub fn entries(&self) -> &[Entry]
-        ensures value { result.now ≡ self.now }
+    /// Whether it has no entries.
+    pub fn is_empty(&self) -> bool
+        ensures { result ≡ (length self.now == 0) }
+    {
+        self.entries.len() == 0
+    }
+
+    /// The entries in order. It takes no memory.
+    pub fn entries(&self) -> Entries<'_, Net, bool, Entry>
+        ensures value { result ≡ self.now }
         // what each table keeps
         ensures table { IsTable self.now }
     {
-        match &self.entries {
-            Some(entries) => entries.as_slice(),
-            None => &[],
-        }
+        self.entries.entries()
     }
 
     /// The entry that decides about an address: of those that contain it the one with the longest prefix. It takes no memory.
@@ -86,11 +81,7 @@ impl Table {
         ensures decides { IfSome result (λ e. Decides self.now addr e) }
         ensures none { result ≡ None → (e : Row) → Contains self.now e → contains e.0 addr ≡ false }
     {
-        let mut found = None;
-        for entry in self.entries() {
-            found = decides_of(found, *entry, addr);
-        }
-        found
+        decider(&self.entries, addr)
     }
 
     /// Whether the table matches an address: an entry decides about it and isn't negated. It takes no memory.
@@ -114,13 +105,12 @@ impl Table {
         ensures answers { IfOk result (λ v. v.items ≡ additions self.old entries.now) }
         ensures after { self.new ≡ cond (is_ok result) (added self.old entries.now) self.old }
     {
-        let batch = gather(alloc, entries)?;
-        let after = joined(alloc, self.entries(), &batch.named)?;
-        if after.len() > TABLE_LIMIT {
+        gather(alloc, entries)?;
+        let (after, answers) = add_all(alloc, self.entries.shared()?, entries)?;
+        if after.is_more_than(TABLE_LIMIT) {
             return Err(TableRefusal::TableFull);
         }
-        let answers = additions(alloc, self.entries(), entries, &batch.is_first)?;
-        *self = Table::of(alloc, after)?;
+        *self = Table { entries: after };
         Ok(answers)
     }
 
@@ -137,10 +127,9 @@ impl Table {
         ensures answers { IfOk result (λ v. v.items ≡ deletions self.old entries.now) }
         ensures after { self.new ≡ cond (is_ok result) (deleted self.old entries.now) self.old }
     {
-        let batch = gather(alloc, entries)?;
-        let after = without(alloc, self.entries(), &batch.named)?;
-        let answers = deletions(alloc, self.entries(), entries, &batch.is_first)?;
-        *self = Table::of(alloc, after)?;
+        gather(alloc, entries)?;
+        let (after, answers) = delete_all(alloc, self.entries.shared()?, entries)?;
+        *self = Table { entries: after };
         Ok(answers)
     }
 
@@ -149,24 +138,11 @@ impl Table {
         ensures refused { Refuses Memory result (edit_refusal entries.now (replaced entries.now)) }
         ensures after { self.new ≡ cond (is_ok result) (replaced entries.now) self.old }
     {
-        let batch = gather(alloc, entries)?;
-        if batch.named.len() > TABLE_LIMIT {
+        let named = gather(alloc, entries)?;
+        if named.is_more_than(TABLE_LIMIT) {
             return Err(TableRefusal::TableFull);
         }
-        *self = Table::of(alloc, batch.named)?;
+        *self = Table { entries: named };
         Ok(())
-    }
-
-    // The table of these entries.
-    fn of(alloc: Global, entries: Vec<Entry>) -> Result<Table, AllocError>
-        requires { IsTable entries.items }
-        ensures { IfOk result (λ t. t ≡ entries.items) }
-    {
-        if entries.is_empty() {
-            return Ok(Table::empty());
-        }
-        Ok(Table {
-            entries: Some(Arc::new(alloc, entries)?),
-        })
     }
 }

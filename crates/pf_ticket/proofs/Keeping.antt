@@ -7,8 +7,8 @@ use Rattle.pf_table.specs.declared.limits.TheConstants.{TABLE_LIMIT}
 use Rattle.pf_table.specs.{Edits.{conflict_in, replaced}, Laws.Edits.sorted_added, Entries.Row, Tables.AreEntries}
 use Rattle.pf_rule.specs.Rules.{PlainRule}
 use Rattle.pf_anchor.specs.declared.limits.TheConstants.{RULE_LIMIT, RULESET_LIMIT}
-use Rattle.pf_ticket.specs.{declared.{entry.Entry.Entry, limits.TheConstants.LAST_COUNT, limits.TheConstants.OFFERED_TABLE_LIMIT, name.RulesetKind.RulesetKind, name.RulesetKind.TheVariants.Filter, name.RulesetKind.TheVariants.Table, name.RulesetName.RulesetName, refusal.TicketRefusal.TicketRefusal, refusal.TicketRefusal.TheVariants.BadCount, refusal.TicketRefusal.TheVariants.Conflict, refusal.TicketRefusal.TheVariants.Busy, refusal.TicketRefusal.TheVariants.RulesetFull, refusal.TicketRefusal.TheVariants.TableFull, refusal.TicketRefusal.TheVariants.TooManyRulesets, refusal.TicketRefusal.TheVariants.TooManyTables, refusal.TicketRefusal.TheVariants.TicketsExhausted, ticket.Ticket.Ticket, ticket.TicketRange.TicketRange}, Laws.Tickets.{AreGiven, BeginsGive, TellsWhatIsGiven, IsFew, IsWithin, KeepsTheLimits}, Mentions.{gave, dropped, load, with_offers, take_out, moved, after, gives, switches, drops}, Names.{filter_at, table_ruleset_at, same_name, is_named, is_ticket, tickets_from, tickets_of}, Laws.Names.{names_alike, name_is}, Replies.{bad_count, range, begin_reply}, NamedTables.Named, Tickets.{Loaded, nothing, with_rule, with_table, offered_as, Offer, offer, offer_at, put, Open, next_ticket, ticket_in, loaded_in, valid_ticket, loaded, is_valid}}
-use Rattle.pf_ticket.proofs.{NamedTables.put_sorted, Moves.{load-keeps, made_by, reads, leaves_the_others, gives-named}, Offers.{read-put, read-without, length-put, length-without}}
+use Rattle.pf_ticket.specs.{declared.{entry.Entry.Entry, limits.TheConstants.LAST_COUNT, limits.TheConstants.OFFERED_TABLE_LIMIT, name.RulesetKind.RulesetKind, name.RulesetKind.TheVariants.Filter, name.RulesetKind.TheVariants.Table, name.RulesetName.RulesetName, refusal.TicketRefusal.TicketRefusal, refusal.TicketRefusal.TheVariants.BadCount, refusal.TicketRefusal.TheVariants.Conflict, refusal.TicketRefusal.TheVariants.Busy, refusal.TicketRefusal.TheVariants.RulesetFull, refusal.TicketRefusal.TheVariants.TableFull, refusal.TicketRefusal.TheVariants.TooManyRulesets, refusal.TicketRefusal.TheVariants.TooManyTables, refusal.TicketRefusal.TheVariants.TicketsExhausted, ticket.Ticket.Ticket, ticket.TicketRange.TicketRange}, Laws.Tickets.{AreGiven, BeginsGive, TellsWhatIsGiven, IsFew, IsWithin, KeepsTheLimits}, Mentions.{gave, dropped, load, with_offers, take_out, moved, after, gives, switches, drops}, Names.{filter_at, table_ruleset_at, same_name, is_named, is_ticket, tickets_from, tickets_of}, Laws.Names.{names_alike, name_is}, Replies.{bad_count, range, begin_reply}, NamedTables.Named, Tickets.{Loaded, nothing, with_rule, with_table, offered_as, Offer, Offers, offer, offer_at, with_offer, Open, next_ticket, ticket_in, loaded_in, valid_ticket, loaded, is_valid}}
+use Rattle.pf_ticket.proofs.{NamedTables.put_sorted, Moves.{load-keeps, made_by, reads, leaves_the_others, gives-named}, Offers.{reads_with, length_out, length_replaced}}
 
 -- ---- what is kept where offers are taken out
 
@@ -22,7 +22,7 @@ drops-keep P out t (e ∷ es) p = drops-keep P out (moved t (dropped e.name e.ti
 
 -- ---- how many tickets are given
 
-none-given : (t : Open) (os : List Offer) → AreGiven 0 t (with_offers t os)
+none-given : (t : Open) (os : Offers) → AreGiven 0 t (with_offers t os)
 none-given t os = record { epoch = refl; next = omega arith }
 
 begin-gives : (t : Open) (names : List RulesetName) → AreGiven (length names) t (after t (gives names))
@@ -51,8 +51,8 @@ pub begins_give : BeginsGive
 begins_give = record {
   told = λ t names given h. ap (λ (g : TicketRange). tickets_of g) (sym (begun t names given h).range);
   begin = begin-gives;
-  add = λ t n u r. load-keeps t n u (with_rule (loaded t n) r) (AreGiven 0 t) (λ new. none-given t (put new t.offers)) (none-given t t.offers);
-  define = λ t n u name xs. load-keeps t n u (with_table (loaded t n) name (replaced xs)) (AreGiven 0 t) (λ new. none-given t (put new t.offers)) (none-given t t.offers);
+  add = λ t n u r. load-keeps t n u (with_rule (loaded t n) r) (AreGiven 0 t) (λ new. none-given t (with_offer t.offers n (Some new))) (none-given t t.offers);
+  define = λ t n u name xs. load-keeps t n u (with_table (loaded t n) name (replaced xs)) (AreGiven 0 t) (λ new. none-given t (with_offer t.offers n (Some new))) (none-given t t.offers);
   commit = λ t names. switches-keep (AreGiven 0 t) (λ s n g. record { epoch = g.epoch; next = g.next }) t names (none-given t t.offers);
   rollback = λ t entries. drops-keep (AreGiven 0 t) (λ s n g. record { epoch = g.epoch; next = g.next }) t entries (none-given t t.offers);
 }
@@ -102,24 +102,24 @@ one-table l name new short few old = record {
 abbrev IsShort : RulesetKind → Option Offer → Type 0
 IsShort k v = Short k (loaded_in v)
 
-abbrev AreShort : List Offer → Type 0
+abbrev AreShort : Offers → Type 0
 AreShort os = (name : RulesetName) → IsShort name.kind (offer_at os name)
 
-short-put : (new : Offer) (os : List Offer) → Short new.name.kind new.loaded → AreShort os → AreShort (put new os)
-short-put new os short all q =
-    subst (IsShort q.kind) (sym (read-put new os q)) (cond_both (same_name new.name q) (Some new) (offer_at os q) (IsShort q.kind) (λ b. subst (λ (n : RulesetName). Short n.kind new.loaded) (name_is new.name q b) short) (λ b. all q))
+short-put : (os : Offers) (n : RulesetName) (new : Offer) → Short n.kind new.loaded → AreShort os → AreShort (with_offer os n (Some new))
+short-put os n new short all q =
+    subst (IsShort q.kind) (sym (reads_with os n (Some new) q)) (cond_both (same_name n q) (Some new) (offer_at os q) (IsShort q.kind) (λ b. subst (λ (m : RulesetName). Short m.kind new.loaded) (name_is n q b) short) (λ b. all q))
 
 short-begun : (t : Open) (names : List RulesetName) → AreShort t.offers → AreShort (after t (gives names)).offers
 short-begun t [] all = all
-short-begun t (n ∷ ns) all = short-begun (moved t (gave n)) ns (short-put (offer n (next_ticket t) nothing) t.offers (short-nothing n.kind) all)
+short-begun t (n ∷ ns) all = short-begun (moved t (gave n)) ns (short-put t.offers n (offer (next_ticket t) nothing) (short-nothing n.kind) all)
 
 -- ---- the limits
 
 within-out : (t : Open) (n : RulesetName) → IsWithin t → IsWithin (take_out t n)
 within-out t n w = record {
   given = w.given;
-  opened = let most = w.opened in omega (arith, length-without n t.offers, most);
-  offered = λ q. subst (IsShort q.kind) (sym (read-without n t.offers q)) (cond_both (same_name n q) None (offer_at t.offers q) (IsShort q.kind) (λ b. short-nothing q.kind) (λ b. w.offered q));
+  opened = let most = w.opened in omega (arith, length_out t.offers n, most);
+  offered = λ q. subst (IsShort q.kind) (sym (reads_with t.offers n None q)) (cond_both (same_name n q) None (offer_at t.offers q) (IsShort q.kind) (λ b. short-nothing q.kind) (λ b. w.offered q));
 }
 
 has-offer : (v : Option Offer) (u : Ticket) → is_ticket (ticket_in v) u ≡ true → is_some v ≡ true
@@ -128,12 +128,12 @@ has-offer (Some o) u h = refl
 
 within-loaded : (t : Open) (n : RulesetName) (u : Ticket) (l : Loaded) → Short n.kind l → IsWithin t → IsWithin (load t n u l)
 within-loaded t n u l short w =
-    let new : Offer = offer n u l in
-    cond_both (is_valid t n u) (with_offers t (put new t.offers)) t IsWithin
+    let new : Offer = offer u l in
+    cond_both (is_valid t n u) (with_offers t (with_offer t.offers n (Some new))) t IsWithin
     (λ valid.
-    let as-many : length (put new t.offers) ≡ length t.offers + 0 = length-put new t.offers ∙ ap (λ (b : Bool). length t.offers + cond b 0 1) (has-offer (offer_at t.offers n) u valid) in
+    let as-many = length_replaced t.offers n new (has-offer (offer_at t.offers n) u valid) in
     let most = w.opened in
-    record { given = w.given; opened = omega (arith, as-many, most); offered = short-put new t.offers short w.offered })
+    record { given = w.given; opened = omega (arith, as-many, most); offered = short-put t.offers n new short w.offered })
     (λ b. w)
 
 not-refused : {A : Type 0} (b : Bool) (x : TicketRefusal) (r : Result A TicketRefusal) (a : A) → cond b (Err x) r ≡ Ok a → (b ≡ false) × (r ≡ Ok a)

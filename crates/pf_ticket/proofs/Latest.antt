@@ -29,7 +29,7 @@ StoodOrGiven t ms name u = ((valid_ticket t name ≡ Some u) × AreQuiet name u 
 later : (t : Open) (m : Mention) (ms : List Mention) (name : RulesetName) (u : Ticket) → IsGivenLast (moved t m) ms name u → IsGivenLast t (m ∷ ms) name u
 later t m ms name u g = record { before = m ∷ g.before; given = g.given; behind = g.behind; all = ap (λ (xs : List Mention). m ∷ xs) g.all; same = g.same; ticket = g.ticket; quiet = g.quiet }
 
-loaded-stood : (t : Open) (n : RulesetName) (w u : Ticket) (l : Loaded) (b : Bool) → is_valid t n w ≡ b → ticket_in (cond b (Some (offer n w l)) (offer_at t.offers n)) ≡ Some u → valid_ticket t n ≡ Some u
+loaded-stood : (t : Open) (n : RulesetName) (w u : Ticket) (l : Loaded) (b : Bool) → is_valid t n w ≡ b → ticket_in (cond b (Some (offer w l)) (offer_at t.offers n)) ≡ Some u → valid_ticket t n ≡ Some u
 loaded-stood t n w u l true e h = valid-is (valid_ticket t n) w e ∙ h
 loaded-stood t n w u l false e h = h
 
@@ -87,7 +87,7 @@ abbrev Has : Ticket → Loaded → Option Offer → Type 0
 Has u l v = (ticket_in v ≡ Some u) × (loaded_in v ≡ l)
 
 -- by the mention's own ruleset
-own-load : (t : Open) (n : RulesetName) (w u : Ticket) (l : Loaded) (b : Bool) → is_valid t n w ≡ b → valid_ticket t n ≡ Some u → Has u (cond (same_name n n && same_ticket u w) l (loaded t n)) (cond b (Some (offer n w l)) (offer_at t.offers n))
+own-load : (t : Open) (n : RulesetName) (w u : Ticket) (l : Loaded) (b : Bool) → is_valid t n w ≡ b → valid_ticket t n ≡ Some u → Has u (cond (same_name n n && same_ticket u w) l (loaded t n)) (cond b (Some (offer w l)) (offer_at t.offers n))
 own-load t n w u l true e h =
     let same : same_ticket u w ≡ true = ap (λ (v : Option Ticket). is_ticket v w) (sym h) ∙ e in
     (ap Some (sym (ticket_is u w same)), sym (ap (λ (b : Bool). cond (b && same_ticket u w) l (loaded t n)) (names_alike.refl n) ∙ ap (λ (b : Bool). cond b l (loaded t n)) same))

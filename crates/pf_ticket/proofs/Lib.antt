@@ -1,3 +1,4 @@
+pub mod Places
 pub mod Offers
 pub mod NamedTables
 pub mod Moves

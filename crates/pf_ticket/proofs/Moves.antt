@@ -1,36 +1,36 @@
 -- What a mention makes of its ruleset's offer, and that it leaves the others: one law for all mentions, and what follows of lists of them.
-use Rattle.std.proofs.{Common.{◌≡◌, ℕ, ◌+◌, ◌<◌, Bool, true, false, not, cond, ◌&&◌, ◌||◌, List, [], ◌∷◌, ◌++◌, length, map, take, get_or, refl, sym, ap, ◌∙◌, Option, Some, None, is_some}, lemmas.Bool.{or_parts, or_right, cond_both}, lemmas.List.map-id, lemmas.List.Folds.fold-map, lemmas.List.Sums.{fold-append, fold_more}, lemmas.Simd.map-map}
+use Rattle.std.proofs.{Common.{◌≡◌, ℕ, ◌+◌, ◌<◌, Bool, true, false, not, cond, ◌&&◌, ◌||◌, List, [], ◌∷◌, ◌++◌, length, map, take, get_or, refl, sym, ap, ◌∙◌, Option, Some, None, is_some, arith}, lemmas.Bool.{or_parts, or_right, cond_both}, lemmas.List.map-id, lemmas.List.Folds.fold-map, lemmas.List.Sums.{fold-append, fold_more}, lemmas.Simd.map-map}
 use Rattle.std.specs.List.{list_any}
-use Rattle.pf_ticket.specs.{declared.{entry.Entry.Entry, name.RulesetName.RulesetName, ticket.Ticket.Ticket}, Laws.Tickets.{StartsWithNothing, LeavesTheOthers, CommitTakesOut, RollbackDropsExactly, GoesOnAgreeing, CountsTheOpen}, Mentions.{Mention, gave, added, defined, switched, dropped, named_in, load, with_offers, take_out, moved, after, opened, gives}, Names.{same_name, is_named, is_ticket, IsDistinct}, Laws.Names.name_is, Tickets.{Loaded, nothing, with_rule, with_table, offered_as, Offer, offer, offer_at, put, without, Open, fresh, next_ticket, open_rulesets, ticket_in, loaded_in, loaded, is_valid}}
+use Rattle.pf_ticket.specs.{declared.{entry.Entry.Entry, name.RulesetName.RulesetName, ticket.Ticket.Ticket}, Laws.Tickets.{StartsWithNothing, LeavesTheOthers, CommitTakesOut, RollbackDropsExactly, GoesOnAgreeing, CountsTheOpen}, Mentions.{Mention, gave, added, defined, switched, dropped, named_in, load, with_offers, take_out, moved, after, opened, gives}, Names.{same_name, is_named, is_ticket}, Laws.Names.name_is, Tickets.{Loaded, nothing, with_rule, with_table, offered_as, Offer, Offers, offer, offer_at, with_offer, with_all, given_from, Open, open_with, fresh, next_ticket, ticket_in, loaded_in, loaded, is_valid}}
 use Rattle.pf_table.specs.Edits.{replaced}
-use Rattle.pf_ticket.proofs.Offers.{or-false, any-of, read-put, read-without, named-under, length-put, distinct-put, distinct-without}
+use Rattle.pf_ticket.proofs.Offers.{reads_with, named_under, AreInOrder, stays_sorted, distinct, length_with}
 
 -- ---- one law for all mentions
 
 abbrev pub loaded_by : Open → RulesetName → Ticket → Loaded → Option Offer
-loaded_by t n u l = cond (is_valid t n u) (Some (offer n u l)) (offer_at t.offers n)
+loaded_by t n u l = cond (is_valid t n u) (Some (offer u l)) (offer_at t.offers n)
 
 abbrev pub made_by : Open → Mention → Option Offer
-made_by t (gave n) = Some (offer n (next_ticket t) nothing)
+made_by t (gave n) = Some (offer (next_ticket t) nothing)
 made_by t (added n u r) = loaded_by t n u (with_rule (loaded t n) r)
 made_by t (defined n u name xs) = loaded_by t n u (with_table (loaded t n) name (replaced xs))
 made_by t (switched n) = None
 made_by t (dropped n u) = cond (is_valid t n u) None (offer_at t.offers n)
 
 -- where the ticket isn't valid its own offer stays, read by either name
-where-valid : (t : Open) (n q : RulesetName) (b : Bool) (os : List Offer) (v : Option Offer) → offer_at os q ≡ cond (same_name n q) v (offer_at t.offers q) → offer_at (cond b (with_offers t os) t).offers q ≡ cond (same_name n q) (cond b v (offer_at t.offers n)) (offer_at t.offers q)
+where-valid : (t : Open) (n q : RulesetName) (b : Bool) (os : Offers) (v : Option Offer) → offer_at os q ≡ cond (same_name n q) v (offer_at t.offers q) → offer_at (cond b (with_offers t os) t).offers q ≡ cond (same_name n q) (cond b v (offer_at t.offers n)) (offer_at t.offers q)
 where-valid t n q true os v h = h
 where-valid t n q false os v h = cond_both (same_name n q) (offer_at t.offers n) (offer_at t.offers q) (λ (w : Option Offer). offer_at t.offers q ≡ w) (λ e. ap (offer_at t.offers) (sym (name_is n q e))) (λ e. refl)
 
 reads-load : (t : Open) (n : RulesetName) (u : Ticket) (l : Loaded) (q : RulesetName) → offer_at (load t n u l).offers q ≡ cond (same_name n q) (loaded_by t n u l) (offer_at t.offers q)
-reads-load t n u l q = let new : Offer = offer n u l in where-valid t n q (is_valid t n u) (put new t.offers) (Some new) (read-put new t.offers q)
+reads-load t n u l q = let new : Option Offer = Some (offer u l) in where-valid t n q (is_valid t n u) (with_offer t.offers n new) new (reads_with t.offers n new q)
 
 pub reads : (t : Open) (m : Mention) (q : RulesetName) → offer_at (moved t m).offers q ≡ cond (same_name (named_in m) q) (made_by t m) (offer_at t.offers q)
-reads t (gave n) q = read-put (offer n (next_ticket t) nothing) t.offers q
+reads t (gave n) q = reads_with t.offers n (Some (offer (next_ticket t) nothing)) q
 reads t (added n u r) q = reads-load t n u (with_rule (loaded t n) r) q
 reads t (defined n u name xs) q = reads-load t n u (with_table (loaded t n) name (replaced xs)) q
-reads t (switched n) q = read-without n t.offers q
-reads t (dropped n u) q = where-valid t n q (is_valid t n u) (without n t.offers) None (read-without n t.offers q)
+reads t (switched n) q = reads_with t.offers n None q
+reads t (dropped n u) q = where-valid t n q (is_valid t n u) (with_offer t.offers n None) None (reads_with t.offers n None q)
 
 pub leaves_the_others : LeavesTheOthers
 leaves_the_others t [] name h = refl
@@ -74,8 +74,8 @@ rollback_drops_exactly t (e ∷ es) name =
 -- ---- what the mentions since an opening leave
 
 -- what a load keeps
-pub load-keeps : (t : Open) (n : RulesetName) (u : Ticket) (l : Loaded) (P : Open → Type 0) → ((new : Offer) → P (with_offers t (put new t.offers))) → P t → P (load t n u l)
-load-keeps t n u l P put_in out = cond_both (is_valid t n u) (with_offers t (put (offer n u l) t.offers)) t P (λ e. put_in (offer n u l)) (λ e. out)
+pub load-keeps : (t : Open) (n : RulesetName) (u : Ticket) (l : Loaded) (P : Open → Type 0) → ((new : Offer) → P (with_offers t (with_offer t.offers n (Some new)))) → P t → P (load t n u l)
+load-keeps t n u l P put_in out = cond_both (is_valid t n u) (with_offers t (with_offer t.offers n (Some (offer u l)))) t P (λ e. put_in (offer u l)) (λ e. out)
 
 epoch-on : (t : Open) (m : Mention) → (moved t m).epoch ≡ t.epoch
 epoch-on t (gave n) = refl
@@ -96,16 +96,16 @@ goes_on_agreeing = record {
 
 -- ---- how many rulesets are open
 
-distinct-on : (t : Open) (m : Mention) → IsDistinct (open_rulesets t) → IsDistinct (open_rulesets (moved t m))
-distinct-on t (gave n) d = distinct-put (offer n (next_ticket t) nothing) t.offers d
-distinct-on t (added n u r) d = load-keeps t n u (with_rule (loaded t n) r) (λ (s : Open). IsDistinct (open_rulesets s)) (λ new. distinct-put new t.offers d) d
-distinct-on t (defined n u name xs) d = load-keeps t n u (with_table (loaded t n) name (replaced xs)) (λ (s : Open). IsDistinct (open_rulesets s)) (λ new. distinct-put new t.offers d) d
-distinct-on t (switched n) d = distinct-without n t.offers d
-distinct-on t (dropped n u) d = cond_both (is_valid t n u) (take_out t n) t (λ (s : Open). IsDistinct (open_rulesets s)) (λ e. distinct-without n t.offers d) (λ e. d)
+sorted-on : (t : Open) (m : Mention) → AreInOrder t.offers → AreInOrder (moved t m).offers
+sorted-on t (gave n) h = stays_sorted t.offers n (Some (offer (next_ticket t) nothing)) h
+sorted-on t (added n u r) h = load-keeps t n u (with_rule (loaded t n) r) (λ (s : Open). AreInOrder s.offers) (λ new. stays_sorted t.offers n (Some new) h) h
+sorted-on t (defined n u name xs) h = load-keeps t n u (with_table (loaded t n) name (replaced xs)) (λ (s : Open). AreInOrder s.offers) (λ new. stays_sorted t.offers n (Some new) h) h
+sorted-on t (switched n) h = stays_sorted t.offers n None h
+sorted-on t (dropped n u) h = cond_both (is_valid t n u) (take_out t n) t (λ (s : Open). AreInOrder s.offers) (λ e. stays_sorted t.offers n None h) (λ e. h)
 
-distinct-after : (t : Open) (ms : List Mention) → IsDistinct (open_rulesets t) → IsDistinct (open_rulesets (after t ms))
-distinct-after t [] d = d
-distinct-after t (m ∷ ms) d = distinct-after (moved t m) ms (distinct-on t m d)
+sorted-after : (t : Open) (ms : List Mention) → AreInOrder t.offers → AreInOrder (after t ms).offers
+sorted-after t [] h = h
+sorted-after t (m ∷ ms) h = sorted-after (moved t m) ms (sorted-on t m h)
 
 with-ticket : (v : Option Offer) → is_some v ≡ is_some (ticket_in v)
 with-ticket None = refl
@@ -114,7 +114,7 @@ with-ticket (Some o) = refl
 pub counts_the_open : CountsTheOpen
 counts_the_open epoch ms =
     let t : Open = after (fresh epoch) ms in
-    record { once = distinct-after (fresh epoch) ms tt; valid = λ name. named-under t.offers name ∙ with-ticket (offer_at t.offers name) }
+    record { once = distinct t.offers (sorted-after (fresh epoch) ms tt); valid = λ name. named_under t.offers name ∙ with-ticket (offer_at t.offers name) }
 
 -- ---- what a begin leaves
 
@@ -132,7 +132,21 @@ starts-from t (n ∷ ns) q h =
 pub starts_with_nothing : StartsWithNothing
 starts_with_nothing t names name named = ap (offered_as name.kind) (starts-from t names name (λ none. let k : true ≡ false = sym named ∙ none in absurd (cc (k))))
 
+-- what it offers, all at once
+one-given : (t : Open) (next : ℕ) (os : Offers) → next ≡ t.next → os ≡ t.offers → open_with t.epoch next os ≡ t
+one-given t next os e f = λ i. open_with t.epoch (e i) (f i)
+
+pub given_at_once : (t : Open) (names : List RulesetName) → open_with t.epoch (t.next + length names) (with_all t.offers (given_from t.epoch t.next names)) ≡ after t (gives names)
+given_at_once t [] = one-given t (t.next + 0) t.offers (omega arith) refl
+given_at_once t (n ∷ ns) =
+    ap (λ (k : ℕ). open_with t.epoch k (with_all t.offers (given_from t.epoch t.next (n ∷ ns)))) (let same : t.next + length (n ∷ ns) ≡ t.next + 1 + length ns = omega arith in same)
+    ∙ given_at_once (moved t (gave n)) ns
+
 -- ---- what the code counts
+
+or-false : (b : Bool) → (b || false) ≡ b
+or-false true = refl
+or-false false = refl
 
 one-more : (b c : Bool) (new : Offer) (v : Option Offer) → (is_some (cond b (Some new) v) || c) ≡ (is_some v || (b || c))
 one-more true c new v = sym (or_right (is_some v) true refl)
@@ -142,21 +156,19 @@ all-given : (t : Open) (names : List RulesetName) (q : RulesetName) → is_some 
 all-given t [] q = sym (or-false (is_some (offer_at t.offers q)))
 all-given t (n ∷ ns) q =
     all-given (moved t (gave n)) ns q ∙ ap (λ (v : Option Offer). is_some v || is_named ns q) (reads t (gave n) q)
-    ∙ one-more (same_name n q) (is_named ns q) (offer n (next_ticket t) nothing) (offer_at t.offers q)
+    ∙ one-more (same_name n q) (is_named ns q) (offer (next_ticket t) nothing) (offer_at t.offers q)
 
 count-new : (k : ℕ) (b new : Bool) → new ≡ not b → k + cond b 0 1 ≡ k + cond new 1 0
 count-new k true new h = ap (λ (c : Bool). k + cond c 1 0) (sym h)
 count-new k false new h = ap (λ (c : Bool). k + cond c 1 0) (sym h)
 
 -- one name more counts where it has no offer and stands nowhere before
-pub opened_more : (t : Open) (names : List RulesetName) (i : ℕ) (name : RulesetName) (new : Bool) → i < length names → name ≡ get_or names i name → new ≡ not (list_any (λ o. same_name o.name name) t.offers || is_named (take i names) name) →
+pub opened_more : (t : Open) (names : List RulesetName) (i : ℕ) (name : RulesetName) (new : Bool) → AreInOrder t.offers → i < length names → name ≡ get_or names i name → new ≡ not (is_some (offer_at t.offers name) || is_named (take i names) name) →
     length (after t (gives (take (i + 1) names))).offers ≡ length (after t (gives (take i names))).offers + cond new 1 0
-opened_more t names i name new l e is =
+opened_more t names i name new h l e is =
     let before : Open = after t (gives (take i names)) in
     let give : RulesetName → Mention = λ n. gave n in
-    let had : is_some (offer_at before.offers name) ≡ (list_any (λ o. same_name o.name name) t.offers || is_named (take i names) name) =
-    all-given t (take i names) name ∙ ap (λ (b : Bool). b || is_named (take i names) name) (sym (named-under t.offers name) ∙ any-of (λ (o : Offer). o.name) t.offers name) in
     ap (λ (s : Open). length s.offers) (fold-map moved give t (take (i + 1) names) ∙ fold_more (λ (s : Open) (n : RulesetName). moved s (gave n)) t names i name l ∙ ap (λ (s : Open). moved s (gave (get_or names i name))) (sym (fold-map moved give t (take i names))))
     ∙ ap (λ (n : RulesetName). length (moved before (gave n)).offers) (sym e)
-    ∙ length-put (offer name (next_ticket before) nothing) before.offers
-    ∙ count-new (length before.offers) (is_some (offer_at before.offers name)) new (is ∙ ap not (sym had))
+    ∙ length_with before.offers name (offer (next_ticket before) nothing) (sorted-after t (gives (take i names)) h)
+    ∙ count-new (length before.offers) (is_some (offer_at before.offers name)) new (is ∙ ap not (sym (all-given t (take i names) name)))

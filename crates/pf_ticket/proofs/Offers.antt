@@ -1,126 +1,128 @@
--- What is read of a ruleset once an offer was put or taken out, and that no ruleset has two.
-use Rattle.std.proofs.{Common.{◌≡◌, ℕ, ◌+◌, ◌<◌, ◌≤◌, Bool, true, false, not, cond, ◌||◌, List, [], ◌∷◌, ◌++◌, length, map, refl, sym, ap, ◌∙◌, Option, Some, None, arith, get_or, zero, suc, is_some}, lemmas.Bool.{not-true, not-false, cond-true, cond-false, cond_both}}
-use Rattle.std.specs.List.{list_any}
-use Rattle.pf_ticket.specs.declared.name.RulesetName.{RulesetName}
-use Rattle.pf_ticket.specs.{Names.{same_name, is_named, IsDistinct}, Laws.Names.{names_alike, name_is}, Tickets.{Offer, offer_at, put, without, IsPlace}}
+-- What is read of a ruleset once its offer was replaced, that offers stay in order, and where one stands.
+use Rattle.std.proofs.{Common.{◌≡◌, ℕ, ◌+◌, ◌<◌, ◌≤◌, Bool, true, false, not, cond, T, List, [], ◌∷◌, length, map, set, refl, sym, ap, ◌∙◌, subst, Option, Some, None, arith, is_some}, lemmas.Cmp.{nat_cmp_total, nat_list_cmp_total}, lemmas.List.Sums.{length-filter, count_by-le-length}}
+use Rattle.std.specs.{Cmp.{IsTotalOrder, on_total, then_total}, FinMap.{put, is_sorted, IsAntisymmetric}, FinMap.Entries.{by_order, is_some-find, is_sorted-where_key, length_without, length-put}, List.{HoldsAt, list_any, remove}, List.Sorted.{IsBinarySearchResult, IsSearchInRange}, Ordering.{eq_by_cmp, is_eq}, Prelude.{Result, Ok, Err, IfOk, IfErr}}
+use Rattle.std.specs.declared.cmp.Ordering.TheVariants.{Less, Equal, Greater}
+use Rattle.pf_table.specs.Map.Maps.{without}
+use Rattle.pf_table.proofs.Maps.{replaces_the_key, stays_sorted as sorted_with}
+use Rattle.pf_ticket.specs.declared.{name.RulesetKind.RulesetKind, name.RulesetKind.TheVariants.Filter, name.RulesetKind.TheVariants.Table, name.RulesetName.RulesetName}
+use Rattle.pf_ticket.specs.{Names.{kind_rank, same_name, is_named, ruleset_order, IsDistinct}, Laws.Names.{names_alike, name_is}, Tickets.{Offer, Offers, offer_at, with_offer, with_all, IsPlace, IsGap}}
+use Rattle.pf_ticket.proofs.Places.{first_of, second_of, find_below, rises, find_between, without_between, with_between, find_at, without_at, with_at}
 
-abbrev pub names_under : List Offer → List RulesetName
-names_under os = map (λ o. o.name) os
+-- ---- the order of names
 
-pub or-false : (b : Bool) → (b || false) ≡ b
-or-false true = refl
-or-false false = refl
+pub order_total : IsTotalOrder ruleset_order
+order_total = then_total (on_total (λ (n : RulesetName). kind_rank n.kind) nat_cmp_total) (on_total (λ (n : RulesetName). n.path) nat_list_cmp_total)
 
--- whether one of these is of the ruleset
-pub any-of : {A : Type 0} (name_of : A → RulesetName) (xs : List A) (q : RulesetName) → is_named (map name_of xs) q ≡ list_any (λ x. same_name (name_of x) q) xs
-any-of name_of [] q = refl
-any-of name_of (x ∷ xs) q = ap (λ (b : Bool). same_name (name_of x) q || b) (any-of name_of xs q)
+ties_by : (a b : RulesetName) (k m : RulesetKind) → a.kind ≡ k → b.kind ≡ m → eq_by_cmp ruleset_order a b ≡ same_name a b
+ties_by a b Filter Filter e f = rw (e, f) refl
+ties_by a b Filter Table e f = rw (e, f) refl
+ties_by a b Table Filter e f = rw (e, f) refl
+ties_by a b Table Table e f = rw (e, f) refl
+
+-- names tie where they are one
+pub ties : (a b : RulesetName) → eq_by_cmp ruleset_order a b ≡ same_name b a
+ties a b = ties_by a b a.kind b.kind refl refl ∙ names_alike.symm a b
+
+order_alike : IsAntisymmetric ruleset_order
+order_alike a b tied = sym (name_is b a (sym (ties a b) ∙ ap is_eq tied))
 
 -- ---- what is read
 
-pick : {A : Type 0} (oq pq : Bool) (x n z : A) → oq ≡ pq → cond pq n z ≡ cond pq n (cond oq x z)
-pick true true x n z e = refl
-pick true false x n z e = absurd (cc (e))
-pick false true x n z e = absurd (cc (e))
-pick false false x n z e = refl
+pub reads_with : (os : Offers) (n : RulesetName) (v : Option Offer) (q : RulesetName) → offer_at (with_offer os n v) q ≡ cond (same_name n q) v (offer_at os q)
+reads_with os n v q = replaces_the_key Offer order_total os n v q ∙ ap (λ (b : Bool). cond b v (offer_at os q)) (ties q n)
 
-skip : {A : Type 0} (oq pq : Bool) (x n w z : A) → (oq ≡ true → pq ≡ false) → w ≡ cond pq n z → cond oq x w ≡ cond pq n (cond oq x z)
-skip true true x n w z h e = let k : true ≡ false = h refl in absurd (cc (k))
-skip true false x n w z h e = refl
-skip false pq x n w z h e = e
+abbrev pub names_under : Offers → List RulesetName
+names_under os = map (λ e. e.0) os
 
--- an offer of another ruleset than this one
-other : (o p q : RulesetName) → same_name o p ≡ false → same_name o q ≡ true → same_name p q ≡ false
-other o p q e h = names_alike.symm p q ∙ sym (names_alike.congr o q p h) ∙ e
+pub named_under : (os : Offers) (q : RulesetName) → is_named (names_under os) q ≡ is_some (offer_at os q)
+named_under os q = sym (is_some-find ruleset_order q os ∙ (λ i. list_any (λ n. ties q n i) (names_under os)))
 
-pub read-put : (new : Offer) (os : List Offer) (q : RulesetName) → offer_at (put new os) q ≡ cond (same_name new.name q) (Some new) (offer_at os q)
-read-put new [] q = refl
-read-put new (o ∷ os) q =
-    cond_both (same_name o.name new.name) (new ∷ os) (o ∷ put new os) (λ (ws : List Offer). offer_at ws q ≡ cond (same_name new.name q) (Some new) (offer_at (o ∷ os) q))
-    (λ e. pick (same_name o.name q) (same_name new.name q) (Some o) (Some new) (offer_at os q) (names_alike.congr o.name new.name q e))
-    (λ e. skip (same_name o.name q) (same_name new.name q) (Some o) (Some new) (offer_at (put new os) q) (offer_at os q) (other o.name new.name q e) (read-put new os q))
+-- ---- in order
 
-pub read-without : (p : RulesetName) (os : List Offer) (q : RulesetName) → offer_at (without p os) q ≡ cond (same_name p q) None (offer_at os q)
-read-without p [] q = cond_both (same_name p q) None None (λ (v : Option Offer). None ≡ v) (λ e. refl) (λ e. refl)
-read-without p (o ∷ os) q =
-    cond_both (not (same_name o.name p)) (o ∷ without p os) (without p os) (λ (ws : List Offer). offer_at ws q ≡ cond (same_name p q) None (offer_at (o ∷ os) q))
-    (λ e. skip (same_name o.name q) (same_name p q) (Some o) None (offer_at (without p os) q) (offer_at os q) (other o.name p q (not-true (same_name o.name p) e)) (read-without p os q))
-    (λ e. read-without p os q ∙ pick (same_name o.name q) (same_name p q) (Some o) None (offer_at os q) (names_alike.congr o.name p q (not-false (same_name o.name p) e)))
+abbrev pub AreInOrder : Offers → Type 0
+AreInOrder os = T (is_sorted ruleset_order os)
+
+pub stays_sorted : (os : Offers) (n : RulesetName) (v : Option Offer) → AreInOrder os → AreInOrder (with_offer os n v)
+stays_sorted os n v = sorted_with Offer order_total os n v
+
+pub stay_sorted : (os new : Offers) → AreInOrder os → AreInOrder (with_all os new)
+stay_sorted os [] h = h
+stay_sorted os (e ∷ new) h = stay_sorted (with_offer os e.0 (Some e.1)) new (stays_sorted os e.0 (Some e.1) h)
+
+-- where the ruleset's offer stands
+pub sorted_set : (os : Offers) (n : RulesetName) (i : ℕ) (o : Offer) → IsPlace n os i → AreInOrder os → AreInOrder (set os i (n, o))
+sorted_set os n i o at h = subst AreInOrder (at.replaced o) (stays_sorted os n (Some o) h)
+
+pub sorted_removed : (os : Offers) (n : RulesetName) (i : ℕ) → IsPlace n os i → AreInOrder os → AreInOrder (remove os i)
+sorted_removed os n i at h = subst AreInOrder at.removed (stays_sorted os n None h)
+
+-- no ruleset has two
+pub distinct : (os : Offers) → AreInOrder os → IsDistinct (names_under os)
+distinct [] h = tt
+distinct (e ∷ os) h = (named_under os e.0 ∙ ap is_some (find_below order_total e.0 os (first_of _ _ h)), distinct os (second_of _ _ h))
 
 -- ---- how many there are
 
-named-step : (o : Offer) (os : List Offer) (q : RulesetName) (b : Bool) → is_named (names_under os) q ≡ is_some (offer_at os q) → (b || is_named (names_under os) q) ≡ is_some (cond b (Some o) (offer_at os q))
-named-step o os q true ih = refl
-named-step o os q false ih = ih
+pub length_out : (os : Offers) (n : RulesetName) → length (with_offer os n None) ≤ length os
+length_out os n = let test : RulesetName × Offer → Bool = λ e. not (eq_by_cmp ruleset_order n e.0) in omega (arith, length-filter test os, count_by-le-length test os)
 
-pub named-under : (os : List Offer) (q : RulesetName) → is_named (names_under os) q ≡ is_some (offer_at os q)
-named-under [] q = refl
-named-under (o ∷ os) q = named-step o os q (same_name o.name q) (named-under os q)
+put_grows : (n : RulesetName) (o : Offer) (os : Offers) → length (put ruleset_order n o os) ≤ length os + 1
+put_grows n o [] = omega arith
+put_grows n o (e ∷ os) = elim (ruleset_order n e.0) as (λ r. length (by_order r ((n, o) ∷ e ∷ os) ((e.0, o) ∷ os) (e ∷ put ruleset_order n o os)) ≤ length (e ∷ os) + 1) [
+  | Less ↦ omega arith
+  | Equal ↦ omega arith
+  | Greater ↦ omega (arith, put_grows n o os)
+]
 
-length-put-step : (new o : Offer) (os ws : List Offer) (b : Bool) → length ws ≡ length os + cond (is_some (offer_at os new.name)) 0 1 → length (cond b (new ∷ os) (o ∷ ws)) ≡ length (o ∷ os) + cond (is_some (cond b (Some o) (offer_at os new.name))) 0 1
-length-put-step new o os ws true ih = omega arith
-length-put-step new o os ws false ih = omega (arith, ih)
+less_by : (n : RulesetName) (e : RulesetName × Offer) (os : Offers) (b : Bool) → eq_by_cmp ruleset_order n e.0 ≡ b → (is_some (offer_at os n) ≡ true → length (with_offer os n None) + 1 ≤ length os) → is_some (cond b (Some e.1) (offer_at os n)) ≡ true → length (with_offer (e ∷ os) n None) + 1 ≤ length (e ∷ os)
+less_by n e os true is rest there = let most = length_out os n in rw is (omega (arith, most))
+less_by n e os false is rest there = let fewer = rest there in rw is (omega (arith, fewer))
 
-pub length-put : (new : Offer) (os : List Offer) → length (put new os) ≡ length os + cond (is_some (offer_at os new.name)) 0 1
-length-put new [] = refl
-length-put new (o ∷ os) = length-put-step new o os (put new os) (same_name o.name new.name) (length-put new os)
+length_less : (n : RulesetName) (os : Offers) → is_some (offer_at os n) ≡ true → length (with_offer os n None) + 1 ≤ length os
+length_less n [] h = absurd (cc (h))
+length_less n (e ∷ os) h = less_by n e os (eq_by_cmp ruleset_order n e.0) refl (length_less n os) h
 
-pub length-without : (p : RulesetName) (os : List Offer) → length (without p os) ≤ length os
-length-without p [] = omega arith
-length-without p (o ∷ os) =
-    let rest = length-without p os in
-    cond_both (not (same_name o.name p)) (o ∷ without p os) (without p os) (λ (ws : List Offer). length ws ≤ length (o ∷ os)) (λ e. omega (arith, rest)) (λ e. omega (arith, rest))
+-- where the ruleset had an offer there is none more
+pub length_replaced : (os : Offers) (n : RulesetName) (o : Offer) → is_some (offer_at os n) ≡ true → length (with_offer os n (Some o)) ≤ length os
+length_replaced os n o h = let left = length_less n os h in let grown = put_grows n o (without ruleset_order os n) in omega (arith, left, grown)
 
--- ---- no ruleset has two
+count_put : (a l m : ℕ) (had found : Bool) → found ≡ false → m ≡ cond found a (a + 1) → cond had 1 0 + a ≡ l → m ≡ l + cond had 0 1
+count_put a l m true true e g h = absurd (cc (e))
+count_put a l m true false e g h = omega (arith, g, h)
+count_put a l m false true e g h = absurd (cc (e))
+count_put a l m false false e g h = omega (arith, g, h)
 
-pub distinct-put : (new : Offer) (os : List Offer) → IsDistinct (names_under os) → IsDistinct (names_under (put new os))
-distinct-put new [] d = (refl, tt)
-distinct-put new (o ∷ os) d =
-    cond_both (same_name o.name new.name) (new ∷ os) (o ∷ put new os) (λ (ws : List Offer). IsDistinct (names_under ws))
-    (λ e. (ap (is_named (names_under os)) (sym (name_is o.name new.name e)) ∙ d.0, d.1))
-    (λ e. (
-      named-under (put new os) o.name ∙ ap is_some (read-put new os o.name ∙ cond-false (same_name new.name o.name) (Some new) (offer_at os o.name) (names_alike.symm new.name o.name ∙ e)) ∙ sym (named-under os o.name) ∙ d.0,
-      distinct-put new os d.1,
-    ))
+pub length_with : (os : Offers) (n : RulesetName) (o : Offer) → AreInOrder os → length (with_offer os n (Some o)) ≡ length os + cond (is_some (offer_at os n)) 0 1
+length_with os n o h =
+    let others : Offers = without ruleset_order os n in
+    count_put (length others) (length os) (length (with_offer os n (Some o))) (is_some (offer_at os n)) (is_some (offer_at others n))
+    (ap is_some (reads_with os n None n) ∙ ap (λ (b : Bool). is_some (cond b None (offer_at os n))) (names_alike.refl n))
+    (length-put ruleset_order order_total n o others (is_sorted-where_key ruleset_order (λ x. not (eq_by_cmp ruleset_order n x)) os h))
+    (length_without ruleset_order order_total n os h)
 
-pub distinct-without : (p : RulesetName) (os : List Offer) → IsDistinct (names_under os) → IsDistinct (names_under (without p os))
-distinct-without p [] d = tt
-distinct-without p (o ∷ os) d =
-    let rest : IsDistinct (names_under (without p os)) = distinct-without p os d.1 in
-    cond_both (not (same_name o.name p)) (o ∷ without p os) (without p os) (λ (ws : List Offer). IsDistinct (names_under ws))
-    (λ e. (
-      named-under (without p os) o.name ∙ ap is_some (read-without p os o.name ∙ cond-false (same_name p o.name) None (offer_at os o.name) (names_alike.symm p o.name ∙ not-true (same_name o.name p) e)) ∙ sym (named-under os o.name) ∙ d.0,
-      rest,
-    ))
-    (λ e. rest)
+-- ---- what a search by halving answers
 
--- ---- where a ruleset's offer stands
+some_at : (n : RulesetName) (os : Offers) (i : ℕ) → AreInOrder os → i < length os → HoldsAt (λ e. e.0 ≡ n) os i → is_some (offer_at os n) ≡ true
+some_at n [] i h lt at = absurd (omega (arith, lt))
+some_at n (e ∷ os) i h lt at = ap is_some (find_at order_total n (e ∷ os) i e h lt at)
 
-pub is-place : (p : RulesetName) (os : List Offer) (i : ℕ) (o : Offer) → i < length os → o ≡ get_or os i o → same_name o.name p ≡ true → ((k : ℕ) (x : Offer) → k < i → x ≡ get_or os k x → same_name x.name p ≡ false) → IsPlace p os i o
-is-place p [] i o l e h none = absurd (grind (arith, l))
-is-place p (y ∷ os) zero o l e h none =
-    let k : same_name y.name p ≡ true = ap (λ (z : Offer). same_name z.name p) (sym e) ∙ h in
+pub place_found : (n : RulesetName) (os : Offers) (r : Result ℕ ℕ) → AreInOrder os → IsSearchInRange r (length os) → IsBinarySearchResult (λ e. ruleset_order e.0 n) os r → IfOk r (IsPlace n os)
+place_found n os (Ok i) h lt at =
+    let named : HoldsAt (λ e. e.0 ≡ n) os i = λ d. order_alike _ _ (at d) in
     record {
-      found = ap (λ (b : Bool). cond b (Some y) (offer_at os p)) k ∙ ap (λ (z : Offer). Some z) (sym e);
-      named = name_is o.name p h;
-      puts = λ new same. ap (λ (b : Bool). cond b (new ∷ os) (y ∷ put new os)) (ap (same_name y.name) same ∙ k);
+      found = λ e is. (ap (λ (z : RulesetName × Offer). z.0) is ∙ named e, find_at order_total n os i e h lt named ∙ ap (λ (z : RulesetName × Offer). Some z.1) (sym is));
+      some = some_at n os i h lt named;
+      replaced = λ o. with_at order_total n o os i h lt named;
+      removed = without_at order_total n os i h lt named;
     }
-is-place p (y ∷ os) (suc i) o l e h none =
-    let rest : IsPlace p os i o = is-place p os i o (omega (arith, l)) e h (λ k x m f. none (suc k) x (omega (arith, m)) f) in
-    let k : same_name y.name p ≡ false = none 0 y (omega arith) refl in
+place_found n os (Err i) h lt at = tt
+
+pub gap_found : (n : RulesetName) (os : Offers) (r : Result ℕ ℕ) → AreInOrder os → IsSearchInRange r (length os) → IsBinarySearchResult (λ e. ruleset_order e.0 n) os r → IfErr r (IsGap n os)
+gap_found n os (Ok i) h le at = tt
+gap_found n os (Err i) h le at =
+    let between = at (rises order_total n os h) in
     record {
-      found = ap (λ (b : Bool). cond b (Some y) (offer_at os p)) k ∙ rest.found;
-      named = rest.named;
-      puts = λ new same. ap (λ (b : Bool). cond b (new ∷ os) (y ∷ put new os)) (ap (same_name y.name) same ∙ k) ∙ ap (λ (z : List Offer). y ∷ z) (rest.puts new same);
+      none = find_between order_total n os i le between;
+      inserted = λ o. with_between order_total n o os i le between;
+      kept = without_between order_total n os i le between;
     }
-
-pub is-nowhere : (p : RulesetName) (os : List Offer) → ((k : ℕ) (x : Offer) → k < length os → x ≡ get_or os k x → same_name x.name p ≡ false) → offer_at os p ≡ None
-is-nowhere p [] none = refl
-is-nowhere p (y ∷ os) none = ap (λ (b : Bool). cond b (Some y) (offer_at os p)) (none 0 y (omega arith) refl) ∙ is-nowhere p os (λ k x m f. none (suc k) x (omega (arith, m)) f)
-
-pub put_end : (new : Offer) (os : List Offer) → offer_at os new.name ≡ None → put new os ≡ os ++ new ∷ []
-put_end new [] h = refl
-put_end new (o ∷ os) h =
-    cond_both (same_name o.name new.name) (new ∷ os) (o ∷ put new os) (λ (ws : List Offer). ws ≡ o ∷ (os ++ new ∷ []))
-    (λ e. let k : Some o ≡ None = sym (cond-true (same_name o.name new.name) (Some o) (offer_at os new.name) e) ∙ h in absurd (cc (k)))
-    (λ e. ap (λ (z : List Offer). o ∷ z) (put_end new os (sym (cond-false (same_name o.name new.name) (Some o) (offer_at os new.name) e) ∙ h)))

@@ -1,10 +1,14 @@
 -- The entry that is found is the first of a ruleset named before it; and tickets that are numbered are given once.
-use Rattle.std.proofs.{Common.{◌≡◌, ℕ, suc, zero, ◌+◌, ◌<◌, ◌==◌, Bool, false, cond, ◌||◌, List, [], ◌∷◌, ◌++◌, length, refl, sym, ap, subst, ◌∙◌, append-nil, append_assoc, Option, Some, None, arith, get_or, take, drop}, Math.Seq.{take-suc, drop-cons}, lemmas.Bool.{eqb-true, or_parts, or_from, and_right, false_from_ne_true, cond_both}, lemmas.List.{get_or-map, length-map, length-take-le, take-map}, lemmas.List.Folds.list_any-append}
+use Rattle.std.proofs.{Common.{◌≡◌, ℕ, suc, zero, ◌+◌, ◌<◌, ◌==◌, Bool, false, cond, ◌||◌, List, [], ◌∷◌, ◌++◌, length, map, refl, sym, ap, subst, ◌∙◌, append-nil, append_assoc, Option, Some, None, arith, get_or, take, drop}, Math.Seq.{take-suc, drop-cons}, lemmas.Bool.{eqb-true, or_parts, or_from, and_right, false_from_ne_true, cond_both}, lemmas.List.{get_or-map, length-map, length-take-le, take-map}, lemmas.List.Folds.list_any-append}
 use Rattle.std.specs.List.{list_any}
 use Rattle.pf_ticket.specs.{declared.{entry.Entry.Entry, name.RulesetName.RulesetName, ticket.Ticket.Ticket}, Laws.Tickets.{IsFirstAgain, TwiceIsFirstAgain, OtherwiseOnce, GivesEachOnce}, Names.{same_name, is_named, names_of, ticket, same_ticket, tickets_from, IsDistinct}, Laws.Names.names_alike, Replies.twice_behind}
-use Rattle.pf_ticket.proofs.Offers.{any-of}
 
 -- ---- one name more
+
+-- whether one of these is of the ruleset
+any-of : {A : Type 0} (name_of : A → RulesetName) (xs : List A) (q : RulesetName) → is_named (map name_of xs) q ≡ list_any (λ x. same_name (name_of x) q) xs
+any-of name_of [] q = refl
+any-of name_of (x ∷ xs) q = ap (λ (b : Bool). same_name (name_of x) q || b) (any-of name_of xs q)
 
 pub twice-on : (ns : List RulesetName) (p : ℕ) (n : RulesetName) (b : Bool) → p < length ns → n ≡ get_or ns p n → is_named (take p ns) n ≡ b →
     twice_behind (take p ns) (drop p ns) ≡ cond b (Some p) (twice_behind (take (p + 1) ns) (drop (p + 1) ns))

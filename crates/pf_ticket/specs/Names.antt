@@ -1,6 +1,8 @@
--- Names of rulesets, and tickets (pf(4), DIOCXBEGIN). That a ticket is an epoch and a count, with one counter for all rulesets, is own.
-use Rattle.std.specs.{Prelude.{◌≡◌, ℕ, zero, suc, ◌+◌, ◌==◌, ◌&&◌, Bool, true, false, List, [], ◌∷◌, map, Option, Some, None}, List.list_any}
-use Rattle.pf_addr.specs.Path.Paths.{same_path}
+-- Names of rulesets, and tickets (pf(4), DIOCXBEGIN). That a ticket is an epoch and a count, with one counter for all rulesets, and the
+-- order of names are own.
+use Rattle.std.specs.{Prelude.{◌≡◌, ℕ, zero, suc, ◌+◌, ◌==◌, ◌&&◌, Bool, true, false, List, [], ◌∷◌, map, Option, Some, None}, List.list_any, Ordering.{nat_cmp, ordering_then}}
+use Rattle.std.specs.declared.cmp.Ordering.{Ordering}
+use Rattle.pf_addr.specs.Path.Paths.{path_order, same_path}
 use Rattle.pf_ticket.specs.declared.{entry.Entry.Entry, name.RulesetKind.RulesetKind, name.RulesetKind.TheVariants.Filter, name.RulesetKind.TheVariants.Table, name.RulesetName.RulesetName, ticket.Ticket.Ticket, ticket.TicketRange.TicketRange}
 
 abbrev pub filter_at : List ℕ → RulesetName
@@ -19,6 +21,14 @@ same_kind Table Table = true
 -- a ruleset is a kind and a path
 abbrev pub same_name : RulesetName → RulesetName → Bool
 same_name a b = same_kind a.kind b.kind && same_path a.path b.path
+
+abbrev pub kind_rank : RulesetKind → ℕ
+kind_rank Filter = 0
+kind_rank Table = 1
+
+-- filter rulesets come before table rulesets, and those of one kind are ordered by their paths
+abbrev pub ruleset_order : RulesetName → RulesetName → Ordering
+ruleset_order a b = ordering_then (nat_cmp (kind_rank a.kind) (kind_rank b.kind)) (path_order a.path b.path)
 
 abbrev pub is_named : List RulesetName → RulesetName → Bool
 is_named names name = list_any (λ n. same_name n name) names

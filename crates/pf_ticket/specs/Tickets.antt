@@ -1,10 +1,10 @@
 -- The open transactions: for each inactive ruleset its valid ticket, and what is offered with it (pf(4), DIOCXBEGIN, DIOCADDRULE,
 -- DIOCRINADEFINE).
-use Rattle.std.specs.{Prelude.{◌≡◌, ℕ, Bool, not, cond, List, [], ◌∷◌, ◌++◌, map, set, filter, Option, Some, None}, FinMap.put as put_entry, List.find}
+use Rattle.std.specs.{Prelude.{◌≡◌, ℕ, ◌+◌, Bool, true, List, [], ◌∷◌, ◌++◌, map, set, get_or, fold, Option, Some, None, is_some}, FinMap.{find, put}, List.{insert, remove}}
 use Rattle.pf_addr.specs.Path.Names.{name_order}
 use Rattle.pf_rule.specs.Rules.{PlainRule}
-use Rattle.pf_table.specs.Entries.{Row}
-use Rattle.pf_ticket.specs.{declared.{name.RulesetKind.RulesetKind, name.RulesetKind.TheVariants.Filter, name.RulesetKind.TheVariants.Table, name.RulesetName.RulesetName, offered.Offered.Offered, offered.Offered.TheVariants.Rules, offered.Offered.TheVariants.Tables, ticket.Ticket.Ticket}, NamedTables.Named, Names.{same_name, ticket, is_ticket}}
+use Rattle.pf_table.specs.{Entries.Row, Map.Maps.with_value}
+use Rattle.pf_ticket.specs.{declared.{name.RulesetKind.RulesetKind, name.RulesetKind.TheVariants.Filter, name.RulesetKind.TheVariants.Table, name.RulesetName.RulesetName, offered.Offered.Offered, offered.Offered.TheVariants.Rules, offered.Offered.TheVariants.Tables, ticket.Ticket.Ticket}, NamedTables.Named, Names.{ruleset_order, ticket, is_ticket}}
 
 -- ---- what is offered
 
@@ -26,7 +26,7 @@ with_rule l r = loaded_with (l.rules ++ r ∷ []) l.tables
 
 -- with these entries as the table of that name, whatever was the table before
 abbrev pub with_table : Loaded → List ℕ → List Row → Loaded
-with_table l name rows = loaded_with l.rules (put_entry name_order name rows l.tables)
+with_table l name rows = loaded_with l.rules (put name_order name rows l.tables)
 
 abbrev pub offered_as : RulesetKind → Loaded → Offered
 offered_as Filter l = Rules l.rules
@@ -43,45 +43,56 @@ abbrev pub tables_in : Offered → List Named
 tables_in (Rules rs) = []
 tables_in (Tables ts) = ts
 
--- an inactive ruleset, its valid ticket, and what was loaded with it
+-- the valid ticket of an inactive ruleset, and what was loaded with it
 pub record Offer : Type 0 where
-  pub name : RulesetName
   pub ticket : Ticket
   pub loaded : Loaded
 
-abbrev pub offer : RulesetName → Ticket → Loaded → Offer
-offer name t l = record { name = name; ticket = t; loaded = l }
+abbrev pub offer : Ticket → Loaded → Offer
+offer t l = record { ticket = t; loaded = l }
 
-abbrev pub offer_at : List Offer → RulesetName → Option Offer
-offer_at os name = find (λ o. same_name o.name name) os
+-- inactive rulesets with their offers, in the order of their names: a finite map
+abbrev pub Offers : Type 0
+Offers = List (RulesetName × Offer)
 
--- with this offer in place of the one that its ruleset had, or else behind the others
-abbrev pub put : Offer → List Offer → List Offer
-put new [] = new ∷ []
-put new (o ∷ os) = cond (same_name o.name new.name) (new ∷ os) (o ∷ put new os)
+abbrev pub offer_at : Offers → RulesetName → Option Offer
+offer_at os name = find ruleset_order name os
 
-abbrev pub is_other : RulesetName → Offer → Bool
-is_other name o = not (same_name o.name name)
+-- with this as the ruleset's offer, or with none
+abbrev pub with_offer : Offers → RulesetName → Option Offer → Offers
+with_offer os name o = with_value ruleset_order os name o
 
--- without the ruleset's
-abbrev pub without : RulesetName → List Offer → List Offer
-without name os = filter (is_other name) os
+-- with these in turn
+abbrev pub with_all : Offers → Offers → Offers
+with_all os new = fold (λ to e. with_offer to e.0 (Some e.1)) os new
+
+-- what a begin of these rulesets offers: nothing yet, with the tickets from this count on
+abbrev pub given_from : ℕ → ℕ → List RulesetName → Offers
+given_from epoch count [] = []
+given_from epoch count (n ∷ ns) = (n, offer (ticket epoch count) nothing) ∷ given_from epoch (count + 1) ns
 
 -- the ruleset's offer stands at this place
-pub record IsPlace (name : RulesetName) (os : List Offer) (i : ℕ) (o : Offer) : Type 0 where
-  pub found : offer_at os name ≡ Some o
-  pub named : o.name ≡ name
-  pub puts : (new : Offer) → new.name ≡ name → put new os ≡ set os i new
+pub record IsPlace (name : RulesetName) (os : Offers) (i : ℕ) : Type 0 where
+  pub found : (e : RulesetName × Offer) → e ≡ get_or os i e → (e.0 ≡ name) × (offer_at os name ≡ Some e.1)
+  pub some : is_some (offer_at os name) ≡ true
+  pub replaced : (o : Offer) → with_offer os name (Some o) ≡ set os i (name, o)
+  pub removed : with_offer os name None ≡ remove os i
+
+-- the ruleset has no offer, and this is where one would stand
+pub record IsGap (name : RulesetName) (os : Offers) (i : ℕ) : Type 0 where
+  pub none : offer_at os name ≡ None
+  pub inserted : (o : Offer) → with_offer os name (Some o) ≡ insert os i (name, o)
+  pub kept : with_offer os name None ≡ os
 
 -- ---- the transactions of an opening
 
--- its epoch, the count of the next ticket, and the inactive rulesets
+-- its epoch, the count of the next ticket, and what is offered
 pub record Open : Type 0 where
   pub epoch : ℕ
   pub next : ℕ
-  pub offers : List Offer
+  pub offers : Offers
 
-abbrev pub open_with : ℕ → ℕ → List Offer → Open
+abbrev pub open_with : ℕ → ℕ → Offers → Open
 open_with e n os = record { epoch = e; next = n; offers = os }
 
 -- no ticket was given yet
@@ -94,7 +105,7 @@ next_ticket t = ticket t.epoch t.next
 
 -- the rulesets with a valid ticket
 abbrev pub open_rulesets : Open → List RulesetName
-open_rulesets t = map (λ o. o.name) t.offers
+open_rulesets t = map (λ e. e.0) t.offers
 
 abbrev pub ticket_in : Option Offer → Option Ticket
 ticket_in None = None

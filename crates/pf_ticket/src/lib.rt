@@ -8,8 +8,8 @@
 //! value), then specs/Mentions.antt (what each step leaves of them) and specs/Replies.antt (what each step is told, and the order of
 //! refusals). specs/Laws.antt says of whole histories which ticket is valid and what is offered with it.
 //!
-//! `tickets` uses all other modules; `defined` (the tables that are offered), `offered` and `entry` use `name` and `ticket`, which use
-//! none.
+//! `tickets` uses all other modules; `slots` (the inactive rulesets in the order of their names) uses `slot`, which uses `offered` and
+//! `defined` (the tables that are offered); these and `entry` use `name` and `ticket`, which use none.
 #![tactic(auto)]
 
 mod defined;
@@ -19,6 +19,8 @@ mod limits;
 mod name;
 mod offered;
 mod refusal;
+mod slot;
+mod slots;
 mod ticket;
 mod tickets;
 

@@ -1,8 +1,9 @@
 //! Names of rulesets.
 ghost use Rattle.std.specs.Prelude.{◌≡◌};
-ghost use Rattle.pf_ticket.specs.Names.{filter_at, table_ruleset_at, same_name};
+ghost use Rattle.pf_ticket.specs.Names.{filter_at, table_ruleset_at, same_name, ruleset_order};
 
 use pf_anchor::Path;
+use std::cmp::Ordering;
 use std::marker::Model;
 
 /// The kinds of ruleset that have tickets.
@@ -59,6 +60,17 @@ impl RulesetName {
         ensures { result ≡ same_name self.now other.now }
     {
         self.kind == other.kind && self.path.same(&other.path)
+    }
+
+    // Which of two comes first: filter rulesets before table rulesets, and those of one kind by their paths.
+    pub(crate) fn order(&self, other: &RulesetName) -> Ordering
+        ensures { result ≡ ruleset_order self.now other.now }
+    {
+        match (self.kind, other.kind) {
+            (RulesetKind::Filter, RulesetKind::Table) => Ordering::Less,
+            (RulesetKind::Table, RulesetKind::Filter) => Ordering::Greater,
+            _ => self.path.order(&other.path),
+        }
     }
 }
 

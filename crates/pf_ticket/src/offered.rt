@@ -18,12 +18,12 @@ pub enum Offered {
 
 impl Offered {
     // Nothing yet. It takes no memory.
-    pub(crate) fn nothing(alloc: Global, kind: RulesetKind) -> Offered
+    pub(crate) fn nothing(kind: RulesetKind) -> Offered
         ensures { result ≡ nothing_for kind }
     {
         match kind {
             RulesetKind::Filter => Offered::Rules(RuleList::none()),
-            RulesetKind::Table => Offered::Tables(Defined::none(alloc)),
+            RulesetKind::Table => Offered::Tables(Defined::none()),
         }
     }
 }

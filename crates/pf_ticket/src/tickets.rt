@@ -1,67 +1,26 @@
 //! The tickets that are valid, and what is offered with them.
-ghost use Rattle.std.specs.{Prelude.{◌≡◌, ◌<◌, ◌≤◌, ◌+◌, ◌||◌, not, [], ◌∷◌, IfOk, OnOk, OnErr, IfSome, IfNone, None, is_some, length, get_or, vec_len, vec_capacity}, List.list_any};
+ghost use Rattle.std.specs.{Prelude.{◌≡◌, ◌<◌, ◌≤◌, ◌+◌, ◌||◌, not, [], IfOk, OnOk, OnErr, IfSome, is_some, length, get_or}, List.list_any};
 ghost use Rattle.pf_anchor.specs.declared.limits.TheConstants.{RULE_LIMIT};
 ghost use Rattle.pf_table.specs.Edits.{conflict_in, replaced};
 ghost use Rattle.pf_addr.specs.Refusing.{OrMemory};
+ghost use Rattle.pf_ticket.specs.declared.limits.TheConstants.{LAST_COUNT};
 ghost use Rattle.pf_ticket.specs.declared.refusal.TicketRefusal.TheVariants.{Memory};
-ghost use Rattle.pf_ticket.specs.{Mentions.{added, defined, load, moved, take_out, after, gives, switches, drops}, Names.{filter_at, table_ruleset_at, is_named, same_name, names_of}, Replies.{bad_count, twice_behind, twice_in, busy_in, list_check, commit_check, begin_reply, add_reply, table_reply, define_reply}, Tickets.{Offer, offer, offer_at, nothing, loaded, with_rule, with_table, offered_as, put, without, IsPlace, fresh, open_with, content, is_valid}};
+ghost use Rattle.pf_ticket.specs.{Mentions.{added, defined, load, moved, take_out, after, gives, switches, drops}, Names.{filter_at, table_ruleset_at, is_named, same_name}, Replies.{bad_count, twice_behind, twice_in, busy_in, list_check, commit_check, begin_reply, add_reply, table_reply, define_reply}, Tickets.{Offer, offer_at, loaded, with_rule, with_table, given_from, IsPlace, fresh, open_with, content, is_valid}};
 
-use crate::defined::Defined;
 use crate::entry::Entry;
 use crate::limits::{ENTRY_LIMIT, LAST_COUNT};
-use crate::name::{RulesetKind, RulesetName};
+use crate::name::RulesetName;
 use crate::offered::Offered;
 use crate::refusal::TicketRefusal;
+use crate::slot::Slot;
+use crate::slots::Slots;
 use crate::ticket::{Ticket, TicketRange};
 use pf_addr::path::TableName;
-use pf_anchor::{Path, RULE_LIMIT, RULESET_LIMIT, RuleList};
+use pf_anchor::{Path, RULE_LIMIT, RULESET_LIMIT};
 use pf_rule::Rule;
 use pf_table::{Table, TableRefusal};
 use std::alloc::{AllocError, Global};
 use std::marker::Model;
-
-/// An inactive ruleset with its valid ticket.
-#[derive(Drop)]
-struct Slot {
-    name: RulesetName,
-    ticket: Ticket,
-    // Only a filter ruleset has some.
-    rules: RuleList,
-    // Only a table ruleset has some.
-    tables: Defined,
-}
-
-impl Model for Slot {
-    ghost use Rattle.pf_ticket.specs.Tickets.{Offer, offer, loaded_with};
-
-    ghost Value = { Offer };
-
-    ghost view = { λ s. offer s.name s.ticket (loaded_with s.rules s.tables) };
-}
-
-impl Slot {
-    // A new ticket's, with nothing loaded yet. It takes no memory.
-    fn new(alloc: Global, name: RulesetName, ticket: Ticket) -> Slot
-        ensures { result ≡ offer name ticket nothing }
-    {
-        Slot {
-            name,
-            ticket,
-            rules: RuleList::none(),
-            tables: Defined::none(alloc),
-        }
-    }
-
-    // What is offered, shared.
-    fn offered(&self) -> Result<Offered, AllocError>
-        ensures { IfOk result (λ o. o ≡ offered_as self.now.name.kind self.now.loaded) }
-    {
-        match self.name.kind {
-            RulesetKind::Filter => Ok(Offered::Rules(self.rules.shared()?)),
-            RulesetKind::Table => Ok(Offered::Tables(self.tables.shared()?)),
-        }
-    }
-}
 
 /// The valid tickets of one opening, and the inactive rulesets. Contracts see it as an `Open`.
 #[derive(Drop)]
@@ -70,7 +29,7 @@ pub struct Tickets {
     epoch: u32,
     // One more than the greatest count once all counts are given.
     next: u64,
-    slots: Vec<Slot>,
+    slots: Slots,
 }
 
 impl Model for Tickets {
@@ -80,7 +39,7 @@ impl Model for Tickets {
 
     ghost Value = { Open };
 
-    ghost view = { λ t. open_with t.epoch t.next t.slots.items };
+    ghost view = { λ t. open_with t.epoch t.next t.slots };
 
     ghost invariant = { λ t. t.next ≤ LAST_COUNT + 1 };
 }
@@ -142,31 +101,11 @@ fn check_list(entries: &[Entry]) -> Result<(), TicketRefusal>
     }
 }
 
-// The place of a ruleset's slot.
-fn place_of(slots: &[Slot], name: &RulesetName) -> Option<usize>
-    ensures within { IfSome result (λ i. i < length slots.now) }
-    ensures some { IfSome result (λ i. (o : Offer) → o ≡ get_or slots.now i o → IsPlace name.now slots.now i o) }
-    ensures none { IfNone result (offer_at slots.now name.now ≡ None) }
-{
-    for (place, slot) in slots.iter().enumerate() {
-        if slot.name.same(name) {
-            return Some(place);
-        }
-    }
-    None
-}
-
-fn has_slot(slots: &[Slot], name: &RulesetName) -> bool
-    ensures { result ≡ list_any (λ o. same_name o.name name.now) slots.now }
-{
-    slots.iter().any(|slot| slot.name.same(name))
-}
-
 // Whether a ruleset has no slot, and isn't among those named before it.
-fn is_new(slots: &[Slot], before: &[RulesetName], name: &RulesetName) -> bool
-    ensures { result ≡ not (list_any (λ o. same_name o.name name.now) slots.now || is_named before.now name.now) }
+fn is_new(slots: &Slots, before: &[RulesetName], name: &RulesetName) -> bool
+    ensures { result ≡ not (is_some (offer_at slots.now name.now) || is_named before.now name.now) }
 {
-    !has_slot(slots, name) && !is_named(before, name)
+    slots.place_of(name).is_err() && !is_named(before, name)
 }
 
 // The table that entries make, where it has no more than there may be; `Conflict` at the first that contradicts one before it.
@@ -179,20 +118,6 @@ fn table_of(alloc: Global, entries: &[pf_table::Entry]) -> Result<Option<Table>,
         Err(TableRefusal::Conflict { at }) => Err(TicketRefusal::Conflict { at }),
         Err(TableRefusal::TableFull) => Ok(None),
         Err(TableRefusal::Memory) => Err(TicketRefusal::Memory),
-    }
-}
-
-// Puts a slot in place of the one that its ruleset had, or else behind the others.
-#[tactic(auto, using(crate::proofs::Offers::put_end))]
-fn put(slots: &mut Vec<Slot>, slot: Slot)
-    requires { vec_len slots.old < vec_capacity slots.old }
-    ensures items { slots.new.items ≡ put slot slots.old.items }
-    ensures len { vec_len slots.new ≤ vec_len slots.old + 1 }
-    ensures capacity { vec_capacity slots.new ≡ vec_capacity slots.old }
-{
-    match place_of(slots, &slot.name) {
-        Some(place) => slots[place] = slot,
-        None => slots.push_reserved(slot),
     }
 }
 
@@ -215,19 +140,19 @@ impl Tickets {
             alloc,
             epoch,
             next: u64::from(next_count),
-            slots: Vec::new(alloc),
+            slots: Slots::none(alloc),
         }
     }
 
     // The place of a ruleset's slot, where this is the ruleset's valid ticket.
     fn valid_place(&self, name: &RulesetName, ticket: Ticket) -> Option<usize>
         ensures within { IfSome result (λ i. i < length self.now.offers) }
-        ensures some { IfSome result (λ i. (o : Offer) → o ≡ get_or self.now.offers i o → IsPlace name.now self.now.offers i o) }
-        ensures ticket { IfSome result (λ i. (o : Offer) → o ≡ get_or self.now.offers i o → o.ticket ≡ ticket) }
+        ensures some { IfSome result (IsPlace name.now self.now.offers) }
+        ensures ticket { IfSome result (λ i. (e : RulesetName × Offer) → e ≡ get_or self.now.offers i e → e.1.ticket ≡ ticket) }
         ensures valid { is_some result ≡ is_valid self.now name.now ticket }
     {
-        let place = place_of(&self.slots, name)?;
-        if self.slots[place].ticket == ticket {
+        let place = self.slots.place_of(name).ok()?;
+        if self.slots.at(place).ticket() == ticket {
             Some(place)
         } else {
             None
@@ -264,19 +189,19 @@ impl Tickets {
     fn take_out(&mut self, name: &RulesetName)
         ensures { self.new ≡ take_out self.old name.now }
     {
-        self.slots.retain(|slot| !slot.name.same(name));
+        self.slots.take_out(name);
     }
 
     // Appends a rule to the ruleset's offer, which stands at this place.
     fn grow(&mut self, name: &RulesetName, place: usize, rule: Rule) -> Result<(), AllocError>
         requires within { place < length self.old.offers }
-        requires stands { (o : Offer) → o ≡ get_or self.old.offers place o → IsPlace name.now self.old.offers place o }
+        requires stands { IsPlace name.now self.old.offers place }
         requires room { length (loaded self.old name.now).rules < RULE_LIMIT }
-        ensures ok { OnOk result ((o : Offer) → o ≡ get_or self.old.offers place o →
-            self.new ≡ load self.old name.now o.ticket (with_rule (loaded self.old name.now) rule)) }
+        ensures ok { OnOk result ((e : RulesetName × Offer) → e ≡ get_or self.old.offers place e →
+            self.new ≡ load self.old name.now e.1.ticket (with_rule (loaded self.old name.now) rule)) }
         ensures err { OnErr result (self.new ≡ self.old) }
     {
-        self.slots[place].rules.add(self.alloc, rule)
+        self.slots.add(self.alloc, name, place, rule)
     }
 
     // Sets a table of the ruleset's offer, which stands at this place.
@@ -288,12 +213,43 @@ impl Tickets {
         table: Table,
     ) -> Result<(), AllocError>
         requires within { place < length self.old.offers }
-        requires stands { (o : Offer) → o ≡ get_or self.old.offers place o → IsPlace name.now self.old.offers place o }
-        ensures ok { OnOk result ((o : Offer) → o ≡ get_or self.old.offers place o →
-            self.new ≡ load self.old name.now o.ticket (with_table (loaded self.old name.now) table_name.now table)) }
+        requires stands { IsPlace name.now self.old.offers place }
+        ensures ok { OnOk result ((e : RulesetName × Offer) → e ≡ get_or self.old.offers place e →
+            self.new ≡ load self.old name.now e.1.ticket (with_table (loaded self.old name.now) table_name.now table)) }
         ensures err { OnErr result (self.new ≡ self.old) }
     {
-        self.slots[place].tables.define(table_name, table)
+        self.slots
+            .define(self.alloc, name, place, table_name, table)
+    }
+
+    // The slots of these rulesets in turn, with the next tickets. `AllocError`: nothing is made.
+    fn new_slots(&self, names: &[RulesetName]) -> Result<Vec<Slot>, AllocError>
+        requires { self.now.next + length names.now ≤ LAST_COUNT + 1 }
+        ensures { IfOk result (λ s. s.items ≡ given_from self.now.epoch self.now.next names.now) }
+    {
+        let mut slots = Vec::with_capacity(self.alloc, names.len())?;
+        let mut next = self.next;
+        for name in names {
+            let ticket = Ticket {
+                epoch: self.epoch,
+                count: next as u32,
+            };
+            slots.push(Slot::new(self.alloc, name.copied(), ticket)?)?;
+            next += 1;
+        }
+        Ok(slots)
+    }
+
+    // Gives the next tickets to these rulesets in turn, with nothing offered yet. `AllocError`: all is as before.
+    fn give(&mut self, names: &[RulesetName]) -> Result<(), AllocError>
+        requires { self.old.next + length names.now ≤ LAST_COUNT + 1 }
+        ensures ok { OnOk result (self.new ≡ after self.old (gives names.now)) }
+        ensures err { OnErr result (self.new ≡ self.old) }
+    {
+        let new = self.new_slots(names)?;
+        self.slots.put_all(new)?;
+        self.next += names.len() as u64;
+        Ok(())
     }
 
     /// Gives a new ticket for each ruleset in turn, with nothing offered yet.
@@ -315,20 +271,11 @@ impl Tickets {
         if self.next + u64::from(number) - 1 > LAST_COUNT {
             return Err(TicketRefusal::TicketsExhausted);
         }
-        self.slots.reserve(names.len())?;
         let first = Ticket {
             epoch: self.epoch,
             count: self.next as u32,
         };
-        for name in names {
-            let ticket = Ticket {
-                epoch: self.epoch,
-                count: self.next as u32,
-            };
-            let slot = Slot::new(self.alloc, name.copied(), ticket);
-            put(&mut self.slots, slot);
-            self.next += 1;
-        }
+        self.give(names)?;
         Ok(TicketRange { first, number })
     }
 
@@ -345,7 +292,7 @@ impl Tickets {
         let Some(place) = self.valid_place(&name, ticket) else {
             return Err(TicketRefusal::Busy { at: 0 });
         };
-        if self.slots[place].rules.as_slice().len() >= RULE_LIMIT {
+        if self.slots.at(place).rule_count() >= RULE_LIMIT {
             return Err(TicketRefusal::RulesetFull);
         }
         self.grow(&name, place, rule)?;
@@ -376,7 +323,7 @@ impl Tickets {
         let Some(table) = table else {
             return Err(TicketRefusal::TableFull);
         };
-        if self.slots[place].tables.is_full_for(name) {
+        if self.slots.at(place).is_full_for(name) {
             return Err(TicketRefusal::TooManyTables);
         }
         self.set_table(&owner, place, name, table)?;
@@ -400,9 +347,9 @@ impl Tickets {
     pub fn contents(&self, name: &RulesetName) -> Result<Offered, AllocError>
         ensures { IfOk result (λ o. o ≡ content self.now name.now) }
     {
-        match place_of(&self.slots, name) {
-            Some(place) => self.slots[place].offered(),
-            None => Ok(Offered::nothing(self.alloc, name.kind)),
+        match self.slots.place_of(name) {
+            Ok(place) => self.slots.at(place).offered(),
+            Err(_) => Ok(Offered::nothing(name.kind)),
         }
     }
 

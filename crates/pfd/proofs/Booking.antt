@@ -1,11 +1,13 @@
 -- One call of a book, from each way out of it.
 use Rattle.std.proofs.{Common.{◌≡◌, ℕ, ◌+◌, ◌<◌, ◌≤◌, Bool, true, false, cond, inl, inr, List, [], ◌∷◌, ◌++◌, length, Result, Ok, Err, refl, sym, ap, ◌∙◌, subst, append-nil, arith}, lemmas.Bool.Decides.nat_tests, lemmas.List.{length-append, take_all}, lemmas.List.Sums.fold_push}
 use Rattle.std.specs.{Prelude.{nat_lt, IfErr}, Result.IsErrAnd}
-use Rattle.pf_core.specs.declared.{command.Command.Command, reply.Answer.Answer, reply.Outcome.Outcome, reply.Refusal.Refusal, reply.Refusal.TheVariants.{HistoryFull, Memory}, reply.Reply.TheVariants.{Answer as Answered, Applied, Refused}, step.Step.Step, step.Step.TheVariants.{Done, Wants}, durable.refusal.ChangeRefusal.ChangeRefusal}
+use Rattle.pf_core.specs.declared.reply.Answer.TheVariants as answer
+use Rattle.pf_rule.specs.Packets.{PlainPacket}
+use Rattle.pf_core.specs.declared.{command.Command.Command, command.Command.TheVariants.Ask, command.Question.TheVariants.Judge, durable.verdict.Verdict.Verdict, reply.Answer.Answer, reply.Outcome.Outcome, reply.Refusal.Refusal, reply.Refusal.TheVariants.{HistoryFull, Memory}, reply.Reply.TheVariants.{Answer as Answered, Applied, Refused}, step.Step.Step, step.Step.TheVariants.{Done, Wants}, durable.refusal.ChangeRefusal.ChangeRefusal}
 use Rattle.pf_ticket.specs.{Tickets.Open, Mentions.{after as moved_by, switches}}
-use Rattle.pf_core.specs.{Calls.call, Commands.{unless_unfit, step_by, takes_memory}, Durable.Edits.{Kept, Edit, applied, after, voided_by, fits}, Refusals.{change_refusal_of, OrMemory}, Pages.{Page, IsFolded, IsAt, Leads}, Wholes.{Whole, Ready, ready, prepared}, Laws.Wanted.{fit, wants_memory, wants_mentions, wants_what_fits}, Worlds.{Held, upshot, flat, log_of, durable_of, step_in, if_ok, or_refused, due_at, grouped, group_at, due, group_in, LegalReply}}
-use Rattle.pf_core.proofs.LongerWorlds.{flat-push, refused-leads}
-use Rattle.pfd.specs.Books.{singles, IsMore, told, IsUnkept}
+use Rattle.pf_core.specs.{Calls.call, Commands.{unless_unfit, step_by, takes_memory}, Durable.Edits.{Kept, Edit, applied, after, voided_by, fits, verdict}, Refusals.{change_refusal_of, OrMemory}, Pages.{Page, IsFolded, IsAt, Leads}, Wholes.{Whole, Ready, ready, prepared}, Laws.Wanted.{fit, wants_memory, wants_mentions, wants_what_fits}, Worlds.{Held, upshot, flat, log_of, durable_of, step_in, if_ok, or_refused, due_at, grouped, group_at, due, group_in, LegalReply}}
+use Rattle.pf_core.proofs.LongerWorlds.{flat-push, nothing-leads, refused-leads}
+use Rattle.pfd.specs.Books.{judging, singles, IsMore, told, IsUnkept}
 
 pub flat-singles : (es : List Edit) → flat (singles es) ≡ es
 flat-singles [] = refl
@@ -37,6 +39,14 @@ answer-is-legal h b c a at folded steps = inl (ap (due_at h) (step-is h b c (Ok 
 pub refusal-is-legal : (h : Held) (b : Page) (c : Command) (e : Refusal) → IsAt h b → IsFolded b → Steps b c (Err e) → LegalReply h c (Refused e) false
 refusal-is-legal h b c Memory at folded steps = inr (subst (λ (k : Kept). takes_memory k c ≡ true) (durable-is h b at folded) (steps.1 refl))
 refusal-is-legal h b c e at folded steps = inl (ap (due_at h) (step-is h b c (Err e) at folded steps (λ m. cc (m))))
+
+-- a judge leads nowhere else
+pub judged-leads : (h : Held) (b : Page) (packet : PlainPacket) (v : Verdict) → IsFolded b → v ≡ verdict b.whole.durable packet → IsAt h b → Leads h b (judging packet v) (upshot b.shown false)
+judged-leads h b packet v folded is at =
+    let c : Command = Ask (Judge packet) in
+    let a : Answer = answer.Judged v in
+    let done : Ok (Done a) ≡ step_by b.whole.tickets b.whole.durable c = ap (λ (x : Verdict). Ok (Done (answer.Judged x))) is in
+    nothing-leads h b b.whole c (Answered a) (answer-is-legal h b c a at folded ((λ other. done), (λ m. absurd (cc (m))))) refl refl refl at
 
 -- ---- a change is wanted
 

@@ -2,9 +2,10 @@
 use Rattle.std.specs.{Prelude.{◌≡◌, ◌⊎◌, ℕ, ◌+◌, ◌<◌, ◌≤◌, List, [], ◌∷◌, ◌++◌, length, map, ⊤, Result, Ok, Err}, Arc.arc_value}
 use Rattle.pf_ticket.specs.declared.refusal.TicketRefusal.{TicketRefusal}
 use Rattle.pf_ticket.specs.{Mentions.{after, switches}, Replies.list_check}
-use Rattle.pf_core.specs.declared.{command.Command.Command, command.Command.TheVariants.{Transact, Ask}, command.Question.TheVariants.Judge, command.Transaction.TheVariants.Rollback, reply.Refusal.Refusal, reply.Refusal.TheVariants.{HistoryFull, Memory}, reply.Reply.Reply, reply.Reply.TheVariants.{Answer, Applied, Refused}, durable.refusal.ChangeRefusal.ChangeRefusal}
+use Rattle.pf_core.specs.declared.{command.Command.Command, command.Command.TheVariants.{Transact, Ask}, command.Question.TheVariants.Judge, command.Transaction.TheVariants.Rollback, reply.Refusal.Refusal, reply.Refusal.TheVariants.{HistoryFull, Memory}, reply.Reply.Reply, reply.Reply.TheVariants.{Answer, Applied, Refused}, durable.refusal.ChangeRefusal.ChangeRefusal, durable.verdict.Verdict.Verdict}
 use Rattle.pf_core.specs.declared.reply.Answer.TheVariants as answer
-use Rattle.pf_core.specs.{Durable.Edits.{Kept, Edit, voided_by, fits, verdict}, Commands.unless_unfit, Pages.Page, Refusals.refusal_of, Worlds.flat}
+use Rattle.pf_rule.specs.Packets.{PlainPacket}
+use Rattle.pf_core.specs.{Calls.{Call, call}, Durable.Edits.{Kept, Edit, voided_by, fits, verdict}, Commands.unless_unfit, Pages.Page, Refusals.refusal_of, Worlds.flat}
 use Rattle.pfd.specs.declared.book.Book.TheInside.{Inside}
 
 -- each change is a group of its own
@@ -50,6 +51,10 @@ abbrev pub StaysIfRefused : Reply → Page → Page → Type 0
 StaysIfRefused (Answer a) old new = ⊤
 StaysIfRefused (Applied seq outcome) old new = ⊤
 StaysIfRefused (Refused e) old new = new ≡ old
+
+-- the call that asks what happens to a packet, answered so
+abbrev pub judging : PlainPacket → Verdict → Call
+judging packet v = call (Ask (Judge packet)) (Answer (answer.Judged v))
 
 -- ---- a change is kept
 

@@ -1,7 +1,7 @@
 //! A core with the history of what it kept.
 ghost use Rattle.std.specs.Prelude.{◌≡◌, ℕ, ◌≤◌, [], ◌∷◌, ◌++◌, List, IfOk, IfErr, take, false};
 ghost use Rattle.pf_core.specs.{Calls.call, Durable.Edits.{Kept, kept_nothing, after, verdict}, Worlds.{Held, setting_with, upshot, Event, called, opened, flat, LegalReply, shown_by}, Pages.{IsAt, IsFolded, StandsFor, Leads}};
-ghost use Rattle.pfd.specs.Books.{IsNumbered, IsJudged, IsRolledBack, StaysIfRefused, IsMore, IsUnkept};
+ghost use Rattle.pfd.specs.Books.{judging, IsNumbered, IsJudged, IsRolledBack, StaysIfRefused, IsMore, IsUnkept};
 
 use pf_core::{Change, Command, Core, Durable, Refusal, Reply, Step, Verdict};
 use pf_rule::Packet;
@@ -125,6 +125,16 @@ impl Book {
         // looked at, so that what a Book keeps of its core is known here
         let _ = &self.core;
         reply
+    }
+
+    /// What happens to a packet, by what is kept: the call that asks for it, made without its command and its reply, which are long to
+    /// move. It changes nothing, and memory is never refused for it.
+    pub(crate) fn judge(&self, packet: &Packet) -> Verdict
+        ensures worlds { (first : Kept) (world : List Event) → StandsFor first self.now world →
+            StandsFor first self.now (world ++ called (judging packet.now result) (upshot self.now.shown false) ∷ []) }
+        ensures verdict { result ≡ verdict self.now.whole.durable packet.now }
+    {
+        self.core.durable().verdict(packet)
     }
 
     /// What happens to a packet by the copy that is shown: what the first so many changes left. Memory is never refused

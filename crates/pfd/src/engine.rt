@@ -1,11 +1,14 @@
 //! Lines that a Book answers.
-ghost use Rattle.std.specs.Prelude.{◌≡◌};
+ghost use Rattle.std.specs.Prelude.{◌≡◌, ℕ, List, [], ◌∷◌};
+ghost use Rattle.pf_addr.specs.Writing.{Writes};
+ghost use Rattle.pf_core.specs.declared.reply.Reply.TheVariants.{Refused};
+ghost use Rattle.pf_line.specs.Reply.Replies.{reply_text};
 ghost use Rattle.pfd.specs.{LineEngine.Sessions.IsSession, Serving.{Told, Serves}, Laws.Serving.{serves-none, serves-then, serves-seen}};
 
 use crate::book::Book;
 use crate::line_engine::{AnswerLine, EngineFault, serve};
 use pf_core::{Refusal, Reply};
-use pf_line::{parse_line, write_reply};
+use pf_line::{may_judge, parse_judge, parse_line, write_judged, write_reply};
 use std::alloc::Global;
 use std::io::{self, Read, Write};
 
@@ -20,6 +23,43 @@ fn reply_to(alloc: Global, line: &[u8], book: &mut Book) -> Option<Reply>
     }
 }
 
+// Answers a line, whatever it is.
+fn answer<W: Write>(alloc: Global, line: &[u8], writer: &mut W, book: &mut Book) -> io::Result<()>
+    ensures { (text : List ℕ) × Serves book.old book.new (line.now ∷ []) text ×
+        Writes result (W.contents writer.old) (W.contents writer.new) text }
+{
+    match reply_to(alloc, line, book) {
+        Some(reply) => write_reply(writer, &reply),
+        None => Ok(()),
+    }
+}
+
+// The same, where it may be a judge, which is answered with no command and no reply being made.
+fn answer_judge<W: Write>(
+    alloc: Global,
+    line: &[u8],
+    writer: &mut W,
+    book: &mut Book,
+) -> io::Result<()>
+    ensures { (text : List ℕ) × Serves book.old book.new (line.now ∷ []) text ×
+        Writes result (W.contents writer.old) (W.contents writer.new) text }
+{
+    match parse_judge(line) {
+        Some(read) => match read {
+            Ok(packet) => write_judged(writer, &book.judge(&packet)),
+            Err(refusal) => refuse(writer, refusal),
+        },
+        None => answer(alloc, line, writer, book),
+    }
+}
+
+// Kept apart, since a function pays for the size of a reply wherever it goes.
+fn refuse<W: Write>(writer: &mut W, refusal: Refusal) -> io::Result<()>
+    ensures { Writes result (W.contents writer.old) (W.contents writer.new) (reply_text (Refused refusal)) }
+{
+    write_reply(writer, &Reply::Refused(refusal))
+}
+
 impl AnswerLine for Book {
     ghost Serves = { Serves };
 
@@ -29,9 +69,10 @@ impl AnswerLine for Book {
         line: &[u8],
         writer: &mut W,
     ) -> io::Result<()> {
-        match reply_to(alloc, line, self) {
-            Some(reply) => write_reply(writer, &reply),
-            None => Ok(()),
+        if may_judge(line) {
+            answer_judge(alloc, line, writer, self)
+        } else {
+            answer(alloc, line, writer, self)
         }
     }
 

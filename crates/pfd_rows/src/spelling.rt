@@ -70,14 +70,20 @@ fn push_numbered(
     Ok(())
 }
 
-// What stands in braces: FIRST..LAST:TEXT.
+// What stands in braces: FIRST..LAST:TEXT, where the last number may be the lesser one.
 fn push_repeated(alloc: Global, bytes: &mut Vec<u8>, repeat: &str) -> Result<(), AllocError> {
     let (range, text) = repeat.split_once(':').unwrap_or((repeat, ""));
     let (first, last) = range.split_once("..").unwrap_or((range, ""));
     let first = first.parse::<u32>().unwrap_or(1);
     let last = last.parse::<u32>().unwrap_or(0);
-    for number in first..=last {
-        push_numbered(alloc, bytes, text, number)?;
+    if first <= last {
+        for number in first..=last {
+            push_numbered(alloc, bytes, text, number)?;
+        }
+    } else {
+        for number in (last..=first).rev() {
+            push_numbered(alloc, bytes, text, number)?;
+        }
     }
     Ok(())
 }

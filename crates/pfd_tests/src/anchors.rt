@@ -11,7 +11,7 @@ fn nested(alloc: Global) -> Result<Config, Fail> {
     let mut rules = RuleList::none();
     rules.add(alloc, rule)?;
     let path = Path::from_ascii(b"a/b/c")?;
-    let empty = Config::empty(alloc);
+    let empty = Config::empty();
     Ok(empty.with_ruleset(alloc, &path, &rules)?)
 }
 

@@ -60,7 +60,7 @@ fn a_table_is_put_at_its_path(rt: HostRuntime) -> Result<(), Fail> {
     let path = Path::from_ascii(b"a/b")?;
     let name = TableName::from_ascii(b"web")?;
     let table = a_table(rt.alloc())?;
-    let config = Config::empty(rt.alloc()).with_table(rt.alloc(), &path, &name, &table)?;
+    let config = Config::empty().with_table(rt.alloc(), &path, &name, &table)?;
     let holds = match config.table_at(&path, &name) {
         Some(table) => table.test(Addr::V4(0x0a01_0203)),
         None => false,
@@ -77,18 +77,19 @@ fn insert(alloc: Global, id: u64, packet: &str) -> Result<Step, Fail> {
         flow: Flow::of(&packet),
         bound: Bound::Default,
     };
-    Ok(Step::Insert(State::new(StateName { id, creator: 2 }, held)))
+    let name = StateName { id, creator: 2 };
+    Ok(Step::Insert(State::new(alloc, name, held)?))
 }
 
 #[test]
 fn states_change_in_place(rt: HostRuntime) -> Result<(), Fail> {
     let first = insert(rt.alloc(), 1, "in em0 tcp 10.0.0.1 1234 10.0.0.2 80")?;
     let answer = insert(rt.alloc(), 3, "out em0 tcp 10.0.0.2 80 10.0.0.1 1234")?;
-    let mut states = StateTable::empty(rt.alloc());
+    let mut states = StateTable::empty();
     let counts = states.apply_batch(rt.alloc(), &[first, answer])?;
     assert!(rt; (counts.inserted, counts.clash) == (1, 1));
-    assert!(rt; states.clear_creator(2) == 1);
-    assert!(rt; states.states().is_empty());
+    assert!(rt; states.clear_creator(rt.alloc(), 2)? == 1);
+    assert!(rt; states.states().next().is_none());
     Ok(())
 }
 

@@ -1,5 +1,5 @@
 //! Names that are kept in place.
-ghost use Rattle.std.specs.{Prelude.{◌≡◌, ◌≤◌, length}, Str.bytes_eq, Cmp.Lexicographic.lists_per};
+ghost use Rattle.std.specs.{Prelude.{◌≡◌, ◌≤◌, ◌-◌, length, slice_index}, Str.bytes_eq, Cmp.Lexicographic.lists_per};
 ghost use Rattle.std.proofs.Common.{rules};
 ghost use Rattle.pf_addr.specs.Path.Names.{IsName, name_of, name_order, same_name};
 
@@ -77,6 +77,14 @@ impl<const LIMIT: usize> Name<LIMIT> {
         &self.bytes[..self.len as usize]
     }
 
+    // The name's last byte.
+    fn last(&self) -> u8
+        ensures { result ≡ slice_index self.now (length self.now - 1) }
+    {
+        let bytes = self.as_bytes();
+        bytes[bytes.len() - 1]
+    }
+
     /// Which of two names comes first, by their bytes.
     pub fn order(&self, other: &Name<LIMIT>) -> Ordering
         ensures { result ≡ name_order self.now other.now }
@@ -99,7 +107,9 @@ impl<const LIMIT: usize> PartialEq for Name<LIMIT> {
 
     ghost laws = { Prim.search (rules, lists_per) };
 
+    #[tactic(auto, using(crate::proofs::PathTexts::last_differs))]
     fn eq(&self, other: &Name<LIMIT>) -> bool {
-        self.as_bytes() == other.as_bytes()
+        // of the names that one machine has most differ in their last byte
+        self.last() == other.last() && self.as_bytes() == other.as_bytes()
     }
 }

@@ -94,8 +94,7 @@ fn push_placed(
     ensures found { OnOk result (found.new.items ≡ found.old.items ++ placed path.now tables.now) }
     ensures order { T (is_sorted name_order tables.now) }
 {
-    let named_tables = tables.as_slice();
-    for named in named_tables {
+    for named in tables.entries() {
         let table = named.table().shared()?;
         found.push(PlacedTable::new(alloc, (path.copied(), *named.name()), table)?)?;
     }
@@ -123,8 +122,8 @@ impl Durable {
     {
         Ok(Durable {
             epoch,
-            config: shared(alloc, Config::empty(alloc))?,
-            states: shared(alloc, StateTable::empty(alloc))?,
+            config: shared(alloc, Config::empty())?,
+            states: shared(alloc, StateTable::empty())?,
             sum: ruleset_sum(&[]),
         })
     }
@@ -163,7 +162,7 @@ impl Durable {
         ensures { result ≡ verdict self.now packet.now }
     {
         match self.states.find(packet) {
-            Some(state) => Verdict::State(state.name()),
+            Some(state) => Verdict::State(*state.key()),
             None => Verdict::Rules(self.config.judge(packet)),
         }
     }
@@ -203,7 +202,7 @@ impl Durable {
     ) -> Result<(), ChangeRefusal>
         ensures { OrMemory Memory result (room_for_table self.now path.now name.now new.now) }
     {
-        if self.has_table(path, name) || new.entries().is_empty() {
+        if self.has_table(path, name) || new.is_empty() {
             return Ok(());
         }
         let tables = [PlacedTable::new(alloc, (path.copied(), *name), new.shared()?)?];
@@ -355,8 +354,8 @@ impl Durable {
     fn without_state(&self, alloc: Global, name: StateName) -> Result<StateTable, AllocError>
         ensures { IfOk result (λ t. t ≡ without_state self.now.states name) }
     {
-        let mut states = self.states.copied(alloc)?;
-        states.remove(name);
+        let mut states = self.states.shared()?;
+        states.remove(alloc, name)?;
         Ok(states)
     }
 

@@ -5,19 +5,19 @@ ghost use Rattle.pf_line.specs.{Reply.Parts.{newlines, GoesOn}, Reply.Texts.{sig
 
 use crate::reply::part::write_part;
 use pf_addr::{Net, net_text_is_one_word, write_more_net};
-use pf_table::Entry;
+use pf_table::{Entry, Table};
 use std::io::{self, Write};
 
-/// Writes each entry behind a space.
+/// Writes each entry of a table behind a space.
 pub(crate) fn write_entries<W: Write>(
     out: &mut W,
     begun: io::Result<()>,
-    entries: &[Entry],
+    table: &Table,
 ) -> io::Result<()>
-    ensures { GoesOn begun (W.contents out.old) result (W.contents out.new) (entries_text entries.now) }
+    ensures { GoesOn begun (W.contents out.old) result (W.contents out.new) (entries_text table.now) }
 {
     let mut so_far = begun;
-    for entry in entries {
+    for entry in table.entries() {
         so_far = write_part(out, so_far, b" ");
         so_far = write_entry(out, so_far, *entry);
     }

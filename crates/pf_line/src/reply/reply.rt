@@ -3,6 +3,8 @@
 //! A call that fails has written some front of its text, and no more. None of these calls has an allocator.
 ghost use Rattle.std.specs.{Prelude.{◌≡◌, ◌≢◌, IfErr}, IoError.error_kind};
 ghost use Rattle.pf_addr.specs.Writing.{Writes};
+ghost use Rattle.pf_core.specs.declared.reply.Answer.TheVariants as answers;
+ghost use Rattle.pf_core.specs.declared.reply.Reply.TheVariants as replies;
 ghost use Rattle.pf_line.specs.{Reply.Parts.{HasLines, GoesOn, WroteLines}, Reply.Replies.{last_line, shown_lines, reply_text, line_count}};
 
 use crate::reply::answer::{write_answer, write_applied};
@@ -10,7 +12,8 @@ use crate::reply::part::end_line;
 use crate::reply::refusal::write_refusal;
 use crate::reply::shown::{write_rules, write_tables};
 use crate::reply::state_line::{write_messages, write_states};
-use pf_core::{Answer, Reply};
+use crate::reply::verdict::write_verdict;
+use pf_core::{Answer, Reply, Verdict};
 use std::io::{self, ErrorKind, Write};
 
 /// Writes the reply's text: of a shown ruleset a line for each rule, of shown tables, states and messages a line for
@@ -25,6 +28,15 @@ pub fn write_reply<W: Write>(out: &mut W, reply: &Reply) -> io::Result<()>
 {
     let so_far = write_shown(out, reply);
     let so_far = write_words(out, so_far, reply);
+    end_line(out, so_far)
+}
+
+/// Writes the reply to a judge, as [`write_reply`] does.
+pub fn write_judged<W: Write>(out: &mut W, verdict: &Verdict) -> io::Result<()>
+    ensures text { Writes result (W.contents out.old) (W.contents out.new) (reply_text (replies.Answer (answers.Judged verdict.now))) }
+    ensures retried { IfErr result (λ e. error_kind e ≢ ErrorKind.Interrupted) }
+{
+    let so_far = write_verdict(out, Ok(()), verdict);
     end_line(out, so_far)
 }
 

@@ -65,7 +65,7 @@ fn write_table<W: Write>(out: &mut W, so_far: io::Result<()>, table: &PlacedTabl
     ensures { GoesOn so_far (W.contents out.old) result (W.contents out.new) (table_line table.now) }
 {
     let so_far = write_name(out, so_far, &table.key().1);
-    write_entries(out, so_far, table.value().entries())
+    write_entries(out, so_far, table.value())
 }
 
 fn write_name<W: Write>(out: &mut W, so_far: io::Result<()>, name: &TableName) -> io::Result<()>

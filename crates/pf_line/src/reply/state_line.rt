@@ -51,8 +51,8 @@ fn write_message<W: Write>(out: &mut W, so_far: io::Result<()>, message: &[u8]) 
 fn write_state<W: Write>(out: &mut W, so_far: io::Result<()>, state: &State) -> io::Result<()>
     ensures { GoesOn so_far (W.contents out.old) result (W.contents out.new) (state_line state.now) }
 {
-    let held = state.held();
-    let so_far = write_name(out, so_far, state.name());
+    let held = state.value();
+    let so_far = write_name(out, so_far, *state.key());
     let so_far = write_numbered(out, so_far, b" ", held.generation as u64);
     let so_far = write_flow(out, so_far, &held.flow);
     write_bound(out, so_far, &held.bound)

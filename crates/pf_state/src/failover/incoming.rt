@@ -20,12 +20,20 @@ pub fn steps_of(
 {
     let mut steps = Vec::new(alloc);
     for group in message.groups.as_slice() {
-        push_group(&mut steps, group, &message.checksum, current, rule_count)?;
+        push_group(
+            alloc,
+            &mut steps,
+            group,
+            &message.checksum,
+            current,
+            rule_count,
+        )?;
     }
     Ok(StepList::new(steps))
 }
 
 fn push_group(
+    alloc: Global,
     steps: &mut Vec<Step>,
     group: &Group,
     sum: &[u8; 16],
@@ -36,7 +44,7 @@ fn push_group(
 {
     match group {
         Group::Inserts(inserts) => {
-            push_inserts(steps, inserts.as_slice(), sum, current, rule_count)
+            push_inserts(alloc, steps, inserts.as_slice(), sum, current, rule_count)
         }
         Group::Deletes(deletes) => push_deletes(steps, deletes.as_slice()),
         Group::Clears(clears) => push_clears(steps, clears.as_slice()),
@@ -44,6 +52,7 @@ fn push_group(
 }
 
 fn push_inserts(
+    alloc: Global,
     steps: &mut Vec<Step>,
     inserts: &[Insert],
     sum: &[u8; 16],
@@ -53,7 +62,8 @@ fn push_inserts(
     ensures { OnOk result (steps.new.items ≡ steps.old.items ++ map (insert_step sum.now current.now rule_count) inserts.now) }
 {
     for insert in inserts {
-        steps.push(Step::Insert(told_state(insert, sum, current, rule_count)))?;
+        let state = told_state(alloc, insert, sum, current, rule_count)?;
+        steps.push(Step::Insert(state))?;
     }
     Ok(())
 }
@@ -82,8 +92,14 @@ fn push_clears(steps: &mut Vec<Step>, clears: &[Clear]) -> Result<(), AllocError
 }
 
 // The state that an insert tells of, bound by the rules here.
-fn told_state(insert: &Insert, sum: &[u8; 16], current: &[u8; 16], rule_count: usize) -> State
-    ensures { result ≡ told_state sum.now current.now rule_count insert.now }
+fn told_state(
+    alloc: Global,
+    insert: &Insert,
+    sum: &[u8; 16],
+    current: &[u8; 16],
+    rule_count: usize,
+) -> Result<State, AllocError>
+    ensures { IfOk result (λ s. s ≡ told_state sum.now current.now rule_count insert.now) }
 {
     let fields = insert.fields();
     let name = StateName {
@@ -95,7 +111,7 @@ fn told_state(insert: &Insert, sum: &[u8; 16], current: &[u8; 16], rule_count: u
         flow: told_flow(insert),
         bound: bind(sum, fields.rule, fields.anchor, current, rule_count),
     };
-    State::new(name, held)
+    State::new(alloc, name, held)
 }
 
 // The flow of the state that an insert tells of.

@@ -1,9 +1,10 @@
 //! Messages that tell a peer of the states here.
-ghost use Rattle.std.specs.{Prelude.{◌≡◌, ◌≤◌, [], length, map, IfOk}, List.concat};
+ghost use Rattle.std.specs.{Prelude.{◌≡◌, ◌≤◌, [], length, map, take, drop, IfOk, OnOk}, List.concat};
 ghost use Rattle.pf_state.specs.{Peer.Messages.IsMessage, Peer.Streams.{Reads, Unfinished}, Peer.Written.message_bytes, Failover.Outgoing.{exported_insert, exported_message, exported_messages}};
 
 use crate::peer::{Group, Insert, InsertFields, Message, Records, write_peer};
-use crate::{ALL_ONES, State, StateTable, exported};
+use crate::{ALL_ONES, Held, State, StateName, StateTable, exported};
+use pf_table::map::Entries;
 use std::alloc::{AllocError, Global};
 use std::marker::Model;
 
@@ -54,10 +55,30 @@ pub fn export(
     ensures read { IfOk result (λ e. Reads (concat e) (exported_messages current.now states.now) (Unfinished [])) }
 {
     let mut messages = Vec::new(alloc);
-    for part in states.states().chunks(EXPORT_RECORDS) {
-        messages.push(written(alloc, part, current)?)?;
+    let mut rest = states.states();
+    for message in 0..states.len().div_ceil(EXPORT_RECORDS) {
+        let part = next_part(alloc, &mut rest)?;
+        messages.push(written(alloc, &part, current)?)?;
     }
     Ok(Exported { messages })
+}
+
+// Of the states that are left to come those that the next message tells of, shared.
+fn next_part(
+    alloc: Global,
+    rest: &mut Entries<'_, StateName, Held, State>,
+) -> Result<Vec<State>, AllocError>
+    ensures part { IfOk result (λ v. v.items ≡ take EXPORT_RECORDS rest.old) }
+    ensures left { OnOk result (rest.new ≡ drop EXPORT_RECORDS rest.old) }
+{
+    let mut part = Vec::with_capacity(alloc, EXPORT_RECORDS)?;
+    for told in 0..EXPORT_RECORDS {
+        match rest.next() {
+            Some(state) => part.push(state.shared()?)?,
+            None => return Ok(part),
+        }
+    }
+    Ok(part)
 }
 
 // The message that tells of these states, in bytes.
@@ -94,8 +115,12 @@ fn inserts_of(
 fn exported_insert(state: &State, current: &[u8; 16]) -> Insert
     ensures { result ≡ exported_insert current.now state.now }
 {
-    let name = state.name();
-    let held = state.held();
+    insert_of(*state.key(), *state.value(), current)
+}
+
+fn insert_of(name: StateName, held: Held, current: &[u8; 16]) -> Insert
+    ensures { result ≡ exported_insert current.now (name, held) }
+{
     let flow = held.flow;
     Insert::new(InsertFields {
         id: name.id,

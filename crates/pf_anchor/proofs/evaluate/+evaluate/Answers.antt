@@ -4,8 +4,7 @@ use Rattle.pf_addr.specs.Path.Nested.{depth, path_within, is_child}
 use Rattle.pf_addr.proofs.Nesting.{leads_deeper}
 use Rattle.pf_rule.specs.Rules.{PlainRule}
 use Rattle.pf_anchor.specs.{declared.{evaluated.Evaluated.Evaluated, evaluated.Evaluated.TheVariants.Open, evaluated.Evaluated.TheVariants.Ended}, Matches.PlainMatch, Rulesets.{Ruled, ruled}, Evaluation.{and_then, settled, rules_give, effected, in_turn, evaluation, evaluate_with, matching}}
-use Rattle.pf_table.specs.Map.Pages.{joined}
-use Rattle.pf_anchor.proofs.{Evaluations.{unrolled, none_and_then, no_rules}, Turns.{rule_goes_on, rule_passed, child_deeper, then_open, page_step, no_targets, targets_from, plain_turn}, evaluate.+evaluate.Goals.{evaluate-then-matches+in-Open, evaluate-else-matches}}
+use Rattle.pf_anchor.proofs.{Evaluations.{unrolled, none_and_then, no_rules}, Turns.{rule_goes_on, rule_passed, child_deeper, then_open, child_step, no_child_step, no_targets, targets_from, plain_turn}, evaluate.+evaluate.Goals.{evaluate-then-matches+in-Open, evaluate-else-matches}}
 use Rattle.pf_anchor.proofs.evaluate.+evaluate.Goals as goal
 
 pub evaluate-loop-number-init : goal.evaluate-loop-number-init
@@ -29,30 +28,6 @@ evaluate-loop-number-preserved t c =
           ∙ ap later (sym (w.last-is ∙ w.or-last.ensures))
       | evaluate-else-matches w ↦ rule_passed effect test c.loop-number.last c.loop-number.number _ c.rule-item.result rest here (named false w.if-matches.false) ∙ ap later (sym w.last-is)
     ]
-
-pub evaluate_among-evaluate-requires : goal.evaluate_among-evaluate-requires
-evaluate_among-evaluate-requires t c =
-    let deeper = child_deeper c.args.path.now c.placed-item.result.0 (rw c.key.ensures at (sym c.if-is_child_of.ensures.value)) (rw c.key.ensures at c.is_child_of.ensures.path) in
-    (omega (arith, c.decreases, deeper.0, deeper.1), tt)
-
-pub evaluate_children-returns-in-Ended : goal.evaluate_children-returns-in-Ended
-evaluate_children-returns-in-Ended t c =
-    let f = evaluation c.args.config.now.rulesets (matching c.args.config.now.tables c.args.packet.now) in
-    let test : Ruled → Bool = λ e. is_child c.args.path.now e.0 in
-    let rest = drop (c.loop-page.page-index + 1) c.ruleset_pages-pages.result.now in
-    let left : drop c.loop-page.page-index c.ruleset_pages-pages.result.now ≡ c.page-item.result ∷ rest = grind (arith, common_steps) in
-    let is = c.in-Ended.ensures ∙ ap (λ (es : List Ruled). in_turn f (filter test es)) c.as_slice.ensures.value in
-    sym (c.loop-page.invariant ∙ page_step f test c.loop-page.last _ c.page-item.result rest (Ended c.in-Ended.end) left is)
-
-pub evaluate_children-loop-page-preserved : goal.evaluate_children-loop-page-preserved
-evaluate_children-loop-page-preserved t c =
-    let f = evaluation c.args.config.now.rulesets (matching c.args.config.now.tables c.args.packet.now) in
-    let test : Ruled → Bool = λ e. is_child c.args.path.now e.0 in
-    let rest = drop (c.loop-page.page-index + 1) c.ruleset_pages-pages.result.now in
-    let left : drop c.loop-page.page-index c.ruleset_pages-pages.result.now ≡ c.page-item.result ∷ rest = grind (arith, common_steps) in
-    let is = c.in-Open.ensures ∙ ap (λ (es : List Ruled). in_turn f (filter test es)) c.as_slice.ensures.value in
-    c.loop-page.invariant ∙ page_step f test c.loop-page.last _ c.page-item.result rest (Open c.in-Open.later) left is
-    ∙ then_open c.loop-page.last c.in-Open.later (in_turn f (filter test (joined rest))) ∙ ap (λ (o : Option PlainMatch). and_then (Open o) (in_turn f (filter test (joined rest)))) (sym c.or-last.ensures)
 
 pub evaluate_targets-returns-in_default : goal.evaluate_targets-returns-in_default
 evaluate_targets-returns-in_default t c =
@@ -96,3 +71,34 @@ evaluate_targets-returns-in-None t c =
     sym (ap (in_turn f) (targets_from c.args.config.now.rulesets c.args.path.now c.args.reference.now c.in-Some.base false at plain)
     ∙ plain_turn f c.args.config.now.rulesets c.in-Some.base c.placed_at.ensures.map.sorted nothing
     ∙ ap (λ (rs : List PlainRule). f (ruled c.in-Some.base rs)) c.in-None.ensures.rules ∙ nothing)
+
+pub evaluate_children-evaluate-requires : goal.evaluate_children-evaluate-requires
+evaluate_children-evaluate-requires t c =
+    let deeper = child_deeper c.args.path.now c.in-Some.placed.now.0 (rw c.key.ensures at (sym c.if-is_child_of.ensures.value)) (rw c.key.ensures at c.is_child_of.ensures.path) in
+    (omega (arith, c.decreases, deeper.0, deeper.1), tt)
+
+pub evaluate_children-loop-placed-preserved-in-Open : goal.evaluate_children-loop-placed-preserved-in-Open
+evaluate_children-loop-placed-preserved-in-Open t c =
+    let f = evaluation c.args.config.now.rulesets (matching c.args.config.now.tables c.args.packet.now) in
+    let test : Ruled → Bool = λ e. is_child c.args.path.now e.0 in
+    let left : c.loop-placed.placed-iterator ≡ c.in-Some.placed.now ∷ c.next.new.self = c.in-Some.ensures.steps in
+    c.loop-placed.invariant ∙ ap (λ (es : List Ruled). and_then (Open c.loop-placed.last) (in_turn f (filter test es))) left
+    ∙ child_step f test c.loop-placed.last c.in-Some.placed.now c.next.new.self (Open c.in-Open.found) (rw c.key.ensures at (sym c.if-is_child_of.ensures.value)) c.in-Open.ensures
+    ∙ then_open c.loop-placed.last c.in-Open.found (in_turn f (filter test c.next.new.self))
+    ∙ ap (λ (o : Option PlainMatch). and_then (Open o) (in_turn f (filter test c.next.new.self))) (sym c.or-last.ensures)
+
+pub evaluate_children-returns-in-Ended : goal.evaluate_children-returns-in-Ended
+evaluate_children-returns-in-Ended t c =
+    let f = evaluation c.args.config.now.rulesets (matching c.args.config.now.tables c.args.packet.now) in
+    let test : Ruled → Bool = λ e. is_child c.args.path.now e.0 in
+    let left : c.loop-placed.placed-iterator ≡ c.in-Some.placed.now ∷ c.next.new.self = c.in-Some.ensures.steps in
+    sym (c.loop-placed.invariant ∙ ap (λ (es : List Ruled). and_then (Open c.loop-placed.last) (in_turn f (filter test es))) left
+    ∙ child_step f test c.loop-placed.last c.in-Some.placed.now c.next.new.self (Ended c.in-Ended.end) (rw c.key.ensures at (sym c.if-is_child_of.ensures.value)) c.in-Ended.ensures)
+
+pub evaluate_children-loop-placed-preserved : goal.evaluate_children-loop-placed-preserved
+evaluate_children-loop-placed-preserved t c =
+    let f = evaluation c.args.config.now.rulesets (matching c.args.config.now.tables c.args.packet.now) in
+    let test : Ruled → Bool = λ e. is_child c.args.path.now e.0 in
+    let left : c.loop-placed.placed-iterator ≡ c.in-Some.placed.now ∷ c.next.new.self = c.in-Some.ensures.steps in
+    c.loop-placed.invariant ∙ ap (λ (es : List Ruled). and_then (Open c.loop-placed.last) (in_turn f (filter test es))) left
+    ∙ no_child_step f test c.loop-placed.last c.in-Some.placed.now c.next.new.self (rw c.key.ensures at (sym c.if-is_child_of.ensures.value))

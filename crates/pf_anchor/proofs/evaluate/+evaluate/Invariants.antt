@@ -3,7 +3,6 @@ use Rattle.std.specs.Prelude.{filter}
 use Rattle.pf_addr.specs.declared.path.limits.TheConstants.{DEPTH_LIMIT}
 use Rattle.pf_addr.specs.Path.Nested.{depth, is_child}
 use Rattle.pf_anchor.specs.declared.evaluated.Evaluated.TheVariants.{Open}
-use Rattle.pf_table.specs.Map.Pages.{joined}
 use Rattle.pf_anchor.specs.Evaluation.{and_then, in_turn, effected, rules_give, evaluation, matching}
 use Rattle.pf_anchor.proofs.evaluate.+evaluate.Given as goal
 
@@ -20,9 +19,6 @@ decreases-evaluate_targets l = 3 * (DEPTH_LIMIT - depth l.path.now)
 abbrev pub decreases-evaluate_children : goal.decreases-evaluate_children
 decreases-evaluate_children l = 3 * (DEPTH_LIMIT - depth l.path.now) + 1
 
-abbrev pub decreases-evaluate_among : goal.decreases-evaluate_among
-decreases-evaluate_among l = 3 * (DEPTH_LIMIT - depth l.path.now)
-
 -- what the rules left give comes after the last match so far
 abbrev pub invariant-evaluate-loop-number : goal.invariant-evaluate-loop-number
 invariant-evaluate-loop-number l =
@@ -30,12 +26,7 @@ invariant-evaluate-loop-number l =
     ≡ and_then (Open l.last) (rules_give (λ n r. effected (evaluation l.config.rulesets (matching l.config.tables l.packet)) l.config.rulesets l.placed.0 n r.effect) (matching l.config.tables l.packet l.placed.0) l.number (drop l.number l.placed.1))
 
 -- and so does what the rulesets left give
-abbrev pub invariant-evaluate_children-loop-page : goal.invariant-evaluate_children-loop-page
-invariant-evaluate_children-loop-page l =
+abbrev pub invariant-evaluate_children-loop-placed : goal.invariant-evaluate_children-loop-placed
+invariant-evaluate_children-loop-placed l =
     in_turn (evaluation l.config.rulesets (matching l.config.tables l.packet)) (filter (λ e. is_child l.path e.0) l.config.rulesets)
-    ≡ and_then (Open l.last) (in_turn (evaluation l.config.rulesets (matching l.config.tables l.packet)) (filter (λ e. is_child l.path e.0) (joined (drop l.page-index l.pages))))
-
-abbrev pub invariant-evaluate_among-loop-placed : goal.invariant-evaluate_among-loop-placed
-invariant-evaluate_among-loop-placed l =
-    in_turn (evaluation l.config.rulesets (matching l.config.tables l.packet)) (filter (λ e. is_child l.path e.0) l.entries)
-    ≡ and_then (Open l.last) (in_turn (evaluation l.config.rulesets (matching l.config.tables l.packet)) (filter (λ e. is_child l.path e.0) (drop l.placed-index l.entries)))
+    ≡ and_then (Open l.last) (in_turn (evaluation l.config.rulesets (matching l.config.tables l.packet)) (filter (λ e. is_child l.path e.0) l.placed-iterator))

@@ -1,7 +1,8 @@
-use Rattle.std.proofs.Common.{◌∷◌, [], subst}
-use Rattle.pf_state.specs.declared.step.Step.{Step}
-use Rattle.pf_state.specs.Candidates.{AreNamed}
+use Rattle.std.proofs.Common.{◌∙◌}
+use Rattle.pf_state.proofs.Counting.{counts_deleted}
 use Rattle.pf_state.proofs.change.act.Goals as goal
 
-pub insert-requires-clause-named : goal.insert-requires-clause-named
-insert-requires-clause-named c = subst (λ (x : Step). AreNamed c.args.candidates.now c.args.states.now.items (x ∷ [])) c.in-Insert.is c.requires.named
+pub returns-in_ok-without-in-Delete-clause-counted : goal.returns-in_ok-without-in-Delete-clause-counted
+returns-in_ok-without-in-Delete-clause-counted c =
+    c.taken_out.ensures.counted
+    ∙ rw (c.len-before.ensures, c.in_ok-without-in-Delete.ensures, c.in-Delete.is) (counts_deleted c.args.states c.in-Delete.name c.requires)

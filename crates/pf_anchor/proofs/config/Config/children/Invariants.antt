@@ -1,7 +1,7 @@
-use Rattle.std.proofs.Common.{◌≡◌, take}
-use Rattle.pf_table.specs.Map.Pages.{joined}
+use Rattle.std.proofs.Common.{◌≡◌, ◌++◌}
 use Rattle.pf_anchor.specs.Rulesets.{children}
 use Rattle.pf_anchor.proofs.config.Config.children.Given as goal
 
-abbrev pub invariant-loop-page : goal.invariant-loop-page
-invariant-loop-page l = l.found.items ≡ children (joined (take l.page-index l.pages)) l.path
+-- what was found stands before what the others give
+abbrev pub invariant-loop-placed : goal.invariant-loop-placed
+invariant-loop-placed l = l.found.items ++ children l.placed-iterator l.path ≡ children l.self.rulesets l.path

@@ -1,7 +1,9 @@
-use Rattle.std.proofs.Common.{sym, subst}
-use Rattle.pf_state.specs.States.{IsStates}
-use Rattle.pf_state.proofs.Counting.{states_cleared}
+use Rattle.std.proofs.Common.{sym}
+use Rattle.pf_state.proofs.Counting.{states_cleared, cleared_count}
 use Rattle.pf_state.proofs.table.StateTable.clear_creator.Goals as goal
 
 pub invariant_of-self : goal.invariant_of-self
-invariant_of-self c = subst IsStates (sym c.clear.ensures) (states_cleared c.self.inside.states.items c.args.creator c.self.invariant)
+invariant_of-self c = rw (c.in_ok-left.ensures, c.in_ok-shared.ensures) (states_cleared c.self.inside.index c.args.creator c.self.invariant)
+
+pub returns-clause-count : goal.returns-clause-count
+returns-clause-count c = rw (c.len-before.ensures, c.len.ensures, c.in_ok-left.ensures, c.in_ok-shared.ensures, sym c.self.view_is) (cleared_count c.self.inside.index c.args.creator)

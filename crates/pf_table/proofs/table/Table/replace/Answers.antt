@@ -1,6 +1,8 @@
-use Rattle.std.proofs.Common.{rules}
-use Rattle.pf_table.proofs.Edits.{sorted_batch}
+use Rattle.std.proofs.Common.{◌∙◌, sym}
+use Rattle.pf_table.proofs.Edits.{replace_leaves_table, few_of}
 use Rattle.pf_table.proofs.table.Table.replace.Goals as goal
 
-pub of-requires : goal.of-requires
-of-requires c = record { sorted = sorted_batch c.in_ok-batch.batch.named.items c.args.entries.now c.in_ok-batch.ensures.named; networks = c.in_ok-batch.ensures.networks; few = search rules }
+pub invariant_of-drop : goal.invariant_of-drop
+invariant_of-drop c =
+    replace_leaves_table c.args.entries.now c.in_ok-named.named c.in_ok-named.ensures.networks c.in_ok-named.ensures.named
+    (few_of _ (sym c.is_more_than.ensures ∙ c.if-is_more_than.false))

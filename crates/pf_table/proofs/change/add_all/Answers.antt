@@ -1,0 +1,27 @@
+use Rattle.std.proofs.Common.{◌++◌, ◌∙◌, ap, refl}
+use Rattle.pf_table.specs.{Tables.sign_of, Edits.{added, addition, additions, with_entry}}
+use Rattle.pf_table.proofs.Batches.{adds_next, adds_end, one_more}
+use Rattle.pf_table.proofs.change.add_all.Goals as goal
+
+pub loop-entry-init : goal.loop-entry-init
+unfolding added
+loop-entry-init c = record { so_far = refl; told = ap (λ l. l ++ additions c.args.entries c.args.list.now) c.in_ok-answers.ensures.items }
+
+pub loop-entry-preserved : goal.loop-entry-preserved
+loop-entry-preserved c =
+    let so_far = c.loop-entry.invariant.so_far in
+    let x = c.entry-item.result in
+    let answer = c.addition.ensures
+    ∙ ap (λ o. addition o c.is_negated.result) (c.sign_of-there.ensures ∙ ap (λ n. sign_of n c.loop-entry.after) c.net.ensures.value)
+    ∙ ap (addition (sign_of x.0 c.loop-entry.after)) c.is_negated.ensures in
+    record {
+      so_far = c.in_ok-after.ensures.value ∙ ap (λ l. with_entry l x) so_far
+          ∙ one_more c.args.entries c.args.list.now c.loop-entry.entry-index x c.loop-entry-test.true c.entry-item.is;
+      told = rw (c.in_ok-push.ensures.items, answer) (adds_next c.loop-entry.answers.items c.args.entries c.loop-entry.after
+          c.args.list.now c.loop-entry.entry-index x so_far c.loop-entry-test.true c.entry-item.is) ∙ c.loop-entry.invariant.told;
+    }
+
+pub returns-clause-answers : goal.returns-clause-answers
+returns-clause-answers c =
+    adds_end c.loop-entry.answers.items c.args.entries c.args.list.now c.loop-entry.entry-index c.loop-entry-test.false
+    ∙ c.loop-entry.invariant.told

@@ -1,0 +1,60 @@
+use Rattle.std.proofs.Common.{◌≡◌, ◌≢◌, ◌<◌, arith, true, false, Some, None, ◌∙◌, sym, ap, subst}
+use Rattle.pf_addr.specs.{declared.addr.Addr.Addr, Address.{Network, contains, family_of, width, network_from}, Spelling.first_addr}
+use Rattle.pf_table.specs.{Entries.{net_order}, Map.Maps.at_or_before, Shared.Share}
+use Rattle.pf_table.proofs.Lookups.{NoneLonger, none_longer_at_first, none_left, longest_holds, other_family, shorter}
+use Rattle.pf_table.proofs.lookup.decider.Goals as goal
+
+pub shorter-init : goal.shorter-init
+shorter-init c =
+    let whole : c.width-len.result ≡ width (family_of c.args.addr) = c.width-len.ensures ∙ ap width c.family.ensures in
+    record {
+      within = rw whole (omega arith);
+      most = none_longer_at_first c.args.entries.now c.args.addr c.width-len.result
+          c.requires.networks whole;
+    }
+
+pub returns-in_err-entry : goal.returns-in_err-entry
+returns-in_err-entry c =
+    let none : at_or_before net_order (network_from c.args.addr c.shorter.len) c.args.entries.now ≡ None =
+    ap (λ (n : Network). at_or_before net_order n c.args.entries.now) (sym c.new.ensures) ∙ sym c.in_err-entry.ensures in
+    c.from_residual.ensures ∙ sym (none_left c.args.entries.now c.args.addr c.shorter.len c.shorter.invariant.most none)
+
+pub returns-then-contains : goal.returns-then-contains
+returns-then-contains c =
+    let last : at_or_before net_order (network_from c.args.addr c.shorter.len) c.args.entries.now ≡ Some c.in_ok-entry.field-0.now =
+    ap (λ (n : Network). at_or_before net_order n c.args.entries.now) (sym c.new.ensures) ∙ sym c.in_ok-entry.ensures in
+    let holds : contains c.in_ok-entry.field-0.now.0 c.args.addr ≡ true =
+    ap (λ (n : Network). contains n c.args.addr) (sym c.net.ensures.value) ∙ sym c.contains.ensures ∙ c.if-contains.true in
+    sym (longest_holds c.args.entries.now c.args.addr c.shorter.len c.in_ok-entry.field-0.now c.requires.sorted c.shorter.invariant.most
+    last holds)
+
+pub returns-in_err-len : goal.returns-in_err-len
+returns-in_err-len c =
+    let last : at_or_before net_order (network_from c.args.addr c.shorter.len) c.args.entries.now ≡ Some c.in_ok-entry.field-0.now =
+    ap (λ (n : Network). at_or_before net_order n c.args.entries.now) (sym c.new.ensures) ∙ sym c.in_ok-entry.ensures in
+    let other : c.in_ok-entry.field-0.now.0.family ≢ family_of c.args.addr =
+    λ same. c.in_err-len.ensures (sym same ∙ sym (c.addr.ensures.family
+    ∙ ap (λ (n : Network). n.family) c.net-in-shorter.ensures.value)) in
+    c.from_residual-in_err-len.ensures
+    ∙ sym (other_family c.args.entries.now c.args.addr c.shorter.len c.in_ok-entry.field-0.now c.requires.sorted
+    c.shorter.invariant.most last other)
+
+step : (c : goal.In_ok-len) → NoneLonger c.args.entries.now c.args.addr c.in_ok-len.len × (c.in_ok-len.len < c.shorter.len)
+step c =
+    let last : at_or_before net_order (network_from c.args.addr c.shorter.len) c.args.entries.now ≡ Some c.in_ok-entry.field-0.now =
+    ap (λ (n : Network). at_or_before net_order n c.args.entries.now) (sym c.new.ensures) ∙ sym c.in_ok-entry.ensures in
+    let other : contains c.in_ok-entry.field-0.now.0 c.args.addr ≡ false =
+    ap (λ (n : Network). contains n c.args.addr) (sym c.net.ensures.value) ∙ sym c.contains.ensures ∙ c.if-contains.false in
+    let first : c.addr.result ≡ first_addr c.in_ok-entry.field-0.now.0 = c.addr.ensures.value
+    ∙ ap first_addr c.net-in-shorter.ensures.value in
+    let share : Share c.args.addr (first_addr c.in_ok-entry.field-0.now.0) c.in_ok-len.len =
+    subst (λ (b : Addr). Share c.args.addr b c.in_ok-len.len) first c.in_ok-len.ensures in
+    shorter c.args.entries.now c.args.addr c.shorter.len c.in_ok-entry.field-0.now c.in_ok-len.len c.requires.sorted c.requires.networks
+    c.shorter.invariant.within c.shorter.invariant.most last other share
+
+pub shorter-smaller : goal.shorter-smaller
+shorter-smaller c = (step c).1
+
+pub shorter-preserved : goal.shorter-preserved
+shorter-preserved c = let (most, less) = step c in let within = c.shorter.invariant.within in
+    record { within = omega (arith, less, within); most = most }
