@@ -70,10 +70,12 @@ fn push_numbered(
     Ok(())
 }
 
-// What stands in braces: FIRST..LAST:TEXT, where the last number may be the lesser one.
+// What stands in braces: FIRST..LAST:TEXT, where the last number may be the lesser one. With no numbers it is nothing.
 fn push_repeated(alloc: Global, bytes: &mut Vec<u8>, repeat: &str) -> Result<(), AllocError> {
     let (range, text) = repeat.split_once(':').unwrap_or((repeat, ""));
-    let (first, last) = range.split_once("..").unwrap_or((range, ""));
+    let Some((first, last)) = range.split_once("..") else {
+        return Ok(());
+    };
     let first = first.parse::<u32>().unwrap_or(1);
     let last = last.parse::<u32>().unwrap_or(0);
     if first <= last {
