@@ -5,13 +5,14 @@ ghost use Rattle.pf_ticket.specs.declared.entry.Entry.{Entry};
 ghost use Rattle.pf_ticket.specs.{Mentions.{after, switches}, Tickets.{fresh, content}};
 ghost use Rattle.pf_core.specs.declared.{command.Command.Command, command.Question.Question, command.Transaction.Transaction};
 ghost use Rattle.pf_core.specs.declared.reply.Answer.TheVariants as answer;
-ghost use Rattle.pf_core.specs.{Commands.{item_of, items, commit_step, rollback_step, transact_step, answer_of, step_by, transacts_in_memory, asks_for_memory, takes_memory}, Durable.Edits.verdict, Refusals.OrMemory, Wholes.{whole, prepared, answered, stepped}};
+ghost use Rattle.pf_core.specs.{Commands.{item_of, items, commit_step, rollback_step, transact_step, answer_of, step_by, transacts_in_memory, asks_for_memory, takes_memory}, Durable.Edits.verdict, Refusals.OrMemory, Wholes.{whole, prepared, answered, stepped, plain, IsMade}};
 
 use crate::command::{Command, Question, Transaction};
 use crate::durable::{Change, Durable, Item};
+use crate::next::Next;
 use crate::reply::{Answer, NamedTables, Outcome, Refusal, StateList};
 use crate::state_command::change_states;
-use crate::step::Step;
+use crate::step::{ReadyStep, Step, wants};
 use crate::table_edit::edit;
 use pf_anchor::Placed;
 use pf_state::failover::export;
@@ -35,22 +36,6 @@ impl Model for Core {
     ghost Value = { Whole };
 
     ghost view = { λ c. whole (arc_value c.durable) c.tickets };
-}
-
-/// What a change leaves, with all its memory made. Contracts see it as a `Ready`.
-#[derive(Drop)]
-pub struct Next {
-    durable: Arc<Durable>,
-    voided: Vec<RulesetName>,
-}
-
-impl Model for Next {
-    ghost use Rattle.std.specs.Arc.{arc_value};
-    ghost use Rattle.pf_core.specs.Wholes.{Ready, ready};
-
-    ghost Value = { Ready };
-
-    ghost view = { λ n. ready (arc_value n.durable) n.voided.items };
 }
 
 // What replaces a ruleset: what is offered for it. No rule and no table is copied.
@@ -82,13 +67,15 @@ fn commit(
     durable: &Durable,
     tickets: &Tickets,
     entries: &[Entry],
-) -> Result<Step, Refusal>
-    ensures { OrMemory true result (commit_step tickets.now durable.now entries.now) }
+) -> Result<ReadyStep, Refusal>
+    ensures reply { OrMemory true (plain result) (commit_step tickets.now durable.now entries.now) }
+    ensures made { IsMade durable.now result }
 {
     tickets.check_all(entries)?;
     let items = take_items(alloc, tickets, entries)?;
     durable.check_commit(alloc, items.as_slice())?;
-    Ok(Step::Wants(Change::commit(items), Outcome::Committed))
+    let left = durable.committed(alloc, items.as_slice())?;
+    Ok(wants(alloc, Change::commit(items), left, Outcome::Committed)?)
 }
 
 // A step of a transaction. Where it wants a change, or is refused, the tickets are as before.
@@ -97,19 +84,20 @@ fn transact(
     durable: &Durable,
     tickets: &mut Tickets,
     transaction: &Transaction,
-) -> Result<Step, Refusal>
-    ensures reply { OrMemory (transacts_in_memory transaction.now) result (transact_step tickets.old durable.now transaction.now) }
-    ensures tickets { tickets.new ≡ answered tickets.old (Command.Transact transaction.now) result }
-    ensures rolled_back { (entries : List Entry) → transaction.now ≡ Transaction.Rollback entries → result ≡ rollback_step entries }
+) -> Result<ReadyStep, Refusal>
+    ensures reply { OrMemory (transacts_in_memory transaction.now) (plain result) (transact_step tickets.old durable.now transaction.now) }
+    ensures made { IsMade durable.now result }
+    ensures tickets { tickets.new ≡ answered tickets.old (Command.Transact transaction.now) (plain result) }
+    ensures rolled_back { (entries : List Entry) → transaction.now ≡ Transaction.Rollback entries → plain result ≡ rollback_step entries }
 {
     match transaction {
         Transaction::Begin(names) => {
             let given = tickets.begin(names.as_slice())?;
-            Ok(Step::Done(Answer::Given(given)))
+            Ok(ReadyStep::Done(Answer::Given(given)))
         }
         Transaction::Add { path, ticket, rule } => {
             tickets.add_rule(path, *ticket, *rule)?;
-            Ok(Step::Done(Answer::Done))
+            Ok(ReadyStep::Done(Answer::Done))
         }
         Transaction::Define {
             path,
@@ -118,12 +106,12 @@ fn transact(
             entries,
         } => {
             tickets.define_table(path, *ticket, name, entries.as_slice())?;
-            Ok(Step::Done(Answer::Done))
+            Ok(ReadyStep::Done(Answer::Done))
         }
         Transaction::Commit(entries) => commit(alloc, durable, tickets, entries.as_slice()),
         Transaction::Rollback(entries) => {
             tickets.rollback(entries.as_slice())?;
-            Ok(Step::Done(Answer::Done))
+            Ok(ReadyStep::Done(Answer::Done))
         }
     }
 }
@@ -152,15 +140,6 @@ fn answer(alloc: Global, durable: &Durable, question: &Question) -> Result<Answe
         }
         Question::Sum => Ok(Answer::Sum(durable.sum())),
         Question::Export => Ok(Answer::Exported(export(alloc, durable.states(), &durable.sum())?)),
-    }
-}
-
-impl Next {
-    /// What the change leaves, shared. `AllocError`: it can't have another owner, and nothing changes.
-    pub fn durable(&self) -> Result<Arc<Durable>, AllocError>
-        ensures { IfOk result (λ d. arc_value d ≡ self.now.durable) }
-    {
-        Arc::try_clone(&self.durable)
     }
 }
 
@@ -204,6 +183,24 @@ impl Core {
         ensures rolled_back { (entries : List Entry) → command.now ≡ Command.Transact (Transaction.Rollback entries) →
             result ≡ rollback_step entries }
     {
+        match self.step_ready(command) {
+            Ok(ReadyStep::Done(answer)) => Ok(Step::Done(answer)),
+            Ok(ReadyStep::Wants(change, _, outcome)) => Ok(Step::Wants(change, outcome)),
+            Err(refusal) => Err(refusal),
+        }
+    }
+
+    /// One command, as `step` answers or refuses it, with all made that its change leaves: as `prepare` makes it of the core as it is.
+    pub fn step_ready(&mut self, command: &Command) -> Result<ReadyStep, Refusal>
+        ensures reply { OrMemory (takes_memory self.old.durable command.now) (plain result)
+            (step_by self.old.tickets self.old.durable command.now) }
+        ensures made { IsMade self.old.durable result }
+        ensures left { self.new ≡ stepped self.old command.now (plain result) }
+        ensures judged { (packet : PlainPacket) → command.now ≡ Command.Ask (Question.Judge packet) →
+            plain result ≡ Ok (Step.Done (answer.Judged (verdict self.old.durable packet))) }
+        ensures rolled_back { (entries : List Entry) → command.now ≡ Command.Transact (Transaction.Rollback entries) →
+            plain result ≡ rollback_step entries }
+    {
         match command {
             Command::Transact(transaction) => transact(
                 self.alloc,
@@ -214,7 +211,7 @@ impl Core {
             Command::Edit(table_edit) => edit(self.alloc, &self.durable, table_edit),
             Command::States(command) => change_states(self.alloc, &self.durable, command),
             Command::Ask(question) => {
-                Ok(Step::Done(answer(self.alloc, &self.durable, question)?))
+                Ok(ReadyStep::Done(answer(self.alloc, &self.durable, question)?))
             }
         }
     }
@@ -225,11 +222,7 @@ impl Core {
         ensures { OrMemory true result (prepared self.now.durable change.now) }
     {
         let applied = self.durable.apply(self.alloc, change)?;
-        let voided = change.voided(self.alloc)?;
-        let Ok(durable) = Arc::new(self.alloc, applied) else {
-            return Err(Refusal::Memory);
-        };
-        Ok(Next { durable, voided })
+        Ok(Next::new(self.alloc, change, applied)?)
     }
 
     /// Puts in place what was prepared, which has to be of this core as it is. It takes no memory.

@@ -2,12 +2,12 @@
 ghost use Rattle.std.specs.Prelude.{◌≡◌, ◌∷◌, [], length, not, IfOk};
 ghost use Rattle.pf_anchor.specs.Rulesets.{rules_at};
 ghost use Rattle.pf_state.specs.declared.step.Step.TheVariants as step_kind;
-ghost use Rattle.pf_core.specs.{Durable.Edits.verdict, Commands.{bound_here, makes_state, make_step, track_step, steps_here, states_step, is_done, changes_states_in_memory}, Refusals.OrMemory};
+ghost use Rattle.pf_core.specs.{Durable.Edits.verdict, Commands.{bound_here, makes_state, make_step, track_step, steps_here, states_step, is_done, changes_states_in_memory}, Refusals.OrMemory, Wholes.{plain, IsMade}};
 
 use crate::command::StateCommand;
 use crate::durable::{Change, Durable, Verdict};
 use crate::reply::{Answer, Outcome, Refusal};
-use crate::step::Step;
+use crate::step::{ReadyStep, wants};
 use pf_anchor::{Path, RuleVerdict};
 use pf_rule::{Action, Packet};
 use pf_state::failover::steps_of;
@@ -59,15 +59,18 @@ fn make(
     by: RuleVerdict,
     name: StateName,
     held: Held,
-) -> Result<Step, Refusal>
-    ensures { let due = make_step durable.now by (name, held) in OrMemory (not (is_done due)) result due }
+) -> Result<ReadyStep, Refusal>
+    ensures reply { let due = make_step durable.now by (name, held) in OrMemory (not (is_done due)) (plain result) due }
+    ensures made { IsMade durable.now result }
 {
     if durable.states().held_at(name).is_some() {
-        return Ok(Step::Done(Answer::Stale(by)));
+        return Ok(ReadyStep::Done(Answer::Stale(by)));
     }
     let steps = insert(alloc, name, held)?;
-    durable.with_stepped(alloc, steps.as_slice())?;
-    Ok(Step::Wants(Change::states(steps), Outcome::Tracked(by)))
+    let (states, _) = durable.with_stepped(alloc, steps.as_slice())?;
+    let left = durable.with_states(alloc, states)?;
+    let change = Change::states(steps);
+    Ok(wants(alloc, change, left, Outcome::Tracked(by))?)
 }
 
 // Judges a packet, and makes its state where a rule says so.
@@ -76,15 +79,16 @@ fn track(
     durable: &Durable,
     name: StateName,
     packet: &Packet,
-) -> Result<Step, Refusal>
-    ensures { let due = track_step durable.now name packet.now (verdict durable.now packet.now) in OrMemory (not (is_done due)) result due }
+) -> Result<ReadyStep, Refusal>
+    ensures reply { let due = track_step durable.now name packet.now (verdict durable.now packet.now) in OrMemory (not (is_done due)) (plain result) due }
+    ensures made { IsMade durable.now result }
 {
     let by = match durable.verdict(packet) {
         Verdict::Rules(by) => by,
-        state => return Ok(Step::Done(Answer::Judged(state))),
+        state => return Ok(ReadyStep::Done(Answer::Judged(state))),
     };
     let Some(bound) = makes_state(durable, &by) else {
-        return Ok(Step::Done(Answer::Judged(Verdict::Rules(by))));
+        return Ok(ReadyStep::Done(Answer::Judged(Verdict::Rules(by))));
     };
     let held = Held {
         generation: 0,
@@ -107,21 +111,26 @@ pub(crate) fn change_states(
     alloc: Global,
     durable: &Durable,
     command: &StateCommand,
-) -> Result<Step, Refusal>
-    ensures { OrMemory (changes_states_in_memory durable.now command.now) result (states_step durable.now command.now) }
+) -> Result<ReadyStep, Refusal>
+    ensures reply { OrMemory (changes_states_in_memory durable.now command.now) (plain result) (states_step durable.now command.now) }
+    ensures made { IsMade durable.now result }
 {
     match command {
         StateCommand::Track { name, packet } => track(alloc, durable, *name, packet),
         StateCommand::Peer(message) => {
             let steps = steps_here(alloc, durable, message)?;
-            let (_, counts) = durable.with_stepped(alloc, steps.as_slice())?;
-            Ok(Step::Wants(Change::states(steps), Outcome::Peered(counts)))
+            let (states, counts) = durable.with_stepped(alloc, steps.as_slice())?;
+            let left = durable.with_states(alloc, states)?;
+            let change = Change::states(steps);
+            Ok(wants(alloc, change, left, Outcome::Peered(counts))?)
         }
         StateCommand::Kill(name) => {
             if durable.states().held_at(*name).is_none() {
                 return Err(Refusal::Absent);
             }
-            Ok(Step::Wants(Change::remove(*name), Outcome::Killed))
+            let states = durable.without_state(alloc, *name)?;
+            let left = durable.with_states(alloc, states)?;
+            Ok(wants(alloc, Change::remove(*name), left, Outcome::Killed)?)
         }
     }
 }

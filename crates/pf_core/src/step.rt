@@ -1,6 +1,12 @@
 //! What one command comes to.
-use crate::durable::Change;
+ghost use Rattle.std.specs.Prelude.{◌≡◌, IfOk};
+ghost use Rattle.pf_core.specs.{Durable.Edits.voided_by, Nexts.ready};
+ghost use Rattle.pf_core.specs.declared.step.ReadyStep.TheVariants as made;
+
+use crate::durable::{Change, Durable};
+use crate::next::Next;
 use crate::reply::{Answer, Outcome};
+use std::alloc::{AllocError, Global};
 
 /// What a command comes to, where it isn't refused.
 #[derive(Drop)]
@@ -9,4 +15,26 @@ pub enum Step {
     Done(Answer),
     /// It wants this change kept, and is then told this outcome with the change's number.
     Wants(Change, Outcome),
+}
+
+/// What a command comes to, where it isn't refused, with what its change leaves: that was found out for the outcome.
+#[derive(Drop)]
+pub enum ReadyStep {
+    /// It is answered.
+    Done(Answer),
+    /// It wants this change kept, which leaves this, and is then told this outcome with the change's number.
+    Wants(Change, Next, Outcome),
+}
+
+// A change that is wanted, and leaves this.
+pub(crate) fn wants(
+    alloc: Global,
+    change: Change,
+    left: Durable,
+    outcome: Outcome,
+) -> Result<ReadyStep, AllocError>
+    ensures { IfOk result (λ s. s ≡ made.Wants change (ready left (voided_by change)) outcome) }
+{
+    let next = Next::new(alloc, &change, left)?;
+    Ok(ReadyStep::Wants(change, next, outcome))
 }

@@ -1,11 +1,11 @@
 //! Edits of tables: which change each one wants, and what it is told.
 ghost use Rattle.std.specs.Prelude.{◌≡◌, length, filter};
-ghost use Rattle.pf_core.specs.{Commands.{same_addition, added_of, same_deletion, deleted_of, edit_step, edits_in_memory}, Refusals.OrMemory};
+ghost use Rattle.pf_core.specs.{Commands.{same_addition, added_of, same_deletion, deleted_of, edit_step, edits_in_memory}, Refusals.OrMemory, Wholes.{plain, IsMade}};
 
 use crate::command::TableEdit;
 use crate::durable::{Change, Durable, EntryList};
 use crate::reply::{Outcome, Refusal};
-use crate::step::Step;
+use crate::step::{ReadyStep, wants};
 use pf_table::{Addition, Deletion};
 use std::alloc::Global;
 
@@ -43,8 +43,9 @@ fn deleted_of(answers: &[Deletion]) -> Outcome
 }
 
 // One edit of a table.
-pub(crate) fn edit(alloc: Global, durable: &Durable, edit: &TableEdit) -> Result<Step, Refusal>
-    ensures { OrMemory (edits_in_memory durable.now edit.now) result (edit_step durable.now edit.now) }
+pub(crate) fn edit(alloc: Global, durable: &Durable, edit: &TableEdit) -> Result<ReadyStep, Refusal>
+    ensures reply { OrMemory (edits_in_memory durable.now edit.now) (plain result) (edit_step durable.now edit.now) }
+    ensures made { IsMade durable.now result }
 {
     match edit {
         TableEdit::Add {
@@ -52,37 +53,41 @@ pub(crate) fn edit(alloc: Global, durable: &Durable, edit: &TableEdit) -> Result
             name,
             entries,
         } => {
-            let (_, additions) = durable.with_added(alloc, path, name, entries.as_slice())?;
+            let (table, additions) = durable.with_added(alloc, path, name, entries.as_slice())?;
+            let left = durable.with_table(alloc, path, name, table)?;
             let change = Change::add(path.copied(), *name, entries.copied(alloc)?);
-            Ok(Step::Wants(change, added_of(additions.as_slice())))
+            Ok(wants(alloc, change, left, added_of(additions.as_slice()))?)
         }
         TableEdit::Delete {
             path,
             name,
             entries,
         } => {
-            let (_, deletions) = durable.with_deleted(alloc, path, name, entries.as_slice())?;
+            let (table, deletions) = durable.with_deleted(alloc, path, name, entries.as_slice())?;
             if !durable.has_table(path, name) {
                 return Err(Refusal::Absent);
             }
+            let left = durable.with_table(alloc, path, name, table)?;
             let change = Change::delete(path.copied(), *name, entries.copied(alloc)?);
-            Ok(Step::Wants(change, deleted_of(deletions.as_slice())))
+            Ok(wants(alloc, change, left, deleted_of(deletions.as_slice()))?)
         }
         TableEdit::Set {
             path,
             name,
             entries,
         } => {
-            durable.with_set(alloc, path, name, entries.as_slice())?;
+            let table = durable.with_set(alloc, path, name, entries.as_slice())?;
+            let left = durable.with_table(alloc, path, name, table)?;
             let change = Change::set(path.copied(), *name, entries.copied(alloc)?);
-            Ok(Step::Wants(change, Outcome::Set))
+            Ok(wants(alloc, change, left, Outcome::Set)?)
         }
         TableEdit::Kill { path, name } => {
             if !durable.has_table(path, name) {
                 return Err(Refusal::Absent);
             }
+            let left = durable.without_table(alloc, path, name)?;
             let change = Change::set(path.copied(), *name, EntryList::new(Vec::new(alloc)));
-            Ok(Step::Wants(change, Outcome::Killed))
+            Ok(wants(alloc, change, left, Outcome::Killed)?)
         }
     }
 }

@@ -1,13 +1,13 @@
 -- One call of a book, from each way out of it.
 use Rattle.std.proofs.{Common.{◌≡◌, ℕ, ◌+◌, ◌<◌, ◌≤◌, Bool, true, false, cond, inl, inr, List, [], ◌∷◌, ◌++◌, length, Result, Ok, Err, refl, sym, ap, ◌∙◌, subst, append-nil, arith}, lemmas.Bool.Decides.nat_tests, lemmas.List.{length-append, take_all}, lemmas.List.Sums.fold_push}
-use Rattle.std.specs.{Prelude.{nat_lt, IfErr}, Result.IsErrAnd}
+use Rattle.std.specs.Prelude.{nat_lt}
 use Rattle.pf_core.specs.declared.reply.Answer.TheVariants as answer
 use Rattle.pf_rule.specs.Packets.{PlainPacket}
-use Rattle.pf_core.specs.declared.{command.Command.Command, command.Command.TheVariants.Ask, command.Question.TheVariants.Judge, durable.verdict.Verdict.Verdict, reply.Answer.Answer, reply.Outcome.Outcome, reply.Refusal.Refusal, reply.Refusal.TheVariants.{HistoryFull, Memory}, reply.Reply.TheVariants.{Answer as Answered, Applied, Refused}, step.Step.Step, step.Step.TheVariants.{Done, Wants}, durable.refusal.ChangeRefusal.ChangeRefusal}
+use Rattle.pf_core.specs.declared.{command.Command.Command, command.Command.TheVariants.Ask, command.Question.TheVariants.Judge, durable.verdict.Verdict.Verdict, reply.Answer.Answer, reply.Outcome.Outcome, reply.Refusal.Refusal, reply.Refusal.TheVariants.{HistoryFull, Memory}, reply.Reply.TheVariants.{Answer as Answered, Applied, Refused}, step.Step.Step, step.Step.TheVariants.{Done, Wants}}
 use Rattle.pf_ticket.specs.{Tickets.Open, Mentions.{after as moved_by, switches}}
-use Rattle.pf_core.specs.{Calls.call, Commands.{unless_unfit, step_by, takes_memory}, Durable.Edits.{Kept, Edit, applied, after, voided_by, fits, verdict}, Refusals.{change_refusal_of, OrMemory}, Pages.{Page, IsFolded, IsAt, Leads}, Wholes.{Whole, Ready, ready, prepared}, Laws.Wanted.{fit, wants_memory, wants_mentions, wants_what_fits}, Worlds.{Held, upshot, flat, log_of, durable_of, step_in, if_ok, or_refused, due_at, grouped, group_at, due, group_in, LegalReply}}
+use Rattle.pf_core.specs.{Calls.call, Commands.{step_by, takes_memory}, Durable.Edits.{Kept, Edit, applied, after, voided_by, verdict}, Refusals.OrMemory, Pages.{Page, IsFolded, IsAt, Leads}, Nexts.Ready, Wholes.{Whole, left_by}, Laws.Wanted.{wants_memory, wants_mentions}, Worlds.{Held, upshot, flat, log_of, durable_of, step_in, if_ok, or_refused, due_at, grouped, group_at, due, group_in, LegalReply}}
 use Rattle.pf_core.proofs.LongerWorlds.{flat-push, nothing-leads, refused-leads}
-use Rattle.pfd.specs.Books.{judging, singles, IsMore, told, IsUnkept}
+use Rattle.pfd.specs.{declared.book.Book.TheInside.Inside, Books.{judging, page_in, singles, IsMore, IsUnkept}}
 
 pub flat-singles : (es : List Edit) → flat (singles es) ≡ es
 flat-singles [] = refl
@@ -104,38 +104,16 @@ pub number-is : (b new : Page) (e : Edit) (n : ℕ) → IsMore b new e n → n �
 number-is b new e n more = more.number ∙ sym (ap (λ (l : List (List Edit)). length (flat l)) more.acked ∙ ap length (flat-push b.acked e) ∙ length-append (flat b.acked) (e ∷ []))
 
 -- or it was not
-pub unkept-leads : (h : Held) (b new : Page) (c : Command) (e : Edit) (o : Outcome) (why : Refusal) → IsFolded b → b.pending ≡ [] → Steps b c (Ok (Wants e o)) → IsUnkept b e why → new ≡ b → IsAt h b → Leads h new (call c (Refused why)) (upshot new.shown false)
+pub unkept-leads : (h : Held) (b new : Page) (c : Command) (e : Edit) (o : Outcome) (why : Refusal) → IsFolded b → b.pending ≡ [] → Steps b c (Ok (Wants e o)) → IsUnkept b why → new ≡ b → IsAt h b → Leads h new (call c (Refused why)) (upshot new.shown false)
 unkept-leads h b new c e o why folded none steps (inl memory) same at =
     subst (λ (x : Refusal). Leads h new (call c (Refused x)) (upshot new.shown false)) (sym memory)
     (refused-leads h b new c Memory (inr (wants_memory h.tickets (durable_of h) c e o (sym (step-is h b c (Ok (Wants e o)) at folded steps (λ m. cc (m)))))) same at)
-unkept-leads h b new c e o why folded none steps (inr (inl full)) same at =
+unkept-leads h b new c e o why folded none steps (inr full) same at =
     subst (λ (x : Refusal). Leads h new (call c (Refused x)) (upshot new.shown false)) (sym full.0) (refused-leads h b new c HistoryFull (full-is-legal h b c e o at folded none steps full.1) same at)
--- what is wanted fits
-unkept-leads h b new c e o why folded none steps (inr (inr unfit)) same at =
-    let fits_it : fits b.whole.durable e ≡ Ok tt = wants_what_fits b.whole.tickets b.whole.durable c e o (sym (steps.0 (λ m. cc (m)))) in
-    let fine : told (fits b.whole.durable e) ≡ Ok tt = ap told fits_it in
-    absurd (cc (sym fine ∙ unfit))
 
--- ---- what is prepared
-
-pub is-ready : (d : Kept) (e : Edit) (n : Ready) → OrMemory true (Ok n) (prepared d e) → n ≡ ready (applied d e) (voided_by e)
-is-ready d e n by =
-    let due : Ok n ≡ prepared d e = by.0 (λ m. cc (m)) in
-    let same : Ok (ready (applied d e) (voided_by e)) ≡ Ok n = (fit (fits d e) (Ok (ready (applied d e) (voided_by e))) n (sym due)).second in
-    sym (cc (same))
-
-refused-by : (r : Result (Unit {0}) ChangeRefusal) (n : Ready) (why : Refusal) → Err why ≡ unless_unfit r (Ok n) → told r ≡ Err why
-refused-by (Ok u) n why h = absurd (cc (h))
-refused-by (Err e) n why h = let same : why ≡ change_refusal_of e = cc (h) in ap (λ (x : Refusal). Err x) (sym same)
-
--- what can't be prepared has no memory, or doesn't fit
-unprepared : (b : Page) (e : Edit) (why : Refusal) → OrMemory true (Err why) (prepared b.whole.durable e) → IsUnkept b e why
-unprepared b e Memory due = inl refl
-unprepared b e why due = inr (inr (refused-by (fits b.whole.durable e) (ready (applied b.whole.durable e) (voided_by e)) why (due.0 (λ m. cc (m)))))
-
-pub not-kept : (b now : Page) (e : Edit) (r : Result ℕ Refusal) (why : Refusal) → b ≡ now → OrMemory true (Err why) (prepared b.whole.durable e) → IsErrAnd r (λ x. x ≡ why) → IfErr r (λ x. IsUnkept now e x × (now ≡ now))
-not-kept b now e (Ok n) why is by h = absurd h
-not-kept b now e (Err x) why is by h = (subst (λ (y : Refusal). IsUnkept now e y) (sym h) (subst (λ (p : Page). IsUnkept p e why) is (unprepared b e why by)), refl)
+-- what the change leaves of the book is seen in its fields
+pub left-is : (inside : Inside) (now : Page) (e : Edit) (n : Ready) → page_in inside ≡ now → n ≡ left_by now.whole.durable e → n ≡ left_by inside.core.durable e
+left-is inside now e n is left = subst (λ (p : Page). n ≡ left_by p.whole.durable e) (sym is) left
 
 -- the book is still what its changes leave, and shows them all
 pub folded-more : (b new : Page) (e : Edit) → IsFolded b → new.base ≡ b.base → new.acked ≡ b.acked ++ (e ∷ []) ∷ [] → new.whole.durable ≡ applied b.whole.durable e → new.published ≡ new.whole.durable → new.shown ≡ length (flat new.acked) → IsFolded new

@@ -2,10 +2,10 @@
 use Rattle.std.specs.{Prelude.{◌≡◌, ◌⊎◌, ℕ, ◌+◌, ◌<◌, ◌≤◌, List, [], ◌∷◌, ◌++◌, length, map, ⊤, Result, Ok, Err}, Arc.arc_value}
 use Rattle.pf_ticket.specs.declared.refusal.TicketRefusal.{TicketRefusal}
 use Rattle.pf_ticket.specs.{Mentions.{after, switches}, Replies.list_check}
-use Rattle.pf_core.specs.declared.{command.Command.Command, command.Command.TheVariants.{Transact, Ask}, command.Question.TheVariants.Judge, command.Transaction.TheVariants.Rollback, reply.Refusal.Refusal, reply.Refusal.TheVariants.{HistoryFull, Memory}, reply.Reply.Reply, reply.Reply.TheVariants.{Answer, Applied, Refused}, durable.refusal.ChangeRefusal.ChangeRefusal, durable.verdict.Verdict.Verdict}
+use Rattle.pf_core.specs.declared.{command.Command.Command, command.Command.TheVariants.{Transact, Ask}, command.Question.TheVariants.Judge, command.Transaction.TheVariants.Rollback, reply.Refusal.Refusal, reply.Refusal.TheVariants.{HistoryFull, Memory}, reply.Reply.Reply, reply.Reply.TheVariants.{Answer, Applied, Refused}, durable.verdict.Verdict.Verdict}
 use Rattle.pf_core.specs.declared.reply.Answer.TheVariants as answer
 use Rattle.pf_rule.specs.Packets.{PlainPacket}
-use Rattle.pf_core.specs.{Calls.{Call, call}, Durable.Edits.{Kept, Edit, voided_by, fits, verdict}, Commands.unless_unfit, Pages.Page, Refusals.refusal_of, Worlds.flat}
+use Rattle.pf_core.specs.{Calls.{Call, call}, Durable.Edits.{Kept, Edit, voided_by, verdict}, Pages.Page, Refusals.refusal_of, Worlds.flat}
 use Rattle.pfd.specs.declared.book.Book.TheInside.{Inside}
 
 -- each change is a group of its own
@@ -69,11 +69,6 @@ pub record IsMore (old new : Page) (e : Edit) (seq : ℕ) : Type 0 where
   pub pending : new.pending ≡ old.pending
   pub limit : new.limit ≡ old.limit
 
--- what is told of a change: why it doesn't fit, where it doesn't
-abbrev pub told : Result (Unit {0}) ChangeRefusal → Result (Unit {0}) Refusal
-told fit = unless_unfit fit (Ok tt)
-
--- why a change is not kept: memory was refused, the history is full, or it doesn't fit
-abbrev pub IsUnkept : Page → Edit → Refusal → Type 0
-IsUnkept b e why =
-    (why ≡ Memory) ⊎ (((why ≡ HistoryFull) × (b.limit ≤ length (flat b.acked))) ⊎ (told (fits b.whole.durable e) ≡ Err why))
+-- why a change that fits is not kept: memory was refused, or the history is full
+abbrev pub IsUnkept : Page → Refusal → Type 0
+IsUnkept b why = (why ≡ Memory) ⊎ ((why ≡ HistoryFull) × (b.limit ≤ length (flat b.acked)))

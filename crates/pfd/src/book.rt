@@ -1,9 +1,9 @@
 //! A core with the history of what it kept.
 ghost use Rattle.std.specs.Prelude.{◌≡◌, ℕ, ◌≤◌, [], ◌∷◌, ◌++◌, List, IfOk, IfErr, take, false};
-ghost use Rattle.pf_core.specs.{Calls.call, Durable.Edits.{Kept, kept_nothing, after, verdict}, Worlds.{Held, setting_with, upshot, Event, called, opened, flat, LegalReply, shown_by}, Pages.{IsAt, IsFolded, StandsFor, Leads}};
+ghost use Rattle.pf_core.specs.{Calls.call, Durable.Edits.{Kept, kept_nothing, after, verdict}, Worlds.{Held, setting_with, upshot, Event, called, opened, flat, LegalReply, shown_by}, Pages.{IsAt, IsFolded, StandsFor, Leads}, Wholes.left_by};
 ghost use Rattle.pfd.specs.Books.{judging, IsNumbered, IsJudged, IsRolledBack, StaysIfRefused, IsMore, IsUnkept};
 
-use pf_core::{Change, Command, Core, Durable, Refusal, Reply, Step, Verdict};
+use pf_core::{Change, Command, Core, Durable, Next, ReadyStep, Refusal, Reply, Verdict};
 use pf_rule::Packet;
 use std::alloc::{AllocError, Global};
 use std::marker::Model;
@@ -62,15 +62,15 @@ impl Book {
         })
     }
 
-    // Keeps a change of the core's, and shows it. It gives its number.
-    fn keep(&mut self, change: Change) -> Result<u64, Refusal>
+    // Keeps a change of the core's, which leaves this, and shows it. It gives its number.
+    fn keep(&mut self, change: Change, next: Next) -> Result<u64, Refusal>
+        requires made { next ≡ left_by self.now.whole.durable change }
         ensures ok { IfOk result (λ seq. IsMore self.old self.new change seq) }
-        ensures err { IfErr result (λ e. IsUnkept self.old change e × (self.new ≡ self.old)) }
+        ensures err { IfErr result (λ e. IsUnkept self.old e × (self.new ≡ self.old)) }
     {
         if self.log.len() >= self.limit {
             return Err(Refusal::HistoryFull);
         }
-        let next = self.core.prepare(&change)?;
         let shown = next.durable()?;
         let Ok(change) = Arc::new(self.alloc, change) else {
             return Err(Refusal::Memory);
@@ -93,9 +93,9 @@ impl Book {
         ensures refused { StaysIfRefused result self.old self.new }
         ensures shown { self.new.shown ≡ shown_by result self.old.shown }
     {
-        match self.core.step(command) {
-            Ok(Step::Done(answer)) => Reply::Answer(answer),
-            Ok(Step::Wants(change, outcome)) => match self.keep(change) {
+        match self.core.step_ready(command) {
+            Ok(ReadyStep::Done(answer)) => Reply::Answer(answer),
+            Ok(ReadyStep::Wants(change, next, outcome)) => match self.keep(change, next) {
                 Ok(seq) => Reply::Applied { seq, outcome },
                 Err(refusal) => Reply::Refused(refusal),
             },

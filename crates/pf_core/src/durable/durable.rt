@@ -6,7 +6,7 @@ ghost use Rattle.pf_table.specs.{Edits.{added, additions, deleted, deletions, re
 ghost use Rattle.pf_state.specs.Steps.{after, counts, without_state};
 ghost use Rattle.pf_ticket.specs.Replies.{twice_behind};
 ghost use Rattle.pf_core.specs.declared.durable.refusal.ChangeRefusal.TheVariants.{Twice, Memory};
-ghost use Rattle.pf_core.specs.Durable.Edits.{is_in_order, name_of, kept_nothing, commits, adds, deletes, sets, acts, rulesets_in, replaces_main, placed, tables_in, entries_at, sum_of, main_sum, with_entries, with_states, room_for_table, fits, changed, verdict};
+ghost use Rattle.pf_core.specs.Durable.Edits.{is_in_order, name_of, kept_nothing, commits, adds, deletes, sets, acts, rulesets_in, replaces_main, placed, tables_in, entries_at, sum_of, main_sum, with_entries, with_states, room_for_table, fits, applied, changed, verdict};
 
 use crate::durable::change::{Change, Item, Kind, names_of};
 use crate::durable::refusal::ChangeRefusal;
@@ -301,11 +301,10 @@ impl Durable {
         Ok(ruleset_sum(after.rules_at(&Path::main())?.as_slice()))
     }
 
-    // What is kept once these items were replaced.
-    fn commit(&self, alloc: Global, items: &[Item]) -> Result<Durable, ChangeRefusal>
-        ensures { OrMemory Memory result (changed self.now (commits items.now)) }
+    // What is kept once these items were replaced, which fit.
+    pub(crate) fn committed(&self, alloc: Global, items: &[Item]) -> Result<Durable, AllocError>
+        ensures { IfOk result (λ d. d ≡ applied self.now (commits items.now)) }
     {
-        self.check_commit(alloc, items)?;
         let rulesets = rulesets_in(alloc, items)?;
         let tables = tables_in(alloc, items)?;
         let config = self.config.with_rulesets(alloc, rulesets.as_slice())?;
@@ -318,7 +317,7 @@ impl Durable {
     }
 
     // What is kept with this table in its place.
-    fn with_table(
+    pub(crate) fn with_table(
         &self,
         alloc: Global,
         path: &Path,
@@ -336,6 +335,19 @@ impl Durable {
         })
     }
 
+    // What is kept without this table.
+    #[tactic(auto, unfolding(pf_table::specs::Edits::added))]
+    pub(crate) fn without_table(
+        &self,
+        alloc: Global,
+        path: &Path,
+        name: &TableName,
+    ) -> Result<Durable, AllocError>
+        ensures { IfOk result (λ d. d ≡ applied self.now (sets path.now name.now [])) }
+    {
+        self.with_table(alloc, path, name, Table::empty())
+    }
+
     /// The states after steps in turn, and what became of them. It is refused with `StatesFull` where a step would leave too many;
     /// `Memory` may come before. What is kept stays as it is.
     pub fn with_stepped(
@@ -351,7 +363,11 @@ impl Durable {
     }
 
     // The states without the one of a name.
-    fn without_state(&self, alloc: Global, name: StateName) -> Result<StateTable, AllocError>
+    pub(crate) fn without_state(
+        &self,
+        alloc: Global,
+        name: StateName,
+    ) -> Result<StateTable, AllocError>
         ensures { IfOk result (λ t. t ≡ without_state self.now.states name) }
     {
         let mut states = self.states.shared()?;
@@ -360,7 +376,11 @@ impl Durable {
     }
 
     // What is kept with these states in place of its own.
-    fn with_states(&self, alloc: Global, states: StateTable) -> Result<Durable, AllocError>
+    pub(crate) fn with_states(
+        &self,
+        alloc: Global,
+        states: StateTable,
+    ) -> Result<Durable, AllocError>
         ensures { IfOk result (λ d. d ≡ with_states self.now states) }
     {
         Ok(Durable {
@@ -381,7 +401,10 @@ impl Durable {
         ensures { OrMemory Memory result (changed self.now change.now) }
     {
         match &change.kind {
-            Kind::Commit(items) => self.commit(alloc, items.as_slice()),
+            Kind::Commit(items) => {
+                self.check_commit(alloc, items.as_slice())?;
+                Ok(self.committed(alloc, items.as_slice())?)
+            }
             Kind::Add {
                 path,
                 name,

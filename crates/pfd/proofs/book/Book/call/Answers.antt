@@ -10,7 +10,7 @@ pub returns-in-Ok-Done-clause-leads : goal.returns-in-Ok-Done-clause-leads
 returns-in-Ok-Done-clause-leads c = λ h now.
     let e = rw c.in-Ok-Done.field-0-is at c.in-Ok-Done.ensures in
     let at : IsAt h (page_in c.self.inside) = subst (IsAt h) (sym c.self.view_is) now in
-    nothing-leads h (page_in c.self.inside) c.step.new.self c.args.command.now (Answer c.in-Ok-Done.answer) (answer-is-legal h (page_in c.self.inside) c.args.command.now c.in-Ok-Done.answer at c.self.invariant e.reply)
+    nothing-leads h (page_in c.self.inside) c.step_ready.new.self c.args.command.now (Answer c.in-Ok-Done.answer) (answer-is-legal h (page_in c.self.inside) c.args.command.now c.in-Ok-Done.answer at c.self.invariant e.reply)
     refl refl (ap (λ (w : Whole). w.tickets) e.left) at
 
 pub returns-in-Ok-clause-leads : goal.returns-in-Ok-clause-leads
@@ -21,15 +21,15 @@ returns-in-Ok-clause-leads c = λ h now.
     kept-leads h b c.keep.new.self c.args.command.now c.in-Ok-Wants.change c.in-Ok.seq c.in-Ok-Wants.outcome c.self.invariant refl e.reply more (subst (IsAt h) (sym c.self.view_is) now)
 
 pub returns-in-Ok-clause-numbered : goal.returns-in-Ok-clause-numbered
-returns-in-Ok-clause-numbered c = number-is (with_core (page_in c.self.inside) c.step.new.self) c.keep.new.self c.in-Ok-Wants.change c.in-Ok.seq c.in-Ok.ensures.ok
+returns-in-Ok-clause-numbered c = number-is (with_core (page_in c.self.inside) c.step_ready.new.self) c.keep.new.self c.in-Ok-Wants.change c.in-Ok.seq c.in-Ok.ensures.ok
 
 pub returns-in-Err-keep-clause-leads : goal.returns-in-Err-keep-clause-leads
 returns-in-Err-keep-clause-leads c = λ h now.
     let e = rw c.in-Ok-Wants.field-0-is at c.in-Ok-Wants.ensures in
     let b : Page = page_in c.self.inside in
-    let same : with_core b c.step.new.self ≡ b = ap (with_core b) e.left in
+    let same : with_core b c.step_ready.new.self ≡ b = ap (with_core b) e.left in
     unkept-leads h b c.keep.new.self c.args.command.now c.in-Ok-Wants.change c.in-Ok-Wants.outcome c.in-Err-keep.refusal c.self.invariant refl e.reply
-    (subst (λ (p : Page). IsUnkept p c.in-Ok-Wants.change c.in-Err-keep.refusal) same c.in-Err-keep.ensures.err.0) (c.in-Err-keep.ensures.err.1 ∙ same) (subst (IsAt h) (sym c.self.view_is) now)
+    (subst (λ (p : Page). IsUnkept p c.in-Err-keep.refusal) same c.in-Err-keep.ensures.err.0) (c.in-Err-keep.ensures.err.1 ∙ same) (subst (IsAt h) (sym c.self.view_is) now)
 
 pub returns-in-Err-clause-leads : goal.returns-in-Err-clause-leads
 returns-in-Err-clause-leads c = λ h now.

@@ -1,19 +1,16 @@
 use Rattle.std.proofs.{Common.{◌≡◌, ◌≤◌, ◌<◌, ◌+◌, ◌++◌, ◌∷◌, [], List, length, refl, sym, ap, ◌∙◌, subst, inl, inr, arith}, lemmas.Grind.common_steps, lemmas.List.map-append}
 use Rattle.std.specs.{Prelude.map, Arc.arc_value}
 use Rattle.pf_ticket.specs.Mentions.{after, switches}
-use Rattle.pf_core.specs.{Durable.Edits.Edit, Pages.Page, Wholes.{Whole, Ready}}
+use Rattle.pf_core.specs.{Durable.Edits.Edit, Pages.Page, Nexts.Ready, Wholes.Whole}
 use Rattle.pf_core.specs.declared.reply.Refusal.TheVariants.{HistoryFull}
 use Rattle.pfd.specs.Books.{page_in, singles, IsUnkept}
-use Rattle.pfd.proofs.Booking.{flat-singles, more-from, folded-more, is-ready, not-kept}
+use Rattle.pfd.proofs.Booking.{flat-singles, more-from, folded-more, left-is}
 use Rattle.pfd.proofs.book.Book.keep.Goals as goal
 
 pub returns-then-len-self-clause-err : goal.returns-then-len-self-clause-err
 returns-then-len-self-clause-err c =
     let full : c.self.inside.limit ≤ length (map arc_value c.self.inside.log.items) = grind (arith, common_steps, c.len.ensures, c.if-len-self.true) in
-    (subst (λ (b : Page). IsUnkept b c.args.change HistoryFull) c.self.view_is (inr (inl (refl, rw (flat-singles (map arc_value c.self.inside.log.items)) full))), refl)
-
-pub returns-in_err-next-clause-err : goal.returns-in_err-next-clause-err
-returns-in_err-next-clause-err c = not-kept (page_in c.self.inside) c.args.self.now c.args.change c.from_residual.result c.in_err-next.field-0.0 c.self.view_is c.in_err-next.ensures c.from_residual.ensures.1
+    (subst (λ (b : Page). IsUnkept b HistoryFull) c.self.view_is (inr (refl, rw (flat-singles (map arc_value c.self.inside.log.items)) full)), refl)
 
 pub invariant_of-self-2 : goal.invariant_of-self-2
 invariant_of-self-2 c =
@@ -22,7 +19,7 @@ invariant_of-self-2 c =
     let logged : log' ≡ log ++ c.args.change ∷ [] = grind (arith, common_steps, c.push_reserved.ensures.items, c.reserve.ensures.items, c.in-Ok.ensures.ok) in
     let counted : c.len-self-inside.result ≡ length log' = grind (arith, common_steps, c.len-self-inside.ensures) in
     folded-more (page_in c.self.inside) _ c.args.change c.self.invariant refl (ap singles logged ∙ map-append (λ (e : Edit). e ∷ []) log (c.args.change ∷ []))
-    (ap (λ (w : Whole). w.durable) c.accept.ensures ∙ ap (λ (r : Ready). r.durable) (is-ready c.self.inside.core.durable c.args.change c.in_ok-next.next c.in_ok-next.ensures)) (c.in_ok-shown.ensures ∙ sym (ap (λ (w : Whole). w.durable) c.accept.ensures)) (counted ∙ ap length (sym (flat-singles log')))
+    (ap (λ (w : Whole). w.durable) c.accept.ensures ∙ ap (λ (r : Ready). r.durable) (left-is c.self.inside c.args.self.now c.args.change c.args.next c.self.view_is c.requires.made)) (c.in_ok-shown.ensures ∙ sym (ap (λ (w : Whole). w.durable) c.accept.ensures)) (counted ∙ ap length (sym (flat-singles log')))
 
 pub returns-clause-ok : goal.returns-clause-ok
 returns-clause-ok c =
@@ -36,7 +33,7 @@ returns-clause-ok c =
       number = rw (flat-singles log) counted;
       acked = ap singles logged ∙ map-append (λ (e : Edit). e ∷ []) log (c.args.change ∷ []);
       shown = refl;
-      tickets = ap (λ (w : Whole). w.tickets) c.accept.ensures ∙ ap (λ (r : Ready). after c.self.inside.core.tickets (switches r.voided)) (is-ready c.self.inside.core.durable c.args.change c.in_ok-next.next c.in_ok-next.ensures);
+      tickets = ap (λ (w : Whole). w.tickets) c.accept.ensures ∙ ap (λ (r : Ready). after c.self.inside.core.tickets (switches r.voided)) (left-is c.self.inside c.args.self.now c.args.change c.args.next c.self.view_is c.requires.made);
       base = refl;
       pending = refl;
       limit = refl;

@@ -1,0 +1,45 @@
+//! What a change leaves, made before it is kept.
+ghost use Rattle.std.specs.{Prelude.{◌≡◌, IfOk}, Arc.arc_value};
+ghost use Rattle.pf_core.specs.{Durable.Edits.voided_by, Nexts.ready};
+
+use crate::durable::{Change, Durable};
+use pf_ticket::RulesetName;
+use std::alloc::{AllocError, Global};
+use std::marker::Model;
+use std::sync::Arc;
+
+/// What a change leaves, with all its memory made. Contracts see it as a `Ready`.
+#[derive(Drop)]
+pub struct Next {
+    pub(crate) durable: Arc<Durable>,
+    pub(crate) voided: Vec<RulesetName>,
+}
+
+impl Model for Next {
+    ghost use Rattle.std.specs.Arc.{arc_value};
+    ghost use Rattle.pf_core.specs.Nexts.{Ready, ready};
+
+    ghost Value = { Ready };
+
+    ghost view = { λ n. ready (arc_value n.durable) n.voided.items };
+}
+
+impl Next {
+    // That the change leaves this.
+    pub(crate) fn new(alloc: Global, change: &Change, left: Durable) -> Result<Next, AllocError>
+        ensures { IfOk result (λ n. n ≡ ready left (voided_by change.now)) }
+    {
+        let voided = change.voided(alloc)?;
+        let Ok(durable) = Arc::new(alloc, left) else {
+            return Err(AllocError);
+        };
+        Ok(Next { durable, voided })
+    }
+
+    /// What the change leaves, shared. `AllocError`: it can't have another owner, and nothing changes.
+    pub fn durable(&self) -> Result<Arc<Durable>, AllocError>
+        ensures { IfOk result (λ d. arc_value d ≡ self.now.durable) }
+    {
+        Arc::try_clone(&self.durable)
+    }
+}
