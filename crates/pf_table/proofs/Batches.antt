@@ -1,8 +1,8 @@
 -- Entries are gathered, added and deleted from front to back, and what each is answered.
 use Rattle.std.proofs.{Common.{◌≡◌, ℕ, zero, suc, ◌+◌, ◌<◌, ◌≤◌, Bool, true, false, not, cond, ◌&&◌, ◌||◌, List, [], ◌∷◌, ◌++◌, length, get_or, take, drop, append-nil, append_assoc, drop-cons, Option, Some, None, is_some, is_none, refl, sym, ap, ◌∙◌, subst, true≢false, arith}, Math.Seq.take-suc, lemmas.List.take-append-drop, lemmas.List.Folds.list_any-append, lemmas.List.Sums.fold-append, lemmas.List.Elements.{All-nil, All-push}}
-use Rattle.std.specs.{Bool.beq, FinMap.put, Ordering.is_eq, List.{list_any, All, fold}, Option.option_or}
-use Rattle.pf_addr.specs.Address.{IsNetwork}
-use Rattle.pf_table.specs.{declared.{answer.Addition.Addition, answer.Addition.TheVariants.Added, answer.Addition.TheVariants.Same, answer.Addition.TheVariants.Conflict, answer.Deletion.Deletion}, Entries.{Row, net_order}, Map.Maps.{with_value, without}, Tables.sign_of, Edits.{with_entry, added, addition, additions, is_sign, has_entry, without_entry, deleted, deletion, deletions, same_entry, is_opposite, conflict_behind, conflict_in}, Laws.Edits.{Agree, any_is_sign, agree_push, sign_added, sign_left, sign_deleted}}
+use Rattle.std.specs.{Bool.beq, FinMap.put, FinMap.Entries.find_tied, Ordering.is_eq, declared.{cmp.Ordering.Ordering, cmp.Ordering.TheVariants.{Less, Equal, Greater}}, List.{list_any, All, fold}, Option.option_or}
+use Rattle.pf_addr.specs.Address.{IsNetwork, Network}
+use Rattle.pf_table.specs.{declared.{answer.Addition.Addition, answer.Addition.TheVariants.Added, answer.Addition.TheVariants.Same, answer.Addition.TheVariants.Conflict, answer.Deletion.Deletion}, Entries.{Row, net_order}, Laws.Order.net_total, Map.Maps.{with_value, without}, Tables.sign_of, Edits.{with_entry, added, addition, additions, is_sign, has_entry, without_entry, deleted, deletion, deletions, same_entry, is_opposite, conflict_behind, conflict_in}, Laws.Edits.{Agree, any_is_sign, agree_push, sign_added, sign_left, sign_deleted}, Noted.{first_sign, noted_with}}
 
 -- ---- lists
 
@@ -140,6 +140,154 @@ gathered_all xs i named g le =
       networks = subst (All (λ e. IsNetwork e.0)) whole g.networks;
     }
 
+-- ---- adding, and what is noted of the list
+
+-- what is noted has the sign that each network of the table was first named with
+abbrev pub IsNoted : List Row → List Row → List Row → Type 0
+IsNoted es before noted = (q : Network) → is_some (sign_of q es) ≡ true → sign_of q noted ≡ sign_of q before
+
+pub first_is : (es before noted : List Row) (q : Network) (there : Option Bool) → IsNoted es before noted → there ≡ sign_of q (added es before) →
+    first_sign (sign_of q es) (sign_of q noted) there ≡ sign_of q before
+first_is es before noted q there are is = by (sign_of q es) refl there (is ∙ sign_added es before q) where
+  by : (o : Option Bool) → sign_of q es ≡ o → (t : Option Bool) → t ≡ option_or (sign_of q es) (sign_of q before) → first_sign o (sign_of q noted) t ≡ sign_of q before
+  by (Some s) found (Some t) is = are q (ap is_some found)
+  by (Some s) found None is = let some : None ≡ Some s = rw found at is in absurd (true≢false (sym (ap is_some some)))
+  by None found (Some t) is = rw found at is
+  by None found None is = rw found at is
+
+sign_push : (xs : List Row) (x : Row) (q : Network) → sign_of q (xs ++ x ∷ []) ≡ option_or (sign_of q xs) (sign_of q (x ∷ []))
+sign_push [] x q = refl
+sign_push (e ∷ xs) x q = by (is_eq (net_order q e.0)) refl (sign_push xs x q) where
+  by : (t : Bool) → is_eq (net_order q e.0) ≡ t → sign_of q (xs ++ x ∷ []) ≡ option_or (sign_of q xs) (sign_of q (x ∷ [])) →
+      sign_of q (e ∷ xs ++ x ∷ []) ≡ option_or (sign_of q (e ∷ xs)) (sign_of q (x ∷ []))
+  by true tied rest = rw tied refl
+  by false other rest = rw other rest
+
+tied_of : (r : Ordering) → is_eq r ≡ true → r ≡ Equal
+tied_of Less e = absurd (true≢false (sym e))
+tied_of Equal e = refl
+tied_of Greater e = absurd (true≢false (sym e))
+
+-- a network that isn't among some has no sign there, and neither has one that is the same
+not_same : (es : List Row) (x : Row) (q : Network) → sign_of x.0 es ≡ None → is_some (sign_of q es) ≡ true → sign_of q (x ∷ []) ≡ None
+not_same es x q none some = by (is_eq (net_order q x.0)) refl where
+  by : (t : Bool) → is_eq (net_order q x.0) ≡ t → sign_of q (x ∷ []) ≡ None
+  by true tied = absurd (true≢false (sym some ∙ ap is_some (sym (find_tied net_order net_total q x.0 (tied_of _ tied) es) ∙ none)))
+  by false other = rw other refl
+
+or_none : (o : Option Bool) → o ≡ option_or o None
+or_none None = refl
+or_none (Some s) = refl
+
+-- a sign that is there stays
+named_stays : (before : List Row) (x : Row) (q : Network) (s : Bool) → sign_of x.0 before ≡ Some s →
+    sign_of q before ≡ option_or (sign_of q before) (sign_of q (x ∷ []))
+named_stays before x q s is = by (is_eq (net_order q x.0)) refl where
+  stays : (o p : Option Bool) → o ≡ Some s → o ≡ option_or o p
+  stays (Some t) p is = refl
+  stays None p is = absurd (true≢false (sym (ap is_some is)))
+
+  by : (t : Bool) → is_eq (net_order q x.0) ≡ t → sign_of q before ≡ option_or (sign_of q before) (sign_of q (x ∷ []))
+  by true tied = stays (sign_of q before) _ (sym (find_tied net_order net_total q x.0 (tied_of _ tied) before) ∙ is)
+  by false other = rw other (or_none (sign_of q before))
+
+pub adds_next : (answers : List Addition) (es now xs : List Row) (i : ℕ) (x : Row) → now ≡ added es (take i xs) → i < length xs →
+    x ≡ get_or xs i x →
+    (answers ++ addition (sign_of x.0 now) x.1 ∷ []) ++ additions (added es (take (i + 1) xs))
+    (drop (i + 1) xs) ≡ answers ++ additions (added es (take i xs)) (drop i xs)
+unfolding additions
+adds_next answers es now xs i x is lt at =
+    append_assoc answers (addition (sign_of x.0 now) x.1 ∷ []) _
+    ∙ ap (λ l. answers ++ l) ((λ j. addition (sign_of x.0 (is j)) x.1 ∷ additions (sym (one_more es xs i x lt at) j) (drop (i + 1) xs))
+    ∙ sym (ap (additions (added es (take i xs))) (next_cut xs i x lt at).0))
+
+pub adds_end : (answers : List Addition) (es xs : List Row) (i : ℕ) → length xs ≤ i →
+    answers ≡ answers ++ additions (added es (take i xs)) (drop i xs)
+unfolding additions
+adds_end answers es xs i le = sym (append-nil answers) ∙ ap (λ l. answers ++ additions (added es (take i xs)) l) (sym (all_taken xs i le).1)
+
+none_of : (o p : Option Bool) → None ≡ option_or o p → o ≡ None
+none_of None p is = refl
+none_of (Some s) p is = absurd (true≢false (sym (ap is_some is)))
+
+pub notes_next : (es before noted : List Row) (x : Row) (there first : Option Bool) → IsNoted es before noted →
+    there ≡ sign_of x.0 (added es before) → first ≡ sign_of x.0 before → IsNoted es (before ++ x ∷ []) (noted_with noted there first x)
+unfolding added
+notes_next es before noted x None first are is at = λ q some.
+    let none = not_same es x q (none_of (sign_of x.0 es) (sign_of x.0 before) (is ∙ sign_added es before x.0)) some in
+    are q some ∙ or_none (sign_of q before) ∙ ap (option_or (sign_of q before)) (sym none) ∙ sym (sign_push before x q)
+notes_next es before noted x (Some t) (Some s) are is at = λ q some. are q some ∙ named_stays before x q s (sym at) ∙ sym (sign_push before x q)
+notes_next es before noted x (Some t) None are is at = λ q some.
+    sign_added noted (x ∷ []) q ∙ ap (λ o. option_or o (sign_of q (x ∷ []))) (are q some) ∙ sym (sign_push before x q)
+
+-- what is known once the first i entries were added
+pub record Adding (es xs : List Row) (i : ℕ) (after noted : List Row) (answers : List Addition) : Type 0 where
+  pub so_far : after ≡ added es (take i xs)
+  pub signs : IsNoted es (take i xs) noted
+  pub told : answers ++ additions (added es (take i xs)) (drop i xs) ≡ additions es xs
+  pub list : Gathering xs i (added [] (take i xs))
+
+pub adding_nothing : (es xs after : List Row) (answers : List Addition) → after ≡ es → answers ≡ [] → Adding es xs 0 after [] answers
+unfolding added
+adding_nothing es xs after answers is none =
+    record { so_far = is; signs = λ q some. refl; told = ap (λ l. l ++ additions es xs) none; list = gathering_nothing xs }
+
+-- by its network's sign in the table so far, and the one that it was first named with
+pub record IsNext (es xs : List Row) (i : ℕ) (after noted : List Row) (x : Row) (there first : Option Bool) : Type 0 where
+  pub low : i < length xs
+  pub at : x ≡ get_or xs i x
+  pub is_there : there ≡ sign_of x.0 after
+  pub is_first : first ≡ first_sign (sign_of x.0 es) (sign_of x.0 noted) there
+
+first-named : (es xs : List Row) (i : ℕ) (after noted : List Row) (answers : List Addition) (x : Row) (there first : Option Bool) →
+    Adding es xs i after noted answers → IsNext es xs i after noted x there first → first ≡ sign_of x.0 (take i xs)
+first-named es xs i after noted answers x there first a n =
+    n.is_first ∙ first_is es (take i xs) noted x.0 there a.signs (n.is_there ∙ ap (sign_of x.0) a.so_far)
+
+opposed : (es xs : List Row) (i : ℕ) (after noted : List Row) (answers : List Addition) (x : Row) (there first : Option Bool) (b : Bool) →
+    Adding es xs i after noted answers → IsNext es xs i after noted x there first → is_sign (not x.1) first ≡ b →
+    is_sign (not x.1) (sign_of x.0 (added [] (take i xs))) ≡ b
+opposed es xs i after noted answers x there first b a n is =
+    ap (is_sign (not x.1)) (sign_added [] (take i xs) x.0 ∙ sym (first-named es xs i after noted answers x there first a n)) ∙ is
+
+pub adding_next : (es xs : List Row) (i : ℕ) (after noted : List Row) (answers : List Addition) (x : Row) (there first : Option Bool) →
+    Adding es xs i after noted answers → IsNext es xs i after noted x there first → IsNetwork x.0 → is_sign (not x.1) first ≡ false →
+    Adding es xs (i + 1) (with_entry after x) (noted_with noted there first x) (answers ++ addition there x.1 ∷ [])
+adding_next es xs i after noted answers x there first a n network is =
+    let front = (next_cut xs i x n.low n.at).1 in
+    record {
+      so_far = ap (λ l. with_entry l x) a.so_far ∙ one_more es xs i x n.low n.at;
+      signs = subst (λ l. IsNoted es l (noted_with noted there first x)) (sym front) (notes_next es (take i xs) noted x there first a.signs
+          (n.is_there ∙ ap (sign_of x.0) a.so_far) (first-named es xs i after noted answers x there first a n));
+      told = ap (λ o. (answers ++ addition o x.1 ∷ []) ++ additions (added es (take (i + 1) xs)) (drop (i + 1) xs)) n.is_there
+          ∙ adds_next answers es after xs i x a.so_far n.low n.at ∙ a.told;
+      list = subst (Gathering xs (i + 1)) (one_more [] xs i x n.low n.at) (gathers_next xs i (added [] (take i xs)) x a.list n.low n.at network
+          (opposed es xs i after noted answers x there first false a n is));
+    }
+
+pub adding_stops : (es xs : List Row) (i : ℕ) (after noted : List Row) (answers : List Addition) (x : Row) (there first : Option Bool) →
+    Adding es xs i after noted answers → IsNext es xs i after noted x there first → is_sign (not x.1) first ≡ true → conflict_in xs ≡ Some i
+adding_stops es xs i after noted answers x there first a n is =
+    gathers_no_more xs i (added [] (take i xs)) x a.list n.low n.at (opposed es xs i after noted answers x there first true a n is)
+
+-- what is known of all entries
+pub record AllAdded (es xs after : List Row) (answers : List Addition) : Type 0 where
+  pub leaves : after ≡ added es xs
+  pub told : answers ≡ additions es xs
+  pub none : conflict_in xs ≡ None
+  pub networks : All (λ e. IsNetwork e.0) xs
+
+pub all_added : (es xs : List Row) (i : ℕ) (after noted : List Row) (answers : List Addition) → Adding es xs i after noted answers →
+    length xs ≤ i → AllAdded es xs after answers
+all_added es xs i after noted answers a le =
+    let list = gathered_all xs i (added [] (take i xs)) a.list le in
+    record {
+      leaves = a.so_far ∙ ap (added es) (all_taken xs i le).0;
+      told = adds_end answers es xs i le ∙ a.told;
+      none = list.none;
+      networks = list.networks;
+    }
+
 -- ---- changing entry by entry
 
 -- where a network isn't there, to put it in takes nothing out
@@ -157,21 +305,6 @@ pub with_new : (es : List Row) (x : Row) (there : Option Bool) → there ≡ sig
     with_value net_order es x.0 (Some x.1) ≡ with_entry es x
 with_new es x None is new = rw (sym is) (put_only es x (sym is))
 with_new es x (Some s) is new = absurd (true≢false new)
-
-pub adds_next : (answers : List Addition) (es now xs : List Row) (i : ℕ) (x : Row) → now ≡ added es (take i xs) → i < length xs →
-    x ≡ get_or xs i x →
-    (answers ++ addition (sign_of x.0 now) x.1 ∷ []) ++ additions (added es (take (i + 1) xs))
-    (drop (i + 1) xs) ≡ answers ++ additions (added es (take i xs)) (drop i xs)
-unfolding additions
-adds_next answers es now xs i x is lt at =
-    append_assoc answers (addition (sign_of x.0 now) x.1 ∷ []) _
-    ∙ ap (λ l. answers ++ l) ((λ j. addition (sign_of x.0 (is j)) x.1 ∷ additions (sym (one_more es xs i x lt at) j) (drop (i + 1) xs))
-    ∙ sym (ap (additions (added es (take i xs))) (next_cut xs i x lt at).0))
-
-pub adds_end : (answers : List Addition) (es xs : List Row) (i : ℕ) → length xs ≤ i →
-    answers ≡ answers ++ additions (added es (take i xs)) (drop i xs)
-unfolding additions
-adds_end answers es xs i le = sym (append-nil answers) ∙ ap (λ l. answers ++ additions (added es (take i xs)) l) (sym (all_taken xs i le).1)
 
 pub one_less : (es xs : List Row) (i : ℕ) (x : Row) → i < length xs → x ≡ get_or xs i x →
     without_entry (deleted es (take i xs)) x ≡ deleted es (take (i + 1) xs)

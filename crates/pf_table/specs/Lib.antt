@@ -2,6 +2,7 @@ pub mod Map
 pub mod Entries
 pub mod Tables
 pub mod Edits
+pub mod Noted
 pub mod Shared
 pub mod Laws
 -- what public clauses cite of the crates below

@@ -1,10 +1,12 @@
 //! What edits change, one entry after the other, and what they answer.
-ghost use Rattle.std.specs.Prelude.{◌≡◌, IfOk};
-ghost use Rattle.pf_addr.specs.Address.{IsNetwork};
-ghost use Rattle.pf_table.specs.{Tables.sign_of, Edits.{with_entry, added, addition, additions, is_sign, without_entry, deleted, deletion, deletions}};
+ghost use Rattle.std.specs.Prelude.{◌≡◌, All, IfOk};
+ghost use Rattle.pf_addr.specs.{Address.IsNetwork, Refusing.Refuses};
+ghost use Rattle.pf_table.specs.declared.refusal.TableRefusal.TheVariants.{Memory};
+ghost use Rattle.pf_table.specs.{Tables.sign_of, Edits.{with_entry, added, addition, additions, is_sign, without_entry, deleted, deletion, deletions, conflict_refusal}, Noted.{first_sign, noted_with}};
 
 use crate::answer::{Addition, Deletion};
 use crate::entry::{Entry, EntryMap};
+use crate::refusal::TableRefusal;
 use pf_addr::Net;
 use std::alloc::{AllocError, Global};
 
@@ -38,7 +40,7 @@ pub(crate) fn with_entry(
     if there.is_some() {
         return Ok(entries);
     }
-    entries.with(alloc, entry)
+    entries.with_new(alloc, entry)
 }
 
 // The entries without one of them, where it is there with its sign; else they stay, and no page is taken.
@@ -68,20 +70,60 @@ fn addition(there: Option<bool>, sign: bool) -> Addition
     }
 }
 
-/// The entries with a list of them added in turn, and the answer to each.
+// The sign that a network was first named with in a list, by the sign that it has once the list was added to a table: its own,
+// where the table doesn't have it, or else the one that is noted.
+fn first_sign(table: &EntryMap, noted: &EntryMap, there: Option<bool>, net: Net) -> Option<bool>
+    ensures { result ≡ first_sign (sign_of net table.now) (sign_of net noted.now) there }
+{
+    match there {
+        Some(_) if sign_of(table, net).is_some() => sign_of(noted, net),
+        _ => there,
+    }
+}
+
+// What is noted of a list that is added to a table: the sign of each network of the table that is named for the first time.
+fn noted_with(
+    alloc: Global,
+    noted: EntryMap,
+    there: Option<bool>,
+    first: Option<bool>,
+    entry: &Entry,
+) -> Result<EntryMap, AllocError>
+    ensures { IfOk result (λ m. m ≡ noted_with noted there first entry.now) }
+{
+    if there.is_none() || first.is_some() {
+        return Ok(noted);
+    }
+    let named = sign_of(&noted, entry.net());
+    with_entry(alloc, noted, named, entry)
+}
+
+/// The entries of a table with a list of them added in turn, and the answer to each. The refusals are `Conflict`, and `Memory`.
+///
+/// A network that neither the table nor the list before it has is looked for once, so that a long list costs little more than its
+/// changes.
 pub(crate) fn add_all(
     alloc: Global,
-    entries: EntryMap,
+    table: &EntryMap,
     list: &[Entry],
-) -> Result<(EntryMap, Vec<Addition>), AllocError>
-    ensures after { IfOk result (λ r. r.0 ≡ added entries list.now) }
-    ensures answers { IfOk result (λ r. r.1.items ≡ additions entries list.now) }
+) -> Result<(EntryMap, Vec<Addition>), TableRefusal>
+    ensures refused { Refuses Memory result (conflict_refusal list.now) }
+    ensures after { IfOk result (λ r. r.0 ≡ added table.now list.now) }
+    ensures answers { IfOk result (λ r. r.1.items ≡ additions table.now list.now) }
+    ensures networks { IfOk result (λ _. All (λ x. IsNetwork x.0) list.now) }
 {
-    let mut after = entries;
+    let mut after = table.shared()?;
+    let mut noted = EntryMap::empty();
     let mut answers = Vec::with_capacity(alloc, list.len())?;
-    for entry in list {
+    for (at, entry) in list.iter().enumerate() {
         let there = sign_of(&after, entry.net());
-        answers.push(addition(there, entry.is_negated()))?;
+        let first = first_sign(table, &noted, there, entry.net());
+        if is_sign(!entry.is_negated(), first) {
+            return Err(TableRefusal::Conflict { at });
+        }
+        noted = noted_with(alloc, noted, there, first, entry)?;
+        answers.reserve(1)?;
+        answers.push_reserved(addition(there, entry.is_negated()));
         after = with_entry(alloc, after, there, entry)?;
     }
     Ok((after, answers))

@@ -105,8 +105,7 @@ impl Table {
         ensures answers { IfOk result (λ v. v.items ≡ additions self.old entries.now) }
         ensures after { self.new ≡ cond (is_ok result) (added self.old entries.now) self.old }
     {
-        gather(alloc, entries)?;
-        let (after, answers) = add_all(alloc, self.entries.shared()?, entries)?;
+        let (after, answers) = add_all(alloc, &self.entries, entries)?;
         if after.is_more_than(TABLE_LIMIT) {
             return Err(TableRefusal::TableFull);
         }

@@ -1,5 +1,5 @@
 //! Maps in trees.
-ghost use Rattle.std.specs.{Prelude.{◌≡◌, ◌+◌, ◌<◌, T, [], length, cond, true, Some, IfOk, IfSome, nat_lt}, Option.option_map, FinMap.is_sorted};
+ghost use Rattle.std.specs.{Prelude.{◌≡◌, ◌+◌, ◌<◌, T, [], length, cond, true, Some, None, is_some, IfOk, IfSome, nat_lt}, Option.option_map, FinMap.{find, is_sorted}};
 ghost use Rattle.pf_table.specs.Map.{Maps.{with_value, without, entry_at, at_or_before}, Parts.joined};
 
 use crate::map::entries::Entries;
@@ -136,20 +136,27 @@ impl<K: Key, V: Drop, E: Held<K, V>> TreeMap<K, V, E> {
         }
     }
 
-    // The map with the entry at a key replaced, or taken out where there is no new one.
+    // Whether there is an entry at a key.
+    fn has<Q: Probe<K>>(&self, sought: &Q) -> bool
+        ensures { result ≡ is_some (find K.order (Q.key sought.now) self.now) }
+    {
+        self.get(sought).is_some()
+    }
+
+    // The map with the entry at a key, if it had one, replaced, or taken out where there is no new one.
     fn with_value<'a, Q: Probe<K>>(
         self,
         alloc: Global,
         sought: &'a Q,
+        had: bool,
         new: Option<&'a E>,
     ) -> Result<TreeMap<K, V, E>, AllocError>
-        requires { IfSome new (λ e. (E.pair e.now).0 ≡ Q.key sought.now) }
+        requires had { had ≡ is_some (find K.order (Q.key sought.now) self) }
+        requires named { IfSome new (λ e. (E.pair e.now).0 ≡ Q.key sought.now) }
         ensures { IfOk result (λ m. m ≡ with_value K.order self (Q.key sought.now) (option_map (λ e. (E.pair e.now).1) new.entry)) }
     {
-        let hint = sought.hint();
-        let had = find_in(self.slots(), hint, sought).is_some();
         let count = recount(self.count, had, new.is_some())?;
-        let slots = replaced_in(alloc, self.into_slots(alloc)?, hint, sought, new)?;
+        let slots = replaced_in(alloc, self.into_slots(alloc)?, sought.hint(), sought, new)?;
         Ok(TreeMap {
             top: Level::whole(alloc, slots)?,
             count,
@@ -161,7 +168,16 @@ impl<K: Key, V: Drop, E: Held<K, V>> TreeMap<K, V, E> {
     pub fn with(self, alloc: Global, new: &E) -> Result<TreeMap<K, V, E>, AllocError>
         ensures { IfOk result (λ m. m ≡ with_value K.order self (E.pair new.now).0 (Some (E.pair new.now).1)) }
     {
-        self.with_value(alloc, new.held_key(), Some(new))
+        let had = self.has(new.held_key());
+        self.with_value(alloc, new.held_key(), had, Some(new))
+    }
+
+    /// The same, where it has no entry at the key: a look-up less.
+    pub(crate) fn with_new(self, alloc: Global, new: &E) -> Result<TreeMap<K, V, E>, AllocError>
+        requires { find K.order (E.pair new.now).0 self ≡ None }
+        ensures { IfOk result (λ m. m ≡ with_value K.order self (E.pair new.now).0 (Some (E.pair new.now).1)) }
+    {
+        self.with_value(alloc, new.held_key(), false, Some(new))
     }
 
     /// The map with no value at a key. Pages on the way to it that other maps hold are copied, three at most, and all else is
@@ -173,7 +189,8 @@ impl<K: Key, V: Drop, E: Held<K, V>> TreeMap<K, V, E> {
     ) -> Result<TreeMap<K, V, E>, AllocError>
         ensures { IfOk result (λ m. m ≡ without K.order self (Q.key sought.now)) }
     {
-        self.with_value(alloc, sought, None)
+        let had = self.has(sought);
+        self.with_value(alloc, sought, had, None)
     }
 
     /// Its entries, in order. It takes no memory.

@@ -1,0 +1,16 @@
+-- What is noted while a list is added to a table, so that a network with both signs in the list is found. Own.
+use Rattle.std.specs.Prelude.{Bool, List, Option, Some, None}
+use Rattle.pf_table.specs.{Entries.Row, Edits.with_entry}
+
+-- By the signs that a network has in the table that a list is added to, in what is noted, and once it was added: the sign that the list first
+-- names it with.
+abbrev pub first_sign : Option Bool → Option Bool → Option Bool → Option Bool
+first_sign (Some t) noted (Some there) = noted
+first_sign None noted (Some there) = Some there
+first_sign table noted None = None
+
+-- a network that is there and that the list didn't name is noted
+abbrev pub noted_with : List Row → Option Bool → Option Bool → Row → List Row
+noted_with noted None first x = noted
+noted_with noted (Some there) (Some s) x = noted
+noted_with noted (Some there) None x = with_entry noted x
