@@ -11,3 +11,6 @@ pub mod Writers
 pub mod Addresses
 pub mod FaultsTold
 pub mod NameFaultsTold
+pub mod BytesInTurn
+pub mod BytesRead
+pub mod BytesFilled

@@ -6,4 +6,5 @@ pub mod Reading
 pub mod Digits
 pub mod Spelling
 pub mod Form
+pub mod Bytes
 pub mod Path

@@ -1,5 +1,6 @@
 pub mod Refusing
 pub mod Form
+pub mod Bytes
 pub mod Path
 pub mod Address
 pub mod Nets

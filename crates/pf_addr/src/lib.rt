@@ -15,6 +15,7 @@
 #![tactic(auto)]
 
 mod addr;
+pub mod bytes;
 mod fault;
 pub mod form;
 mod groups;

@@ -1,0 +1,5 @@
+pub mod Parts
+pub mod Forms
+pub mod Lists
+pub mod Names
+pub mod Readers

@@ -1,0 +1,6 @@
+pub mod Steps
+pub mod Parts
+pub mod Joined
+pub mod Forms
+pub mod Onto
+pub mod Texts

@@ -1,0 +1,29 @@
+//! Layouts of bytes as data.
+//!
+//! How a record lies in bytes is written once, as a value of the type `Form` of `specs/Bytes/Forms.antt`. What a value is written as, which
+//! values can be written, how bytes are read, and at which byte they go wrong, are each a function of the form. The laws hold
+//! of every form, so a record of one's own brings its form, a reader and a writer, and no proof. Numbers stand in big-endian order: the
+//! highest byte first. A type has a form in each version (`Layout`); what its parts are read and written by stands here.
+
+mod fault;
+mod laws;
+mod layout;
+mod lists;
+mod names;
+mod reading;
+mod whole;
+mod writing;
+
+pub use fault::{Fault, Stop};
+pub use laws::{bytes_have_one_value, refusals_have_one_reason, what_is_written_is_read};
+pub use layout::{Layout, Ordered};
+pub use lists::{are_in_order, read_list, read_ordered_list, read_times, write_each, write_list};
+pub use names::{push_padded, read_padded};
+pub use reading::{
+    Rest, expect, read_array, read_bytes, read_counted_bytes, read_u8, read_u16, read_u32,
+    read_u64, read_u128, takes,
+};
+pub use whole::{decode, encode};
+pub use writing::{
+    push_bytes, push_counted_bytes, push_key, push_u8, push_u16, push_u32, push_u64, push_u128,
+};
