@@ -1,8 +1,10 @@
-//! What all texts here are made of: words and grammars, numbers in digits, names and paths of rulesets, IP addresses and networks.
+//! What all texts and records here are made of: words and grammars, layouts of bytes, numbers in digits, names and paths of rulesets,
+//! IP addresses and networks.
 //!
 //! A grammar of words is a value (`form`), and one law serves all of them: what is read is what spells a value, and a text that isn't
-//! one is refused at one place with one kind. Addresses and networks are read and written byte by byte; a network contains the
-//! addresses that begin with its front. What is put out to a writer that may fail is said by the bytes that the writer then holds.
+//! one is refused at one place with one kind. Layouts of bytes are values too (`bytes`), with laws of the same kind. Addresses and
+//! networks are read and written byte by byte; a network contains the addresses that begin with its front. What is put out to a writer
+//! that may fail is said by the bytes that the writer then holds.
 //!
 //! The crate knows no rule, no packet, no ruleset and no command. A path is a name for a ruleset, and which paths stand within one another
 //! is all that is known of them.
@@ -11,7 +13,8 @@
 //! `specs/Grammar.antt` (addresses, networks, their texts), `specs/FaultCases.antt` (each fault by cases on the text) and
 //! `specs/Path/PathGrammar.antt`. `specs/Writing.antt` says what a writer holds, `specs/Refusing.antt` how checks follow one another.
 //!
-//! `form` uses no other module; `path` uses `form`; addresses and networks, at the root, use `form` and no path. `laws` may name all.
+//! `form` uses no other module, nor does `bytes`, which none uses; `path` uses `form`; addresses and networks, at the root, use `form`
+//! and no path. `laws` may name all. Of layouts of bytes read `specs/Bytes/Forms.antt` first.
 #![tactic(auto)]
 
 mod addr;
