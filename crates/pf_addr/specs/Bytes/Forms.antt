@@ -2,7 +2,7 @@
 -- wrong, are each a function of the form.
 use Rattle.std.specs.{Prelude.{◌≡◌, ◌<◌, ◌^◌, ℕ, Bool, true, List, [], ◌∷◌, ◌++◌, length, Ok, ◌⊎◌}, List.{flat_map, AllByRecursion}}
 use Rattle.std.proofs.Common.{inl, inr}
-use Rattle.pf_addr.specs.Bytes.Parts.{Reader, ◌>>=◌, Part, number_at, number_bytes, constant_at, Differs, joined, times_by, if_first, seen_as, only_if, begins_otherwise, onto_each, Faulting, JoinedFaults, TimesFaults, ThatFaults}
+use Rattle.pf_addr.specs.Bytes.Parts.{Reader, Part, number_at, number_bytes, constant_at, Differs, joined, times_by, if_first, seen_as, only_if, begins_otherwise, onto_each, Faulting, JoinedFaults, TimesFaults, ThatFaults}
 
 -- What plain data a form is of. Forms are over shapes, and not over types, so that a clause can speak of every form.
 pub data Shape : Type 0 where

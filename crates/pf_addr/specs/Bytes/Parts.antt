@@ -1,5 +1,5 @@
 -- What forms of bytes are made of: readers and their laws, numbers, constants, one part behind another.
-use Rattle.std.specs.Prelude.{◌≡◌, ◌==◌, ◌<◌, ◌&&◌, ℕ, zero, suc, Bool, true, false, not, nat_lt, List, [], ◌∷◌, ◌++◌, length, drop, Result, Ok, Err, ◌⊎◌, if◌then◌else◌}
+use Rattle.std.specs.Prelude.{◌≡◌, ◌==◌, ◌<◌, ℕ, zero, suc, Bool, true, false, not, nat_lt, List, [], ◌∷◌, ◌++◌, length, drop, Result, Ok, Err, ◌⊎◌, if◌then◌else◌}
 use Rattle.byteorder.specs.Endian.{big_number, big_bytes}
 use Rattle.pf_addr.specs.declared.bytes.fault.{Fault.Fault, Fault.TheVariants.{Short, Bad}}
 

@@ -1,4 +1,4 @@
-use Rattle.std.proofs.Common.{◌≡◌, false, List, sym, ap, ◌∙◌}
+use Rattle.std.proofs.Common.{◌≡◌, false, List, ap, ◌∙◌}
 use Rattle.std.specs.FinMap.{find}
 use Rattle.pf_table.specs.Map.Indexes.{is_clash}
 use Rattle.pf_table.proofs.Indexes.{held, put_in}
