@@ -4,6 +4,7 @@ mod PathTexts
 pub mod NamesRead
 pub mod PathsRead
 pub mod ReferencesRead
+pub mod PathBytes
 pub mod Nesting
 pub mod Numbers
 pub mod Fronts

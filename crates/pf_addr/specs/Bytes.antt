@@ -3,3 +3,4 @@ pub mod Forms
 pub mod Lists
 pub mod Names
 pub mod Readers
+pub mod Codes

@@ -8,3 +8,4 @@ pub mod Spelling
 pub mod Form
 pub mod Bytes
 pub mod Path
+pub mod NetForms

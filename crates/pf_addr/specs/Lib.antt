@@ -4,6 +4,7 @@ pub mod Bytes
 pub mod Path
 pub mod Address
 pub mod Nets
+pub mod NetForms
 pub mod Grammar
 pub mod FaultCases
 pub mod Reading

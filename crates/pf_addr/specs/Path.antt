@@ -7,3 +7,4 @@ pub mod References
 pub mod ReferenceGrammar
 pub mod KeptReferences
 pub mod Nested
+pub mod PathForms

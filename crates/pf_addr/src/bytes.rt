@@ -5,7 +5,9 @@
 //! of every form, so a record of one's own brings its form, a reader and a writer, and no proof. Numbers stand in big-endian order: the
 //! highest byte first. A type has a form in each version (`Layout`); what its parts are read and written by stands here.
 
+mod codes;
 mod fault;
+mod fitting;
 mod laws;
 mod layout;
 mod lists;
@@ -14,11 +16,13 @@ mod reading;
 mod whole;
 mod writing;
 
+pub use codes::{read_below, read_flag};
 pub use fault::{Fault, Stop};
+pub use fitting::{Fitting, all_fit, push_fitting, push_list};
 pub use laws::{bytes_have_one_value, refusals_have_one_reason, what_is_written_is_read};
 pub use layout::{Layout, Ordered};
 pub use lists::{are_in_order, read_list, read_ordered_list, read_times, write_each, write_list};
-pub use names::{push_padded, read_padded};
+pub use names::{push_padded, read_filled, read_padded};
 pub use reading::{
     Rest, expect, read_array, read_bytes, read_counted_bytes, read_u8, read_u16, read_u32,
     read_u64, read_u128, takes,

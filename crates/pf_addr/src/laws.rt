@@ -1,7 +1,7 @@
 //! Laws of networks and of texts. Each function's contract is the law, and its body does nothing.
 ghost use Rattle.std.specs.Prelude.{◌≡◌, ◌↔◌, ℕ, ◌^◌, ◌<◌, ◌≤◌, true, List, Ok};
 ghost use Rattle.pf_addr.specs.declared.{addr.Addr.Addr, addr.TheConstants.{V4_BITS, V6_BITS}, groups.TheConstants.{GROUPS, GROUP_DIGITS}, reading.TheConstants.NUMBER_DIGITS};
-ghost use Rattle.pf_addr.specs.{Address.{Network, width, family_of, network_from, contains, IsAddr, BeginsAs, Agree}, FaultCases.{IsAddrFault, IsNetFault}, Form.Told.TellsFaults, Grammar.{SpellsAddr, SpellsNet}, Reading.{addr_at, net_at}, Spelling.{addr_text, net_text}, Laws.Spelling.{IsNetwork, IsNetWord}};
+ghost use Rattle.pf_addr.specs.{Address.{Network, width, family_of, network_from, contains, IsAddr, BeginsAs, Agree}, FaultCases.{IsAddrFault, IsNetFault}, Form.Told.TellsFaults, Grammar.{SpellsAddr, SpellsNet}, Reading.{addr_at, net_at}, Spelling.{addr_text, net_text}, Laws.Spelling.{IsNetwork, IsNetWord}, Bytes.Forms.Fits, NetForms.{family, family_byte, address_in, first_number, is_network, network_at}};
 
 use crate::addr::Addr;
 
@@ -76,4 +76,14 @@ pub fn sizes_are_these()
     ensures groups { GROUPS ≡ 8 }
     ensures group_digits { GROUP_DIGITS ≡ 4 }
     ensures number_digits { NUMBER_DIGITS ≡ 3 }
+{}
+
+/// The bytes of each network can be written, and they tell it: its family, how many bits its front has, and its first address.
+#[tactic(auto, using(crate::specs::Laws::NetForms::family_fits, crate::specs::Laws::NetForms::length_fits, crate::specs::Laws::NetForms::address_fits, crate::specs::Laws::NetForms::network_is, crate::specs::Laws::NetForms::network_again))]
+pub fn networks_have_bytes_of_their_own()
+    ensures family { (n : Network) → Fits family (family_byte n.family) }
+    ensures length { (n : Network) → IsNetwork n → n.len < 256 }
+    ensures address { (n : Network) → IsNetwork n → Fits (address_in (family_byte n.family)) (first_number n) }
+    ensures within { (n : Network) → IsNetwork n → is_network (family_byte n.family) n.len (first_number n) ≡ true }
+    ensures again { (n : Network) → network_at (family_byte n.family) n.len (first_number n) ≡ n }
 {}

@@ -13,8 +13,9 @@
 //! `specs/Grammar.antt` (addresses, networks, their texts), `specs/FaultCases.antt` (each fault by cases on the text) and
 //! `specs/Path/PathGrammar.antt`. `specs/Writing.antt` says what a writer holds, `specs/Refusing.antt` how checks follow one another.
 //!
-//! `form` uses no other module, nor does `bytes`, which none uses; `path` uses `form`; addresses and networks, at the root, use `form`
-//! and no path. `laws` may name all. Of layouts of bytes read `specs/Bytes/Forms.antt` first.
+//! `form` uses no other module, nor does `bytes`; `path` uses both; addresses and networks, at the root, use both and no path. `laws`
+//! may name all. Of layouts of bytes read `specs/Bytes/Forms.antt` first; those of networks, of paths and of names are in
+//! `specs/NetForms.antt` and `specs/Path/PathForms.antt`.
 #![tactic(auto)]
 
 mod addr;
@@ -24,6 +25,7 @@ pub mod form;
 mod groups;
 mod laws;
 mod net;
+mod net_form;
 pub mod path;
 mod reading;
 mod write;
@@ -33,8 +35,9 @@ pub use fault::AddrFault;
 pub use laws::{
     addrs_are_read_as_spelled, addrs_have_texts_of_their_own, faults_of_addrs_are_told,
     faults_of_nets_are_told, net_text_is_one_word, nets_are_read_as_spelled,
-    nets_have_texts_of_their_own, networks_contain_by_bits, sizes_are_these,
-    written_addr_is_read_again, written_net_is_read_again,
+    nets_have_texts_of_their_own, networks_contain_by_bits, networks_have_bytes_of_their_own,
+    sizes_are_these, written_addr_is_read_again, written_net_is_read_again,
 };
 pub use net::Net;
+pub use net_form::{push_addr, read_addr, read_family};
 pub use write::{write_addr, write_more, write_more_net, write_more_number, write_net, write_text};

@@ -6,6 +6,7 @@ mod name;
 mod names;
 mod nested;
 mod path;
+mod path_form;
 mod path_text;
 mod reference;
 
@@ -13,4 +14,5 @@ pub use limits::{COMPONENT_LIMIT, DEPTH_LIMIT, PATH_LIMIT, REFERENCE_LIMIT, TABL
 pub use name::{Name, TableName};
 pub(crate) use names::has_name_bytes;
 pub use path::Path;
+pub use path_form::read_name;
 pub use reference::Reference;

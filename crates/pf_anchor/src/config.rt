@@ -9,7 +9,7 @@ use crate::fault::ConfigFault;
 use crate::limits::{RULESET_LIMIT, TABLE_COUNT_LIMIT};
 use crate::rule_list::RuleList;
 use crate::rulesets::{EachRuleset, Placed, Rulesets};
-use crate::tables::{Place, PlacedTable, Tables};
+use crate::tables::{EachTable, Place, PlacedTable, Tables};
 use crate::verdict::RuleVerdict;
 use pf_addr::path::{Path, TableName};
 use pf_rule::Packet;
@@ -154,7 +154,7 @@ impl Config {
         ensures { IfOk result (λ v. v.items ≡ tables_at path.now self.now.tables) }
     {
         let mut found = Vec::new(alloc);
-        for placed in self.tables.entries() {
+        for placed in self.each_table() {
             if path.same(&placed.key().0) {
                 found.push(placed.shared()?)?;
             }
@@ -209,10 +209,17 @@ impl Config {
     }
 
     /// The rulesets, in the order of their paths. It takes no memory.
-    pub(crate) fn each_ruleset(&self) -> EachRuleset<'_>
+    pub fn each_ruleset(&self) -> EachRuleset<'_>
         ensures { result ≡ self.now.rulesets }
     {
         self.rulesets.entries()
+    }
+
+    /// The tables, in the order of their paths, at one path in that of their names. It takes no memory.
+    pub fn each_table(&self) -> EachTable<'_>
+        ensures { result ≡ self.now.tables }
+    {
+        self.tables.entries()
     }
 
     /// What the rules say of a packet: the rule that decides by the main ruleset's evaluation (pf.conf(5), Packet Filtering

@@ -29,6 +29,6 @@ pub use fault::ConfigFault;
 pub use limits::{RULE_LIMIT, RULESET_LIMIT, TABLE_COUNT_LIMIT};
 pub use pf_addr::path::Path;
 pub use rule_list::RuleList;
-pub use rulesets::Placed;
-pub use tables::PlacedTable;
+pub use rulesets::{EachRuleset, Placed};
+pub use tables::{EachTable, PlacedTable};
 pub use verdict::RuleVerdict;

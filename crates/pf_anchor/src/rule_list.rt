@@ -54,6 +54,16 @@ impl RuleList {
         RuleList { rules: None }
     }
 
+    /// These rules, at most 1,024. `AllocError`: no list is made.
+    pub fn of(alloc: Global, rules: Vec<Rule>) -> Result<RuleList, AllocError>
+        requires { length rules.items ≤ RULE_LIMIT }
+        ensures { IfOk result (λ l. l ≡ rules.items) }
+    {
+        Ok(RuleList {
+            rules: Some(Arc::new(alloc, rules)?),
+        })
+    }
+
     /// The same rules, none of them copied. `AllocError`: they can't have another owner.
     pub fn shared(&self) -> Result<RuleList, AllocError>
         ensures { IfOk result (λ l. l ≡ self.now) }

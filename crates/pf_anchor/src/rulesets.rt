@@ -10,5 +10,5 @@ pub type Placed = Entry<Path, RuleList>;
 /// The rulesets that have rules, in the order of their paths. Contracts see it as the list.
 pub(crate) type Rulesets = PagedMap<Path, RuleList>;
 
-/// Rulesets in order, one after the other.
-pub(crate) type EachRuleset<'a> = Entries<'a, Path, RuleList, Placed>;
+/// Rulesets in the order of their paths, one after the other. Contracts see those that are left to come.
+pub type EachRuleset<'a> = Entries<'a, Path, RuleList, Placed>;

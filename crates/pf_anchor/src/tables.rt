@@ -2,7 +2,7 @@
 
 use pf_addr::path::{Path, TableName};
 use pf_table::Table;
-use pf_table::map::{Entry, Key, PagedMap, Probe};
+use pf_table::map::{Entries, Entry, Key, PagedMap, Probe};
 use std::cmp::Ordering;
 
 /// A table where it is: its path, its name, and its entries, shared by all that hold it. Contracts see it as a `Tabled`.
@@ -10,6 +10,9 @@ pub type PlacedTable = Entry<(Path, TableName), Table>;
 
 /// The tables that have entries, in the order of their paths, at one path in that of their names. Contracts see it as the list.
 pub(crate) type Tables = PagedMap<(Path, TableName), Table>;
+
+/// Tables in order, at one path in that of their names, one after the other. Contracts see those that are left to come.
+pub type EachTable<'a> = Entries<'a, (Path, TableName), Table, PlacedTable>;
 
 /// Where a table is looked for. A path is long to copy.
 #[derive(Clone, Copy)]

@@ -1,6 +1,6 @@
 pub mod ValueKept
 pub mod HostKept
-pub mod ReadAgain
+pub mod RuleBytes
 pub mod Computed
 pub mod Kept
 pub mod Untabled

@@ -2,7 +2,8 @@
 -- first (network order, RFC 1700); the rest is own.
 use Rattle.std.specs.Prelude.{◌≡◌, ℕ, List, ◌++◌, drop, length, replicate, slice_index, refl}
 use Rattle.byteorder.specs.Endian.{big_number, big_bytes}
-use Rattle.pf_addr.specs.declared.{addr.Addr.Addr, addr.Family.Family, addr.Family.TheVariants.V4, addr.Family.TheVariants.V6}
+use Rattle.pf_addr.specs.declared.addr.Addr.{Addr}
+pub use Rattle.pf_addr.specs.NetForms.{family_byte}
 use Rattle.pf_addr.specs.declared.addr.Addr.TheVariants as addr
 use Rattle.pf_rule.specs.declared.{value.direction.Direction.Direction, value.direction.Direction.TheVariants.In, value.direction.Direction.TheVariants.Out}
 
@@ -21,10 +22,6 @@ addr_bytes (addr.V6 n) = big_bytes 16 n
 abbrev pub direction_byte : Direction → ℕ
 direction_byte In = 1
 direction_byte Out = 2
-
-abbrev pub family_byte : Family → ℕ
-family_byte V4 = 4
-family_byte V6 = 6
 
 pub addr_bytes-length : (a : Addr) → length (addr_bytes a) ≡ 16
 addr_bytes-length (addr.V4 n) = refl

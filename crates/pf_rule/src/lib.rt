@@ -9,8 +9,8 @@
 //!
 //! Read `specs/Rules.antt` first (what a rule is, and when it matches), `specs/Packets.antt`, and `specs/RuleGrammar.antt` with
 //! `specs/PacketGrammar.antt` (their texts); then `specs/RuleText.antt` (the canonical text), `specs/Refusals.antt` (what reading a text
-//! may answer) and `specs/Sum/Forms.antt` (the form's table of places, and the checksum). `specs/Bytes.antt` has what forms of rules
-//! share with a peer's messages.
+//! may answer), `specs/Sum/Forms.antt` (the form's table of places, and the checksum) and `specs/Sum/Layouts.antt` (which bytes are a
+//! rule's form). `specs/Bytes.antt` has what forms of rules share with a peer's messages.
 //!
 //! `value` (protocols, ports, interfaces, directions) uses no other module; `host` uses `value`; rules and packets, at the root, use both
 //! and know no checksum; `sum` uses all three. `laws` may name all.

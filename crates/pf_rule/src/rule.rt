@@ -50,27 +50,27 @@ pub(crate) enum Opening {
 /// as they see its type. A test that is absent holds for every packet, and a rule matches where all its tests hold. The widest
 /// fields stand first, so that no place is lost between them.
 #[derive(Clone, Copy)]
-struct RuleParts {
+pub(crate) struct RuleParts {
     /// The addresses that a packet has to come from (`from`).
-    source: Host,
+    pub(crate) source: Host,
     /// The addresses that a packet has to go to (`to`).
-    destination: Host,
+    pub(crate) destination: Host,
     /// What a match gives (`pass`, `block`, `anchor`).
-    effect: Effect,
+    pub(crate) effect: Effect,
     /// The interface that a packet has to go through (`on`), as the 1 to 15 bytes of its name.
-    interface: Option<Interface>,
+    pub(crate) interface: Option<Interface>,
     /// The ports that a packet has to come from (`port`). Only a rule of TCP or UDP tests ports.
-    source_port: Option<PortTest>,
+    pub(crate) source_port: Option<PortTest>,
     /// The ports that a packet has to go to, as `source_port`.
-    destination_port: Option<PortTest>,
+    pub(crate) destination_port: Option<PortTest>,
     /// The way a packet has to go (`in`, `out`).
-    direction: Option<Direction>,
+    pub(crate) direction: Option<Direction>,
     /// Whether a match that the rule gives ends the evaluation (`quick`).
-    quick: bool,
+    pub(crate) quick: bool,
     /// The family that a packet's addresses have to be of (`inet`, `inet6`): the one written, or that of a host's network.
-    family: Option<Family>,
+    pub(crate) family: Option<Family>,
     /// The protocol that a packet has to be of (`proto`), as its number, 1 to 255.
-    protocol: Option<Protocol>,
+    pub(crate) protocol: Option<Protocol>,
 }
 
 /// A filter rule (pf.conf(5), Packet Filtering). A rule is exactly what some text spells.
@@ -110,6 +110,14 @@ impl Opening {
 }
 
 impl Rule {
+    /// The rule of these parts.
+    pub(crate) fn of(parts: RuleParts) -> Rule
+        requires { IsRule parts }
+        ensures { result ≡ parts }
+    {
+        Rule(parts)
+    }
+
     /// Reads a rule from the front of the words that are left. It takes no memory.
     ///
     /// A refusal stands at the first word at which no rule's text can go on. Its kind is the one that [`Rule::parse`] names, and it

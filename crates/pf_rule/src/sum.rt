@@ -1,8 +1,11 @@
-//! The checksum of a ruleset: MD5 (RFC 1321) of its rules' forms in bytes, by which a peer knows whether its rules are the same.
+//! Forms of rules in bytes, written and read, and the checksum of a ruleset: MD5 (RFC 1321) of its rules' forms, by which a peer knows
+//! whether its rules are the same.
 
+mod end_layout;
 mod form;
 mod host_form;
 mod laws;
+mod layout;
 mod sum;
 
 pub use form::{RULE_FORM, rule_bytes};

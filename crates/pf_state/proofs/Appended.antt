@@ -1,24 +1,7 @@
 -- What is written in turn stands there in order.
-use Rattle.std.proofs.{Common.{◌≡◌, ◌+◌, ◌<◌, ◌≤◌, ℕ, zero, suc, List, [], ◌∷◌, ◌++◌, length, take, get_or, subst, ap, ◌∙◌, append_assoc, length-append, arith}, lemmas.List.take_all, lemmas.List.Elements.{All-head, All-tail, All-more}}
+use Rattle.std.proofs.{Common.{◌≡◌, ◌+◌, ◌<◌, ◌≤◌, ℕ, zero, suc, List, [], ◌∷◌, length, take, get_or, subst, ap, length-append, arith}, lemmas.List.take_all, lemmas.List.Elements.{All-head, All-tail, All-more}}
 use Rattle.std.specs.List.{All, flat_map}
 use Rattle.pf_state.specs.{declared.{peer.message.Group.Group, peer.message.Group.TheVariants.Inserts, peer.message.Group.TheVariants.Deletes, peer.message.Group.TheVariants.Clears, peer.record.Delete.Delete, peer.record.Clear.Clear}, Peer.Records.{PlainInsert, insert_bytes, delete_bytes, clear_bytes}, Peer.Written.{Each, group_bytes, group_with}}
-
-pub two : (o a b p q : List ℕ) → p ≡ o ++ a → q ≡ p ++ b → q ≡ o ++ (a ++ b)
-two o a b p q e f = f ∙ ap (λ (l : List ℕ). l ++ b) e ∙ append_assoc o a b
-
--- the parts of an insert's record
-pub ten : (o a b c d e f g h i j o1 o2 o3 o4 o5 o6 o7 o8 o9 o10 : List ℕ) → o1 ≡ o ++ a → o2 ≡ o1 ++ b → o3 ≡ o2 ++ c → o4 ≡ o3 ++ d → o5 ≡ o4 ++ e
-    → o6 ≡ o5 ++ f → o7 ≡ o6 ++ g → o8 ≡ o7 ++ h → o9 ≡ o8 ++ i → o10 ≡ o9 ++ j → o10 ≡ o ++ (a ++ (b ++ (c ++ (d ++ (e ++ (f ++ (g ++ (h ++ (i ++ j)))))))))
-ten o a b c d e f g h i j o1 o2 o3 o4 o5 o6 o7 o8 o9 o10 p1 p2 p3 p4 p5 p6 p7 p8 p9 p10 =
-    let q9 = two o8 i j o9 o10 p9 p10 in
-    let q8 = two o7 h (i ++ j) o8 o10 p8 q9 in
-    let q7 = two o6 g (h ++ (i ++ j)) o7 o10 p7 q8 in
-    let q6 = two o5 f (g ++ (h ++ (i ++ j))) o6 o10 p6 q7 in
-    let q5 = two o4 e (f ++ (g ++ (h ++ (i ++ j)))) o5 o10 p5 q6 in
-    let q4 = two o3 d (e ++ (f ++ (g ++ (h ++ (i ++ j))))) o4 o10 p4 q5 in
-    let q3 = two o2 c (d ++ (e ++ (f ++ (g ++ (h ++ (i ++ j)))))) o3 o10 p3 q4 in
-    let q2 = two o1 b (c ++ (d ++ (e ++ (f ++ (g ++ (h ++ (i ++ j))))))) o2 o10 p2 q3 in
-    two o a (b ++ (c ++ (d ++ (e ++ (f ++ (g ++ (h ++ (i ++ j)))))))) o1 o10 p1 q2
 
 -- there are at most as many items as bytes that they are written as
 pub count_fits : {A : Type 0} (writing : A → List ℕ) → ((x : A) → 0 < length (writing x)) → (xs : List A) → length xs ≤ length (flat_map writing xs)

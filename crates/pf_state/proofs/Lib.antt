@@ -1,11 +1,14 @@
+pub mod LayoutsBack
+pub mod Pushing
+pub mod Rows
 pub mod Appended
-pub mod Kept
 pub mod Grouped
 pub mod Headers
 pub mod OneReading
 pub mod OneMessage
 pub mod Pieces
 pub mod SomeReading
+pub mod Inserts
 pub mod RoundTrip
 pub mod Parts
 pub mod Asked

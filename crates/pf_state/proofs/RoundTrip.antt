@@ -1,12 +1,10 @@
 -- What is written is read again.
-use Rattle.std.proofs.{Common.{◌≡◌, ◌≢◌, ◌*◌, ◌<◌, ◌≤◌, ◌==◌, ◌&&◌, ◌||◌, ℕ, Bool, true, false, List, [], ◌∷◌, ◌++◌, length, Option, Some, Ok, refl, sym, ap, ◌∙◌, subst, append_assoc, length-append, arith}, lemmas.List.{take_at, drop_at}, lemmas.Bool.Decides.nat_tests}
+use Rattle.std.proofs.{Common.{◌≡◌, ◌≢◌, ◌*◌, ◌<◌, ◌≤◌, ℕ, true, false, List, [], ◌∷◌, ◌++◌, length, Option, Some, Ok, refl, sym, ap, ◌∙◌, subst, append_assoc, length-append, arith}, lemmas.List.{take_at, drop_at}, lemmas.Bool.Decides.nat_tests}
 use Rattle.std.specs.{Prelude.nat_lt, List.flat_map}
 use Rattle.byteorder.specs.{Numbers.big_number-reads_back, Endian.big_bytes}
-use Rattle.pf_addr.specs.declared.{addr.Addr.Addr, addr.Addr.TheVariants.V4, addr.Addr.TheVariants.V6}
-use Rattle.pf_addr.specs.declared.addr.Family.TheVariants as family
-use Rattle.pf_rule.specs.{Bytes.{number_at, direction_byte, addr_bytes-length}, Value.Values.has_ports, declared.{value.direction.Direction.Direction, value.direction.Direction.TheVariants.In, value.direction.Direction.TheVariants.Out}}
-use Rattle.pf_state.specs.{declared.{peer.message.Group.Group, peer.message.Group.TheVariants.Inserts, peer.message.Group.TheVariants.Deletes, peer.message.Group.TheVariants.Clears, peer.message.Message.Message, peer.record.TheConstants.RECORD, peer.record.Delete.Delete, peer.record.Clear.Clear}, Peer.Records.{PlainInsert, IsInsert, allowed, fields_of, direction_of, insert_of, delete_of, clear_of, insert_bytes, delete_bytes, clear_bytes}, Peer.Groups.{records_of, content, is_action, group_at, AreGroups}, Peer.Messages.IsMessage, Peer.Written.{Each, IsDelete, IsClear, IsGroup, group_bytes, groups_bytes, message_length, message_bytes, CanBeWritten}}
-use Rattle.pf_state.proofs.Appended.{few_inserts, few_deletes, few_clears}
+use Rattle.pf_rule.specs.{Bytes.{number_at, addr_bytes-length}}
+use Rattle.pf_state.specs.{declared.{peer.message.Group.Group, peer.message.Group.TheVariants.Inserts, peer.message.Group.TheVariants.Deletes, peer.message.Group.TheVariants.Clears, peer.message.Message.Message, peer.record.TheConstants.RECORD, peer.record.Delete.Delete, peer.record.Clear.Clear}, Peer.Records.{PlainInsert, IsInsert, insert_of, delete_of, clear_of, insert_bytes, delete_bytes, clear_bytes}, Peer.Groups.{records_of, content, is_action, group_at, AreGroups}, Peer.Messages.IsMessage, Peer.Written.{Each, IsDelete, IsClear, IsGroup, group_bytes, groups_bytes, message_length, message_bytes, CanBeWritten}}
+use Rattle.pf_state.proofs.{Appended.{few_inserts, few_deletes, few_clears}, Inserts.insert_again}
 
 -- ---- records
 
@@ -26,93 +24,8 @@ clear_again c is = record { read = rw (big_number-reads_back 4 c.creator _ is) r
 pub insert_long : (i : PlainInsert) → length (insert_bytes i) ≡ 64
 insert_long i = omega (arith, addr_bytes-length i.source, addr_bytes-length i.destination, length-append {A = ℕ})
 
--- an insert with these fields
-abbrev with_fields : ℕ → ℕ → ℕ → Direction → ℕ → Addr → Addr → ℕ → ℕ → ℕ → ℕ → PlainInsert
-with_fields id creator generation direction protocol source destination source_port destination_port rule anchor = record {
-  id = id;
-  creator = creator;
-  generation = generation;
-  direction = direction;
-  protocol = protocol;
-  source = source;
-  destination = destination;
-  source_port = source_port;
-  destination_port = destination_port;
-  rule = rule;
-  anchor = anchor;
-}
-
-not_zero : (n : ℕ) → 0 < n → (n == 0) ≡ false
-not_zero n lt = grind (arith, nat_tests)
-
-ports_again : (b : Bool) (m n : ℕ) → (b ≡ false → (m ≡ 0) × (n ≡ 0)) → (b || ((m == 0) && (n == 0))) ≡ true
-ports_again true m n none = refl
-ports_again false m n none = rw ((none refl).0, (none refl).1) refl
-
-direction_again : (d : Direction) → direction_of (direction_byte d) ≡ d
-direction_again In = refl
-direction_again Out = refl
-
-direction_stands : (d : Direction) → ((direction_byte d == 1) || (direction_byte d == 2)) ≡ true
-direction_stands In = refl
-direction_stands Out = refl
-
--- it may stand in a record
-allowed_again : (id creator generation : ℕ) (direction : Direction) (protocol : ℕ) (source destination : Addr) (source_port destination_port rule anchor : ℕ)
-    → IsInsert (with_fields id creator generation direction protocol source destination source_port destination_port rule anchor)
-    → allowed (insert_bytes (with_fields id creator generation direction protocol source destination source_port destination_port rule anchor)) ≡ true
-unfolding allowed number_at
-allowed_again id creator generation direction protocol (V4 s) (V4 d) source_port destination_port rule anchor is =
-    rw (direction_stands direction, not_zero protocol is.protocol.0, big_number-reads_back 2 source_port _ is.source_port, big_number-reads_back 2 destination_port _ is.destination_port)
-    (ports_again (has_ports protocol) source_port destination_port is.no_ports)
-allowed_again id creator generation direction protocol (V6 s) (V6 d) source_port destination_port rule anchor is =
-    rw (direction_stands direction, not_zero protocol is.protocol.0, big_number-reads_back 2 source_port _ is.source_port, big_number-reads_back 2 destination_port _ is.destination_port)
-    (ports_again (has_ports protocol) source_port destination_port is.no_ports)
-allowed_again id creator generation direction protocol (V4 s) (V6 d) source_port destination_port rule anchor is = let e : family.V4 ≡ family.V6 = is.families in cc
-allowed_again id creator generation direction protocol (V6 s) (V4 d) source_port destination_port rule anchor is = let e : family.V6 ≡ family.V4 = is.families in cc
-
-fields_again : (id creator generation : ℕ) (direction : Direction) (protocol : ℕ) (source destination : Addr) (source_port destination_port rule anchor : ℕ)
-    → IsInsert (with_fields id creator generation direction protocol source destination source_port destination_port rule anchor)
-    → fields_of (insert_bytes (with_fields id creator generation direction protocol source destination source_port destination_port rule anchor))
-    ≡ with_fields id creator generation direction protocol source destination source_port destination_port rule anchor
-unfolding fields_of number_at
-fields_again id creator generation direction protocol (V4 s) (V4 d) source_port destination_port rule anchor is =
-    rw (
-      direction_again direction,
-      big_number-reads_back 8 id _ is.id,
-      big_number-reads_back 4 creator _ is.creator,
-      big_number-reads_back 4 generation _ is.generation,
-      big_number-reads_back 4 s _ is.source,
-      big_number-reads_back 4 d _ is.destination,
-      big_number-reads_back 2 source_port _ is.source_port,
-      big_number-reads_back 2 destination_port _ is.destination_port,
-      big_number-reads_back 4 rule _ is.rule,
-      big_number-reads_back 4 anchor [] is.anchor,
-    ) refl
-fields_again id creator generation direction protocol (V6 s) (V6 d) source_port destination_port rule anchor is =
-    rw (
-      direction_again direction,
-      big_number-reads_back 8 id _ is.id,
-      big_number-reads_back 4 creator _ is.creator,
-      big_number-reads_back 4 generation _ is.generation,
-      big_number-reads_back 16 s _ is.source,
-      big_number-reads_back 16 d _ is.destination,
-      big_number-reads_back 2 source_port _ is.source_port,
-      big_number-reads_back 2 destination_port _ is.destination_port,
-      big_number-reads_back 4 rule _ is.rule,
-      big_number-reads_back 4 anchor [] is.anchor,
-    ) refl
-fields_again id creator generation direction protocol (V4 s) (V6 d) source_port destination_port rule anchor is = let e : family.V4 ≡ family.V6 = is.families in cc
-fields_again id creator generation direction protocol (V6 s) (V4 d) source_port destination_port rule anchor is = let e : family.V6 ≡ family.V4 = is.families in cc
-
-insert_again : (i : PlainInsert) → IsInsert i → Again insert_of insert_bytes i
-insert_again i is = record {
-  read = rw (
-    allowed_again i.id i.creator i.generation i.direction i.protocol i.source i.destination i.source_port i.destination_port i.rule i.anchor is,
-    fields_again i.id i.creator i.generation i.direction i.protocol i.source i.destination i.source_port i.destination_port i.rule i.anchor is,
-  ) refl;
-  long = insert_long i;
-}
+insert_read : (i : PlainInsert) → IsInsert i → Again insert_of insert_bytes i
+insert_read i is = record { read = insert_again i is; long = insert_long i }
 
 records_again : {A : Type 0} (reading : List ℕ → Option A) (writing : A → List ℕ) (P : A → Type 0) → ((x : A) → P x → Again reading writing x) → (xs : List A) (rest : List ℕ)
     → Each P xs → records_of reading (length xs) (flat_map writing xs ++ rest) ≡ Ok xs
@@ -149,8 +62,8 @@ one_again a n records rest g lt action long says =
 group_again : (g : Group) (rest : List ℕ) → IsGroup g → length (group_bytes g) < 65536 → group_at (group_bytes g ++ rest) ≡ Ok (g, rest)
 unfolding content
 group_again (Inserts xs) rest is fits =
-    one_again 1 (length xs) (flat_map insert_bytes xs) rest (Inserts xs) (few_inserts (Inserts xs) xs refl fits) refl (records_long insert_of insert_bytes IsInsert insert_again xs is)
-    (rw (records_again insert_of insert_bytes IsInsert insert_again xs rest is) refl)
+    one_again 1 (length xs) (flat_map insert_bytes xs) rest (Inserts xs) (few_inserts (Inserts xs) xs refl fits) refl (records_long insert_of insert_bytes IsInsert insert_read xs is)
+    (rw (records_again insert_of insert_bytes IsInsert insert_read xs rest is) refl)
 group_again (Deletes xs) rest is fits =
     one_again 6 (length xs) (flat_map delete_bytes xs) rest (Deletes xs) (few_deletes (Deletes xs) xs refl fits) refl (records_long delete_of delete_bytes IsDelete delete_again xs is)
     (rw (records_again delete_of delete_bytes IsDelete delete_again xs rest is) refl)

@@ -21,11 +21,11 @@ no e = absurd (true≢false e)
 pub nothing_is : {X Y : Type 0} (x : X) → None ≡ Some x → Y
 nothing_is x e = no (sym (ap is_some e))
 
-front_within : (a b : Bool) → (a || b) ≡ false → a ≡ false
+pub front_within : (a b : Bool) → (a || b) ≡ false → a ≡ false
 front_within true b e = e
 front_within false b e = refl
 
-rest_within : (a b : Bool) → (a || b) ≡ false → b ≡ false
+pub rest_within : (a b : Bool) → (a || b) ≡ false → b ≡ false
 rest_within true b e = no e
 rest_within false b e = e
 
@@ -55,7 +55,7 @@ others_differ (e ∷ es) s b y none there other same = by (eq_by_cmp name_order 
 
 -- ---- what steps leave
 
-names_put : (es : List Stated) (s : Stated) → NamesFlows es → is_clash es s ≡ false → NamesFlows (with_value name_order es s.0 (Some s.1))
+pub names_put : (es : List Stated) (s : Stated) → NamesFlows es → is_clash es s ≡ false → NamesFlows (with_value name_order es s.0 (Some s.1))
 names_put es s is none = record {
   sorted = stays_sorted Held name_total es s.0 (Some s.1) is.sorted;
   one_flow = λ a b x y at_a at_b same. by a b x y (eq_by_cmp name_order a s.0) refl (eq_by_cmp name_order b s.0) refl (sym (reads_put es s a) ∙ at_a) (sym (reads_put es s b) ∙ at_b) same;

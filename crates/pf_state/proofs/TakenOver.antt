@@ -6,17 +6,17 @@ use Rattle.pf_state.specs.{Orders.name_total, Peer.Written.Each, declared.{limit
 use Rattle.pf_state.proofs.{Names.{same_itself, same_name}, Tables.within_not_over, Told.tells_the_states}
 
 -- p stands before s, and has another flow
-record Before (s p : Stated) : Type 0 where
-  less : name_order p.0 s.0 ≡ Less
-  other : same_flow p.1.flow s.1.flow ≡ false
+pub record Before (s p : Stated) : Type 0 where
+  pub less : name_order p.0 s.0 ≡ Less
+  pub other : same_flow p.1.flow s.1.flow ≡ false
 
-abbrev Apart : List Stated → Type 0
+abbrev pub Apart : List Stated → Type 0
 Apart [] = Unit {0}
 Apart (e ∷ es) = Each (λ s. Before s e) es × Apart es
 
 -- ---- a state behind all others is inserted at their end
 
-behind : (s p : Stated) → name_order p.0 s.0 ≡ Less → name_order s.0 p.0 ≡ Greater
+pub behind : (s p : Stated) → name_order p.0 s.0 ≡ Less → name_order s.0 p.0 ≡ Greater
 behind s p less = name_total.antisymm s.0 p.0 ∙ ap ordering_reverse less
 
 none_held : (ps : List Stated) (s : Stated) → Each (Before s) ps → held_at s.0 ps ≡ None
@@ -28,12 +28,12 @@ none_clashes [] s each = refl
 none_clashes (p ∷ ps) s each = ap (λ (r : Ordering). (not (is_eq r) && same_flow p.1.flow s.1.flow) || is_clash ps s) each.0.less
     ∙ ap (λ (b : Bool). b || is_clash ps s) each.0.other ∙ none_clashes ps s each.1
 
-all_kept : (ps : List Stated) (s : Stated) → Each (Before s) ps → without name_order ps s.0 ≡ ps
+pub all_kept : (ps : List Stated) (s : Stated) → Each (Before s) ps → without name_order ps s.0 ≡ ps
 all_kept [] s each = refl
 all_kept (p ∷ ps) s each = ap (λ (r : Ordering). cond (not (is_eq r)) (p ∷ without name_order ps s.0) (without name_order ps s.0)) (behind s p each.0.less)
     ∙ ap (λ (l : List Stated). p ∷ l) (all_kept ps s each.1)
 
-put_last : (ps : List Stated) (s : Stated) → Each (Before s) ps → put name_order s.0 s.1 ps ≡ ps ++ s ∷ []
+pub put_last : (ps : List Stated) (s : Stated) → Each (Before s) ps → put name_order s.0 s.1 ps ≡ ps ++ s ∷ []
 put_last [] s each = refl
 put_last (p ∷ ps) s each = rw (behind s p each.0.less) (ap (λ (l : List Stated). p ∷ l) (put_last ps s each.1))
 
@@ -45,7 +45,7 @@ unfolding stepped
 step_last ps s each = ap (λ (j : Insertion). cond (has_effect j) (with_value name_order ps s.0 (Some s.1)) ps) (is_new ps s each)
     ∙ ap (put name_order s.0 s.1) (all_kept ps s each) ∙ put_last ps s each
 
-within : (P : Stated → Type 0) (ps : List Stated) (s : Stated) (fs : List Stated) → Each P (ps ++ s ∷ fs) → P s
+pub within : (P : Stated → Type 0) (ps : List Stated) (s : Stated) (fs : List Stated) → Each P (ps ++ s ∷ fs) → P s
 within P [] s fs each = each.0
 within P (p ∷ ps) s fs each = within P ps s fs each.1
 
@@ -80,7 +80,7 @@ rest : (a b : Bool) → T (a && b) → T b
 rest true b h = h
 rest false b h = absurd h
 
-less_of : (r : Ordering) → T (is_lt r) → r ≡ Less
+pub less_of : (r : Ordering) → T (is_lt r) → r ≡ Less
 less_of Less h = refl
 less_of Equal h = absurd h
 less_of Greater h = absurd h
@@ -92,7 +92,7 @@ held_later e es (f ∷ fs) low each = (
   held_later e es fs (rest (is_lt (name_order e.0 f.0)) _ low) each.1,
 )
 
-all_held : (es : List Stated) → T (is_sorted name_order es) → Each (λ s. held_at s.0 es ≡ Some s.1) es
+pub all_held : (es : List Stated) → T (is_sorted name_order es) → Each (λ s. held_at s.0 es ≡ Some s.1) es
 all_held [] sorted = tt
 all_held (e ∷ es) sorted = (
   ap (λ (b : Bool). cond b (Some e.1) (held_at e.0 es)) (same_itself e.0),
@@ -111,7 +111,7 @@ before_all all is e (s ∷ es) low e_held each =
     let less : name_order e.0 s.0 ≡ Less = less_of _ (front _ _ low) in
     (record { less = less; other = other_flow all is e s less e_held each.0 }, before_all all is e es (rest (is_lt (name_order e.0 s.0)) _ low) e_held each.1)
 
-apart_of : (all : List Stated) → NamesFlows all → (es : List Stated) → T (is_sorted name_order es) → Each (λ s. held_at s.0 all ≡ Some s.1) es → Apart es
+pub apart_of : (all : List Stated) → NamesFlows all → (es : List Stated) → T (is_sorted name_order es) → Each (λ s. held_at s.0 all ≡ Some s.1) es → Apart es
 apart_of all is [] sorted each = tt
 apart_of all is (e ∷ es) sorted each = (before_all all is e es (front _ _ sorted) each.0 each.1, apart_of all is es (rest (below_all name_order e.0 es) _ sorted) each.1)
 

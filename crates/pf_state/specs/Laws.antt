@@ -1,3 +1,4 @@
 pub mod States
 pub mod Failover
 pub mod Messages
+pub mod Layouts

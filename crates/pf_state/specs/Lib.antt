@@ -6,6 +6,7 @@ pub mod States
 pub mod Orders
 pub mod Steps
 pub mod Bindings
+pub mod Layouts
 pub mod Laws
 -- what public clauses cite of the crates below
 pub use Rattle.pf_addr.specs.Address

@@ -5,16 +5,19 @@
 //! changed by batches of steps: inserts, deletes and clears. A peer tells of its states in messages, whose form is own, after that of
 //! pfsync(4).
 //!
-//! The crate has three layers, and they stay apart:
+//! The crate has four layers, and they stay apart:
 //! - states, their table and steps, in the modules at the root: they know no bytes and nothing of `peer`;
-//! - messages, in [`peer`]: how a stream of bytes is read in whatever pieces it comes, and how messages are written. It knows no state;
-//! - [`failover`], which knows both: the steps that a message asks for, and the messages that tell a peer of all states.
+//! - bytes of flows, states and steps, in [`layouts`], by layouts of `pf_addr::bytes`: what a store keeps of them;
+//! - messages, in [`peer`]: how a stream of bytes is read in whatever pieces it comes, and how messages are written. It knows flows and
+//!   their bytes, and no state;
+//! - [`failover`], which knows states and messages: the steps that a message asks for, and the messages that tell a peer of all states.
 //!
 //! It knows packets and addresses, and of rules only how many main rules there are and the 16 bytes of their checksum: not what they
 //! say, no rulesets at paths, no lines and no disk. Of pf_table it has the maps in which states stand by name and by flow.
 //!
 //! To read first: `specs/Flows.antt`, `States.antt`, `Steps.antt` and `Bindings.antt` say what the table does, `specs/Peer/Records.antt`,
-//! `Groups.antt`, `Messages.antt` and `Streams.antt` what bytes mean, `specs/Failover/` how both meet. [`laws`], [`peer`] and
+//! `Groups.antt`, `Messages.antt` and `Streams.antt` what a peer's bytes mean, `specs/Layouts/` what a store's bytes are,
+//! `specs/Failover/` how states and messages meet. [`laws`], [`peer`] and
 //! [`failover::laws`] say what follows.
 #![tactic(auto)]
 
@@ -26,6 +29,7 @@ mod flow;
 mod flow_key;
 mod keys;
 pub mod laws;
+pub mod layouts;
 mod limits;
 pub mod peer;
 mod refusal;

@@ -3,12 +3,14 @@
 //!
 //! A message has a header of [`HEADER`] bytes: the version, a zero byte, the length of the whole message in two bytes, and the
 //! checksum of the rules that its states were made by. Groups follow, each an action, a zero byte and a count in two bytes, and
-//! that many records of [`RECORD`] bytes. In the bytes all numbers have their highest byte first; in the types here they are plain
+//! that many records of [`RECORD`] bytes, of which an insert has its layout in `specs/Peer/Records.antt`. In the bytes all numbers have
+//! their highest byte first; in the types here they are plain
 //! numbers. The form is own, after that of pfsync(4)'s states. Nothing in a message is authenticated.
 
 mod fault;
 mod fields;
 mod groups;
+mod insert;
 mod laws;
 mod message;
 mod one;
@@ -19,9 +21,9 @@ mod writing;
 
 pub use fault::{FeedError, OneFault, PeerFault};
 pub use laws::{
-    fault_stays_the_same, numbers_of_messages_are_these, one_message_has_one_answer,
-    one_message_has_these_bytes, pieces_make_one_stream, stream_has_a_reading,
-    stream_has_one_reading, written_message_is_read,
+    fault_stays_the_same, insert_has_its_form, numbers_of_messages_are_these,
+    one_message_has_one_answer, one_message_has_these_bytes, pieces_make_one_stream,
+    stream_has_a_reading, stream_has_one_reading, written_message_is_read,
 };
 pub use message::{Group, MESSAGE_LIMIT, Message, Records};
 pub use one::read_one;

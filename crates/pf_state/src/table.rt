@@ -48,6 +48,14 @@ impl StateTable {
         }
     }
 
+    /// The table of these, which are a table's.
+    pub(crate) fn of(states: States) -> StateTable
+        requires { IsStates states }
+        ensures { result ≡ states }
+    {
+        StateTable { index: states }
+    }
+
     /// The same table, with one owner more. No state and no page is copied. `AllocError`: none is made.
     pub fn shared(&self) -> Result<StateTable, AllocError>
         ensures { IfOk result (λ t. t ≡ self.now) }

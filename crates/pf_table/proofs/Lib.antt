@@ -4,6 +4,8 @@ pub mod Fronts
 pub mod ListMaps
 pub mod Indexes
 pub mod Sorted
+pub mod Ordered
+pub mod TableRows
 pub mod Batches
 pub mod Prefixes
 pub mod Lookups

@@ -1,9 +1,9 @@
 -- Of the entries that contain an address the one with the longest front decides.
 use Rattle.std.proofs.{Common.{◌≡◌, ◌≢◌, ℕ, zero, suc, ◌-◌, ◌*◌, ◌/◌, ◌^◌, ◌<◌, ◌≤◌, ◌==◌, bit_xor, nat_lt, Bool, true, false, not, cond, ◌&&◌, List, [], ◌∷◌, Option, Some, None, is_some, refl, sym, ap, ◌∙◌, subst, true≢false, arith, ◌⊎◌, inl, inr}, lemmas.{Bool.Decides.{nat_tests, Decides-eqb}, Cmp.{nat_cmp_total, ranked}, Map.Keys.ge_from_not_lt, Nat.shl-shr, List.Elements.All-contains}, Math.Nat.div-mul-le_self}
 use Rattle.std.specs.{List.{Contains, All}, Ordering.{is_eq, is_lt, nat_cmp, ordering_then, ordering_reverse}, Cmp.tied_itself, Int.Count.count_leading_zeros}
-use Rattle.pf_addr.specs.{declared.{addr.Addr.Addr, addr.Family.Family, addr.Family.TheVariants.V4, addr.Family.TheVariants.V6}, Address.{Network, IsNetwork, contains, same_family, family_of, width, number_in, first_bits, network_from}, Spelling.{addr_in, first_addr}}
+use Rattle.pf_addr.specs.{declared.{addr.Addr.Addr, addr.Family.Family, addr.Family.TheVariants.V4, addr.Family.TheVariants.V6}, Address.{Network, IsNetwork, contains, same_family, family_of, width, number_in, first_bits, network_from}, Spelling.{addr_in, first_addr}, NetForms.first_number}
 use Rattle.pf_addr.specs.declared.addr.Addr.TheVariants as addr
-use Rattle.pf_table.specs.{Entries.{Row, rank, first_number, net_order}, Map.Maps.{at_or_before, last_where}, Laws.Order.net_total, Shared.Share, Tables.{sign_of, Decides, longer, deciding}}
+use Rattle.pf_table.specs.{Entries.{Row, rank, net_order}, Map.Maps.{at_or_before, last_where}, Laws.Order.net_total, Shared.Share, Tables.{sign_of, Decides, longer, deciding}}
 use Rattle.std.specs.declared.cmp.Ordering.{Ordering, TheVariants.Less, TheVariants.Equal, TheVariants.Greater}
 use Rattle.pf_table.proofs.{Prefixes.{cut_off, cut_less, between, share_fewer, shared_bits}, Sorted.{sorted, first_of, second_of, below_at}}
 

@@ -1,7 +1,7 @@
 -- Entries of tables (pf.conf(5), TABLES): networks, each plain or negated, and the order in which a table has them. The order is own.
-use Rattle.std.specs.{Prelude.{ℕ, ◌+◌, ◌-◌, ◌*◌, ◌/◌, ◌^◌, min, Bool}, Ordering.{ordering_then, nat_cmp}}
+use Rattle.std.specs.{Prelude.{ℕ, ◌+◌, ◌-◌, ◌/◌, ◌^◌, min, Bool}, Ordering.{ordering_then, nat_cmp}}
 use Rattle.std.specs.declared.cmp.Ordering.{Ordering}
-use Rattle.pf_addr.specs.{declared.{addr.Family.Family, addr.Family.TheVariants.V4, addr.Family.TheVariants.V6}, Address.{Network, width}}
+use Rattle.pf_addr.specs.{declared.{addr.Family.Family, addr.Family.TheVariants.V4, addr.Family.TheVariants.V6}, Address.Network, NetForms.first_number}
 
 -- An entry: its network, and its sign, which is true where it is negated.
 abbrev pub Row : Type 0
@@ -11,10 +11,6 @@ Row = Network × Bool
 abbrev pub rank : Family → ℕ
 rank V4 = 0
 rank V6 = 1
-
--- the number of a network's first address: behind its front are zeros
-abbrev pub first_number : Network → ℕ
-first_number n = n.front * 2 ^ (width n.family - n.len)
 
 -- V4 before V6, then by the first address, then the shorter front before the longer
 unfoldable pub net_order : Network → Network → Ordering

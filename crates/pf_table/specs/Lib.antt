@@ -1,5 +1,6 @@
 pub mod Map
 pub mod Entries
+pub mod EntryForms
 pub mod Tables
 pub mod Edits
 pub mod Noted

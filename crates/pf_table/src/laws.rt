@@ -1,7 +1,8 @@
 //! What follows from the definitions that contracts cite: functions that do nothing, whose contracts are the laws.
-ghost use Rattle.std.specs.{Prelude.◌≡◌, Cmp.IsTotalOrder, FinMap.IsAntisymmetric};
+ghost use Rattle.std.specs.{Prelude.{◌≡◌, T, true, List, map}, Cmp.IsTotalOrder, FinMap.{IsAntisymmetric, is_sorted}};
+ghost use Rattle.pf_addr.specs.{Address.IsNetwork, Bytes.Forms.Fits, Bytes.Lists.{ordered, in_order}};
 ghost use Rattle.pf_table.specs.declared.limits.TheConstants.{TABLE_LIMIT};
-ghost use Rattle.pf_table.specs.{Entries.net_order, Laws.Tables.{TableDecides, TableMatches, FamiliesApart, OneTable, AddsWhatIsNamed, DeletesWhatIsNamed, HoldsTheList, AllElseStays, StaysTable, OneAnswerEach, AnswersInOrder, CountsWhatChanged, RepeatsChangeNothing, TellsTheFirstConflict}};
+ghost use Rattle.pf_table.specs.{Entries.{Row, net_order}, Tables.IsTable, EntryForms.{entry, plain_entry, entry_of, entry_before}, Laws.Tables.{TableDecides, TableMatches, FamiliesApart, OneTable, AddsWhatIsNamed, DeletesWhatIsNamed, HoldsTheList, AllElseStays, StaysTable, OneAnswerEach, AnswersInOrder, CountsWhatChanged, RepeatsChangeNothing, TellsTheFirstConflict}};
 
 /// A table has at most 65,536 entries.
 pub fn the_limit_of_entries()
@@ -56,4 +57,14 @@ pub fn answers_say_what_changed()
 #[tactic(auto, using(crate::proofs::TableLaws::tells_the_first_conflict))]
 pub fn the_first_conflict_is_told()
     ensures { TellsTheFirstConflict }
+{}
+
+/// Each entry can be written in bytes, and they tell it. So can a table's entries in their order behind their number, and entries that
+/// are read in that order are a table's.
+#[tactic(auto, using(crate::specs::Laws::EntryForms::entry_fits, crate::specs::Laws::EntryForms::entry_again, crate::proofs::TableRows::in_order_is))]
+pub fn entries_have_bytes_of_their_own()
+    ensures fits { (e : Row) → IsNetwork e.0 → Fits entry (plain_entry e) }
+    ensures again { (e : Row) → entry_of (plain_entry e) ≡ e }
+    ensures table { (es : List Row) → IsTable es → Fits (ordered entry_before 4 entry) (map plain_entry es) }
+    ensures sorted { (es : List Row) → in_order entry_before (map plain_entry es) ≡ true → T (is_sorted net_order es) }
 {}

@@ -7,7 +7,7 @@
 //! the longest prefix decides. Read first specs/Tables.antt, which says so, and specs/Edits.antt, what an edit leaves and answers;
 //! specs/Laws.antt says the same without the recursion. Callers use `Table`, whose entries stand in a map in the order of their
 //! networks (`order`): an edit gathers its list (`batch`) and changes the map entry by entry (`change`), and a look-up takes a few
-//! searches (`lookup`).
+//! searches (`lookup`). In bytes an entry is as specs/EntryForms.antt says (`entry_form`).
 //!
 //! `map` uses no other module of this crate. A table can be a map's value (`content`). Its definitions are in specs/Map.
 #![tactic(auto)]
@@ -17,6 +17,7 @@ mod batch;
 mod change;
 mod content;
 mod entry;
+mod entry_form;
 pub mod laws;
 mod limits;
 mod lookup;

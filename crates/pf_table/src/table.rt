@@ -1,8 +1,8 @@
 //! Tables.
-ghost use Rattle.std.specs.Prelude.{◌≡◌, ◌==◌, false, [], cond, length, is_ok, Contains, IfOk, IfSome, None};
-ghost use Rattle.pf_addr.specs.{Refusing.Refuses, Address.contains};
+ghost use Rattle.std.specs.Prelude.{◌≡◌, ◌==◌, false, [], cond, length, is_ok, All, Contains, IfOk, IfSome, None};
+ghost use Rattle.pf_addr.specs.{Refusing.Refuses, Address.{contains, IsNetwork}};
 ghost use Rattle.pf_table.specs.declared.refusal.TableRefusal.TheVariants.{Memory};
-ghost use Rattle.pf_table.specs.{Entries.Row, Tables.{IsTable, Decides, deciding, table_holds}, Edits.{added, additions, deleted, deletions, replaced, conflict_refusal, edit_refusal}};
+ghost use Rattle.pf_table.specs.{Entries.Row, Tables.{AreEntries, IsTable, Decides, deciding, table_holds}, Edits.{added, additions, deleted, deletions, replaced, conflict_refusal, edit_refusal}};
 
 use crate::answer::{Addition, Deletion};
 use crate::batch::gather;
@@ -40,6 +40,15 @@ impl Model for Table {
     ghost invariant = { λ t. IsTable t.entries };
 }
 
+// What keeps each entry's network a network is what its entry tells.
+fn are_networks(entries: &[Entry])
+    ensures { All (λ e. IsNetwork e.0) entries.now }
+{
+    for entry in entries {
+        let _net = entry.net();
+    }
+}
+
 impl Table {
     /// No entries. It takes no memory.
     pub fn empty() -> Table
@@ -50,6 +59,17 @@ impl Table {
         }
     }
 
+    /// The table of these entries, which stand in its order, no network twice, and are at most 65,536. `AllocError`: nothing is made.
+    pub fn of(alloc: Global, entries: &[Entry]) -> Result<Table, AllocError>
+        requires { AreEntries entries.now }
+        ensures { IfOk result (λ t. t ≡ entries.now) }
+    {
+        are_networks(entries);
+        Ok(Table {
+            entries: EntryMap::of(alloc, entries)?,
+        })
+    }
+
     /// The same entries, none of them copied. `AllocError`: they can't have another owner.
     pub fn shared(&self) -> Result<Table, AllocError>
         ensures { IfOk result (λ t. t ≡ self.now) }
@@ -57,6 +77,13 @@ impl Table {
         Ok(Table {
             entries: self.entries.shared()?,
         })
+    }
+
+    /// How many entries it has.
+    pub fn len(&self) -> usize
+        ensures { result ≡ length self.now }
+    {
+        self.entries.len()
     }
 
     /// Whether it has no entries.

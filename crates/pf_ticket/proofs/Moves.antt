@@ -84,7 +84,7 @@ epoch-on t (defined n u name xs) = load-keeps t n u (with_table (loaded t n) nam
 epoch-on t (switched n) = refl
 epoch-on t (dropped n u) = cond_both (is_valid t n u) (take_out t n) t (λ (s : Open). s.epoch ≡ t.epoch) (λ e. refl) (λ e. refl)
 
-epoch-stays : (t : Open) (ms : List Mention) → (after t ms).epoch ≡ t.epoch
+pub epoch-stays : (t : Open) (ms : List Mention) → (after t ms).epoch ≡ t.epoch
 epoch-stays t [] = refl
 epoch-stays t (m ∷ ms) = epoch-stays (moved t m) ms ∙ epoch-on t m
 

@@ -32,6 +32,13 @@ impl Model for DefinedTable {
 }
 
 impl DefinedTable {
+    /// A table of this name.
+    pub fn new(name: TableName, table: Table) -> DefinedTable
+        ensures { result ≡ (name, table) }
+    {
+        DefinedTable { name, table }
+    }
+
     /// Its name.
     pub fn name(&self) -> &TableName
         ensures { result.now ≡ self.now.0 }
@@ -94,6 +101,23 @@ impl Defined {
         Defined {
             tables: TreeMap::empty(),
         }
+    }
+
+    /// These tables, which stand in the order of their names, none of them twice. `AllocError`: nothing is made.
+    pub fn of(alloc: Global, tables: &[DefinedTable]) -> Result<Defined, AllocError>
+        requires { T (is_sorted name_order tables.now) }
+        ensures { IfOk result (λ d. d ≡ tables.now) }
+    {
+        Ok(Defined {
+            tables: TreeMap::of(alloc, tables)?,
+        })
+    }
+
+    /// How many tables there are.
+    pub fn len(&self) -> usize
+        ensures { result ≡ length self.now }
+    {
+        self.tables.len()
     }
 
     /// The tables, in the order of their names, none of them twice. It takes no memory.

@@ -4,3 +4,4 @@ pub mod Joined
 pub mod Forms
 pub mod Onto
 pub mod Texts
+pub mod Codes

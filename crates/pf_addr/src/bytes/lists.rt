@@ -1,5 +1,5 @@
 //! Lists of values of a type that has a form. Fails as a reader of the type or its writer does.
-ghost use Rattle.std.specs.{Prelude.{◌≡◌, OnOk, map, length}, List.AllByRecursion};
+ghost use Rattle.std.specs.{Prelude.{◌≡◌, true, IfOk, OnOk, map, length}, List.AllByRecursion};
 ghost use Rattle.pf_addr.specs.{Bytes.Parts.onto_each, Bytes.Forms.{Form, times, counted, onto, Fits}, Bytes.Lists.{ordered, in_order}, Bytes.Readers.Reads};
 
 use crate::bytes::fault::{Fault, Stop};
@@ -50,7 +50,8 @@ pub fn read_ordered_list<'a, T: Ordered>(
     version: u8,
     from: &mut Rest<'a>,
 ) -> Result<Vec<T>, Stop>
-    ensures { Reads (λ v. map T.plain v.items) (ordered T.before 4 (T.form version)) result from.old.now from.new.now }
+    ensures read { Reads (λ v. map T.plain v.items) (ordered T.before 4 (T.form version)) result from.old.now from.new.now }
+    ensures ordered { IfOk result (λ v. in_order T.before (map T.plain v.items) ≡ true) }
 {
     let left = from.len();
     let items = read_list(alloc, version, from)?;

@@ -1,17 +1,18 @@
 //! Names in fields of one width, filled with zeros.
-ghost use Rattle.std.specs.{Prelude.{◌≡◌, ◌≤◌, ◌++◌, length, replicate, nat_lt, OnOk}, List.prefix_len};
-ghost use Rattle.pf_addr.specs.{Bytes.Forms.{Form, onto}, Bytes.Names.{filled, are_zeros, padded}, Bytes.Readers.Reads};
+ghost use Rattle.std.specs.{Prelude.{◌≡◌, ◌≤◌, ◌++◌, length, replicate, nat_lt, IfOk, OnOk}, List.prefix_len};
+ghost use Rattle.pf_addr.specs.{Bytes.Forms.{Form, onto}, Bytes.Names.{filled, are_zeros, padded, before_zero}, Bytes.Readers.Reads};
 
 use crate::bytes::fault::{Fault, Stop};
 use crate::bytes::reading::Rest;
 use crate::bytes::writing::push_bytes;
 use std::alloc::{AllocError, Global};
 
-/// The name in a field of so many bytes: those before its first zero, or all.
+/// The name in a field of so many bytes: those before its first zero, or all. It takes no memory.
 ///
-/// Fails where fewer bytes are left; where another byte stands behind a zero, at the field's first byte; and where memory is refused.
-pub fn read_padded<'a>(alloc: Global, width: usize, from: &mut Rest<'a>) -> Result<Vec<u8>, Stop>
-    ensures { Reads (λ v. filled width v.items) (padded width) result from.old.now from.new.now }
+/// Fails where fewer bytes are left; where another byte stands behind a zero, at the field's first byte.
+pub fn read_filled<'a>(width: usize, from: &mut Rest<'a>) -> Result<&'a [u8], Stop>
+    ensures read { Reads (λ name. filled width name.now) (padded width) result from.old.now from.new.now }
+    ensures name { IfOk result (λ name. before_zero (filled width name.now) ≡ name.now) }
 {
     let left = from.len();
     if left < width {
@@ -22,9 +23,16 @@ pub fn read_padded<'a>(alloc: Global, width: usize, from: &mut Rest<'a>) -> Resu
     if !are_zeros(zeros) {
         return Err(Stop::Fault(Fault::Bad(left)));
     }
-    let name = Vec::from_slice(alloc, name)?;
     *from = rest;
     Ok(name)
+}
+
+/// As [`read_filled`], as a list of its own. Fails too where memory is refused.
+pub fn read_padded<'a>(alloc: Global, width: usize, from: &mut Rest<'a>) -> Result<Vec<u8>, Stop>
+    ensures { Reads (λ v. filled width v.items) (padded width) result from.old.now from.new.now }
+{
+    let name = read_filled(width, from)?;
+    Ok(Vec::from_slice(alloc, name)?)
 }
 
 /// How many bytes stand before the first zero.

@@ -1,7 +1,7 @@
 //! What follows from the definitions that contracts cite: functions that do nothing, whose contracts are the laws.
-ghost use Rattle.std.specs.Prelude.{◌≡◌, ℕ};
+ghost use Rattle.std.specs.Prelude.{◌≡◌, ◌≤◌, ℕ, true, List};
 ghost use Rattle.pf_addr.specs.declared.path.limits.TheConstants.{PATH_LIMIT, COMPONENT_LIMIT, DEPTH_LIMIT, REFERENCE_LIMIT, TABLE_NAME_LIMIT};
-ghost use Rattle.pf_addr.specs.{Form.Told.TellsFaults, Path.FaultCases.{IsNameFault, IsPathFault, IsReferenceFault}, Path.Names.name_of, Path.Paths.path_of, Path.References.reference_of, Laws.Path.Names.{ReadsANameAlone, ReadsEachName}, Laws.Path.Paths.{ReadsWhatIsSpelled, ReadsAllThatIsSpelled, WritesWhatWasRead, ReadsWhatIsWritten, SamePathIsEqual}, Laws.Path.References.{ReferenceIsSpelled, SpelledReferenceIsRead}, Laws.Path.Nested.{NoDeeper, LeadsDeeper, ChildHasOneMore, EachIsAChild}};
+ghost use Rattle.pf_addr.specs.{Form.Told.TellsFaults, Path.FaultCases.{IsNameFault, IsPathFault, IsReferenceFault}, Path.Names.name_of, Path.Paths.path_of, Path.References.reference_of, Laws.Path.Names.{ReadsANameAlone, ReadsEachName}, Laws.Path.Paths.{ReadsWhatIsSpelled, ReadsAllThatIsSpelled, WritesWhatWasRead, ReadsWhatIsWritten, SamePathIsEqual}, Laws.Path.References.{ReferenceIsSpelled, SpelledReferenceIsRead}, Laws.Path.Nested.{NoDeeper, LeadsDeeper, ChildHasOneMore, EachIsAChild}, Bytes.Forms.Fits, Bytes.Names.{filled, before_zero}, Path.Names.{IsName, IsTableName}, Path.Paths.is_path, Path.References.PlainReference, Path.ReferenceGrammar.IsReference, Path.PathForms.{path_form, table_name_form, name_field, reference_form, plain_reference, reference_of_plain}};
 
 /// A word is read as a name exactly where it is one.
 #[tactic(auto, using(crate::proofs::NamesRead::name_found, crate::proofs::NamesRead::name_only))]
@@ -52,6 +52,19 @@ pub fn faults_of_names_are_told()
     ensures names { (limit : ℕ) → TellsFaults (name_of limit) (IsNameFault limit) }
     ensures paths { TellsFaults path_of IsPathFault }
     ensures references { TellsFaults reference_of IsReferenceFault }
+{}
+
+/// Each path, each name of a table, each name in a field and each reference can be written in bytes. A name is told by its field, and a
+/// reference by its bytes; a path and a table's name are their own bytes.
+#[tactic(auto, using(crate::proofs::PathBytes::path_fits, crate::proofs::PathBytes::table_name_fits, crate::proofs::PathBytes::name_fits, crate::proofs::PathBytes::reference_fits, crate::proofs::PathBytes::reference_again))]
+pub fn names_have_bytes_of_their_own()
+    ensures paths { (p : List ℕ) → is_path p ≡ true → Fits path_form p }
+    ensures tables { (n : List ℕ) → IsTableName n → Fits table_name_form n }
+    ensures fields { (limit width : ℕ) (n : List ℕ) → limit ≤ width → IsName limit n
+        → Fits (name_field limit width) (filled width n) }
+    ensures names { (limit width : ℕ) (n : List ℕ) → IsName limit n → before_zero (filled width n) ≡ n }
+    ensures references { (r : PlainReference) → IsReference r → Fits reference_form (plain_reference r) }
+    ensures referred { (r : PlainReference) → IsReference r → reference_of_plain (plain_reference r) ≡ r }
 {}
 
 /// How long names, paths and references may be.

@@ -7,7 +7,7 @@ use crate::path::path::Path;
 use crate::path::path_text::fault_in;
 
 // The path that is written so, where it has no fault.
-fn faultless(text: &[u8]) -> Option<Path>
+pub(crate) fn faultless(text: &[u8]) -> Option<Path>
     ensures { result ≡ if is_none (path_fault text.now) then Some text.now else None }
 {
     match fault_in(PATH_LIMIT, text, text) {

@@ -51,7 +51,7 @@ impl Reference {
     }
 
     // The reference of these names.
-    fn holding(names: &[u8], wildcard: bool) -> Reference
+    pub(crate) fn holding(names: &[u8], wildcard: bool) -> Reference
         requires { IsReference (refers names.now wildcard) }
         ensures { result ≡ refers names.now wildcard }
     {

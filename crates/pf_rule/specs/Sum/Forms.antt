@@ -26,17 +26,13 @@
 --       6     2 second port
 --       8    16 the network's first address, IPv4 in the first four
 --      24    32 the table's name, filled with zeros
-use Rattle.std.specs.{Prelude.{ℕ, ◌-◌, Bool, true, false, List, [], ◌∷◌, ◌++◌, length, replicate, Option, Some, None, unwrap_or}, List.flat_map}
+use Rattle.std.specs.{Prelude.{ℕ, ◌-◌, Bool, false, List, [], ◌∷◌, ◌++◌, length, replicate, Option, Some, None, unwrap_or}, List.flat_map}
 use Rattle.byteorder.specs.Endian.{big_bytes}
 use Rattle.md5.specs.Md5.{md5}
 use Rattle.pf_addr.specs.declared.addr.Family.{Family}
-use Rattle.pf_addr.specs.Spelling.{first_addr}
+use Rattle.pf_addr.specs.{Bytes.Codes.flag_byte, Spelling.first_addr}
 use Rattle.pf_rule.specs.{declared.{value.direction.Direction.Direction, value.ports.Comparison.Comparison, value.ports.Comparison.TheVariants.Equal, value.ports.Comparison.TheVariants.NotEqual, value.ports.Comparison.TheVariants.Less, value.ports.Comparison.TheVariants.AtMost, value.ports.Comparison.TheVariants.Greater, value.ports.Comparison.TheVariants.AtLeast, value.ports.PortRange.PortRange, value.ports.PortRange.TheVariants.Including, value.ports.PortRange.TheVariants.Excluding, value.ports.PortRange.TheVariants.Except, value.ports.PortTest.PortTest, value.ports.PortTest.TheVariants.Compared, value.ports.PortTest.TheVariants.Ranged, host.host.Host.Host, host.host.Host.TheVariants.Any, host.host.Host.TheVariants.Net, host.host.Host.TheVariants.Table, rule.Effect.Effect, rule.Effect.TheVariants.Decide, rule.Effect.TheVariants.Evaluate, rule.Action.TheVariants.Pass, rule.Action.TheVariants.Block}, Bytes.addr_bytes, Host.Hosts.is_negated, Rules.PlainRule}
 use Rattle.pf_rule.specs.Bytes as bytes
-
-abbrev pub flag : Bool → ℕ
-flag true = 1
-flag false = 0
 
 -- bytes, and zeros behind them up to this width
 unfoldable pub filled : ℕ → List ℕ → List ℕ
@@ -95,7 +91,7 @@ table_name (Table name negated) = name
 -- 56 bytes
 unfoldable pub host_form : Host → Option PortTest → List ℕ
 host_form host port =
-    (kind_byte host ∷ flag (is_negated host) ∷ length_byte host ∷ test_byte port ∷ [])
+    (kind_byte host ∷ flag_byte (is_negated host) ∷ length_byte host ∷ test_byte port ∷ [])
     ++ ((big_bytes 2 (first_port port) ++ big_bytes 2 (second_port port))
     ++ (address_bytes host
     ++ filled 32 (table_name host)))
@@ -130,7 +126,7 @@ wildcard (Evaluate r) = r.wildcard
 
 abbrev pub heading : PlainRule → List ℕ
 heading r =
-    effect_byte r.effect ∷ direction_byte r.direction ∷ flag r.quick ∷ flag (keeps_state r.effect)
+    effect_byte r.effect ∷ direction_byte r.direction ∷ flag_byte r.quick ∷ flag_byte (keeps_state r.effect)
     ∷ family_byte r.family ∷ unwrap_or r.protocol 0 ∷ 0 ∷ 0 ∷ []
 
 -- 204 bytes
@@ -141,7 +137,7 @@ rule_form r =
     ++ (host_form r.source r.source_port
     ++ (host_form r.destination r.destination_port
     ++ (filled 64 (names r.effect)
-    ++ (flag (wildcard r.effect) ∷ 0 ∷ 0 ∷ 0 ∷ [])))))
+    ++ (flag_byte (wildcard r.effect) ∷ 0 ∷ 0 ∷ 0 ∷ [])))))
 
 -- ---- a ruleset
 

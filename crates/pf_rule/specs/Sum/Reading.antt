@@ -1,34 +1,13 @@
--- What a rule's form says, by the places of `Forms`. Own. Of bytes that are no rule's form nothing is said.
-use Rattle.std.specs.Prelude.{ℕ, ◌==◌, nat_lt, Bool, List, [], ◌∷◌, drop, take_while, Option, Some, None, if◌then◌else◌}
-use Rattle.pf_addr.specs.{declared.{addr.Addr.Addr, addr.Family.Family, addr.Family.TheVariants.V4, addr.Family.TheVariants.V6}, Address.network_from, Path.References.refers}
-use Rattle.pf_addr.specs.declared.addr.Addr.TheVariants as addr
-use Rattle.pf_rule.specs.{declared.{value.direction.Direction.Direction, value.direction.Direction.TheVariants.In, value.direction.Direction.TheVariants.Out, value.ports.Comparison.TheVariants.Equal, value.ports.Comparison.TheVariants.NotEqual, value.ports.Comparison.TheVariants.Less, value.ports.Comparison.TheVariants.AtMost, value.ports.Comparison.TheVariants.Greater, value.ports.Comparison.TheVariants.AtLeast, value.ports.PortRange.TheVariants.Including, value.ports.PortRange.TheVariants.Excluding, value.ports.PortRange.TheVariants.Except, value.ports.PortTest.PortTest, value.ports.PortTest.TheVariants.Compared, value.ports.PortTest.TheVariants.Ranged, host.host.Host.Host, host.host.Host.TheVariants.Any, host.host.Host.TheVariants.Net, host.host.Host.TheVariants.Table, rule.Effect.Effect, rule.Effect.TheVariants.Decide, rule.Effect.TheVariants.Evaluate, rule.Action.TheVariants.Pass, rule.Action.TheVariants.Block}, Bytes.{byte_at, number_at}, Rules.PlainRule}
+-- What the data of a rule's layout say. Own. Of data that no rule has nothing is said.
+use Rattle.std.specs.Prelude.{ℕ, ◌==◌, List, Option, Some, None, if◌then◌else◌}
+use Rattle.std.proofs.Common.{inl, inr}
+use Rattle.pf_addr.specs.{declared.addr.Family.Family, Bytes.Forms.Value, Bytes.Names.before_zero, NetForms.{family_of_byte, network_at}, Path.PathForms.{ReferenceShape, reference_of_plain}}
+use Rattle.pf_rule.specs.declared.{value.direction.Direction.{Direction, TheVariants.In, TheVariants.Out}, value.ports.{Comparison.TheVariants.{Equal, NotEqual, Less, AtMost, Greater, AtLeast}, PortRange.TheVariants.{Including, Excluding, Except}, PortTest.{PortTest, TheVariants.Compared, TheVariants.Ranged}}, host.host.Host.{Host, TheVariants.Any, TheVariants.Net, TheVariants.Table}, rule.{Effect.{Effect, TheVariants.Decide, TheVariants.Evaluate}, Action.TheVariants.{Pass, Block}}}
+use Rattle.pf_rule.specs.{Rules.PlainRule, Sum.Layouts.{TestShape, EndShape, FamilyShape, InterfaceShape, RuleShape}}
 
--- a 1
-abbrev pub is_set : ℕ → Bool
-is_set b = b == 1
-
--- the bytes at a place, up to the first 0
-unfoldable pub name_at : ℕ → List ℕ → List ℕ
-name_at place bytes = take_while (nat_lt 0) (drop place bytes)
-
--- ---- a host and the test of its port
-
--- the address, in a family
-abbrev pub address_in : Option Family → List ℕ → Addr
-address_in (Some V6) h = addr.V6 (number_at 8 16 h)
-address_in family h = addr.V4 (number_at 8 4 h)
-
--- in a rule of this family
-unfoldable pub read_host : Option Family → List ℕ → Host
-read_host family h =
-    if byte_at 0 h == 1 then Net (network_from (address_in family h) (byte_at 2 h)) (is_set (byte_at 1 h))
-    else if byte_at 0 h == 2 then Table (name_at 24 h) (is_set (byte_at 1 h))
-    else Any
-
--- the test of this byte, with these ports
-abbrev pub test_of : ℕ → ℕ → ℕ → Option PortTest
-test_of test a b =
+-- the test of this number, with these ports
+abbrev pub numbered_test : ℕ → ℕ → ℕ → Option PortTest
+numbered_test test a b =
     if test == 1 then Some (Compared Equal a)
     else if test == 2 then Some (Compared NotEqual a)
     else if test == 3 then Some (Compared Less a)
@@ -40,41 +19,52 @@ test_of test a b =
     else if test == 9 then Some (Ranged Except a b)
     else None
 
-unfoldable pub read_port : List ℕ → Option PortTest
-read_port h = test_of (byte_at 3 h) (number_at 4 2 h) (number_at 6 2 h)
+abbrev pub test_of : Value TestShape → Option PortTest
+test_of t = numbered_test t.0 t.1.0 t.1.1
 
--- ---- a rule
+abbrev pub family_number : Value FamilyShape → ℕ
+family_number (inl u) = 0
+family_number (inr f) = f
 
-abbrev pub effect_of : ℕ → Bool → List ℕ → Bool → Effect
-effect_of effect keeps names wildcard =
-    if effect == 0 then Decide Block
-    else if effect == 1 then Decide (Pass keeps)
-    else Evaluate (refers names wildcard)
+abbrev pub family_in : Value FamilyShape → Option Family
+family_in (inl u) = None
+family_in (inr f) = Some (family_of_byte f)
+
+-- in a rule of this family
+abbrev pub host_of : Value FamilyShape → Value EndShape → Host
+host_of f (inl p) = Any
+host_of f (inr (inl e)) = Net (network_at (family_number f) e.1.0 e.1.1.1) (e.0 == 1)
+host_of f (inr (inr e)) = Table (before_zero e.1.1) (e.0 == 1)
+
+abbrev pub port_of : Value EndShape → Option PortTest
+port_of (inl p) = test_of p
+port_of (inr (inl e)) = test_of e.1.1.0
+port_of (inr (inr e)) = test_of e.1.0
+
+abbrev pub effect_of : ℕ → ℕ → Value ReferenceShape → Effect
+effect_of effect keeps names =
+    if effect == 0 then Decide Block else if effect == 1 then Decide (Pass (keeps == 1)) else Evaluate (reference_of_plain names)
 
 abbrev pub direction_of : ℕ → Option Direction
 direction_of b = if b == 1 then Some In else if b == 2 then Some Out else None
 
-abbrev pub family_of_byte : ℕ → Option Family
-family_of_byte b = if b == 4 then Some V4 else if b == 6 then Some V6 else None
-
 abbrev pub protocol_of_byte : ℕ → Option ℕ
 protocol_of_byte b = if b == 0 then None else Some b
 
--- a name has at least one byte
-abbrev pub interface_named : List ℕ → Option (List ℕ)
-interface_named [] = None
-interface_named (b ∷ bs) = Some (b ∷ bs)
+abbrev pub interface_of : Value InterfaceShape → Option (List ℕ)
+interface_of (inl u) = None
+interface_of (inr name) = Some (before_zero name)
 
-unfoldable pub read_form : List ℕ → PlainRule
-read_form f = record {
-  source = read_host (family_of_byte (byte_at 4 f)) (drop 24 f);
-  destination = read_host (family_of_byte (byte_at 4 f)) (drop 80 f);
-  effect = effect_of (byte_at 0 f) (is_set (byte_at 3 f)) (name_at 136 f) (is_set (byte_at 200 f));
-  interface = interface_named (name_at 8 f);
-  source_port = read_port (drop 24 f);
-  destination_port = read_port (drop 80 f);
-  direction = direction_of (byte_at 1 f);
-  quick = is_set (byte_at 2 f);
-  family = family_of_byte (byte_at 4 f);
-  protocol = protocol_of_byte (byte_at 5 f);
+unfoldable pub rule_of : Value RuleShape → PlainRule
+rule_of (effect, (direction, (quick, (keeps, (f, (protocol, (interface, (source, (destination, names))))))))) = record {
+  source = host_of f source;
+  destination = host_of f destination;
+  effect = effect_of effect keeps names;
+  interface = interface_of interface;
+  source_port = port_of source;
+  destination_port = port_of destination;
+  direction = direction_of direction;
+  quick = quick == 1;
+  family = family_in f;
+  protocol = protocol_of_byte protocol;
 }

@@ -1,6 +1,7 @@
 //! The forms of rules in bytes.
 ghost use Rattle.std.specs.Prelude.{◌≡◌, ◌≤◌, ◌∷◌, [], length, unwrap_or};
-ghost use Rattle.pf_rule.specs.Sum.Forms.{filled, heading, effect_byte, keeps_state, direction_byte, family_byte, names, wildcard, flag, rule_form};
+ghost use Rattle.pf_addr.specs.Bytes.Codes.{flag_byte};
+ghost use Rattle.pf_rule.specs.Sum.Forms.{filled, heading, effect_byte, keeps_state, direction_byte, family_byte, names, wildcard, rule_form};
 
 use crate::sum::host_form::{HOST_FORM, host_bytes};
 use crate::{Action, Direction, Effect, Rule};
@@ -11,7 +12,7 @@ pub const RULE_FORM: usize = 204;
 
 const HEADING: usize = 8;
 
-const INTERFACE_FIELD: usize = 16;
+pub(crate) const INTERFACE_FIELD: usize = 16;
 
 const REFERENCE_FIELD: usize = 64;
 
@@ -125,7 +126,7 @@ fn reference_field(rule: &Rule) -> [u8; REFERENCE_FIELD]
 
 // Whether the reference ended in `/*`, and zeros.
 fn tail_of(rule: &Rule) -> [u8; TAIL]
-    ensures { result ≡ flag (wildcard rule.now.effect) ∷ 0 ∷ 0 ∷ 0 ∷ [] }
+    ensures { result ≡ flag_byte (wildcard rule.now.effect) ∷ 0 ∷ 0 ∷ 0 ∷ [] }
 {
     let is_wildcard = match rule.effect() {
         Effect::Evaluate(reference) => reference.is_wildcard(),

@@ -1,7 +1,8 @@
 //! The forms of hosts with the tests of their ports, which are parts of the forms of rules.
 ghost use Rattle.std.specs.Prelude.{◌≡◌, ◌∷◌, ◌++◌, []};
 ghost use Rattle.byteorder.specs.Endian.{big_bytes};
-ghost use Rattle.pf_rule.specs.{Bytes.addr_bytes, Host.Hosts.is_negated, Sum.Forms.{address_bytes, comparison_byte, filled, first_port, flag, host_form, kind_byte, length_byte, range_byte, second_port, table_name, test_byte}};
+ghost use Rattle.pf_addr.specs.Bytes.Codes.{flag_byte};
+ghost use Rattle.pf_rule.specs.{Bytes.addr_bytes, Host.Hosts.is_negated, Sum.Forms.{address_bytes, comparison_byte, filled, first_port, host_form, kind_byte, length_byte, range_byte, second_port, table_name, test_byte}};
 
 use crate::sum::form::filled;
 use crate::{Comparison, Host, PortRange, PortTest};
@@ -17,7 +18,7 @@ const PORTS: usize = 4;
 
 const ADDRESS_FIELD: usize = 16;
 
-const TABLE_FIELD: usize = 32;
+pub(crate) const TABLE_FIELD: usize = 32;
 
 /// The form of a host with the test of its port.
 #[tactic(auto, unfolding(crate::specs::Sum::Forms::host_form))]
@@ -37,7 +38,7 @@ pub(crate) fn host_bytes(host: &Host, port: Option<PortTest>) -> [u8; HOST_FORM]
 
 // The kind, the sign, the length of the network's front and the port's test.
 fn kinds_of(host: &Host, port: Option<PortTest>) -> [u8; KINDS]
-    ensures { result ≡ kind_byte host.now ∷ flag (is_negated host.now) ∷ length_byte host.now ∷ test_byte port ∷ [] }
+    ensures { result ≡ kind_byte host.now ∷ flag_byte (is_negated host.now) ∷ length_byte host.now ∷ test_byte port ∷ [] }
 {
     [
         kind_byte(host),

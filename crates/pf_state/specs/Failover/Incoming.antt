@@ -1,18 +1,7 @@
 -- What a peer's message means for the states here: a step for each record. Own; the messages are pf_state::peer's, after pfsync(4).
 use Rattle.std.specs.{Prelude.{ℕ, List, map}, List.flat_map}
-use Rattle.pf_state.specs.{declared.{peer.message.Group.Group, peer.message.Group.TheVariants.Inserts, peer.message.Group.TheVariants.Deletes, peer.message.Group.TheVariants.Clears, peer.message.Message.Message, step.Step.Step, step.Step.TheVariants.Insert, step.Step.TheVariants.Delete, step.Step.TheVariants.Clear}, Peer.Records.PlainInsert, Bindings.bound, Flows.PlainFlow, States.Stated}
+use Rattle.pf_state.specs.{declared.{peer.message.Group.Group, peer.message.Group.TheVariants.Inserts, peer.message.Group.TheVariants.Deletes, peer.message.Group.TheVariants.Clears, peer.message.Message.Message, step.Step.Step, step.Step.TheVariants.Insert, step.Step.TheVariants.Delete, step.Step.TheVariants.Clear}, Peer.Records.{PlainInsert, told_flow}, Bindings.bound, States.Stated}
 use Rattle.pf_state.specs.declared.{peer.record.Clear.Clear as ClearRecord, peer.record.Delete.Delete as DeleteRecord}
-
--- the flow of the state that an insert tells of
-abbrev pub told_flow : PlainInsert → PlainFlow
-told_flow i = record {
-  direction = i.direction;
-  protocol = i.protocol;
-  source = i.source;
-  source_port = i.source_port;
-  destination = i.destination;
-  destination_port = i.destination_port;
-}
 
 -- The state itself, in a message with this checksum: it is bound by the checksum of the main rules here and by their number.
 abbrev pub told_state : List ℕ → List ℕ → ℕ → PlainInsert → Stated

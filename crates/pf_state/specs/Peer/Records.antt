@@ -1,17 +1,15 @@
 -- A record of 64 bytes: the places of its fields, and what they say. The form is own, after that of pfsync(4)'s states.
 --
 --   place width field          place width field
---       0     8 id                19     1 zero
---       8     4 creator           20    16 source, IPv4 in the first four
---      12     4 generation        36    16 destination, as the source
---      16     1 direction         52     2 source port
---      17     1 family            54     2 destination port
---      18     1 protocol          56     4 rule, 60 4 anchor
-use Rattle.std.specs.Prelude.{◌≡◌, ◌<◌, ◌+◌, ◌==◌, ◌^◌, ◌&&◌, ◌||◌, not, ℕ, Bool, false, List, ◌∷◌, ◌++◌, replicate, Option, Some, None, if◌then◌else◌}
+--       0     8 id                16    40 flow
+--       8     4 creator           56     4 rule
+--      12     4 generation        60     4 anchor
+use Rattle.std.specs.Prelude.{◌≡◌, ◌<◌, ◌^◌, ℕ, false, List, ◌∷◌, ◌++◌, replicate, Option, Some, None, Result, Ok, Err}
 use Rattle.byteorder.specs.Endian.{big_bytes}
-use Rattle.pf_addr.specs.{declared.{addr.Addr.Addr, addr.Addr.TheVariants.V4, addr.Addr.TheVariants.V6}, Address.{IsAddr, family_of}}
-use Rattle.pf_rule.specs.{Bytes.{byte_at, number_at, addr_bytes, direction_byte, family_byte}, declared.{value.direction.Direction.Direction, value.direction.Direction.TheVariants.In, value.direction.Direction.TheVariants.Out}, Value.Values.{IsProtocol, has_ports}}
-use Rattle.pf_state.specs.declared.{peer.record.InsertFields.InsertFields, peer.record.Delete.Delete, peer.record.Clear.Clear}
+use Rattle.pf_addr.specs.{declared.{bytes.fault.Fault.Fault, bytes.fault.Stop.Stop}, Address.{IsAddr, family_of}, Bytes.{Forms.{Shape, nat, both, Value, Form, number, pair}, Readers.read_all}}
+use Rattle.pf_addr.specs.declared.bytes.fault.Stop.TheVariants as stop
+use Rattle.pf_rule.specs.{Bytes.{number_at, addr_bytes, direction_byte, family_byte}, Value.Values.{IsProtocol, has_ports}}
+use Rattle.pf_state.specs.{declared.{peer.record.InsertFields.InsertFields, peer.record.Delete.Delete, peer.record.Clear.Clear}, Flows.PlainFlow, Layouts.Flows.{FlowShape, flow_form, plain_flow, flow_in}}
 
 -- an insert as contracts see it: its fields
 abbrev pub PlainInsert : Type 0
@@ -32,50 +30,59 @@ pub record IsInsert (i : PlainInsert) : Type 0 where
   pub rule : i.rule < 2 ^ 32
   pub anchor : i.anchor < 2 ^ 32
 
--- ---- reading
+-- ---- the form of an insert
 
--- the address at a place, in a family, 4 or 6
-abbrev pub address_at : ℕ → ℕ → List ℕ → Addr
-address_at family place r = if family == 4 then V4 (number_at place 4 r) else V6 (number_at place 16 r)
-
--- an IPv4 address has twelve bytes of 0 behind it
-abbrev pub is_padded : ℕ → ℕ → List ℕ → Bool
-is_padded family place r = (family == 6) || ((number_at (place + 4) 8 r == 0) && (number_at (place + 12) 4 r == 0))
-
--- ports are 0 where the protocol has none
-abbrev pub are_ports : List ℕ → Bool
-are_ports r = has_ports (byte_at 18 r) || ((number_at 52 2 r == 0) && (number_at 54 2 r == 0))
-
--- direction 1 or 2, family 4 or 6, a protocol, and the zero
-abbrev pub are_kinds : List ℕ → Bool
-are_kinds r = ((byte_at 16 r == 1) || (byte_at 16 r == 2))
-    && (((byte_at 17 r == 4) || (byte_at 17 r == 6)) && (not (byte_at 18 r == 0) && (byte_at 19 r == 0)))
-
--- what an insert's record may say
-unfoldable pub allowed : List ℕ → Bool
-allowed r = are_kinds r && (is_padded (byte_at 17 r) 20 r && (is_padded (byte_at 17 r) 36 r && are_ports r))
-
-abbrev pub direction_of : ℕ → Direction
-direction_of b = if b == 1 then In else Out
-
--- what its fields say
-unfoldable pub fields_of : List ℕ → PlainInsert
-fields_of r = record {
-  id = number_at 0 8 r;
-  creator = number_at 8 4 r;
-  generation = number_at 12 4 r;
-  direction = direction_of (byte_at 16 r);
-  protocol = byte_at 18 r;
-  source = address_at (byte_at 17 r) 20 r;
-  destination = address_at (byte_at 17 r) 36 r;
-  source_port = number_at 52 2 r;
-  destination_port = number_at 54 2 r;
-  rule = number_at 56 4 r;
-  anchor = number_at 60 4 r;
+-- the flow of the state that an insert tells of
+abbrev pub told_flow : PlainInsert → PlainFlow
+told_flow i = record {
+  direction = i.direction;
+  protocol = i.protocol;
+  source = i.source;
+  source_port = i.source_port;
+  destination = i.destination;
+  destination_port = i.destination_port;
 }
 
-abbrev pub insert_of : List ℕ → Option PlainInsert
-insert_of r = if allowed r then Some (fields_of r) else None
+abbrev pub InsertShape : Shape
+InsertShape = both nat (both nat (both nat (both FlowShape (both nat nat))))
+
+unfoldable pub insert_form : Form InsertShape
+insert_form = pair (number 8) (pair (number 4) (pair (number 4) (pair flow_form (pair (number 4) (number 4)))))
+
+abbrev pub plain_insert : PlainInsert → Value InsertShape
+plain_insert i = (i.id, (i.creator, (i.generation, (plain_flow (told_flow i), (i.rule, i.anchor)))))
+
+-- of plain data the insert that they are the data of
+abbrev pub insert_in : Value InsertShape → PlainInsert
+insert_in v = let f = flow_in v.1.1.1.0 in record {
+  id = v.0;
+  creator = v.1.0;
+  generation = v.1.1.0;
+  direction = f.direction;
+  protocol = f.protocol;
+  source = f.source;
+  destination = f.destination;
+  source_port = f.source_port;
+  destination_port = f.destination_port;
+  rule = v.1.1.1.1.0;
+  anchor = v.1.1.1.1.1;
+}
+
+-- ---- reading
+
+abbrev pub insert_from : Result (Value InsertShape) Fault → Option PlainInsert
+insert_from (Ok v) = Some (insert_in v)
+insert_from (Err d) = None
+
+-- the insert whose form the bytes are, if they are one's
+unfoldable pub insert_of : List ℕ → Option PlainInsert
+insert_of r = insert_from (read_all insert_form r)
+
+-- what is read of a record, unless memory was refused
+abbrev pub Says : {A : Type 0} → Result A Stop → Option A → Type 0
+Says (Ok x) said = said ≡ Some x
+Says (Err stop.Memory) said = Unit {0}
+Says (Err (stop.Fault d)) said = said ≡ None
 
 -- Of a delete the id and the creator count, of a clear the creator. Their other bytes may be anything.
 abbrev pub delete_of : List ℕ → Option Delete

@@ -1,9 +1,9 @@
 //! What a peer's message means for the states here.
 ghost use Rattle.std.specs.Prelude.{◌≡◌, ◌++◌, map, IfOk, OnOk};
-ghost use Rattle.pf_state.specs.Failover.Incoming.{told_flow, told_state, insert_step, delete_step, clear_step, group_steps, steps_of};
+ghost use Rattle.pf_state.specs.Failover.Incoming.{told_state, insert_step, delete_step, clear_step, group_steps, steps_of};
 
 use crate::peer::{Clear, Delete, Group, Insert, Message};
-use crate::{Flow, Held, State, StateName, Step, StepList, bind};
+use crate::{Held, State, StateName, Step, StepList, bind};
 use std::alloc::{AllocError, Global};
 
 /// The steps that a message asks for: one for each record, in the order of the groups and of the records in each. An insert binds
@@ -108,24 +108,8 @@ fn told_state(
     };
     let held = Held {
         generation: fields.generation,
-        flow: told_flow(insert),
+        flow: insert.flow(),
         bound: bind(sum, fields.rule, fields.anchor, current, rule_count),
     };
     State::new(alloc, name, held)
-}
-
-// The flow of the state that an insert tells of.
-fn told_flow(insert: &Insert) -> Flow
-    ensures { result ≡ told_flow insert.now }
-{
-    let fields = insert.fields();
-    Flow::new(
-        fields.direction,
-        fields.protocol,
-        fields.source,
-        fields.source_port,
-        fields.destination,
-        fields.destination_port,
-    )
-    .unwrap()
 }

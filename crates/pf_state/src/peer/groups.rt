@@ -8,6 +8,7 @@ use crate::peer::fields::u16_at;
 use crate::peer::message::{CLEAR, DELETE, Group, INSERT, Message, Records};
 use crate::peer::record::{RECORD, Record};
 use crate::peer::stream::HEADER;
+use pf_addr::bytes::Stop;
 use std::alloc::{AllocError, Global};
 
 /// How many bytes the header of a group has.
@@ -97,10 +98,11 @@ fn records_of<T: Record>(alloc: Global, count: usize, bytes: &[u8]) -> Result<Re
     let mut rest = bytes;
     for _ in 0..count {
         let (record, behind) = rest.split_at(RECORD);
-        let Some(read) = T::read(record) else {
-            return Err(ReadError::Fault(PeerFault::BadRecord));
-        };
-        records.push(read)?;
+        match T::from_row(alloc, record) {
+            Ok(read) => records.push(read)?,
+            Err(Stop::Memory) => return Err(ReadError::Memory),
+            Err(Stop::Fault(_)) => return Err(ReadError::Fault(PeerFault::BadRecord)),
+        }
         rest = behind;
     }
     Ok(Records::new(records))

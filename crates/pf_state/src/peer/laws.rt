@@ -1,7 +1,9 @@
 //! Laws of streams. Each function does nothing; its clauses are what is proved.
 ghost use Rattle.std.specs.{Prelude.{◌≡◌, ◌++◌, ◌↔◌, [], ℕ, List, Result, Ok}, List.concat};
 ghost use Rattle.pf_state.specs.declared.{peer.fault.OneFault.OneFault, peer.fault.PeerFault.PeerFault, peer.message.Message.Message};
+ghost use Rattle.pf_addr.specs.Bytes.Forms.{Spells};
 ghost use Rattle.pf_state.specs.Laws.Messages as example;
+ghost use Rattle.pf_state.specs.Peer.Records.{PlainInsert, IsInsert, insert_form, plain_insert, insert_in, insert_bytes};
 ghost use Rattle.pf_state.specs.{Peer.Messages.IsMessage, Peer.One.IsOne, Peer.Streams.{Ending, Faulty, Reads, Feeds}, Peer.Written.{message_bytes, CanBeWritten}};
 
 use crate::peer::message::{CLEAR, DELETE, INSERT, MESSAGE_LIMIT, VERSION};
@@ -35,6 +37,13 @@ pub fn pieces_make_one_stream()
 /// What a message is written as is that message.
 pub fn written_message_is_read()
     ensures { (m : Message) → CanBeWritten m → IsMessage (message_bytes m) m }
+{}
+
+/// What an insert is written as are the bytes of its form, and no two inserts have the same plain data.
+#[tactic(auto, using(crate::proofs::Inserts::insert_back))]
+pub fn insert_has_its_form()
+    ensures written { (i : PlainInsert) → IsInsert i → Spells insert_form (plain_insert i) (insert_bytes i) }
+    ensures whole { (i : PlainInsert) → insert_in (plain_insert i) ≡ i }
 {}
 
 /// Bytes that have to be one message have one answer, and it is a message exactly where they are that message.

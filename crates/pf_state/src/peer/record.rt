@@ -1,12 +1,14 @@
 //! Records: what a group of one action has, and how each is read and written.
 ghost use Rattle.std.specs.Prelude.{◌≡◌, ◌++◌, length, Option, List, ℕ, OnOk};
-ghost use Rattle.pf_state.specs.Peer.Records.{IsInsert};
+ghost use Rattle.pf_state.specs.Peer.Records.{IsInsert, told_flow, Says};
 
-use crate::peer::fields::{fields_of, is_allowed, u32_at, u64_at};
-use crate::peer::writing::{push_address, push_kinds, push_u16, push_u32, push_u64};
+use crate::flow::Flow;
+use crate::peer::fields::{u32_at, u64_at};
+use crate::peer::writing::{push_u32, push_u64};
 use pf_addr::Addr;
+use pf_addr::bytes::{Layout, Stop, decode};
 use pf_rule::value::{Direction, Protocol};
-use std::alloc::AllocError;
+use std::alloc::{AllocError, Global};
 use std::marker::Model;
 
 /// How many bytes each record has, of any action.
@@ -73,6 +75,22 @@ impl Insert {
     {
         &self.0
     }
+
+    /// The flow of the state that it tells of.
+    pub fn flow(&self) -> Flow
+        ensures { result ≡ told_flow self.now }
+    {
+        let fields = self.fields();
+        Flow::new(
+            fields.direction,
+            fields.protocol,
+            fields.source,
+            fields.source_port,
+            fields.destination,
+            fields.destination_port,
+        )
+        .unwrap()
+    }
 }
 
 /// The removal of one state, whatever its generation. Of the record's bytes no others than these fields' are looked at; they are written
@@ -103,13 +121,13 @@ pub trait Record: Drop + Sized {
     /// What each of them keeps.
     ghost keeps: { Self → Type 0 };
 
-    /// What the bytes say, or `None` where a field has what it can't have.
-    fn read(row: &[u8]) -> Option<Self>
+    /// What the bytes say. Fails where a field has what it can't have, and where memory is refused.
+    fn from_row(alloc: Global, row: &[u8]) -> Result<Self, Stop>
         requires { length row.now ≡ RECORD }
-        ensures { result ≡ reading row.now };
+        ensures { Says result (reading row.now) };
 
     /// Writes the record behind these bytes. Where memory is refused, how much of it stands there isn't said.
-    fn write(&self, out: &mut Vec<u8>) -> Result<(), AllocError>
+    fn push(&self, out: &mut Vec<u8>) -> Result<(), AllocError>
         ensures written { OnOk result (out.new.items ≡ out.old.items ++ writing self.now) }
         ensures kept { OnOk result (keeps self.now) };
 }
@@ -123,25 +141,16 @@ impl Record for Insert {
 
     ghost keeps = { IsInsert };
 
-    fn read(row: &[u8]) -> Option<Insert> {
-        if !is_allowed(row) {
-            return None;
-        }
-        Some(Insert(fields_of(row)))
+    #[tactic(auto, unfolding(crate::specs::Peer::Records::insert_of))]
+    fn from_row(alloc: Global, row: &[u8]) -> Result<Insert, Stop> {
+        decode::<Insert>(alloc, 1, row)
     }
 
-    fn write(&self, out: &mut Vec<u8>) -> Result<(), AllocError> {
-        let fields = self.0;
-        push_u64(out, fields.id)?;
-        push_u32(out, fields.creator)?;
-        push_u32(out, fields.generation)?;
-        push_kinds(out, &fields)?;
-        push_address(out, fields.source)?;
-        push_address(out, fields.destination)?;
-        push_u16(out, fields.source_port)?;
-        push_u16(out, fields.destination_port)?;
-        push_u32(out, fields.rule)?;
-        push_u32(out, fields.anchor)?;
+    #[tactic(auto, using(crate::proofs::Inserts::insert_fits))]
+    fn push(&self, out: &mut Vec<u8>) -> Result<(), AllocError> {
+        // what each insert keeps lets it be written
+        let _fields = self.fields();
+        self.write(1, out)?;
         Ok(())
     }
 }
@@ -156,14 +165,14 @@ impl Record for Delete {
 
     ghost keeps = { IsDelete };
 
-    fn read(row: &[u8]) -> Option<Delete> {
-        Some(Delete {
+    fn from_row(_alloc: Global, row: &[u8]) -> Result<Delete, Stop> {
+        Ok(Delete {
             id: u64_at(0, row),
             creator: u32_at(8, row),
         })
     }
 
-    fn write(&self, out: &mut Vec<u8>) -> Result<(), AllocError> {
+    fn push(&self, out: &mut Vec<u8>) -> Result<(), AllocError> {
         push_u64(out, self.id)?;
         push_u32(out, self.creator)?;
         out.extend_from_slice(&[0; 52])
@@ -180,13 +189,13 @@ impl Record for Clear {
 
     ghost keeps = { IsClear };
 
-    fn read(row: &[u8]) -> Option<Clear> {
-        Some(Clear {
+    fn from_row(_alloc: Global, row: &[u8]) -> Result<Clear, Stop> {
+        Ok(Clear {
             creator: u32_at(8, row),
         })
     }
 
-    fn write(&self, out: &mut Vec<u8>) -> Result<(), AllocError> {
+    fn push(&self, out: &mut Vec<u8>) -> Result<(), AllocError> {
         out.extend_from_slice(&[0; 8])?;
         push_u32(out, self.creator)?;
         out.extend_from_slice(&[0; 52])

@@ -1,17 +1,12 @@
 //! Writing messages.
 ghost use Rattle.std.specs.Prelude.{◌≡◌, ◌++◌, ◌<◌, ◌≤◌, ◌∷◌, [], length, IfOk, OnOk, List};
 ghost use Rattle.byteorder.specs.Endian.{big_bytes};
-ghost use Rattle.pf_addr.specs.Address.{family_of};
-ghost use Rattle.pf_rule.specs.Bytes.{addr_bytes, direction_byte, family_byte};
 ghost use Rattle.pf_state.specs.{Peer.Messages.IsMessage, Peer.Written.{message_bytes, message_length, groups_bytes, group_bytes, group_with, Each, IsGroup}};
 
-use crate::peer::fields::{FAMILY_4, FAMILY_6, IN, OUT};
 use crate::peer::message::{CLEAR, DELETE, Group, INSERT, MESSAGE_LIMIT, Message, VERSION};
-use crate::peer::record::{InsertFields, Record};
+use crate::peer::record::Record;
 use crate::peer::stream::HEADER;
 use byteorder::{BigEndian, ByteOrder};
-use pf_addr::{Addr, Family};
-use pf_rule::value::Direction;
 use std::alloc::{AllocError, Global};
 
 /// The bytes of a message, which are read back as that message. Its groups have at most as many records as let the whole fit in
@@ -63,42 +58,12 @@ fn push_records<T: Record>(out: &mut Vec<u8>, action: u8, records: &[T]) -> Resu
     out.extend_from_slice(&[action, 0])?;
     push_u16(out, records.len() as u16)?;
     for record in records {
-        record.write(out)?;
+        record.push(out)?;
     }
     Ok(())
 }
 
-/// Writes the direction's, the family's and the protocol's byte, and a zero.
-pub(crate) fn push_kinds(out: &mut Vec<u8>, fields: &InsertFields) -> Result<(), AllocError>
-    ensures { OnOk result (out.new.items ≡ out.old.items
-        ++ (direction_byte fields.now.direction ∷ family_byte (family_of fields.now.source) ∷ fields.now.protocol ∷ 0 ∷ [])) }
-{
-    let direction = match fields.direction {
-        Direction::In => IN,
-        Direction::Out => OUT,
-    };
-    let family = match fields.source {
-        Addr::V4(_) => FAMILY_4,
-        Addr::V6(_) => FAMILY_6,
-    };
-    out.extend_from_slice(&[direction, family, fields.protocol.number(), 0])
-}
-
-/// Writes an address in 16 bytes, one of IPv4 in the first four.
-pub(crate) fn push_address(out: &mut Vec<u8>, address: Addr) -> Result<(), AllocError>
-    ensures { OnOk result (out.new.items ≡ out.old.items ++ addr_bytes address) }
-{
-    match address {
-        Addr::V4(number) => {
-            push_u32(out, number)?;
-            out.extend_from_slice(&[0; 12])
-        }
-        Addr::V6(number) => push_u128(out, number),
-    }
-}
-
-/// Writes a number in two bytes.
-pub(crate) fn push_u16(out: &mut Vec<u8>, number: u16) -> Result<(), AllocError>
+fn push_u16(out: &mut Vec<u8>, number: u16) -> Result<(), AllocError>
     ensures { OnOk result (out.new.items ≡ out.old.items ++ big_bytes 2 number) }
 {
     let mut bytes = [0; 2];
@@ -121,13 +86,5 @@ pub(crate) fn push_u64(out: &mut Vec<u8>, number: u64) -> Result<(), AllocError>
 {
     let mut bytes = [0; 8];
     BigEndian::write_u64(&mut bytes, number);
-    out.extend_from_slice(&bytes)
-}
-
-fn push_u128(out: &mut Vec<u8>, number: u128) -> Result<(), AllocError>
-    ensures { OnOk result (out.new.items ≡ out.old.items ++ big_bytes 16 number) }
-{
-    let mut bytes = [0; 16];
-    BigEndian::write_u128(&mut bytes, number);
     out.extend_from_slice(&bytes)
 }

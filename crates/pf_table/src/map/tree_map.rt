@@ -1,5 +1,5 @@
 //! Maps in trees.
-ghost use Rattle.std.specs.{Prelude.{◌≡◌, ◌+◌, ◌<◌, T, [], length, cond, true, Some, None, is_some, IfOk, IfSome, nat_lt}, Option.option_map, FinMap.{find, is_sorted}};
+ghost use Rattle.std.specs.{Prelude.{◌≡◌, ◌+◌, ◌<◌, T, [], length, map, cond, true, Some, None, is_some, IfOk, IfSome, nat_lt}, Option.option_map, FinMap.{find, is_sorted}};
 ghost use Rattle.pf_table.specs.Map.{Maps.{with_value, without, entry_at, at_or_before}, Parts.joined};
 
 use crate::map::entries::Entries;
@@ -67,6 +67,18 @@ impl<K: Key, V: Drop, E: Held<K, V>> TreeMap<K, V, E> {
             top: None,
             count: 0,
         }
+    }
+
+    /// The map of these entries, which stand in the order of their keys, no key twice. `AllocError`: nothing is made.
+    pub fn of(alloc: Global, entries: &[E]) -> Result<TreeMap<K, V, E>, AllocError>
+        requires { T (is_sorted K.order (map E.pair entries.now)) }
+        ensures { IfOk result (λ m. m ≡ map E.pair entries.now) }
+    {
+        let mut map = TreeMap::empty();
+        for entry in entries {
+            map = map.with_new(alloc, entry)?;
+        }
+        Ok(map)
     }
 
     /// How many entries it has.

@@ -1,4 +1,4 @@
-use Rattle.pf_rule.proofs.ReadAgain.{same_form}
+use Rattle.pf_rule.proofs.RuleBytes.{same_form}
 use Rattle.pf_rule.proofs.sum.laws.different_rules_have_different_forms.Goals as goal
 
 pub returns : goal.returns

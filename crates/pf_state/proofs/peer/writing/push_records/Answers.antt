@@ -6,7 +6,7 @@ pub loop-record-preserved : goal.loop-record-preserved
 loop-record-preserved g c = record {
   written = grind (arith, common_steps);
   kept = one_more g.T.Record.keeps c.args.records.now c.loop-record.record-index c.record-item.result c.loop-record-test.true c.record-item.is
-      c.loop-record.invariant.kept c.in_ok-write.ensures.kept;
+      c.loop-record.invariant.kept c.in_ok-push.ensures.kept;
 }
 
 pub returns-clause-kept : goal.returns-clause-kept

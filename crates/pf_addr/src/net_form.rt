@@ -1,0 +1,84 @@
+//! Families, addresses and networks in bytes.
+ghost use Rattle.std.specs.{Prelude.{◌≡◌, false, true, IfOk, OnOk}, Option.MatchOption};
+ghost use Rattle.pf_addr.specs.{Address.{family_of, number_in}, Bytes.Forms.onto, Bytes.Readers.Reads, NetForms.{family, family_byte, address_in, first_number, is_network}};
+
+use crate::addr::{Addr, Family};
+use crate::bytes::{
+    Fault, Rest, Stop, expect, push_bytes, push_u32, push_u128, read_u8, read_u32, read_u128,
+};
+use crate::net::Net;
+use std::alloc::AllocError;
+
+impl Family {
+    /// The family's number in bytes: 4 or 6.
+    pub fn number(self) -> u8
+        ensures { result ≡ family_byte self }
+    {
+        match self {
+            Family::V4 => 4,
+            Family::V6 => 6,
+        }
+    }
+}
+
+/// A family, as one byte: 4 or 6. Fails where no byte is left, and at another byte.
+#[tactic(auto, unfolding(crate::specs::NetForms::family))]
+pub fn read_family<'a>(from: &mut Rest<'a>) -> Result<Family, Stop>
+    ensures { Reads family_byte family result from.old.now from.new.now }
+{
+    let left = from.len();
+    match read_u8(from)? {
+        4 => Ok(Family::V4),
+        6 => Ok(Family::V6),
+        _ => Err(Stop::Fault(Fault::Bad(left))),
+    }
+}
+
+/// An address of this family in 16 bytes, big-endian: one of IPv4 in the first four, with zeros behind it.
+///
+/// Fails where fewer bytes are left, and at the first byte behind an IPv4 address that isn't zero.
+pub fn read_addr<'a>(family: Family, from: &mut Rest<'a>) -> Result<Addr, Stop>
+    ensures read { Reads number_in (address_in (family_byte family)) result from.old.now from.new.now }
+    ensures family { IfOk result (λ a. family_of a ≡ family) }
+{
+    match family {
+        Family::V4 => {
+            let number = read_u32(from)?;
+            expect(from, &[0; 12])?;
+            Ok(Addr::V4(number))
+        }
+        Family::V6 => Ok(Addr::V6(read_u128(from)?)),
+    }
+}
+
+/// Puts an address behind the bytes, in 16 bytes as [`read_addr`] takes them. Fails only where memory is refused.
+pub fn push_addr(out: &mut Vec<u8>, addr: Addr) -> Result<(), AllocError>
+    ensures { OnOk result (out.new.items ≡ onto (address_in (family_byte (family_of addr))) (number_in addr) out.old.items) }
+{
+    match addr {
+        Addr::V4(number) => {
+            push_u32(out, number)?;
+            push_bytes(out, &[0; 12])
+        }
+        Addr::V6(number) => push_u128(out, number),
+    }
+}
+
+impl Net {
+    /// The network whose first address is this one and whose front has so many bits. None where an address of the family has fewer
+    /// bits, or one behind the front isn't zero.
+    pub fn starting_at(addr: Addr, len: u8) -> Option<Net>
+        ensures { MatchOption result (is_network (family_byte (family_of addr)) len (number_in addr) ≡ false)
+            (λ n. (is_network (family_byte (family_of addr)) len (number_in addr) ≡ true)
+            × (n.family ≡ family_of addr) × (n.len ≡ len) × (first_number n ≡ number_in addr)) }
+    {
+        if len > addr.family().width() {
+            return None;
+        }
+        let net = Net::new(addr, len);
+        if net.addr() != addr {
+            return None;
+        }
+        Some(net)
+    }
+}

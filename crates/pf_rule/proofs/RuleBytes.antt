@@ -1,0 +1,423 @@
+-- A rule's form is what its layout writes of its data, each rule fits it, and the data tell the rule.
+use Rattle.std.proofs.{Common.{◌≡◌, ◌-◌, ◌<◌, ◌≤◌, ◌==◌, ℕ, zero, suc, Bool, true, false, List, [], ◌∷◌, ◌++◌, length, replicate, Option, Some, None, refl, sym, ap, subst, ◌∙◌, arith}, lemmas.Bool.and_parts, lemmas.Bool.Decides.nat_tests, lemmas.List.{length-append, length-replicate}, Math.Nat.mod-eq_of_lt}
+use Rattle.std.specs.{Prelude.{unwrap_or, IfSome, not, if◌then◌else◌}, List.{AllByRecursion, list_all}}
+use Rattle.byteorder.specs.Endian.{big_bytes}
+use Rattle.pf_addr.specs.declared.{addr.Family.{Family, TheVariants.V4, TheVariants.V6}, path.limits.TheConstants.TABLE_NAME_LIMIT}
+use Rattle.pf_addr.specs.{Address.{Network}, Bytes.Parts.{Bytes, number_bytes, begins_otherwise, constant_at}, Bytes.Forms.{Shape, nat, both, Value, Form, Fits, Spells, number, front, pair, pair_by, writes, reads, onto}, Bytes.Codes.{below, flag, flag_byte}, Bytes.Names.padded, NetForms.{family, family_byte, address_in, first_number}, Path.Names.{is_name_byte, IsName}, Path.PathForms.{name_field, ReferenceShape, reference_form}, Spelling.first_addr, Laws.NetForms.{family_fits, length_fits, address_fits, network_is, network_again}, Laws.Bytes.{Codes.{flag_fits, flag_again}, Onto.onto_is, Steps.leaves, Texts.one_value}}
+use Rattle.pf_addr.specs.Bytes.Names as fields
+use Rattle.pf_addr.proofs.{BytesRead.written_bytes, PathBytes.{name_fits, name_again, reference_fits, reference_again}}
+use Rattle.pf_rule.specs.Sum.Forms as forms
+use Rattle.pf_rule.specs.declared.{value.interface.TheConstants.INTERFACE_LIMIT, value.direction.Direction.{Direction, TheVariants.In, TheVariants.Out}, value.ports.{Comparison.TheVariants.{Equal, NotEqual, Less, AtMost, Greater, AtLeast}, PortRange.TheVariants.{Including, Excluding, Except}, PortTest.{PortTest, TheVariants.Compared, TheVariants.Ranged}}, host.host.Host.{Host, TheVariants.Any, TheVariants.Net, TheVariants.Table}, rule.{Effect.{Effect, TheVariants.Decide, TheVariants.Evaluate}, Action.TheVariants.{Pass, Block}}}
+use Rattle.pf_rule.specs.{Bytes.{addr_bytes, addr_bytes-length}, Value.Values.{IsInterfaceName, IsProtocol, has_ports}, Value.Ports.{IsPortTest, ports_fit}, Rules.{PlainRule, HostFits, IsEffect, IsRule}, Sum.Forms.{filled, test_byte, first_port, second_port, host_form, address_bytes, table_name, effect_byte, keeps_state, direction_byte, names, wildcard, rule_form}, Sum.Layouts.{port_test, plain_test, network_end, table_end, EndShape, end, plain_end, FamilyShape, some_family, plain_family, InterfaceShape, interface, plain_interface, named, plain_named, BodyShape, body, RuleShape, rule_layout, plain_rule}, Sum.Reading.{test_of, host_of, port_of, effect_of, direction_of, family_in, protocol_of_byte, interface_of, rule_of}}
+
+-- ---- single bytes
+
+one : (n : ℕ) → n < 256 → number_bytes 1 n ≡ n ∷ []
+unfolding number_bytes
+one n lt = rw (mod-eq_of_lt lt) refl
+
+below_written : (limit n : ℕ) → n < 256 → writes (below limit) n ≡ n ∷ []
+unfolding below
+below_written limit n lt = one n lt
+
+flag_low : (b : Bool) → flag_byte b < 256
+flag_low true = omega arith
+flag_low false = omega arith
+
+-- ---- names in their fields
+
+bytes_are : (bs : List ℕ) → AllByRecursion (Fits (number 1)) bs → Bytes bs
+bytes_are [] all = tt
+bytes_are (b ∷ bs) all = (omega (arith, all.0), bytes_are bs all.1)
+
+field_fits : (limit width : ℕ) (name : List ℕ) → limit ≤ width → IsName limit name → AllByRecursion (Fits (number 1)) (fields.filled width name)
+unfolding name_field
+field_fits limit width name le is = (name_fits limit width name le is).0.0.1
+
+field_written : (limit width : ℕ) (name : List ℕ) → limit ≤ width → IsName limit name → writes (name_field limit width) (fields.filled width name) ≡ filled width name
+unfolding name_field filled
+field_written limit width name le is = written_bytes (fields.filled width name) (bytes_are _ (field_fits limit width name le is))
+
+-- ---- the test of a port
+
+test_written : (ports : Bool) (p : Option PortTest) → writes (port_test ports) (plain_test p) ≡ test_byte p ∷ (big_bytes 2 (first_port p) ++ big_bytes 2 (second_port p))
+unfolding port_test below number_bytes
+test_written ports None = refl
+test_written ports (Some (Compared Equal n)) = refl
+test_written ports (Some (Compared NotEqual n)) = refl
+test_written ports (Some (Compared Less n)) = refl
+test_written ports (Some (Compared AtMost n)) = refl
+test_written ports (Some (Compared Greater n)) = refl
+test_written ports (Some (Compared AtLeast n)) = refl
+test_written ports (Some (Ranged Including a b)) = refl
+test_written ports (Some (Ranged Excluding a b)) = refl
+test_written ports (Some (Ranged Except a b)) = refl
+
+test_fits : (ports : Bool) (p : Option PortTest) → IfSome p IsPortTest → (ports ≡ false → p ≡ None) → Fits (port_test ports) (plain_test p)
+unfolding port_test below
+test_fits false None is none = ((omega arith, refl), refl)
+test_fits false (Some t) is none = absurd (let e = none refl in cc)
+test_fits true None is none = ((omega arith, refl), refl)
+test_fits true (Some (Compared Equal n)) is none = ((omega arith, refl), (is, refl))
+test_fits true (Some (Compared NotEqual n)) is none = ((omega arith, refl), (is, refl))
+test_fits true (Some (Compared Less n)) is none = ((omega arith, refl), (is, refl))
+test_fits true (Some (Compared AtMost n)) is none = ((omega arith, refl), (is, refl))
+test_fits true (Some (Compared Greater n)) is none = ((omega arith, refl), (is, refl))
+test_fits true (Some (Compared AtLeast n)) is none = ((omega arith, refl), (is, refl))
+test_fits true (Some (Ranged Including a b)) is none = ((omega arith, refl), is)
+test_fits true (Some (Ranged Excluding a b)) is none = ((omega arith, refl), is)
+test_fits true (Some (Ranged Except a b)) is none = ((omega arith, refl), is)
+
+test_again : (p : Option PortTest) → test_of (plain_test p) ≡ p
+test_again None = refl
+test_again (Some (Compared Equal n)) = refl
+test_again (Some (Compared NotEqual n)) = refl
+test_again (Some (Compared Less n)) = refl
+test_again (Some (Compared AtMost n)) = refl
+test_again (Some (Compared Greater n)) = refl
+test_again (Some (Compared AtLeast n)) = refl
+test_again (Some (Ranged Including a b)) = refl
+test_again (Some (Ranged Excluding a b)) = refl
+test_again (Some (Ranged Except a b)) = refl
+
+-- ---- a host and the test of its port
+
+address_written : (n : Network) → writes (address_in (family_byte n.family)) (first_number n) ≡ addr_bytes (first_addr n)
+unfolding number_bytes
+address_written n = by n.family n.len n.front where
+  by : (f : Family) (len first : ℕ) → writes (address_in (family_byte f)) (first_number (record { family = f; len = len; front = first })) ≡ addr_bytes (first_addr (record { family = f; len = len; front = first }))
+  by V4 len first = refl
+  by V6 len first = refl
+
+end_written : (ports : Bool) (f : Option Family) (h : Host) (p : Option PortTest) → HostFits f h → writes (end ports (plain_family f)) (plain_end h p) ≡ host_form h p
+unfolding end network_end table_end host_form filled
+end_written ports f Any p is = rw (test_written ports p) refl
+end_written ports f (Net n negated) p is =
+    rw (is.0, below_written 2 (flag_byte negated) (flag_low negated), one n.len (length_fits n is.1), test_written ports p, address_written n) refl
+end_written ports f (Table name negated) p is =
+    rw (below_written 2 (flag_byte negated) (flag_low negated), test_written ports p, field_written TABLE_NAME_LIMIT 32 name (omega arith) is) refl
+
+end_fits : (ports : Bool) (f : Option Family) (h : Host) (p : Option PortTest) → HostFits f h → IfSome p IsPortTest → (ports ≡ false → p ≡ None) → Fits (end ports (plain_family f)) (plain_end h p)
+unfolding end network_end table_end
+end_fits ports f Any p is kept none = test_fits ports p kept none
+end_fits ports f (Net n negated) p is kept none =
+    rw is.0 ((((flag_fits negated, (length_fits n is.1, (test_fits ports p kept none, address_fits n is.1))), network_is n is.1)), refl)
+end_fits ports f (Table name negated) p is kept none =
+    (((flag_fits negated, (test_fits ports p kept none, name_fits TABLE_NAME_LIMIT 32 name (omega arith) is)), refl), refl)
+
+host_again : (f : Option Family) (h : Host) (p : Option PortTest) → HostFits f h → host_of (plain_family f) (plain_end h p) ≡ h
+host_again f Any p is = refl
+host_again f (Net n negated) p is = rw (is.0, network_again n, flag_again negated) refl
+host_again f (Table name negated) p is = rw (name_again TABLE_NAME_LIMIT 32 name is, flag_again negated) refl
+
+port_again : (h : Host) (p : Option PortTest) → port_of (plain_end h p) ≡ p
+port_again Any p = test_again p
+port_again (Net n negated) p = test_again p
+port_again (Table name negated) p = test_again p
+
+-- ---- the fields of a rule
+
+effect_low : (e : Effect) → effect_byte e < 256
+effect_low (Decide Block) = omega arith
+effect_low (Decide (Pass keeps)) = omega arith
+effect_low (Evaluate r) = omega arith
+
+effect_fits : (e : Effect) → Fits (below 3) (effect_byte e)
+unfolding below
+effect_fits (Decide Block) = (omega arith, refl)
+effect_fits (Decide (Pass keeps)) = (omega arith, refl)
+effect_fits (Evaluate r) = (omega arith, refl)
+
+keeps_fits : (e : Effect) → Fits (below (if effect_byte e == 1 then 2 else 1)) (flag_byte (keeps_state e))
+unfolding below
+keeps_fits (Decide Block) = (omega arith, refl)
+keeps_fits (Decide (Pass true)) = (omega arith, refl)
+keeps_fits (Decide (Pass false)) = (omega arith, refl)
+keeps_fits (Evaluate r) = (omega arith, refl)
+
+named_written : (e : Effect) → IsEffect e → writes (named (effect_byte e == 2)) (plain_named e) ≡ filled 64 (names e) ++ (flag_byte (wildcard e) ∷ 0 ∷ 0 ∷ 0 ∷ [])
+unfolding filled reference_form
+named_written (Decide Block) is = refl
+named_written (Decide (Pass keeps)) is = refl
+named_written (Evaluate r) is =
+    rw (written_bytes (fields.filled 64 r.names) (bytes_are _ (reference_fits r is).0.0.0.1), below_written 2 (flag_byte r.wildcard) (flag_low r.wildcard)) refl
+
+named_fits : (e : Effect) → IsEffect e → Fits (named (effect_byte e == 2)) (plain_named e)
+named_fits (Decide Block) is = refl
+named_fits (Decide (Pass keeps)) is = refl
+named_fits (Evaluate r) is = reference_fits r is
+
+effect_again : (e : Effect) → IsEffect e → effect_of (effect_byte e) (flag_byte (keeps_state e)) (plain_named e) ≡ e
+effect_again (Decide Block) is = refl
+effect_again (Decide (Pass keeps)) is = rw (flag_again keeps) refl
+effect_again (Evaluate r) is = rw (reference_again r is) refl
+
+direction_fits : (d : Option Direction) → Fits (below 3) (direction_byte d)
+unfolding below
+direction_fits None = (omega arith, refl)
+direction_fits (Some In) = (omega arith, refl)
+direction_fits (Some Out) = (omega arith, refl)
+
+direction_low : (d : Option Direction) → direction_byte d < 256
+direction_low None = omega arith
+direction_low (Some In) = omega arith
+direction_low (Some Out) = omega arith
+
+direction_again : (d : Option Direction) → direction_of (direction_byte d) ≡ d
+direction_again None = refl
+direction_again (Some In) = refl
+direction_again (Some Out) = refl
+
+family_written : (f : Option Family) → writes some_family (plain_family f) ≡ forms.family_byte f ∷ []
+unfolding some_family family number_bytes
+family_written None = refl
+family_written (Some V4) = refl
+family_written (Some V6) = refl
+
+pub family_begins : (f : Family) → begins_otherwise 0 (writes family (family_byte f)) ≡ true
+unfolding family number_bytes
+family_begins V4 = refl
+family_begins V6 = refl
+
+some_family_fits : (f : Option Family) → Fits some_family (plain_family f)
+unfolding some_family
+some_family_fits None = refl
+some_family_fits (Some f) = (family_fits f, family_begins f)
+
+family_again : (f : Option Family) → family_in (plain_family f) ≡ f
+family_again None = refl
+family_again (Some V4) = refl
+family_again (Some V6) = refl
+
+protocol_low : (p : Option ℕ) → IfSome p IsProtocol → unwrap_or p 0 < 256
+protocol_low None is = omega arith
+protocol_low (Some n) is = is.1
+
+not_zero : (n : ℕ) → 0 < n → (n == 0) ≡ false
+not_zero n lt = grind (arith, nat_tests)
+
+protocol_again : (p : Option ℕ) → IfSome p IsProtocol → protocol_of_byte (unwrap_or p 0) ≡ p
+protocol_again None is = refl
+protocol_again (Some n) is = rw (not_zero n is.0) refl
+
+interface_written : (i : Option (List ℕ)) → IfSome i IsInterfaceName → writes interface (plain_interface i) ≡ filled 16 (unwrap_or i [])
+unfolding interface filled
+interface_written None is = refl
+interface_written (Some name) is = field_written INTERFACE_LIMIT 16 name (omega arith) is
+
+some_first : (b : ℕ) (bs : List ℕ) → list_all is_name_byte (b ∷ bs) ≡ true → not (b == 0) ≡ true
+some_first b bs all = let byte = (and_parts (is_name_byte b) (list_all is_name_byte bs) all).0 in grind (arith, nat_tests)
+
+begins : (name : List ℕ) → IsInterfaceName name → begins_otherwise 0 (filled 16 name) ≡ true
+unfolding filled
+begins [] is = absurd (omega (arith, is.some))
+begins (b ∷ bs) is = some_first b bs is.bytes
+
+pub interface_begins : (name : List ℕ) → IsInterfaceName name → begins_otherwise 0 (writes (name_field INTERFACE_LIMIT 16) (fields.filled 16 name)) ≡ true
+interface_begins name is = ap (begins_otherwise 0) (field_written INTERFACE_LIMIT 16 name (omega arith) is) ∙ begins name is
+
+interface_fits : (i : Option (List ℕ)) → IfSome i IsInterfaceName → Fits interface (plain_interface i)
+unfolding interface
+interface_fits None is = refl
+interface_fits (Some name) is =
+    (name_fits INTERFACE_LIMIT 16 name (omega arith) is, interface_begins name is)
+
+interface_again : (i : Option (List ℕ)) → IfSome i IsInterfaceName → interface_of (plain_interface i) ≡ i
+interface_again None is = refl
+interface_again (Some name) is = rw (name_again INTERFACE_LIMIT 16 name is) refl
+
+-- only with a protocol that has ports are they tested
+none_without : (protocol : Option ℕ) (s d : Option PortTest) → ports_fit protocol s d ≡ true → has_ports (unwrap_or protocol 0) ≡ false → (s ≡ None) × (d ≡ None)
+unfolding ports_fit
+none_without protocol None None fit none = (refl, refl)
+none_without None (Some t) d fit none = absurd cc
+none_without None None (Some t) fit none = absurd cc
+none_without (Some n) (Some t) d fit none = absurd (cc (fit, none))
+none_without (Some n) None (Some t) fit none = absurd (cc (fit, none))
+
+pub fitting : (protocol : Option ℕ) (s d : Option PortTest) → (has_ports (unwrap_or protocol 0) ≡ false → s ≡ None) → (has_ports (unwrap_or protocol 0) ≡ false → d ≡ None) → ports_fit protocol s d ≡ true
+unfolding ports_fit
+fitting None s d source destination = rw (source refl, destination refl) refl
+fitting (Some n) s d source destination = by (has_ports n) refl where
+  by : (b : Bool) → has_ports n ≡ b → ports_fit (Some n) s d ≡ true
+  by true e = rw e (grind arith)
+  by false e = rw (source e, destination e) refl
+
+-- ---- a rule
+
+pub layout_is : (r : PlainRule) → IsRule r → writes rule_layout (plain_rule r) ≡ rule_form r
+unfolding rule_layout rule_form
+layout_is r is =
+    rw (
+      below_written 3 (effect_byte r.effect) (effect_low r.effect),
+      below_written 3 (direction_byte r.direction) (direction_low r.direction),
+      below_written 2 (flag_byte r.quick) (flag_low r.quick),
+      below_written (if effect_byte r.effect == 1 then 2 else 1) (flag_byte (keeps_state r.effect)) (flag_low (keeps_state r.effect)),
+      family_written r.family,
+      one (unwrap_or r.protocol 0) (protocol_low r.protocol is.protocol),
+      interface_written r.interface is.interface,
+      end_written (has_ports (unwrap_or r.protocol 0)) r.family r.source r.source_port is.source,
+      end_written (has_ports (unwrap_or r.protocol 0)) r.family r.destination r.destination_port is.destination,
+      named_written r.effect is.effect,
+    ) refl
+
+pub form_pushed : (r : PlainRule) → IsRule r → (out : List ℕ) → onto rule_layout (plain_rule r) out ≡ out ++ rule_form r
+form_pushed r is out = onto_is rule_layout (plain_rule r) out ∙ ap (λ (m : List ℕ). out ++ m) (layout_is r is)
+
+pub rule_fits : (r : PlainRule) → IsRule r → Fits rule_layout (plain_rule r)
+unfolding rule_layout
+rule_fits r is =
+    let none = none_without r.protocol r.source_port r.destination_port is.ports in (
+      effect_fits r.effect,
+      (
+        direction_fits r.direction,
+        (
+          flag_fits r.quick,
+          (
+            keeps_fits r.effect,
+            (
+              some_family_fits r.family,
+              (
+                protocol_low r.protocol is.protocol,
+                (
+                  interface_fits r.interface is.interface,
+                  (
+                    end_fits (has_ports (unwrap_or r.protocol 0)) r.family r.source r.source_port is.source is.port_tests.0 (λ e. (none e).0),
+                    (
+                      end_fits (has_ports (unwrap_or r.protocol 0)) r.family r.destination r.destination_port is.destination is.port_tests.1 (λ e. (none e).1),
+                      named_fits r.effect is.effect,
+                    ),
+                  ),
+                ),
+              ),
+            ),
+          ),
+        ),
+      ),
+    )
+
+pub rule_again : (r : PlainRule) → IsRule r → rule_of (plain_rule r) ≡ r
+unfolding rule_of
+rule_again r is =
+    rw (
+      family_again r.family,
+      host_again r.family r.source r.source_port is.source,
+      host_again r.family r.destination r.destination_port is.destination,
+      port_again r.source r.source_port,
+      port_again r.destination r.destination_port,
+      effect_again r.effect is.effect,
+      direction_again r.direction,
+      flag_again r.quick,
+      interface_again r.interface is.interface,
+      protocol_again r.protocol is.protocol,
+    ) refl
+
+pub rule_spelled : (r : PlainRule) → IsRule r → Spells rule_layout (plain_rule r) (rule_form r)
+rule_spelled r is = record { fits = rule_fits r is; written = sym (layout_is r is) }
+
+pub same_form : (r s : PlainRule) → IsRule r → IsRule s → rule_form r ≡ rule_form s → r ≡ s
+same_form r s p q e =
+    let same : plain_rule r ≡ plain_rule s = one_value rule_layout (rule_form s) (plain_rule r) (plain_rule s) (subst (Spells rule_layout (plain_rule r)) e (rule_spelled r p)) (rule_spelled s q) in
+    sym (rule_again r p) ∙ ap rule_of same ∙ rule_again s q
+
+-- ---- reading a rule, part by part
+
+next : {a b : Shape} (f : Form a) (g : Value a → Form b) (before mid after : List ℕ) (x : Value a) (y : Value b) → reads f before ≡ leaves x mid → reads (g x) mid ≡ leaves y after → reads (pair_by f g) before ≡ leaves (x, y) after
+next f g before mid after x y e h = rw (e, h) refl
+
+behind : {a : Shape} (k : List ℕ) (f : Form a) (before mid after : List ℕ) (x : Value a) → constant_at k before ≡ leaves tt mid → reads f mid ≡ leaves x after → reads (front k f) before ≡ leaves x after
+behind k f before mid after x e h = rw (e, h) refl
+
+flag_of : (n limit : ℕ) → n < limit → limit ≤ 2 → flag_byte (n == 1) ≡ n
+flag_of zero limit lt le = refl
+flag_of (suc zero) limit lt le = refl
+flag_of (suc (suc n)) limit lt le = absurd (omega (arith, lt, le))
+
+plain_is : (r : PlainRule) (kind keeps : ℕ) → effect_byte r.effect ≡ kind → flag_byte (keeps_state r.effect) ≡ keeps
+    → (kind, (direction_byte r.direction, (flag_byte r.quick, (keeps, (plain_family r.family, (unwrap_or r.protocol 0, (plain_interface r.interface, (plain_end r.source r.source_port, (plain_end r.destination r.destination_port, plain_named r.effect))))))))) ≡ plain_rule r
+plain_is r kind keeps e k = λ i. (sym e i, (direction_byte r.direction, (flag_byte r.quick, (sym k i, (plain_family r.family, (unwrap_or r.protocol 0, (plain_interface r.interface, (plain_end r.source r.source_port, (plain_end r.destination r.destination_port, plain_named r.effect)))))))))
+
+pub body_read : (anchors ports : Bool) (f : Value FamilyShape) (b c d e g : List ℕ) (i : Value InterfaceShape) (s t : Value EndShape) (n : Value ReferenceShape)
+    → reads interface b ≡ leaves i c → reads (end ports f) c ≡ leaves s d → reads (end ports f) d ≡ leaves t e → reads (named anchors) e ≡ leaves n g
+    → reads (body anchors ports f) b ≡ leaves (i, (s, (t, n))) g
+body_read anchors ports f b c d e g i s t n at_interface at_source at_destination at_names =
+    next interface (λ x. pair (end ports f) (pair (end ports f) (named anchors))) b c g i (s, (t, n)) at_interface
+    (next (end ports f) (λ x. pair (end ports f) (named anchors)) c d g s (t, n) at_source (next (end ports f) (λ x. named anchors) d e g t n at_destination at_names))
+
+abbrev behind_protocol : ℕ → Value FamilyShape → ℕ → Form BodyShape
+behind_protocol kind f p = front (0 ∷ 0 ∷ []) (body (kind == 2) (has_ports p) f)
+
+abbrev behind_family : ℕ → Value FamilyShape → Form (both nat BodyShape)
+behind_family kind f = pair_by (number 1) (behind_protocol kind f)
+
+abbrev behind_keeps : ℕ → Form (both FamilyShape (both nat BodyShape))
+behind_keeps kind = pair_by some_family (behind_family kind)
+
+abbrev behind_quick : ℕ → Form (both nat (both FamilyShape (both nat BodyShape)))
+behind_quick kind = pair (below (if kind == 1 then 2 else 1)) (behind_keeps kind)
+
+abbrev behind_direction : ℕ → Form (both nat (both nat (both FamilyShape (both nat BodyShape))))
+behind_direction kind = pair flag (behind_quick kind)
+
+abbrev behind_kind : ℕ → Form (both nat (both nat (both nat (both FamilyShape (both nat BodyShape)))))
+behind_kind kind = pair (below 3) (behind_direction kind)
+
+pub rule_read : (r : PlainRule) (kind keeps limit : ℕ) (b1 b2 b3 b4 b5 b6 b7 b8 b9 : List ℕ) → effect_byte r.effect ≡ kind → keeps_state r.effect ≡ (keeps == 1) → keeps < limit → limit ≤ 2 → limit ≡ (if kind == 1 then 2 else 1)
+    → reads (below 3) b1 ≡ leaves kind b2 → reads (below 3) b2 ≡ leaves (direction_byte r.direction) b3 → reads flag b3 ≡ leaves (flag_byte r.quick) b4
+    → reads (below limit) b4 ≡ leaves keeps b5 → reads some_family b5 ≡ leaves (plain_family r.family) b6 → reads (number 1) b6 ≡ leaves (unwrap_or r.protocol 0) b7
+    → constant_at (0 ∷ 0 ∷ []) b7 ≡ leaves tt b8
+    → reads (body (kind == 2) (has_ports (unwrap_or r.protocol 0)) (plain_family r.family)) b8 ≡ leaves (plain_interface r.interface, (plain_end r.source r.source_port, (plain_end r.destination r.destination_port, plain_named r.effect))) b9
+    → reads rule_layout b1 ≡ leaves (plain_rule r) b9
+unfolding rule_layout
+rule_read r kind keeps limit b1 b2 b3 b4 b5 b6 b7 b8 b9 e k lt le is at_kind at_direction at_quick at_keeps at_family at_protocol at_zeros at_body =
+    let same = plain_is r kind keeps e (ap flag_byte k ∙ flag_of keeps limit lt le) in
+    let keeping = rw is at at_keeps in
+    next (below 3) behind_kind b1 b2 b9 kind _ at_kind
+    (next (below 3) (λ d. behind_direction kind) b2 b3 b9 (direction_byte r.direction) _ at_direction
+    (next flag (λ q. behind_quick kind) b3 b4 b9 (flag_byte r.quick) _ at_quick
+    (next (below (if kind == 1 then 2 else 1)) (λ k. behind_keeps kind) b4 b5 b9 keeps _ keeping
+    (next some_family (behind_family kind) b5 b6 b9 (plain_family r.family) _ at_family
+    (next (number 1) (behind_protocol kind (plain_family r.family)) b6 b7 b9 (unwrap_or r.protocol 0) _ at_protocol
+    (behind (0 ∷ 0 ∷ []) (body (kind == 2) (has_ports (unwrap_or r.protocol 0)) (plain_family r.family)) b7 b8 b9 _ at_zeros at_body))))))
+    ∙ ap (λ (x : Value RuleShape). leaves x b9) same
+
+-- ---- how long a form is
+
+filled_long : (size : ℕ) (bytes : List ℕ) → length bytes ≤ size → length (filled size bytes) ≡ size
+unfolding filled
+filled_long size bytes le = omega (arith, length-append bytes (replicate (size - length bytes) 0), length-replicate {A = ℕ} (size - length bytes) 0)
+
+address_long : (h : Host) → length (address_bytes h) ≡ 16
+address_long Any = refl
+address_long (Net n negated) = addr_bytes-length (first_addr n)
+address_long (Table name negated) = refl
+
+table_short : (f : Option Family) (h : Host) → HostFits f h → length (table_name h) ≤ 32
+table_short f Any is = omega arith
+table_short f (Net n negated) is = omega arith
+table_short f (Table name negated) is = omega (arith, is.short)
+
+host_long : (f : Option Family) (h : Host) (p : Option PortTest) → HostFits f h → length (host_form h p) ≡ 56
+unfolding host_form
+host_long f h p is =
+    omega (arith, length-append (address_bytes h) (filled 32 (table_name h)), address_long h, filled_long 32 (table_name h) (table_short f h is))
+
+interface_short : (i : Option (List ℕ)) → IfSome i IsInterfaceName → length (unwrap_or i []) ≤ 16
+interface_short None is = omega arith
+interface_short (Some name) is = omega (arith, is.short)
+
+names_short : (e : Effect) → IsEffect e → length (names e) ≤ 64
+names_short (Decide a) is = omega arith
+names_short (Evaluate r) is = omega (arith, simp length-append at is.short)
+
+pub form_long : (r : PlainRule) → IsRule r → length (rule_form r) ≡ 204
+unfolding rule_form
+form_long r is =
+    omega (
+      arith,
+      length-append {A = ℕ},
+      filled_long 16 (unwrap_or r.interface []) (interface_short r.interface is.interface),
+      host_long r.family r.source r.source_port is.source,
+      host_long r.family r.destination r.destination_port is.destination,
+      filled_long 64 (names r.effect) (names_short r.effect is.effect),
+    )

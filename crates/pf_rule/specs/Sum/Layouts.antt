@@ -1,0 +1,126 @@
+-- The layout of a rule's form: which 204 bytes are some rule's, and what they say. Own, as the places in `Forms` are. A test of ports stands
+-- only with a protocol that has ports, a network only with a family, which it is of, and state is kept only by a rule that passes.
+use Rattle.std.specs.Prelude.{ℕ, ◌==◌, nat_lt, Bool, false, List, [], ◌∷◌, replicate, Option, Some, None, unwrap_or, if◌then◌else◌}
+use Rattle.std.proofs.Common.{inl, inr}
+use Rattle.pf_addr.specs.declared.{addr.Family.Family, path.limits.TheConstants.TABLE_NAME_LIMIT}
+use Rattle.pf_addr.specs.{Bytes.Forms.{Shape, unit, nat, both, either, list, Value, Form, nothing, number, front, back, or, pair, pair_by, that}, Bytes.Codes.{below, flag, flag_byte}, Bytes.Names.filled, NetForms.{family, family_byte, address_in, first_number, is_network}, Path.PathForms.{name_field, ReferenceShape, reference_form, plain_reference}}
+use Rattle.pf_rule.specs.declared.{value.interface.TheConstants.INTERFACE_LIMIT, value.ports.PortTest.PortTest, host.host.Host.{Host, TheVariants.Any, TheVariants.Net, TheVariants.Table}, rule.Effect.{Effect, TheVariants.Decide, TheVariants.Evaluate}}
+use Rattle.pf_rule.specs.{Value.Values.has_ports, Rules.PlainRule, Sum.Forms.{test_byte, first_port, second_port, effect_byte, keeps_state, direction_byte}}
+
+-- ---- the test of a port
+
+-- the test, and its two numbers
+abbrev pub TestShape : Shape
+TestShape = both nat (both nat nat)
+
+-- none, one or both, by the test
+abbrev pub ports_by : ℕ → Form (both nat nat)
+ports_by test =
+    if test == 0 then front (replicate 4 0) (nothing (0, 0))
+    else if nat_lt test 7 then pair (number 2) (front (0 ∷ 0 ∷ []) (nothing 0))
+    else pair (number 2) (number 2)
+
+-- where ports may be tested, and else none
+unfoldable pub port_test : Bool → Form TestShape
+port_test ports = pair_by (below (if ports then 10 else 1)) ports_by
+
+abbrev pub plain_test : Option PortTest → Value TestShape
+plain_test p = (test_byte p, (first_port p, second_port p))
+
+-- ---- a host and the test of its port
+
+abbrev pub NetworkShape : Shape
+NetworkShape = both nat (both nat (both TestShape nat))
+
+abbrev pub TableShape : Shape
+TableShape = both nat (both TestShape (list nat))
+
+abbrev pub EndShape : Shape
+EndShape = either TestShape (either NetworkShape TableShape)
+
+-- a rule's family, where it has one
+abbrev pub FamilyShape : Shape
+FamilyShape = either unit nat
+
+-- negated, the length of the front, the test of the port, the first address; in a rule without a family none
+unfoldable pub network_end : Bool → Value FamilyShape → Form NetworkShape
+network_end ports (inl u) = that (λ e. false) (nothing (0, (0, ((0, (0, 0)), 0))))
+network_end ports (inr f) =
+    that (λ e. is_network f e.1.0 e.1.1.1) (pair flag (pair (number 1) (pair (port_test ports) (back (address_in f) (replicate 32 0)))))
+
+-- negated, the test of the port, the name
+unfoldable pub table_end : Bool → Form TableShape
+table_end ports = pair flag (front (0 ∷ []) (pair (port_test ports) (front (replicate 16 0) (name_field TABLE_NAME_LIMIT 32))))
+
+unfoldable pub end : Bool → Value FamilyShape → Form EndShape
+end ports f =
+    or 0 (front (0 ∷ 0 ∷ []) (back (port_test ports) (replicate 48 0)))
+    (or 1 (network_end ports f) (front (2 ∷ []) (table_end ports)))
+
+abbrev pub plain_end : Host → Option PortTest → Value EndShape
+plain_end Any p = inl (plain_test p)
+plain_end (Net n negated) p = inr (inl (flag_byte negated, (n.len, (plain_test p, first_number n))))
+plain_end (Table name negated) p = inr (inr (flag_byte negated, (plain_test p, filled 32 name)))
+
+-- ---- a rule
+
+unfoldable pub some_family : Form FamilyShape
+some_family = or 0 (nothing tt) family
+
+abbrev pub plain_family : Option Family → Value FamilyShape
+plain_family None = inl tt
+plain_family (Some f) = inr (family_byte f)
+
+abbrev pub InterfaceShape : Shape
+InterfaceShape = either unit (list nat)
+
+unfoldable pub interface : Form InterfaceShape
+interface = or 0 (front (replicate 15 0) (nothing tt)) (name_field INTERFACE_LIMIT 16)
+
+abbrev pub plain_interface : Option (List ℕ) → Value InterfaceShape
+plain_interface None = inl tt
+plain_interface (Some name) = inr (filled 16 name)
+
+-- what an anchor rule names
+abbrev pub named : Bool → Form ReferenceShape
+named anchors = if anchors then reference_form else front (replicate 68 0) (nothing ([], 0))
+
+abbrev pub plain_named : Effect → Value ReferenceShape
+plain_named (Decide a) = ([], 0)
+plain_named (Evaluate r) = plain_reference r
+
+abbrev pub BodyShape : Shape
+BodyShape = both InterfaceShape (both EndShape (both EndShape ReferenceShape))
+
+abbrev pub RuleShape : Shape
+RuleShape = both nat (both nat (both nat (both nat (both FamilyShape (both nat BodyShape)))))
+
+-- the interface, the two ends, and what an anchor rule names
+abbrev pub body : Bool → Bool → Value FamilyShape → Form BodyShape
+body anchors ports f = pair interface (pair (end ports f) (pair (end ports f) (named anchors)))
+
+-- 204 bytes
+unfoldable pub rule_layout : Form RuleShape
+rule_layout = pair_by (below 3) (λ effect. pair (below 3) (pair flag (pair (below (if effect == 1 then 2 else 1))
+    (pair_by some_family (λ f. pair_by (number 1) (λ protocol. front (0 ∷ 0 ∷ []) (body (effect == 2) (has_ports protocol) f)))))))
+
+abbrev pub plain_rule : PlainRule → Value RuleShape
+plain_rule r = (
+  effect_byte r.effect,
+  (
+    direction_byte r.direction,
+    (
+      flag_byte r.quick,
+      (
+        flag_byte (keeps_state r.effect),
+        (
+          plain_family r.family,
+          (
+            unwrap_or r.protocol 0,
+            (plain_interface r.interface, (plain_end r.source r.source_port, (plain_end r.destination r.destination_port, plain_named r.effect))),
+          ),
+        ),
+      ),
+    ),
+  ),
+)

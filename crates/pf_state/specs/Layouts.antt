@@ -1,0 +1,4 @@
+pub mod Flows
+pub mod States
+pub mod Steps
+pub mod Rows

@@ -1,0 +1,96 @@
+-- A state in 96 bytes, as what is kept has it; and such states in the order of their names. Own.
+--
+--   place width field
+--       0     8 id
+--       8     4 creator
+--      12     4 generation
+--      16    40 flow
+--      56     8 all ones
+--      64     1 what it is bound to: 0 the default rule, 1 a main rule
+--      65     3 zeros
+--      68     4 the rule's number, and 16 the checksum of its rules: zeros for the default rule
+--      88     8 zeros
+use Rattle.std.specs.{Prelude.{◌&&◌, nat_le, Bool, true, not, List, [], ◌∷◌, length, map, replicate}, List.list_any, Ordering.is_lt}
+use Rattle.std.proofs.Common.{inl, inr}
+use Rattle.pf_addr.specs.Bytes.{Forms.{Shape, unit, nat, both, either, list, Value, Form, nothing, number, front, back, or, times, counted, that, pair}, Lists.in_order}
+use Rattle.pf_state.specs.{declared.{limits.TheConstants.STATE_LIMIT, state.Bound.Bound, state.Bound.TheVariants.Rule, state.Bound.TheVariants.Default, state.Held.Held, state.StateName.StateName}, Flows.same_flow, Layouts.Flows.{FlowShape, flow_form, plain_flow, flow_in}, States.{Stated, name_order}}
+
+-- ---- names
+
+abbrev pub NameShape : Shape
+NameShape = both nat nat
+
+unfoldable pub name_form : Form NameShape
+name_form = pair (number 8) (number 4)
+
+abbrev pub plain_name : StateName → Value NameShape
+plain_name n = (n.id, n.creator)
+
+abbrev pub name_in : Value NameShape → StateName
+name_in v = record { id = v.0; creator = v.1 }
+
+-- ---- what states are bound to
+
+abbrev pub BoundShape : Shape
+BoundShape = either unit (both nat (list nat))
+
+unfoldable pub bound_form : Form BoundShape
+bound_form = or 0 (front (replicate 23 0) (nothing tt)) (front (1 ∷ 0 ∷ 0 ∷ 0 ∷ []) (pair (number 4) (times 16 (number 1))))
+
+abbrev pub plain_bound : Bound → Value BoundShape
+plain_bound Default = inl tt
+plain_bound (Rule n sum) = inr (n, sum)
+
+abbrev pub bound_in : Value BoundShape → Bound
+bound_in (inl u) = Default
+bound_in (inr v) = Rule v.0 v.1
+
+-- ---- states
+
+-- what is held under a name: the generation, the flow and what it is bound to
+abbrev pub HeldShape : Shape
+HeldShape = both nat (both FlowShape BoundShape)
+
+unfoldable pub held_form : Form HeldShape
+held_form = pair (number 4) (pair flow_form (front (replicate 8 255) (back bound_form (replicate 8 0))))
+
+abbrev pub plain_held : Held → Value HeldShape
+plain_held h = (h.generation, (plain_flow h.flow, plain_bound h.bound))
+
+abbrev pub held_in : Value HeldShape → Held
+held_in v = record { generation = v.0; flow = flow_in v.1.0; bound = bound_in v.1.1 }
+
+abbrev pub StateShape : Shape
+StateShape = both NameShape HeldShape
+
+unfoldable pub state_form : Form StateShape
+state_form = pair name_form held_form
+
+abbrev pub plain_state : Stated → Value StateShape
+plain_state s = (plain_name s.0, plain_held s.1)
+
+-- of plain data the state that they are the data of
+abbrev pub state_in : Value StateShape → Stated
+state_in v = (name_in v.0, held_in v.1)
+
+-- ---- many
+
+-- its name comes before the other's
+abbrev pub state_before : Value StateShape → Value StateShape → Bool
+state_before a b = is_lt (name_order (name_in a.0) (name_in b.0))
+
+-- no two have one flow
+abbrev pub no_flow_twice : List Stated → Bool
+no_flow_twice [] = true
+no_flow_twice (s ∷ es) = not (list_any (λ t. same_flow s.1.flow t.1.flow) es) && no_flow_twice es
+
+-- those of a table: no more than there may be, in the order of their names, no name twice and no flow twice
+abbrev pub are_a_table : List (Value StateShape) → Bool
+are_a_table vs = nat_le (length vs) STATE_LIMIT && (in_order state_before vs && no_flow_twice (map state_in vs))
+
+-- their number in four bytes, and that many, which are a table's
+abbrev pub states_form : Form (list StateShape)
+states_form = that are_a_table (counted 4 state_form)
+
+abbrev pub plain_states : List Stated → List (Value StateShape)
+plain_states es = map plain_state es

@@ -1,0 +1,13 @@
+//! Flows, states and steps in bytes, by layouts of `pf_addr::bytes`. In the bytes all numbers have their highest byte first.
+
+mod flow;
+mod laws;
+mod lists;
+mod state;
+mod step;
+
+pub(crate) use flow::push_flow;
+pub use laws::layouts_tell_states_and_steps;
+pub use lists::{push_states, push_steps, read_states, read_steps};
+pub use state::{StoredState, push_name, push_state, read_name, read_state};
+pub use step::push_step;

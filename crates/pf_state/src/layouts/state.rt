@@ -1,0 +1,154 @@
+//! States in bytes, as a store keeps them.
+ghost use Rattle.std.specs.Prelude.{◌≡◌, ◌++◌, OnOk};
+ghost use Rattle.pf_addr.specs.{Bytes.Forms.{Form, Fits, times, onto}, Bytes.Readers.Reads};
+ghost use Rattle.pf_state.specs.Layouts.States.{name_form, plain_name, bound_form, plain_bound, held_form, plain_held, state_form, plain_state};
+
+use crate::flow::Flow;
+use crate::layouts::flow::push_flow;
+use crate::state::{Bound, Held, State, StateName};
+use pf_addr::bytes::{
+    Layout, Ordered, Rest, Stop, expect, push_bytes, push_u32, push_u64, read_array, read_u32,
+    read_u64, takes,
+};
+use std::alloc::{AllocError, Global};
+
+/// A state as a row of what a store keeps.
+#[derive(Drop)]
+pub struct StoredState {
+    /// The state.
+    pub state: State,
+}
+
+impl Layout for StoredState {
+    ghost use Rattle.pf_state.specs.Layouts.States.{StateShape, state_form, plain_state, state_before};
+
+    ghost shape = { StateShape };
+
+    ghost form = { λ version. state_form };
+
+    ghost plain = { λ row. plain_state row.state };
+
+    ghost before = { state_before };
+
+    fn read<'a>(alloc: Global, _version: u8, from: &mut Rest<'a>) -> Result<StoredState, Stop> {
+        let state = read_state(alloc, from)?;
+        Ok(StoredState { state })
+    }
+
+    fn write(&self, _version: u8, out: &mut Vec<u8>) -> Result<(), AllocError> {
+        push_state(out, &self.state)
+    }
+}
+
+impl Ordered for StoredState {
+    fn comes_before(&self, other: &StoredState) -> bool {
+        self.state.key().order(other.state.key()).is_lt()
+    }
+}
+
+/// The name at the front of the bytes: an id in eight bytes and a creator in four. Fails where fewer are left.
+#[tactic(auto, unfolding(crate::specs::Layouts::States::name_form))]
+pub fn read_name<'a>(from: &mut Rest<'a>) -> Result<StateName, Stop>
+    ensures { Reads plain_name name_form result from.old.now from.new.now }
+{
+    let id = read_u64(from)?;
+    let creator = read_u32(from)?;
+    Ok(StateName { id, creator })
+}
+
+/// Puts a name behind the bytes. Fails only where memory is refused.
+#[tactic(auto, unfolding(crate::specs::Layouts::States::name_form))]
+pub fn push_name(out: &mut Vec<u8>, name: StateName) -> Result<(), AllocError>
+    ensures written { OnOk result (out.new.items ≡ onto name_form (plain_name name) out.old.items) }
+    ensures fits { Fits name_form (plain_name name) }
+{
+    push_u64(out, name.id)?;
+    push_u32(out, name.creator)
+}
+
+/// The state at the front of the bytes.
+///
+/// Fails with the first fault of its form there, or where memory is refused. How many bytes are left then isn't said.
+#[tactic(auto, unfolding(crate::specs::Layouts::States::state_form))]
+pub fn read_state<'a>(alloc: Global, from: &mut Rest<'a>) -> Result<State, Stop>
+    ensures { Reads plain_state state_form result from.old.now from.new.now }
+{
+    let name = read_name(from)?;
+    let held = read_held(alloc, from)?;
+    Ok(State::new(alloc, name, held)?)
+}
+
+/// Puts a state behind the bytes; each fits its form. Fails only where memory is refused, and then what stands behind the bytes isn't
+/// said.
+#[tactic(auto, unfolding(crate::specs::Layouts::States::state_form))]
+pub fn push_state(out: &mut Vec<u8>, state: &State) -> Result<(), AllocError>
+    ensures written { OnOk result (out.new.items ≡ onto state_form (plain_state state.now) out.old.items) }
+    ensures fits { OnOk result (Fits state_form (plain_state state.now)) }
+{
+    push_name(out, *state.key())?;
+    push_held(out, *state.value())
+}
+
+#[tactic(auto, unfolding(crate::specs::Layouts::States::held_form))]
+fn read_held<'a>(alloc: Global, from: &mut Rest<'a>) -> Result<Held, Stop>
+    ensures { Reads plain_held held_form result from.old.now from.new.now }
+{
+    let generation = read_u32(from)?;
+    let flow = Flow::read(alloc, 1, from)?;
+    expect(from, &[255; 8])?;
+    let bound = read_bound(from)?;
+    expect(from, &[0; 8])?;
+    Ok(Held {
+        flow,
+        bound,
+        generation,
+    })
+}
+
+#[tactic(auto, unfolding(crate::specs::Layouts::States::held_form))]
+fn push_held(out: &mut Vec<u8>, held: Held) -> Result<(), AllocError>
+    ensures written { OnOk result (out.new.items ≡ onto held_form (plain_held held) out.old.items) }
+    ensures fits { OnOk result (Fits held_form (plain_held held)) }
+{
+    push_u32(out, held.generation)?;
+    push_flow(out, &held.flow)?;
+    push_bytes(out, &[255; 8])?;
+    push_bound(out, &held.bound)?;
+    push_bytes(out, &[0; 8])
+}
+
+#[tactic(auto, unfolding(crate::specs::Layouts::States::bound_form))]
+fn read_bound<'a>(from: &mut Rest<'a>) -> Result<Bound, Stop>
+    ensures { Reads plain_bound bound_form result from.old.now from.new.now }
+{
+    if takes(from, 0)? {
+        expect(from, &[0; 23])?;
+        return Ok(Bound::Default);
+    }
+    expect(from, &[1, 0, 0, 0])?;
+    let number = read_u32(from)?;
+    let sum = read_array(from)?;
+    Ok(Bound::Rule { number, sum })
+}
+
+#[tactic(auto, unfolding(crate::specs::Layouts::States::bound_form))]
+fn push_bound(out: &mut Vec<u8>, bound: &Bound) -> Result<(), AllocError>
+    ensures written { OnOk result (out.new.items ≡ onto bound_form (plain_bound bound.now) out.old.items) }
+    ensures fits { OnOk result (Fits bound_form (plain_bound bound.now)) }
+{
+    match bound {
+        Bound::Default => push_bytes(out, &[0; 24]),
+        Bound::Rule { number, sum } => {
+            push_bytes(out, &[1, 0, 0, 0])?;
+            push_u32(out, *number)?;
+            push_sum(out, sum)
+        }
+    }
+}
+
+fn push_sum(out: &mut Vec<u8>, sum: &[u8; 16]) -> Result<(), AllocError>
+    ensures written { OnOk result (out.new.items ≡ onto (times 16 (Form.number 1)) sum.now out.old.items) }
+    ensures fits { Fits (times 16 (Form.number 1)) sum.now }
+{
+    push_bytes(out, sum)
+}

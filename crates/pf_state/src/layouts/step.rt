@@ -1,0 +1,70 @@
+//! Steps in bytes, as a store keeps them.
+ghost use Rattle.std.specs.Prelude.{◌≡◌, ◌++◌, OnOk};
+ghost use Rattle.pf_addr.specs.{Bytes.Forms.{Form, Fits, onto}, Bytes.Readers.Reads};
+ghost use Rattle.pf_state.specs.Layouts.Steps.{step_form, plain_step};
+
+use crate::layouts::state::{push_name, push_state, read_name, read_state};
+use crate::step::Step;
+use pf_addr::bytes::{Layout, Rest, Stop, expect, push_bytes, push_key, push_u32, read_u32, takes};
+use std::alloc::{AllocError, Global};
+
+const INSERT: u8 = 1;
+
+const DELETE: u8 = 2;
+
+const CLEAR: u8 = 3;
+
+impl Layout for Step {
+    ghost use Rattle.std.specs.Prelude.{true};
+    ghost use Rattle.pf_state.specs.Layouts.Steps.{StepShape, step_form, plain_step};
+
+    ghost shape = { StepShape };
+
+    ghost form = { λ version. step_form };
+
+    ghost plain = { plain_step };
+
+    ghost before = { λ a b. true };
+
+    #[tactic(auto, unfolding(crate::specs::Layouts::Steps::step_form))]
+    fn read<'a>(alloc: Global, _version: u8, from: &mut Rest<'a>) -> Result<Step, Stop> {
+        if takes(from, INSERT)? {
+            let state = read_state(alloc, from)?;
+            return Ok(Step::Insert(state));
+        }
+        if takes(from, DELETE)? {
+            let name = read_name(from)?;
+            return Ok(Step::Delete(name));
+        }
+        expect(from, &[CLEAR])?;
+        let creator = read_u32(from)?;
+        Ok(Step::Clear { creator })
+    }
+
+    fn write(&self, _version: u8, out: &mut Vec<u8>) -> Result<(), AllocError> {
+        push_step(out, self)
+    }
+}
+
+/// Puts a step behind the bytes; each fits its form. Fails only where memory is refused, and then what stands behind the bytes isn't
+/// said.
+#[tactic(auto, unfolding(crate::specs::Layouts::Steps::step_form))]
+pub fn push_step(out: &mut Vec<u8>, step: &Step) -> Result<(), AllocError>
+    ensures written { OnOk result (out.new.items ≡ onto step_form (plain_step step.now) out.old.items) }
+    ensures fits { OnOk result (Fits step_form (plain_step step.now)) }
+{
+    match step {
+        Step::Insert(state) => {
+            push_key(out, INSERT)?;
+            push_state(out, state)
+        }
+        Step::Delete(name) => {
+            push_key(out, DELETE)?;
+            push_name(out, *name)
+        }
+        Step::Clear { creator } => {
+            push_bytes(out, &[CLEAR])?;
+            push_u32(out, *creator)
+        }
+    }
+}

@@ -1,0 +1,29 @@
+-- An entry's form, 20 bytes, as a store and its snapshots have it. Own.
+--
+--   place width field
+--       0     1 family, 4 or 6
+--       1     1 how many bits the network's front has
+--       2     1 negated, 0 or 1
+--       3     1 zero
+--       4    16 the network's first address, IPv4 in the first four
+use Rattle.std.specs.{Prelude.{◌==◌, Bool, [], ◌∷◌}, Ordering.is_lt}
+use Rattle.pf_addr.specs.{Bytes.Forms.{Shape, nat, both, Value, Form, number, front, pair, pair_by, that}, Bytes.Codes.{flag, flag_byte}, NetForms.{family, family_byte, address_in, first_number, is_network, network_at}}
+use Rattle.pf_table.specs.Entries.{Row, net_order}
+
+abbrev pub EntryShape : Shape
+EntryShape = both nat (both nat (both nat nat))
+
+unfoldable pub entry : Form EntryShape
+entry = that (λ e. is_network e.0 e.1.0 e.1.1.1)
+    (pair_by family (λ f. pair (number 1) (pair flag (front (0 ∷ []) (address_in f)))))
+
+abbrev pub plain_entry : Row → Value EntryShape
+plain_entry e = (family_byte e.0.family, (e.0.len, (flag_byte e.1, first_number e.0)))
+
+-- the entry that these numbers tell
+abbrev pub entry_of : Value EntryShape → Row
+entry_of e = (network_at e.0 e.1.0 e.1.1.1, e.1.1.0 == 1)
+
+-- in the order of a table's entries, in which no network stands before itself
+abbrev pub entry_before : Value EntryShape → Value EntryShape → Bool
+entry_before a b = is_lt (net_order (entry_of a).0 (entry_of b).0)

@@ -1,0 +1,11 @@
+-- Each entry can be written in bytes, and they tell it.
+use Rattle.std.proofs.{Common.{◌≡◌, refl}}
+use Rattle.pf_addr.specs.{Address.{IsNetwork}, Bytes.Forms.Fits, Laws.Bytes.Codes.{flag_fits, flag_again}, Laws.NetForms.{family_fits, length_fits, address_fits, network_is, network_again}}
+use Rattle.pf_table.specs.{Entries.Row, EntryForms.{entry, plain_entry, entry_of}}
+
+pub entry_fits : (e : Row) → IsNetwork e.0 → Fits entry (plain_entry e)
+unfolding entry
+entry_fits e is = ((family_fits e.0.family, (length_fits e.0 is, (flag_fits e.1, address_fits e.0 is))), network_is e.0 is)
+
+pub entry_again : (e : Row) → entry_of (plain_entry e) ≡ e
+entry_again e = rw (network_again e.0, flag_again e.1) refl

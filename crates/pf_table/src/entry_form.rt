@@ -1,0 +1,64 @@
+//! Entries in bytes.
+use crate::entry::Entry;
+use crate::map::Key;
+use pf_addr::bytes::{
+    Fault, Fitting, Layout, Ordered, Rest, Stop, expect, push_bytes, push_u8, read_flag, read_u8,
+};
+use pf_addr::{Net, push_addr, read_addr, read_family};
+use std::alloc::{AllocError, Global};
+
+/// 20 bytes: the family, 4 or 6; how many bits the network's front has; 1 where it is negated, else 0; a zero; and the network's
+/// first address in 16 bytes, big-endian, one of IPv4 in the first four. It is the same in each version.
+///
+/// Bytes that are no entry's fail where they go wrong; host bits that aren't zero, and a front longer than an address, at the first
+/// byte. No memory is taken.
+impl Layout for Entry {
+    ghost use Rattle.pf_table.specs.EntryForms.{EntryShape, entry, plain_entry, entry_before};
+
+    ghost shape = { EntryShape };
+
+    ghost form = { λ version. entry };
+
+    ghost plain = { plain_entry };
+
+    ghost before = { entry_before };
+
+    #[tactic(auto, unfolding(crate::specs::EntryForms::entry))]
+    fn read<'a>(_alloc: Global, _version: u8, from: &mut Rest<'a>) -> Result<Entry, Stop> {
+        let left = from.len();
+        let family = read_family(from)?;
+        let length = read_u8(from)?;
+        let is_negated = read_flag(from)?;
+        expect(from, &[0])?;
+        let first = read_addr(family, from)?;
+        match Net::starting_at(first, length) {
+            Some(net) => Ok(Entry::new(net, is_negated)),
+            None => Err(Stop::Fault(Fault::Bad(left))),
+        }
+    }
+
+    #[tactic(auto, unfolding(crate::specs::EntryForms::entry, pf_addr::specs::NetForms::family, pf_addr::specs::Bytes::Codes::below))]
+    fn write(&self, _version: u8, out: &mut Vec<u8>) -> Result<(), AllocError> {
+        let net = self.net();
+        push_u8(out, net.family().number())?;
+        push_u8(out, net.prefix_len())?;
+        push_u8(out, u8::from(self.is_negated()))?;
+        push_bytes(out, &[0])?;
+        push_addr(out, net.addr())
+    }
+}
+
+impl Fitting for Entry {
+    #[tactic(auto, using(crate::specs::Laws::EntryForms::entry_fits))]
+    fn fits(&self, _version: u8) {
+        // what keeps its network a network is what the network tells
+        let _net = self.net();
+    }
+}
+
+impl Ordered for Entry {
+    #[tactic(auto, using(crate::specs::Laws::EntryForms::entry_again))]
+    fn comes_before(&self, other: &Entry) -> bool {
+        self.net().order(&other.net()).is_lt()
+    }
+}
