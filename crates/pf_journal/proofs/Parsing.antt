@@ -1,8 +1,8 @@
 -- Records are read in one way.
-use Rattle.std.proofs.{Common.{◌≡◌, ◌≢◌, ℕ, ◌^◌, ◌<◌, List, [], ◌∷◌, ◌++◌, length, get_or, take, drop, refl, sym, ◌∙◌, ap, subst, arith, append_assoc, length-append}, lemmas.List.{take_at, drop_at, map-append, append-nil}, lemmas.Nat.from_be_bytes-to_be_bytes_4}
+use Rattle.std.proofs.{Common.{◌≡◌, ◌≢◌, ℕ, ◌^◌, ◌<◌, List, [], ◌∷◌, ◌++◌, length, get_or, take, drop, refl, sym, ◌∙◌, ap, subst, arith, append_assoc, length-append}, lemmas.List.{take_at, drop_at, map-append, get_or_at}, lemmas.Nat.from_be_bytes-to_be_bytes_4}
 use Rattle.std.specs.{Prelude.Vec, Int.{w32, from_be_bytes}}
 use Rattle.std.specs.declared.alloc.Global.{Global}
-use Rattle.pf_journal.specs.Records.{counted, records, AreShort, AreRecords, IsRecord, contents}
+use Rattle.pf_journal.specs.Records.{counted, records, AreShort, AreRecords, IsFront, IsRecord, contents}
 use Rattle.pf_journal.proofs.Gates.{records-push, short-push}
 
 -- the length behind the gate
@@ -18,6 +18,14 @@ one_more vs v rest others bytes so_far is =
 pub one_more_short : (vs : List (Vec ℕ Global)) (v : Vec ℕ Global) → AreShort (contents vs) → length v.items < 2 ^ 32 → AreShort (contents (vs ++ v ∷ []))
 one_more_short vs v short fits = subst AreShort (sym (map-append (λ w. w.items) vs (v ∷ []))) (short-push (contents vs) v.items short fits)
 
+-- bytes that go on with a record begin with one
+begins : (p : List ℕ) (ps : List (List ℕ)) (rest bytes : List ℕ) → length p < 2 ^ 32 → 0 < length rest → bytes ≡ records (p ∷ ps) ++ rest → IsRecord bytes p (records ps ++ rest)
+begins p ps rest bytes short some is = record {
+  split = is ∙ ap (λ (l : List ℕ). 165 ∷ l) (append_assoc (counted p) (records ps) rest);
+  short = short;
+  some = omega (arith, length-append (records ps) rest);
+}
+
 -- two payloads behind an open gate are one
 same_first : (p q s t : List ℕ) → length p < 2 ^ 32 → length q < 2 ^ 32 → counted p ++ s ≡ counted q ++ t → (p ≡ q) × (s ≡ t)
 same_first p q s t short_p short_q is =
@@ -27,41 +35,39 @@ same_first p q s t short_p short_q is =
     let rest : p ++ s ≡ q ++ t = ap (λ (l : List ℕ). drop 4 l) is in
     (sym (take_at p s (length q) len) ∙ ap (take (length q)) rest ∙ take_at q t (length q) refl, sym (drop_at p s (length q) len) ∙ ap (drop (length q)) rest ∙ drop_at q t (length q) refl)
 
--- what follows the records that were read stands for the others
-pub rest_of : (ps qs : List (List ℕ)) (rest tail : List ℕ) (gate : ℕ) → AreShort ps → AreShort qs → gate ≢ 165 → records ps ++ rest ≡ records qs ++ gate ∷ tail
-    → (others : List (List ℕ)) × (qs ≡ ps ++ others) × (rest ≡ records others ++ gate ∷ tail)
-rest_of [] qs rest tail gate short_p short_q closed is = (qs, refl, is)
-rest_of (p ∷ ps) [] rest tail gate short_p short_q closed is = absurd (closed (sym (ap (λ (l : List ℕ). get_or l 0 0) is)))
-rest_of (p ∷ ps) (q ∷ qs) rest tail gate short_p short_q closed is =
-    let behind : counted p ++ (records ps ++ rest) ≡ counted q ++ (records qs ++ gate ∷ tail) = sym (append_assoc (counted p) (records ps) rest) ∙ ap (λ (l : List ℕ). drop 1 l) is ∙ append_assoc (counted q) (records qs) (gate ∷ tail) in
-    let same = same_first p q (records ps ++ rest) (records qs ++ gate ∷ tail) short_p.0 short_q.0 behind in
-    let later = rest_of ps qs rest tail gate short_p.1 short_q.1 closed same.1 in
-    (later.0, ap (λ (h : List ℕ). h ∷ qs) (sym same.0) ∙ ap (λ (l : List (List ℕ)). p ∷ l) later.1, later.2)
+-- where no record follows either front, they are one
+same_fronts : (ps qs : List (List ℕ)) (rest other : List ℕ) → AreShort ps → AreShort qs → 0 < length rest → 0 < length other
+    → ((p after : List ℕ) → IsRecord rest p after → ⊥) → ((p after : List ℕ) → IsRecord other p after → ⊥) → records ps ++ rest ≡ records qs ++ other → (ps ≡ qs) × (rest ≡ other)
+same_fronts [] [] rest other short_p short_q some_p some_q none_p none_q is = (refl, is)
+same_fronts [] (q ∷ qs) rest other short_p short_q some_p some_q none_p none_q is = absurd (none_p q (records qs ++ other) (begins q qs other rest short_q.0 some_q is))
+same_fronts (p ∷ ps) [] rest other short_p short_q some_p some_q none_p none_q is = absurd (none_q p (records ps ++ rest) (begins p ps rest other short_p.0 some_p (sym is)))
+same_fronts (p ∷ ps) (q ∷ qs) rest other short_p short_q some_p some_q none_p none_q is =
+    let behind : counted p ++ (records ps ++ rest) ≡ counted q ++ (records qs ++ other) = sym (append_assoc (counted p) (records ps) rest) ∙ ap (λ (l : List ℕ). drop 1 l) is ∙ append_assoc (counted q) (records qs) other in
+    let same = same_first p q (records ps ++ rest) (records qs ++ other) short_p.0 short_q.0 behind in
+    let later = same_fronts ps qs rest other short_p.1 short_q.1 some_p some_q none_p none_q same.1 in
+    (ap (λ (h : List ℕ). h ∷ ps) same.0 ∙ ap (λ (l : List (List ℕ)). q ∷ l) later.0, later.1)
 
--- so where a gate is open and no record is there, the bytes are no records
-pub torn_end : (ps : List (List ℕ)) (rest bytes : List ℕ) → records ps ++ rest ≡ bytes → AreShort ps → get_or rest 0 0 ≡ 165 → ((p after : List ℕ) → IsRecord rest p after → ⊥) → (qs : List (List ℕ)) → AreRecords bytes qs → ⊥
-torn_end ps rest bytes so_far short gate none qs are =
-    let found = rest_of ps qs rest are.tail are.gate short are.short are.closed (so_far ∙ are.split) in
-    ends found.0 (subst AreShort found.1 are.short) found.2
-  where
-    short-back : (xs ys : List (List ℕ)) → AreShort (xs ++ ys) → AreShort ys
-    short-back [] ys h = h
-    short-back (x ∷ xs) ys h = short-back xs ys h.1
+-- bytes have one front of records
+pub one_front : (bytes : List ℕ) (ps qs : List (List ℕ)) → IsFront bytes ps → IsFront bytes qs → ps ≡ qs
+one_front bytes ps qs a b = (same_fronts ps qs a.rest b.rest a.short b.short a.some b.some a.no_more b.no_more (sym a.split ∙ b.split)).0
 
-    ends : (others : List (List ℕ)) → AreShort (ps ++ others) → rest ≡ records others ++ are.gate ∷ are.tail → ⊥
-    ends [] h is = are.closed (sym (ap (λ (l : List ℕ). get_or l 0 0) is) ∙ gate)
-    ends (p ∷ others) h is = none p (records others ++ are.gate ∷ are.tail) (record {
-      split = is ∙ ap (λ (l : List ℕ). 165 ∷ l) (append_assoc (counted p) (records others) (are.gate ∷ are.tail));
-      short = (short-back ps (p ∷ others) h).0;
-      some = omega (arith, length-append (records others) (are.gate ∷ are.tail));
-    })
+-- records up to a closed gate are one
+pub front_of : (bytes : List ℕ) (ps : List (List ℕ)) → AreRecords bytes ps → IsFront bytes ps
+front_of bytes ps are = record {
+  rest = are.gate ∷ are.tail;
+  split = are.split;
+  short = are.short;
+  some = omega arith;
+  no_more = λ p after is. are.closed (ap (λ (l : List ℕ). get_or l 0 0) is.split);
+}
 
 -- bytes are records of one list of payloads
 pub unique : (bytes : List ℕ) (ps qs : List (List ℕ)) → AreRecords bytes ps → AreRecords bytes qs → ps ≡ qs
-unique bytes ps qs a b =
-    let found = rest_of ps qs (a.gate ∷ a.tail) b.tail b.gate a.short b.short b.closed (sym a.split ∙ b.split) in
-    none_more found.0 found.1 found.2
-  where
-    none_more : (others : List (List ℕ)) → qs ≡ ps ++ others → a.gate ∷ a.tail ≡ records others ++ b.gate ∷ b.tail → ps ≡ qs
-    none_more [] is rest = sym (is ∙ append-nil ps)
-    none_more (p ∷ others) is rest = absurd (a.closed (ap (λ (l : List ℕ). get_or l 0 0) rest))
+unique bytes ps qs a b = one_front bytes ps qs (front_of bytes ps a) (front_of bytes qs b)
+
+-- and of none where their front ends at an open gate
+pub torn_end : (bytes : List ℕ) (ps qs : List (List ℕ)) → IsFront bytes ps → get_or bytes (length (records ps)) 0 ≡ 165 → AreRecords bytes qs → ⊥
+torn_end bytes ps qs front is_open are =
+    let same = one_front bytes qs ps (front_of bytes qs are) front in
+    are.closed (sym (get_or_at (records qs) are.gate are.tail 0 (length (records qs)) refl) ∙ ap (λ (l : List ℕ). get_or l (length (records qs)) 0) (sym are.split)
+    ∙ ap (λ (l : List (List ℕ)). get_or bytes (length (records l)) 0) same ∙ is_open)

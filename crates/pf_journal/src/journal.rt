@@ -68,14 +68,15 @@ impl<D: Disk> Journal<D> {
             return Err(AppendFault::NoRoom);
         }
         let behind = behind_gate(alloc, payload)?;
-        write_record(&mut self.disk, self.gate, &behind)?;
+        write_gated(&mut self.disk, self.gate, &behind)?;
         self.gate += HEADER + payload.len();
         Ok(())
     }
 }
 
-// Writes these bytes behind a closed gate, and opens it.
-fn write_record<D: Disk>(disk: &mut D, gate: usize, behind: &[u8]) -> Result<(), DiskFault>
+/// Writes these bytes behind a closed gate and syncs, and then writes the gate open and syncs, in four moments of the device at most:
+/// nothing is unsynced at its start. After an `Err` it is between its two writes, and may be unsynced. Own.
+pub fn write_gated<D: Disk>(disk: &mut D, gate: usize, behind: &[u8]) -> Result<(), DiskFault>
     requires within { gate + 1 + length behind.now ≤ length (D.seen disk.old) }
     requires small { gate < 2 ^ 32 }
     requires synced { IsSynced (D.unsynced disk.old) }
