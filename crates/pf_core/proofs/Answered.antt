@@ -7,21 +7,21 @@ use Rattle.pf_anchor.specs.Evaluation.{judged}
 use Rattle.pf_anchor.proofs.{PlainRules.tells_what_decides, Leading.leads_to_these_alone}
 use Rattle.pf_state.proofs.Tables.{one_state_a_flow}
 use Rattle.pf_state.specs.{Flows.flow_of, Laws.States.{IsStateOf, FindsTheState}, States.{Stated, state_of}}
-use Rattle.pf_core.specs.{declared.{command.Command.Command, command.Command.TheVariants.Ask, command.Question.TheVariants.Judge, command.Question.TheVariants.Test, durable.verdict.Verdict.TheVariants.State as Stateful, durable.verdict.Verdict.TheVariants.Rules as ByRules, reply.Refusal.TheVariants.Memory, reply.Reply.Reply, reply.Reply.TheVariants.Refused}, Commands.takes_memory, Durable.Edits.{Kept, entries_at, verdict}, Laws.Durable.IsWithin, Laws.Worlds.{IsDecided, TestsTellTheEntry, JudgesTellTheVerdict}, Worlds.{Held, durable_of, due, StandsIn, LegalReply}}
+use Rattle.pf_core.specs.{declared.{command.Command.Command, command.Command.TheVariants.Ask, command.Question.Question, command.Question.TheVariants.Judge, command.Question.TheVariants.Test, durable.verdict.Verdict.TheVariants.State as Stateful, durable.verdict.Verdict.TheVariants.Rules as ByRules, reply.Answer.Answer, reply.Refusal.TheVariants.Memory, reply.Reply.Reply, reply.Reply.TheVariants.Answer as Answered, reply.Reply.TheVariants.Refused}, Commands.{answer_of, asks_for_memory, takes_memory}, Durable.Edits.{Kept, entries_at, verdict}, Laws.Durable.IsWithin, Laws.Worlds.{IsDecided, TestsTellTheEntry, JudgesTellTheVerdict}, Worlds.{Held, durable_of, StandsIn, LegalReply}}
 use Rattle.pf_core.proofs.Limits.{keeps_the_limits}
 
-none-stands-in : (h : Held) (c : Command) (failed : Bool) (due r : Reply) → takes_memory (durable_of h) c ≡ false → StandsIn h c failed due r → ⊥
-none-stands-in h c failed due (Refused Memory) none stands = cc (none, stands)
-none-stands-in h c failed due r none stands = stands
+none-stands-in : (h : Held) (c : Command) (failed : Bool) (a : Answer) (r : Reply) → takes_memory (durable_of h) c ≡ false → StandsIn h c failed (Answered a) r → ⊥
+none-stands-in h c failed a (Refused Memory) none stands = cc (none, stands)
+none-stands-in h c failed a r none stands = stands
 
--- to a command that takes no memory the one reply is legal that is due
-only-due : (h : Held) (c : Command) (r : Reply) (failed : Bool) → takes_memory (durable_of h) c ≡ false → LegalReply h c r failed → r ≡ due h c
-only-due h c r failed none (inl is) = is
-only-due h c r failed none (inr stands) = absurd (none-stands-in h c failed (due h c) r none stands)
+-- to a question that takes no memory the one reply is legal that is due
+only-due : (h : Held) (q : Question) (r : Reply) (failed : Bool) → asks_for_memory q ≡ false → LegalReply h (Ask q) r failed → r ≡ Answered (answer_of (durable_of h) q)
+only-due h q r failed none (inl is) = is
+only-due h q r failed none (inr stands) = absurd (none-stands-in h (Ask q) failed (answer_of (durable_of h) q) r none stands)
 
 pub tests_tell_the_entry : TestsTellTheEntry
 tests_tell_the_entry first world h within legal comes p name a = record {
-  told = λ r failed legal. only-due h (Ask (Test p name a)) r failed refl legal;
+  told = λ r failed legal. only-due h (Test p name a) r failed refl legal;
   decides = table_decides (entries_at (durable_of h) p name) a (((keeps_the_limits first world h within legal comes).kept.entries p name).sorted);
 }
 
@@ -42,6 +42,6 @@ decided d packet w =
 
 pub judges_tell_the_verdict : JudgesTellTheVerdict
 judges_tell_the_verdict first world h within legal comes packet = record {
-  told = λ r failed legal. only-due h (Ask (Judge packet)) r failed refl legal;
+  told = λ r failed legal. only-due h (Judge packet) r failed refl legal;
   decided = decided (durable_of h) packet (keeps_the_limits first world h within legal comes).kept;
 }

@@ -4,7 +4,12 @@ pub mod Checks
 pub mod Edited
 pub mod Within
 pub mod Switching
+pub mod Fronts
+pub mod Folds
+pub mod Groups
 pub mod LongerWorlds
 pub mod Limits
+pub mod Epochs
+pub mod Given
 pub mod Tracking
 pub mod Answered

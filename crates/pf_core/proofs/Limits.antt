@@ -1,12 +1,12 @@
--- In each opening that a world comes to each ticket was given once, all limits hold, and all is shown.
-use Rattle.std.proofs.{Common.{T, ◌&&◌, ◌≡◌, ℕ, ◌+◌, ◌≤◌, Bool, true, false, cond, List, [], ◌∷◌, length, refl, sym, ap, ◌∙◌, subst, inl, inr, Option, Some, None, Result, Ok, Err, arith, zero, suc, ◌++◌}, lemmas.Bool.Decides.nat_tests, lemmas.List.{append-nil, length-append}, lemmas.List.Sums.fold_push}
-use Rattle.std.specs.{Prelude.{map, nat_lt, fold, is_some, if◌then◌else◌}, FinMap.is_sorted, List.{list_all, AllByRecursion}}
+-- In each opening that a world comes to each ticket was given once, all limits hold, and all that was acknowledged is shown.
+use Rattle.std.proofs.{Common.{T, ◌&&◌, ◌||◌, ◌⊎◌, ◌≡◌, ℕ, ◌+◌, ◌≤◌, Bool, true, false, cond, List, [], ◌∷◌, length, refl, sym, ap, ◌∙◌, subst, inl, inr, Option, Some, None, Result, Ok, Err, arith, zero, suc, ◌++◌, take}, Math.Seq.take-nil, lemmas.List.{append-nil, length-append}, lemmas.List.Sums.fold_push}
+use Rattle.std.specs.{Prelude.{map, fold, is_some, if◌then◌else◌}, FinMap.is_sorted, List.{list_all, AllByRecursion}}
 use Rattle.pf_addr.specs.{Path.Names.name_order, Refusing.{refused_at, both_passed}}
 use Rattle.pf_ticket.specs.declared.refusal.TicketRefusal.TheVariants.{Busy}
 use Rattle.pf_ticket.specs.{Replies.{bad_count, twice_in, twice_behind, busy_in, begin_reply, add_reply, define_reply, list_check, commit_check}, declared.{name.RulesetName.RulesetName, refusal.TicketRefusal.TicketRefusal, ticket.Ticket.Ticket, name.RulesetKind.RulesetKind, name.RulesetKind.TheVariants.Filter, name.RulesetKind.TheVariants.Table, entry.Entry.Entry}, Laws.Tickets.{AreGiven, IsFew, IsWithin as AreTicketsWithin, AreOnce}, Mentions.{Mention, gives, switches, after as moved_by}, Names.{filter_at, table_ruleset_at, tickets_from, ticket}, NamedTables.Named, Tickets.{Loaded, Open, offered_as, loaded, content}}
 use Rattle.pf_core.specs.declared.durable.refusal.ChangeRefusal.TheVariants.{Twice as Again}
-use Rattle.pf_core.specs.{Durable.Edits.{name_of, is_in_order, Kept, Edit, commits, adds, deletes, sets, acts, removes, verdict, placed, tables_in, entries_at, applied, voided_by, after, no_conflict, fits}, Laws.Worlds.{CommitsNameOnce, tickets_in, given_by, tickets_given, GivesEachOnce, KeepsTheLimits, ShowsAll}, Laws.Wanted.{names-items, unit_is, IsPassed, passed, none-wanted, fit, IsThis, wants_commit, edit_of, wants_edit, IsOfStates, of_steps, of_removal, IsStateChange, wants_states, IsWanted, wants}, declared.{command.Command.Command, durable.change.Item.Item, command.Command.TheVariants.Transact, command.Command.TheVariants.Edit as Change, command.Command.TheVariants.States as OfStates, command.Command.TheVariants.Ask, durable.verdict.Verdict.Verdict, durable.verdict.Verdict.TheVariants.State as Stateful, durable.verdict.Verdict.TheVariants.Rules as ByRules, command.StateCommand.StateCommand, command.StateCommand.TheVariants.Track, command.StateCommand.TheVariants.Peer, command.StateCommand.TheVariants.Kill as KillState, command.TableEdit.TableEdit, command.TableEdit.TheVariants.Add as AddTo, command.TableEdit.TheVariants.Delete, command.TableEdit.TheVariants.Set, command.TableEdit.TheVariants.Kill, command.Question.Question, command.Transaction.TheVariants.Begin, command.Transaction.TheVariants.Add, command.Transaction.TheVariants.Define, command.Transaction.TheVariants.Commit, command.Transaction.TheVariants.Rollback, reply.Answer.Answer, reply.Outcome.Outcome, reply.Refusal.Refusal, reply.Refusal.TheVariants.HistoryFull, durable.refusal.ChangeRefusal.ChangeRefusal, reply.Reply.Reply, reply.Reply.TheVariants.Answer as Answered, reply.Reply.TheVariants.Applied, reply.Reply.TheVariants.Refused, step.Step.Step, step.Step.TheVariants.Done, step.Step.TheVariants.Wants}, Calls.{call, mentions_of, Call}, Commands.{item_of, unless_refused, unless_unfit, if_there, is_table, items, wanting, added_of, deleted_of, edit_step, makes_state, tracked, track_step, steps_here, states_step, answer_of, step_by, mentioned}, Laws.Durable.{IsWithin, AreFew}, Worlds.{Held, log_of, durable_of, step_in, room_for, if_ok, or_refused, due_at, grouped, group_at, LegalReply, State, up, down, Upshot, Event, called, opened, flat, group_in, acked_by, shown_by, heard, next, LegalCall, IsLegal, state_after, IsLegalFrom, IsWorld}}
-use Rattle.pf_core.proofs.{Checks.named_once, Switching.not-twice, Within.keeps_within, LongerWorlds.flat-push}
+use Rattle.pf_core.specs.{Durable.Edits.{name_of, is_in_order, Kept, Edit, commits, adds, deletes, sets, acts, removes, verdict, placed, tables_in, entries_at, applied, voided_by, after, no_conflict, fits}, History.tickets_in, Laws.Worlds.{CommitsNameOnce, given_by, tickets_since, GivesEachOnce, KeepsTheLimits, failed_by, failed_since, ShowsAll}, Laws.Wanted.{names-items, unit_is, IsPassed, passed, none-wanted, fit, IsThis, wants_commit, edit_of, wants_edit, IsOfStates, of_steps, of_removal, IsStateChange, wants_states, IsWanted, wants}, declared.{command.Command.Command, durable.change.Item.Item, command.Command.TheVariants.Transact, command.Command.TheVariants.Edit as Change, command.Command.TheVariants.States as OfStates, command.Command.TheVariants.Ask, durable.verdict.Verdict.Verdict, durable.verdict.Verdict.TheVariants.State as Stateful, durable.verdict.Verdict.TheVariants.Rules as ByRules, command.StateCommand.StateCommand, command.StateCommand.TheVariants.Track, command.StateCommand.TheVariants.Peer, command.StateCommand.TheVariants.Kill as KillState, command.TableEdit.TableEdit, command.TableEdit.TheVariants.Add as AddTo, command.TableEdit.TheVariants.Delete, command.TableEdit.TheVariants.Set, command.TableEdit.TheVariants.Kill, command.Question.Question, command.Transaction.TheVariants.Begin, command.Transaction.TheVariants.Add, command.Transaction.TheVariants.Define, command.Transaction.TheVariants.Commit, command.Transaction.TheVariants.Rollback, reply.Answer.Answer, reply.Outcome.Outcome, reply.Refusal.Refusal, reply.Refusal.TheVariants.Halted, durable.refusal.ChangeRefusal.ChangeRefusal, reply.Reply.Reply, reply.Reply.TheVariants.Answer as Answered, reply.Reply.TheVariants.Applied, reply.Reply.TheVariants.Refused, step.Step.Step, step.Step.TheVariants.Done, step.Step.TheVariants.Wants}, Calls.{call, mentions_of, Call}, Commands.{item_of, unless_refused, unless_unfit, if_there, is_table, items, wanting, added_of, deleted_of, edit_step, makes_state, tracked, track_step, steps_here, states_step, answer_of, step_by, may_change, mentioned}, Laws.Durable.{IsWithin, AreFew}, Worlds.{Held, log_of, durable_of, is_halted, step_in, room_for, or_refused, due_at, LegalReply, State, up, down, raised, Upshot, Doing, idle, calling, Event, called, crashed, opened, refused_opening, flat, group_in, kept_groups, acked_by, is_fault, pending_by, shown_by, heard, next, LegalCall, IsLegal, state_after, IsLegalFrom, IsWorld}}
+use Rattle.pf_core.proofs.{Checks.named_once, Groups.{IsKept, IsNotKept, kept-or-not, either}, LongerWorlds.{flat-push, refused-unkept}, Switching.not-twice, Within.keeps_within}
 use Rattle.pf_table.specs.{Edits.{additions, deletions}, Tables.AreEntries}
 use Rattle.pf_ticket.proofs.{Keeping.{begins_give, keeps_the_limits as tickets_keep}, Twice.gives_each_once as once_given}
 use Rattle.pf_rule.specs.Packets.{PlainPacket}
@@ -20,10 +20,10 @@ use Rattle.pf_anchor.specs.Tables.{Tabled}
 -- ---- by the step that was answered
 
 -- the transactions stay within the limits, and the tickets that were told are those that were given
-record AreTold (t new : Open) (ts : List Ticket) : Type 0 where
-  within : AreTicketsWithin t → AreTicketsWithin new
-  given : AreGiven (length ts) t new
-  told : ts ≡ tickets_from t.epoch t.next (length ts)
+pub record AreTold (t new : Open) (ts : List Ticket) : Type 0 where
+  pub within : AreTicketsWithin t → AreTicketsWithin new
+  pub given : AreGiven (length ts) t new
+  pub told : ts ≡ tickets_from t.epoch t.next (length ts)
 
 none-told : (t new : Open) → (AreTicketsWithin t → AreTicketsWithin new) → AreGiven 0 t new → AreTold t new []
 none-told t new within given = record { within = within; given = given; told = refl }
@@ -126,46 +126,41 @@ applied-told t d c e is =
 
 -- ---- by the reply
 
-no-answer : (room : Result (Unit {0}) Refusal) (a : Answer) (n : ℕ) (o : Outcome) → Answered a ≡ or_refused room (Applied n o) → ⊥
-no-answer (Ok u) a n o h = cc (h)
-no-answer (Err e) a n o h = cc (h)
-
 answered-step : (h : Held) (s : Result Step Refusal) (a : Answer) → Answered a ≡ due_at h s → s ≡ Ok (Done a)
 answered-step h (Ok (Done b)) a is = let same : a ≡ b = cc (is) in ap (λ (x : Answer). Ok (Done x)) (sym same)
-answered-step h (Ok (Wants e o)) a is = absurd (no-answer (room_for h (e ∷ [])) a (length (log_of h) + 1) o is)
+answered-step h (Ok (Wants e o)) a is = absurd (no-answer (room_for h (e ∷ [])) is) where
+  no-answer : (room : Result (Unit {0}) Refusal) → Answered a ≡ or_refused room (Applied (length (log_of h) + 1) o) → ⊥
+  no-answer (Ok u) is = cc (is)
+  no-answer (Err x) is = cc (is)
 answered-step h (Err e) a is = absurd (cc (is))
 
--- what was applied was wanted, and there was room for it
-record IsApplied (h : Held) (s : Result Step Refusal) (n : ℕ) (o : Outcome) : Type 0 where
-  change : Edit
-  wanted : s ≡ Ok (Wants change o)
+-- what isn't refused isn't halted
+unhalted : (halted : Bool) (s : Result Step Refusal) (x : Step) → cond halted (Err Halted) s ≡ Ok x → s ≡ Ok x
+unhalted true s x is = absurd (cc (is))
+unhalted false s x is = is
+
+-- what was applied was kept
+record IsApplied (h : Held) (s : Result Step Refusal) (n : ℕ) : Type 0 where
+  kept : IsKept h s
   number : n ≡ length (log_of h) + 1
-  room : length (log_of h) + 1 ≤ h.setting.limit
-  group : group_at h s ≡ (change ∷ []) ∷ []
 
-with-room : (h : Held) (e : Edit) (n : ℕ) (o x : Outcome) (full : Bool) → nat_lt h.setting.limit (length (log_of h) + 1) ≡ full → Applied n o ≡ or_refused (cond full (Err HistoryFull) (Ok tt)) (Applied (length (log_of h) + 1) x) → IsApplied h (Ok (Wants e x)) n o
-with-room h e n o x true k is = absurd (cc (is))
-with-room h e n o x false k is =
-    let same : o ≡ x = cc (is) in
-    record {
-      change = e;
-      wanted = ap (λ (y : Outcome). Ok (Wants e y)) (sym same);
-      number = cc (is);
-      room = grind (arith, nat_tests, k);
-      group = ap (λ (b : Bool). if_ok (cond b (Err HistoryFull) (Ok tt)) (grouped (e ∷ [])) []) k;
-    }
+applied-step : (h : Held) (s : Result Step Refusal) (n : ℕ) (o : Outcome) → Applied n o ≡ due_at h s → IsApplied h s n
+applied-step h s n o is = by (kept-or-not h s) where
+  by : IsKept h s ⊎ IsNotKept h s → IsApplied h s n
+  by (inl k) = record { kept = k; number = cc (is, k.reply) }
+  by (inr none) = absurd (none.reply n o is)
 
-applied-step : (h : Held) (s : Result Step Refusal) (n : ℕ) (o : Outcome) → Applied n o ≡ due_at h s → IsApplied h s n o
-applied-step h (Ok (Done a)) n o is = absurd (cc (is))
-applied-step h (Ok (Wants e x)) n o is = with-room h e n o x (nat_lt h.setting.limit (length (log_of h) + 1)) refl is
-applied-step h (Err e) n o is = absurd (cc (is))
+-- the change is the one that the command is due
+due-wanted : (h : Held) (c : Command) (k : IsKept h (step_in h c)) → step_by h.tickets (durable_of h) c ≡ Ok (Wants k.change k.outcome)
+due-wanted h c k = unhalted (may_change c && is_halted h.pending) (step_by h.tickets (durable_of h) c) (Wants k.change k.outcome) k.wanted
 
-legal-told : (h : Held) (c : Command) (r : Reply) (failed : Bool) → LegalReply h c r failed → AreTold h.tickets (moved_by h.tickets (mentions_of (call c r))) (tickets_in r)
-legal-told h c (Answered a) failed (inl is) = answered-told h.tickets (durable_of h) c a (answered-step h (step_in h c) a is)
+pub legal-told : (h : Held) (c : Command) (r : Reply) (failed : Bool) → LegalReply h c r failed → AreTold h.tickets (moved_by h.tickets (mentions_of (call c r))) (tickets_in r)
+legal-told h c (Answered a) failed (inl is) =
+    answered-told h.tickets (durable_of h) c a (unhalted (may_change c && is_halted h.pending) (step_by h.tickets (durable_of h) c) (Done a) (answered-step h (step_in h c) a is))
 legal-told h c (Answered a) failed (inr none) = absurd none
 legal-told h c (Applied n o) failed (inl is) =
-    let was : IsApplied h (step_in h c) n o = applied-step h (step_in h c) n o is in
-    applied-told h.tickets (durable_of h) c was.change (wants h.tickets (durable_of h) c was.change o was.wanted)
+    let k : IsKept h (step_in h c) = (applied-step h (step_in h c) n o is).kept in
+    applied-told h.tickets (durable_of h) c k.change (wants h.tickets (durable_of h) c k.change k.outcome (due-wanted h c k))
 legal-told h c (Applied n o) failed (inr none) = absurd none
 legal-told h c (Refused e) failed legal = none-told h.tickets h.tickets (λ w. w) (record { epoch = refl; next = omega arith })
 
@@ -211,19 +206,21 @@ change-within t d (Ask q) e o h all w = absurd (cc (h))
 
 -- ---- one event more
 
-record IsLogged (first base : Kept) (limit : ℕ) (acked : List (List Edit)) (n : ℕ) : Type 0 where
-  room : length (flat acked) ≤ limit
-  shown : n ≡ length (flat acked)
-  kept : IsWithin first → IsWithin (after base (flat acked))
+-- What holds of the groups of an opening, wherever it has come to. What is kept is within the limits after each front that a crash may keep.
+record IsLogged (first base : Kept) (limit : ℕ) (acked pending : List (List Edit)) (number : ℕ) : Type 0 where
+  one : length pending ≤ 1
+  shown : number ≡ length (flat acked)
+  room : length (flat (acked ++ pending)) ≤ limit
+  kept : IsWithin first → (n : ℕ) → IsWithin (after base (flat (acked ++ take n pending)))
 
--- what holds of an opening, wherever it has come to, with these tickets given
-record Holds (first : Kept) (h : Held) (ts : List Ticket) : Type 0 where
+-- what holds of an opening, with these tickets given, and whether its device failed
+record Holds (first : Kept) (h : Held) (ts : List Ticket) (failed : Bool) : Type 0 where
   tickets : AreTicketsWithin h.tickets
   epoch : h.tickets.epoch ≡ h.base.epoch
   next : h.tickets.next ≡ 1 + length ts
   numbered : ts ≡ tickets_from h.base.epoch 1 (length ts)
-  none : h.pending ≡ []
-  logged : IsLogged first h.base h.setting.limit h.acked h.shown
+  quiet : failed ≡ false → h.pending ≡ []
+  logged : IsLogged first h.base h.setting.limit h.acked h.pending h.shown
 
 more-from : (epoch count n m : ℕ) → tickets_from epoch count (n + m) ≡ tickets_from epoch count n ++ tickets_from epoch (count + n) m
 more-from epoch count zero m =
@@ -239,86 +236,149 @@ numbered-on : (epoch : ℕ) (ts us : List Ticket) → ts ≡ tickets_from epoch 
 numbered-on epoch ts us old new =
     ap (λ (xs : List Ticket). xs ++ us) old ∙ ap (λ (xs : List Ticket). tickets_from epoch 1 (length ts) ++ xs) new ∙ sym (more-from epoch 1 (length ts) (length us)) ∙ ap (tickets_from epoch 1) (sym (length-append ts us))
 
-log-is : (h : Held) → h.pending ≡ [] → log_of h ≡ flat h.acked
-log-is h none = ap (λ (gs : List (List Edit)). flat (h.acked ++ gs)) none ∙ ap flat (append-nil h.acked)
+-- what was acknowledged is kept within the limits
+acked-within : (first : Kept) (h : Held) (ts : List Ticket) (failed : Bool) → Holds first h ts failed → IsWithin first → IsWithin (durable_of h)
+acked-within first h ts failed all within = subst (λ (gs : List (List Edit)). IsWithin (after h.base (flat gs))) (append-nil h.acked) (all.logged.kept within 0)
 
-applied-logged : (first : Kept) (h : Held) (ts : List Ticket) (c : Command) (n : ℕ) (o : Outcome) → IsApplied h (step_in h c) n o → Holds first h ts → IsLogged first h.base h.setting.limit (h.acked ++ group_in h c) n
-applied-logged first h ts c n o was all =
-    let e : Edit = was.change in
-    let log : length (log_of h) ≡ length (flat h.acked) = ap length (log-is h all.none) in
-    let flat_is : flat (h.acked ++ (e ∷ []) ∷ []) ≡ flat h.acked ++ e ∷ [] = flat-push h.acked e in
-    let more : length (flat (h.acked ++ (e ∷ []) ∷ [])) ≡ length (flat h.acked) + 1 = ap length flat_is ∙ length-append (flat h.acked) (e ∷ []) in
-    let number : n ≡ length (log_of h) + 1 = was.number in
-    let room : length (log_of h) + 1 ≤ h.setting.limit = was.room in
-    subst (λ (gs : List (List Edit)). IsLogged first h.base h.setting.limit (h.acked ++ gs) n) (sym was.group) (record {
-      room = omega (arith, log, more, room);
-      shown = omega (arith, log, more, number);
-      kept = λ within. subst (λ (d : Kept). IsWithin d) (sym (ap (after h.base) flat_is ∙ fold_push applied h.base (flat h.acked) e)) (change-within h.tickets (durable_of h) c e o was.wanted all.tickets (all.logged.kept within));
-    })
+-- the group of one change more, kept or not
+one-more : (first : Kept) (h : Held) (ts : List Ticket) (failed : Bool) (c : Command) → Holds first h ts failed → h.pending ≡ [] → (k : IsKept h (step_in h c)) → IsLogged first h.base h.setting.limit h.acked ((k.change ∷ []) ∷ []) h.shown
+one-more first h ts failed c all none k =
+    let log : length (log_of h) ≡ length (flat h.acked) = ap (λ (gs : List (List Edit)). length (flat (h.acked ++ gs))) none ∙ ap (λ (gs : List (List Edit)). length (flat gs)) (append-nil h.acked) in
+    let more : length (flat (h.acked ++ (k.change ∷ []) ∷ [])) ≡ length (flat h.acked) + 1 = ap length (flat-push h.acked k.change) ∙ length-append (flat h.acked) (k.change ∷ []) in
+    let room : length (log_of h) + 1 ≤ h.setting.limit = k.room in
+    record { one = omega arith; shown = all.logged.shown; room = omega (arith, log, more, room); kept = fronts } where
+      fronts : IsWithin first → (n : ℕ) → IsWithin (after h.base (flat (h.acked ++ take n ((k.change ∷ []) ∷ []))))
+      fronts within zero = all.logged.kept within 0
+      fronts within (suc n) =
+          rw (take-nil n) (subst (λ (d : Kept). IsWithin d) (sym (ap (after h.base) (flat-push h.acked k.change) ∙ fold_push applied h.base (flat h.acked) k.change))
+          (change-within h.tickets (durable_of h) c k.change k.outcome (due-wanted h c k) all.tickets (acked-within first h ts failed all within)))
 
-logged-on : (first : Kept) (h : Held) (ts : List Ticket) (c : Command) (r : Reply) (failed : Bool) → LegalReply h c r failed → Holds first h ts → IsLogged first h.base h.setting.limit (h.acked ++ acked_by r (group_in h c)) (shown_by r h.shown)
-logged-on first h ts c (Applied n o) failed (inl is) all = applied-logged first h ts c n o (applied-step h (step_in h c) n o is) all
-logged-on first h ts c (Applied n o) failed (inr none) all = absurd none
-logged-on first h ts c r failed legal all = subst (λ (gs : List (List Edit)). IsLogged first h.base h.setting.limit gs h.shown) (sym (append-nil h.acked)) all.logged
+-- what a command's group may leave in the log, acknowledged by nobody
+group-logged : (first : Kept) (h : Held) (ts : List Ticket) (failed : Bool) (c : Command) → Holds first h ts failed → IsLogged first h.base h.setting.limit h.acked (h.pending ++ group_in h c) h.shown
+group-logged first h ts failed c all = by (either h c) (kept-or-not h (step_in h c)) where
+  still : group_in h c ≡ [] → IsLogged first h.base h.setting.limit h.acked (h.pending ++ group_in h c) h.shown
+  still none = subst (λ (gs : List (List Edit)). IsLogged first h.base h.setting.limit h.acked gs h.shown) (sym (ap (λ (gs : List (List Edit)). h.pending ++ gs) none ∙ append-nil h.pending)) all.logged
 
-holds-on : (first : Kept) (h : Held) (ts : List Ticket) (c : Call) (t : Upshot) → LegalCall h c t → Holds first h ts → Holds first (heard h c t) (ts ++ tickets_in c.reply)
-holds-on first h ts c t legal all =
+  by : (h.pending ≡ []) ⊎ (group_in h c ≡ []) → IsKept h (step_in h c) ⊎ IsNotKept h (step_in h c) → IsLogged first h.base h.setting.limit h.acked (h.pending ++ group_in h c) h.shown
+  by (inr none) k = still none
+  by (inl none) (inr not) = still not.group
+  by (inl none) (inl k) = subst (λ (gs : List (List Edit)). IsLogged first h.base h.setting.limit h.acked gs h.shown) (sym (ap (λ (gs : List (List Edit)). gs ++ group_in h c) none ∙ k.group)) (one-more first h ts failed c all none k)
+
+applied-logged : (first : Kept) (h : Held) (ts : List Ticket) (failed : Bool) (c : Command) (n : ℕ) → IsApplied h (step_in h c) n → Holds first h ts failed → IsLogged first h.base h.setting.limit (h.acked ++ group_in h c) (h.pending ++ []) n
+applied-logged first h ts failed c n was all = by (either h c) where
+  k : IsKept h (step_in h c)
+  k = was.kept
+
+  by : (h.pending ≡ []) ⊎ (group_in h c ≡ []) → IsLogged first h.base h.setting.limit (h.acked ++ group_in h c) (h.pending ++ []) n
+  by (inr none) = absurd (cc (none, k.group))
+  by (inl none) =
+      let more : IsLogged first h.base h.setting.limit h.acked ((k.change ∷ []) ∷ []) h.shown = one-more first h ts failed c all none k in
+      let log : length (log_of h) ≡ length (flat h.acked) = ap (λ (gs : List (List Edit)). length (flat (h.acked ++ gs))) none ∙ ap (λ (gs : List (List Edit)). length (flat gs)) (append-nil h.acked) in
+      let new : List (List Edit) = h.acked ++ (k.change ∷ []) ∷ [] in
+      let long : length (flat new) ≡ length (flat h.acked) + 1 = ap length (flat-push h.acked k.change) ∙ length-append (flat h.acked) (k.change ∷ []) in
+      let same : new ++ [] ≡ new = append-nil new in
+      let room : length (flat new) ≤ h.setting.limit = more.room in
+      let number : n ≡ length (log_of h) + 1 = was.number in
+      subst (λ (g : List (List Edit)). IsLogged first h.base h.setting.limit (h.acked ++ g) (h.pending ++ []) n) (sym k.group)
+      (subst (λ (gs : List (List Edit)). IsLogged first h.base h.setting.limit new gs n) (sym (append-nil h.pending ∙ none)) (record {
+        one = omega arith;
+        shown = omega (arith, log, long, number);
+        room = rw same room;
+        kept = λ within m. rw (take-nil m, same) (more.kept within 1);
+      }))
+
+still-logged : (first : Kept) (h : Held) → IsLogged first h.base h.setting.limit h.acked h.pending h.shown → IsLogged first h.base h.setting.limit (h.acked ++ []) (h.pending ++ []) h.shown
+still-logged first h old = rw (append-nil h.acked, append-nil h.pending) old
+
+refused-logged : (first : Kept) (h : Held) (g : List (List Edit)) (fault : Bool) → IsLogged first h.base h.setting.limit h.acked h.pending h.shown → IsLogged first h.base h.setting.limit h.acked (h.pending ++ g) h.shown → IsLogged first h.base h.setting.limit (h.acked ++ []) (h.pending ++ cond fault g []) h.shown
+refused-logged first h g true old new = subst (λ (gs : List (List Edit)). IsLogged first h.base h.setting.limit gs (h.pending ++ g) h.shown) (sym (append-nil h.acked)) new
+refused-logged first h g false old new = still-logged first h old
+
+logged-on : (first : Kept) (h : Held) (ts : List Ticket) (was : Bool) (c : Command) (r : Reply) (failed : Bool) → LegalReply h c r failed → Holds first h ts was →
+    IsLogged first h.base h.setting.limit (h.acked ++ acked_by r (group_in h c)) (h.pending ++ pending_by r (group_in h c)) (shown_by r h.shown)
+logged-on first h ts was c (Answered a) failed legal all = still-logged first h all.logged
+logged-on first h ts was c (Applied n o) failed (inl is) all = applied-logged first h ts was c n (applied-step h (step_in h c) n o is) all
+logged-on first h ts was c (Applied n o) failed (inr none) all = absurd none
+logged-on first h ts was c (Refused e) failed legal all = refused-logged first h (group_in h c) (is_fault e) all.logged (group-logged first h ts was c all)
+
+-- where the device didn't fail, no group is left
+quiet-on : (h : Held) (c : Command) (r : Reply) (was failed : Bool) → LegalReply h c r failed → (was ≡ false → h.pending ≡ []) → (was || failed) ≡ false → h.pending ++ pending_by r (group_in h c) ≡ []
+quiet-on h c r true failed legal quiet none = absurd (cc (none))
+quiet-on h c r false true legal quiet none = absurd (cc (none))
+quiet-on h c r false false legal quiet none = ap (λ (gs : List (List Edit)). gs ++ pending_by r (group_in h c)) (quiet refl) ∙ by r legal where
+  by : (r : Reply) → LegalReply h c r false → pending_by r (group_in h c) ≡ []
+  by (Answered a) legal = refl
+  by (Applied n o) legal = refl
+  by (Refused e) legal = refused-unkept h c e legal
+
+holds-on : (first : Kept) (h : Held) (ts : List Ticket) (failed : Bool) (c : Call) (t : Upshot) → LegalCall h c t → Holds first h ts failed → Holds first (heard h c t) (ts ++ tickets_in c.reply) (failed || t.failed)
+holds-on first h ts failed c t legal all =
     let us : List Ticket = tickets_in c.reply in
     let new : AreTold h.tickets (moved_by h.tickets (mentions_of c)) us = legal-told h c.command c.reply t.failed legal.reply in
     let before : h.tickets.next ≡ 1 + length ts = all.next in
     let count : (moved_by h.tickets (mentions_of c)).next ≡ h.tickets.next + length us = new.given.next in
+    let g : List (List Edit) = group_in h c.command in
     record {
       tickets = new.within all.tickets;
       epoch = new.given.epoch ∙ all.epoch;
       next = omega (arith, count, before, length-append ts us);
       numbered = numbered-on h.base.epoch ts us all.numbered (new.told ∙ ap (λ (e : ℕ). tickets_from e h.tickets.next (length us)) all.epoch ∙ ap (λ (n : ℕ). tickets_from h.base.epoch n (length us)) before);
-      none = all.none;
-      logged = subst (λ (n : ℕ). IsLogged first h.base h.setting.limit (h.acked ++ acked_by c.reply (group_in h c.command)) n) (sym legal.shown) (logged-on first h ts c.command c.reply t.failed legal.reply all);
+      quiet = quiet-on h c.command c.reply failed t.failed legal.reply all.quiet;
+      logged = subst (λ (n : ℕ). IsLogged first h.base h.setting.limit (h.acked ++ acked_by c.reply g) (h.pending ++ pending_by c.reply g) n) (sym legal.shown) (logged-on first h ts failed c.command c.reply t.failed legal.reply all);
     }
+
+-- whatever a crash keeps is within the limits
+crash-within : (first : Kept) (h : Held) (ts : List Ticket) (failed : Bool) (doing : Doing) (n : ℕ) → Holds first h ts failed → IsWithin first → IsWithin (after h.base (flat (kept_groups h doing n)))
+crash-within first h ts failed idle n all within = subst (λ (gs : List (List Edit)). IsWithin (after h.base (flat (h.acked ++ take n gs)))) (sym (append-nil h.pending)) (all.logged.kept within n)
+crash-within first h ts failed (calling c) n all within = (group-logged first h ts failed c all).kept within n
 
 -- ---- a whole world
 
 -- what holds of each state
-abbrev HoldsOf : Kept → State → List Ticket → Type 0
-HoldsOf first (up h) ts = Holds first h ts
-HoldsOf first (down d) ts = IsWithin first → IsWithin d
+abbrev HoldsOf : Kept → State → List Ticket → Bool → Type 0
+HoldsOf first (up h) ts failed = Holds first h ts failed
+HoldsOf first (down d) ts failed = IsWithin first → IsWithin d
 
-holds-next : (first : Kept) (st : State) (ts : List Ticket) (e : Event) → IsLegal st e → HoldsOf first st ts → HoldsOf first (next st e) (given_by ts e)
-holds-next first (up h) ts (called c t) legal all = holds-on first h ts c t legal all
-holds-next first (up h) ts (opened setting) legal all = absurd legal
-holds-next first (down d) ts (called c t) legal all = absurd legal
-holds-next first (down d) ts (opened setting) legal all = record {
+within-raised : (d : Kept) → IsWithin d → IsWithin (raised d)
+within-raised d w = record { maps = w.maps; rulesets = w.rulesets; rules = w.rules; tables = w.tables; entries = w.entries; states = w.states }
+
+holds-next : (first : Kept) (st : State) (ts : List Ticket) (failed : Bool) (e : Event) → IsLegal st e → HoldsOf first st ts failed → HoldsOf first (next st e) (given_by ts e) (failed_by failed e)
+holds-next first (up h) ts failed (called c t) legal all = holds-on first h ts failed c t legal all
+holds-next first (up h) ts failed (crashed doing n) legal all = crash-within first h ts failed doing n all
+holds-next first (down d) ts failed (opened setting) legal all = record {
   tickets = tickets_keep.first (d.epoch + 1);
   epoch = refl;
   next = omega arith;
   numbered = refl;
-  none = refl;
-  logged = record { room = omega arith; shown = refl; kept = λ within. record { maps = (all within).maps; rulesets = (all within).rulesets; rules = (all within).rules; tables = (all within).tables; entries = (all within).entries; states = (all within).states } };
+  quiet = λ none. refl;
+  logged = record { one = omega arith; shown = refl; room = omega arith; kept = λ within n. rw (take-nil n) (within-raised d (all within)) };
 }
+holds-next first (down d) ts failed (refused_opening true) legal all = λ within. within-raised d (all within)
+holds-next first (down d) ts failed (refused_opening false) legal all = all
+holds-next first st ts failed e legal all = absurd legal
 
-holds-from : (first : Kept) (st : State) (ts : List Ticket) (world : List Event) → IsLegalFrom st world → HoldsOf first st ts → HoldsOf first (state_after st world) (fold given_by ts world)
-holds-from first st ts [] legal all = all
-holds-from first st ts (e ∷ es) legal all = holds-from first (next st e) (given_by ts e) es legal.1 (holds-next first st ts e legal.0 all)
+holds-from : (first : Kept) (st : State) (ts : List Ticket) (failed : Bool) (world : List Event) → IsLegalFrom st world → HoldsOf first st ts failed → HoldsOf first (state_after st world) (fold given_by ts world) (fold failed_by failed world)
+holds-from first st ts failed [] legal all = all
+holds-from first st ts failed (e ∷ es) legal all = holds-from first (next st e) (given_by ts e) (failed_by failed e) es legal.1 (holds-next first st ts failed e legal.0 all)
 
-holds-after : (first : Kept) (world : List Event) (h : Held) → IsWorld first world → state_after (down first) world ≡ up h → Holds first h (tickets_given world)
-holds-after first world h legal comes = subst (λ (st : State). HoldsOf first st (tickets_given world)) comes (holds-from first (down first) [] world legal (λ within. within))
+holds-after : (first : Kept) (world : List Event) (h : Held) → IsWorld first world → state_after (down first) world ≡ up h → Holds first h (tickets_since world) (failed_since world)
+holds-after first world h legal comes =
+    subst (λ (st : State). HoldsOf first st (tickets_since world) (failed_since world)) comes (holds-from first (down first) [] false world legal (λ within. within))
 
 pub gives_each_once : GivesEachOnce
 gives_each_once first world h legal comes =
-    let numbered : tickets_given world ≡ tickets_from h.base.epoch 1 (length (tickets_given world)) = (holds-after first world h legal comes).numbered in
-    record { numbered = numbered; once = subst AreOnce (sym numbered) (once_given h.base.epoch 1 (length (tickets_given world))) }
+    let numbered : tickets_since world ≡ tickets_from h.base.epoch 1 (length (tickets_since world)) = (holds-after first world h legal comes).numbered in
+    record { numbered = numbered; once = subst AreOnce (sym numbered) (once_given h.base.epoch 1 (length (tickets_since world))) }
 
 pub keeps_the_limits : KeepsTheLimits
 keeps_the_limits first world h within legal comes =
-    let all : Holds first h (tickets_given world) = holds-after first world h legal comes in
-    let log : length (log_of h) ≡ length (flat h.acked) = ap length (log-is h all.none) in
-    let room : length (flat h.acked) ≤ h.setting.limit = all.logged.room in
-    record { tickets = all.tickets; log = omega (arith, log, room); kept = all.logged.kept within }
+    let all : Holds first h (tickets_since world) (failed_since world) = holds-after first world h legal comes in
+    record { tickets = all.tickets; log = all.logged.room; kept = acked-within first h (tickets_since world) (failed_since world) all within }
 
 pub shows_all : ShowsAll
 shows_all first world h legal comes =
-    let all : Holds first h (tickets_given world) = holds-after first world h legal comes in
-    record { acknowledged = log-is h all.none; shown = all.logged.shown }
+    let all : Holds first h (tickets_since world) (failed_since world) = holds-after first world h legal comes in
+    record { shown = all.logged.shown; one = all.logged.one; none = all.quiet }
 
 -- ---- no name twice
 

@@ -1,13 +1,15 @@
 -- Longer worlds, one event at a time.
-use Rattle.std.proofs.{Common.{◌≡◌, ◌<◌, List, [], ◌∷◌, ◌++◌, refl, sym, ap, ◌∙◌, subst, append_assoc, append-nil, false}, lemmas.List.Sums.{fold-append, fold_push}}
+use Rattle.std.proofs.{Common.{◌≡◌, ◌<◌, Bool, true, false, cond, inl, inr, List, [], ◌∷◌, ◌++◌, refl, sym, ap, ◌∙◌, subst, append-nil}, lemmas.List.Sums.{fold-append, fold_push}}
 use Rattle.std.specs.Prelude.{fold, ⊤}
-use Rattle.pf_core.specs.{declared.{command.Command.Command, reply.Refusal.Refusal, reply.Reply.Reply, reply.Reply.TheVariants.Refused}, Calls.{Call, call, mentions_of}, Durable.Edits.{Kept, Edit}, Pages.{Page, IsAt, StandsFor, Leads}, Wholes.Whole, Laws.Worlds.{mentions_by, mentions_since, TicketsAreOfTheCalls}, Worlds.{Setting, Held, State, up, down, begun, raised, flat, group_in, Upshot, upshot, Event, called, opened, acked_by, shown_by, heard, next, LegalReply, last_epoch, IsLegal, state_after, IsLegalFrom, IsWorld}}
+use Rattle.pf_core.specs.{declared.{command.Command.Command, reply.Refusal.Refusal, reply.Refusal.TheVariants.Fault, reply.Refusal.TheVariants.Memory, reply.Reply.Reply, reply.Reply.TheVariants.Applied, reply.Reply.TheVariants.Refused}, Calls.{Call, call, mentions_of}, Durable.Edits.{Kept, Edit}, Pages.{Page, IsAt, StandsFor, Leads}, Wholes.Whole, Laws.{Openings.CrashesAreEvents, Worlds.{mentions_by, mentions_since, TicketsAreOfTheCalls}}, Worlds.{Setting, Held, State, up, down, begun, raised, flat, step_in, due, group_in, Upshot, upshot, Event, called, crashed, opened, refused_opening, acked_by, is_fault, pending_by, shown_by, heard, next, StandsIn, LegalReply, last_epoch, IsLegal, state_after, IsLegalFrom, IsWorld}}
 use Rattle.pf_ticket.specs.{Tickets.{Open, fresh}, Mentions.{Mention, moved, after, opened as left_by}}
+use Rattle.pf_core.proofs.{Fronts.flat-append, Groups.refused-group}
 
 -- a group of one change more
 pub flat-push : (gs : List (List Edit)) (e : Edit) → flat (gs ++ (e ∷ []) ∷ []) ≡ flat gs ++ e ∷ []
-flat-push [] e = refl
-flat-push (g ∷ gs) e = ap (λ (es : List Edit). g ++ es) (flat-push gs e) ∙ sym (append_assoc g (flat gs) (e ∷ []))
+flat-push gs e = flat-append gs ((e ∷ []) ∷ [])
+
+-- ---- one event more
 
 legal-push : (st : State) (world : List Event) (e : Event) → IsLegalFrom st world → IsLegal (state_after st world) e → IsLegalFrom st (world ++ e ∷ [])
 legal-push st [] e all now = (now, tt)
@@ -31,38 +33,74 @@ pub stands-opened : (first : Kept) (new : Page) (setting : Setting) → first.ep
 stands-opened first new setting low at = stands-by first new [] (opened setting) (down first) (begun setting (raised first)) tt refl low refl at
 
 -- a reply that keeps nothing leads to another core at most
-pub nothing-leads : (h : Held) (b : Page) (w : Whole) (c : Command) (r : Reply) → LegalReply h c r false → acked_by r (group_in h c) ≡ [] → shown_by r h.shown ≡ h.shown → w.tickets ≡ after b.whole.tickets (mentions_of (call c r)) →
-    IsAt h b → Leads h (record b { whole = w }) (call c r) (upshot b.shown false)
-nothing-leads h b w c r legal none still moved at = record {
+pub nothing-leads : (h : Held) (b : Page) (w : Whole) (c : Command) (r : Reply) → LegalReply h c r false → acked_by r (group_in h c) ≡ [] → pending_by r (group_in h c) ≡ [] → shown_by r h.shown ≡ h.shown →
+    w.tickets ≡ after b.whole.tickets (mentions_of (call c r)) → IsAt h b → Leads h (record b { whole = w }) (call c r) (upshot b.shown false)
+nothing-leads h b w c r legal none unkept still moved at = record {
   legal = record { reply = legal; shown = at.shown ∙ sym still };
   at = record {
     base = at.base;
     tickets = moved ∙ ap (λ (t : Open). after t (mentions_of (call c r))) at.tickets;
     acked = at.acked ∙ sym (append-nil h.acked) ∙ ap (λ (gs : List (List Edit)). h.acked ++ gs) (sym none);
-    pending = at.pending;
+    pending = at.pending ∙ sym (append-nil h.pending) ∙ ap (λ (gs : List (List Edit)). h.pending ++ gs) (sym unkept);
     shown = refl;
-    limit = at.limit;
+    setting = at.setting;
   };
 }
 
--- a refusal leads to nothing else
+none-of-none : (b : Bool) (gs : List (List Edit)) → gs ≡ [] → cond b gs [] ≡ []
+none-of-none true gs is = is
+none-of-none false gs is = refl
+
+none-stands : (h : Held) (c : Command) (told : Reply) (e : Refusal) (gs : List (List Edit)) → StandsIn h c false told (Refused e) → cond (is_fault e) gs [] ≡ []
+none-stands h c told Memory gs stands = refl
+none-stands h c (Applied n o) Fault gs stands = absurd (cc (stands))
+none-stands h c told e gs stands = absurd stands
+
+-- where the device didn't fail a refusal leaves nothing
+pub refused-unkept : (h : Held) (c : Command) (e : Refusal) → LegalReply h c (Refused e) false → pending_by (Refused e) (group_in h c) ≡ []
+refused-unkept h c e (inl is) = none-of-none (is_fault e) (group_in h c) (refused-group h (step_in h c) e is)
+refused-unkept h c e (inr stands) = none-stands h c (due h c) e (group_in h c) stands
+
+-- such a refusal leads to nothing else
 pub refused-leads : (h : Held) (b new : Page) (c : Command) (e : Refusal) → LegalReply h c (Refused e) false → new ≡ b → IsAt h b → Leads h new (call c (Refused e)) (upshot new.shown false)
 refused-leads h b new c e legal same at =
-    subst (λ (p : Page). Leads h p (call c (Refused e)) (upshot p.shown false)) (sym same) (nothing-leads h b b.whole c (Refused e) legal refl refl refl at)
+    subst (λ (p : Page). Leads h p (call c (Refused e)) (upshot p.shown false)) (sym same) (nothing-leads h b b.whole c (Refused e) legal refl (refused-unkept h c e legal) refl refl at)
+
+-- a crash is an event of the world
+pub crashes_are_events : CrashesAreEvents
+crashes_are_events first world h doing d legal comes left = (
+  left.0,
+  legal-push (down first) world (crashed doing left.0) legal (subst (λ (x : State). IsLegal x (crashed doing left.0)) (sym comes) tt),
+  fold_push next (down first) world (crashed doing left.0) ∙ ap (λ (x : State). next x (crashed doing left.0)) comes ∙ left.1,
+)
+
+-- ---- a world in two parts
+
+pub record AreLegal (st : State) (world : List Event) (ev : Event) (later : List Event) : Type 0 where
+  pub before : IsLegalFrom st world
+  pub here : IsLegal (state_after st world) ev
+  pub behind : IsLegalFrom (next (state_after st world) ev) later
+
+pub in-two : (st : State) (world : List Event) (ev : Event) (later : List Event) → IsLegalFrom st (world ++ ev ∷ later) → AreLegal st world ev later
+in-two st [] ev later legal = record { before = tt; here = legal.0; behind = legal.1 }
+in-two st (x ∷ xs) ev later legal =
+    let rest : AreLegal (next st x) xs ev later = in-two (next st x) xs ev later legal.1 in
+    record { before = (legal.0, rest.before); here = rest.here; behind = rest.behind }
 
 -- ---- what was mentioned since an opening
 
-abbrev AgreesIn : State → List Mention → Type 0
+abbrev pub AgreesIn : State → List Mention → Type 0
 AgreesIn (up h) ms = h.tickets ≡ left_by h.base.epoch ms
 AgreesIn (down d) ms = ⊤
 
-agrees-next : (st : State) (ms : List Mention) (e : Event) → IsLegal st e → AgreesIn st ms → AgreesIn (next st e) (mentions_by ms e)
+pub agrees-next : (st : State) (ms : List Mention) (e : Event) → IsLegal st e → AgreesIn st ms → AgreesIn (next st e) (mentions_by ms e)
 agrees-next (up h) ms (called c t) legal is = ap (λ (o : Open). after o (mentions_of c)) is ∙ sym (fold-append moved (fresh h.base.epoch) ms (mentions_of c))
-agrees-next (up h) ms (opened setting) legal is = absurd legal
-agrees-next (down d) ms (called c t) legal is = absurd legal
+agrees-next (up h) ms (crashed doing n) legal is = tt
 agrees-next (down d) ms (opened setting) legal is = refl
+agrees-next (down d) ms (refused_opening rose) legal is = tt
+agrees-next st ms e legal is = absurd legal
 
-agrees-from : (st : State) (ms : List Mention) (world : List Event) → IsLegalFrom st world → AgreesIn st ms → AgreesIn (state_after st world) (fold mentions_by ms world)
+pub agrees-from : (st : State) (ms : List Mention) (world : List Event) → IsLegalFrom st world → AgreesIn st ms → AgreesIn (state_after st world) (fold mentions_by ms world)
 agrees-from st ms [] legal is = is
 agrees-from st ms (e ∷ es) legal is = agrees-from (next st e) (mentions_by ms e) es legal.1 (agrees-next st ms e legal.0 is)
 

@@ -153,6 +153,13 @@ step_by t d (Change edit) = edit_step d edit
 step_by t d (OfStates c) = states_step d c
 step_by t d (Ask q) = Ok (Done (answer_of d q))
 
+-- a command that may change something
+abbrev pub may_change : Command → Bool
+may_change (Transact transaction) = true
+may_change (Change edit) = true
+may_change (OfStates c) = true
+may_change (Ask q) = false
+
 -- ---- mentions
 
 -- of a step that is accepted

@@ -2,3 +2,4 @@ pub mod Wanted
 pub mod Commands
 pub mod Worlds
 pub mod Durable
+pub mod Openings

@@ -4,6 +4,7 @@ pub mod Commands
 pub mod Calls
 pub mod Wholes
 pub mod Worlds
+pub mod History
 pub mod Nexts
 pub mod Pages
 pub mod Laws

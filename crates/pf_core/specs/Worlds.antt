@@ -1,16 +1,19 @@
--- Worlds: lists of events, which of them are legal, and what they leave. Own.
-use Rattle.std.specs.Prelude.{◌≡◌, ℕ, ◌+◌, ◌<◌, ◌⊎◌, Bool, true, if◌then◌else◌, List, [], ◌∷◌, ◌++◌, length, fold, nat_lt, ⊤, Result, Ok, Err}
-use Rattle.pf_core.specs.{declared.{command.Command.Command, reply.Refusal.Refusal, reply.Refusal.TheVariants.HistoryFull, reply.Refusal.TheVariants.Memory, reply.Reply.Reply, reply.Reply.TheVariants.Answer, reply.Reply.TheVariants.Applied, reply.Reply.TheVariants.Refused, step.Step.Step, step.Step.TheVariants.Done, step.Step.TheVariants.Wants}, Calls.{Call, mentions_of}, Commands.{step_by, takes_memory}, Durable.Edits.{Kept, Edit, after}}
+-- Worlds: lists of events over openings and crashes, which of them are legal, and what they leave. Own.
+use Rattle.std.specs.Prelude.{◌≡◌, ℕ, ◌+◌, ◌<◌, ◌&&◌, ◌⊎◌, Bool, true, false, if◌then◌else◌, List, [], ◌∷◌, ◌++◌, length, take, fold, nat_lt, ⊤, Result, Ok, Err}
+use Rattle.pf_core.specs.{declared.{command.Command.Command, reply.Refusal.Refusal, reply.Refusal.TheVariants.Halted, reply.Refusal.TheVariants.HistoryFull, reply.Refusal.TheVariants.Full, reply.Refusal.TheVariants.Fault, reply.Refusal.TheVariants.Memory, reply.Reply.Reply, reply.Reply.TheVariants.Answer, reply.Reply.TheVariants.Applied, reply.Reply.TheVariants.Refused, step.Step.Step, step.Step.TheVariants.Done, step.Step.TheVariants.Wants}, Calls.{Call, mentions_of}, Commands.{step_by, may_change, takes_memory}, Durable.Edits.{Kept, Edit, in_epoch, after}}
 use Rattle.pf_ticket.specs.{Tickets.{Open, fresh}, Mentions.after as moved_by}
 
 -- ---- states
 
--- what an opening is given to keep within: how many changes it may keep
+-- what an opening is given to keep within: how many changes it may keep, and whether its device has no room for a group more, by what the
+-- opening gave and the groups that were kept since
 pub record Setting : Type 0 where
   pub limit : ℕ
+  pub is_full : Kept → List (List Edit) → List Edit → Bool
 
-abbrev pub setting_with : ℕ → Setting
-setting_with limit = record { limit = limit }
+-- in memory no device is full
+abbrev pub in_memory : ℕ → Setting
+in_memory limit = record { limit = limit; is_full = λ base groups group. false }
 
 -- an opening, while it lasts
 pub record Held : Type 0 where
@@ -21,7 +24,7 @@ pub record Held : Type 0 where
   pub tickets : Open
   -- the groups of changes that were acknowledged
   pub acked : List (List Edit)
-  -- the group that was not acknowledged, if there is one; no event leaves one yet
+  -- the group that was not acknowledged, if there is one: the device failed while it was kept
   pub pending : List (List Edit)
   -- how many changes are shown
   pub shown : ℕ
@@ -35,9 +38,9 @@ pub data State : Type 0 where
 abbrev pub begun : Setting → Kept → Held
 begun setting base = record { setting = setting; base = base; tickets = fresh base.epoch; acked = []; pending = []; shown = 0 }
 
--- the same, one epoch later
+-- one epoch later, as an opening leaves it
 abbrev pub raised : Kept → Kept
-raised d = record d { epoch = d.epoch + 1 }
+raised d = in_epoch (d.epoch + 1) d
 
 -- the changes of these groups, in order
 abbrev pub flat : List (List Edit) → List Edit
@@ -54,9 +57,14 @@ durable_of h = after h.base (flat h.acked)
 
 -- ---- what a command is due
 
+-- with a group that was not acknowledged nothing more is changed
+abbrev pub is_halted : List (List Edit) → Bool
+is_halted [] = false
+is_halted (g ∷ gs) = true
+
 -- the one step that a command may get
 abbrev pub step_in : Held → Command → Result Step Refusal
-step_in h c = step_by h.tickets (durable_of h) c
+step_in h c = if may_change c && is_halted h.pending then Err Halted else step_by h.tickets (durable_of h) c
 
 -- the reply to a step, where there is room
 abbrev pub reply_to : Held → Result Step Refusal → Reply
@@ -73,7 +81,8 @@ changes_of (Err e) = []
 -- whether changes that are kept together find room, and else why not
 abbrev pub room_for : Held → List Edit → Result (Unit {0}) Refusal
 room_for h [] = Ok tt
-room_for h (e ∷ es) = if nat_lt h.setting.limit (length (log_of h) + length (e ∷ es)) then Err HistoryFull else Ok tt
+room_for h (e ∷ es) = if nat_lt h.setting.limit (length (log_of h) + length (e ∷ es)) then Err HistoryFull else
+    (if h.setting.is_full h.base h.acked (e ∷ es) then Err Full else Ok tt)
 
 abbrev pub if_ok : {A : Type 0} → Result (Unit {0}) Refusal → A → A → A
 if_ok (Ok u) x y = x
@@ -111,9 +120,27 @@ pub record Upshot : Type 0 where
 abbrev pub upshot : ℕ → Bool → Upshot
 upshot shown failed = record { shown = shown; failed = failed }
 
+-- what a crash cuts short: nothing, or a command
+pub data Doing : Type 0 where
+  idle : Doing
+  calling : Command → Doing
+
 pub data Event : Type 0 where
   called : Call → Upshot → Event
+  -- within this, and so many groups are kept of those that were not acknowledged
+  crashed : Doing → ℕ → Event
   opened : Setting → Event
+  -- an opening was refused, or cut short by a crash: whether the device has the greater epoch all the same
+  refused_opening : Bool → Event
+
+-- the group that a crash may leave besides those of the log
+abbrev pub group_of : Held → Doing → List (List Edit)
+group_of h idle = []
+group_of h (calling c) = group_in h c
+
+-- the groups that a crash keeps: all that were acknowledged, and some front of the others; it cuts no group
+abbrev pub kept_groups : Held → Doing → ℕ → List (List Edit)
+kept_groups h doing n = h.acked ++ take n (h.pending ++ group_of h doing)
 
 -- ---- what an event leaves
 
@@ -123,23 +150,37 @@ acked_by (Answer a) g = []
 acked_by (Applied n o) g = g
 acked_by (Refused e) g = []
 
+abbrev pub is_fault : Refusal → Bool
+is_fault Fault = true
+is_fault e = false
+
+-- and what it leaves of it without an acknowledgement
+abbrev pub pending_by : Reply → List (List Edit) → List (List Edit)
+pending_by (Answer a) g = []
+pending_by (Applied n o) g = []
+pending_by (Refused e) g = if is_fault e then g else []
+
 abbrev pub heard : Held → Call → Upshot → Held
 heard h c t = record h {
   tickets = moved_by h.tickets (mentions_of c);
   acked = h.acked ++ acked_by c.reply (group_in h c.command);
+  pending = h.pending ++ pending_by c.reply (group_in h c.command);
   shown = t.shown;
 }
 
 abbrev pub next : State → Event → State
 next (up h) (called c t) = up (heard h c t)
+next (up h) (crashed doing n) = down (after h.base (flat (kept_groups h doing n)))
 next (down d) (opened setting) = up (begun setting (raised d))
+next (down d) (refused_opening rose) = down (if rose then raised d else d)
 next st e = st
 
 -- ---- which events are legal
 
--- what may stand in place of the reply that is due: memory was refused, where the command takes any
+-- what may stand in place of the reply that is due: memory was refused, where the command takes any; or, of a change, the device failed
 abbrev pub StandsIn : Held → Command → Bool → Reply → Reply → Type 0
 StandsIn h c failed due (Refused Memory) = takes_memory (durable_of h) c ≡ true
+StandsIn h c failed (Applied n o) (Refused Fault) = failed ≡ true
 StandsIn h c failed due r = ⊥
 
 abbrev pub LegalReply : Held → Command → Reply → Bool → Type 0
@@ -161,7 +202,9 @@ last_epoch = 4294967295
 
 abbrev pub IsLegal : State → Event → Type 0
 IsLegal (up h) (called c t) = LegalCall h c t
+IsLegal (up h) (crashed doing n) = ⊤
 IsLegal (down d) (opened setting) = d.epoch < last_epoch
+IsLegal (down d) (refused_opening rose) = rose ≡ true → d.epoch < last_epoch
 IsLegal st e = ⊥
 
 -- ---- worlds

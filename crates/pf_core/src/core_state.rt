@@ -172,8 +172,8 @@ impl Core {
     /// take the place of its own: `Conflict`, `TableFull`, `TooManyTables`. Entries that are deleted: `Conflict`, `Absent`. A
     /// table or a state that is killed: `Absent`. A packet that is tracked, where a state is to be made of it, and a peer's message:
     /// `StatesFull`. A question: none. Where a growth of memory is refused, `Memory` may come before any of them.
-    /// The history's limit isn't the core's: whoever keeps the history answers `HistoryFull` to a change that is wanted,
-    /// and doesn't accept it.
+    /// The history's limit and its device aren't the core's: whoever keeps the history answers `HistoryFull`, `Full` or `Fault` to a
+    /// change that is wanted, and doesn't accept it; and after a `Fault` he answers `Halted`, without asking the core.
     pub fn step(&mut self, command: &Command) -> Result<Step, Refusal>
         ensures reply { OrMemory (takes_memory self.old.durable command.now) result
             (step_by self.old.tickets self.old.durable command.now) }

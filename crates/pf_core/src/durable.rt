@@ -7,7 +7,7 @@ pub mod laws;
 mod refusal;
 mod verdict;
 
-pub use change::{Change, Item};
+pub use change::{Change, ChangeKind, Item};
 pub use durable::Durable;
 pub use entry_list::EntryList;
 pub use refusal::ChangeRefusal;

@@ -1,6 +1,6 @@
 //! What follows from the definitions that contracts cite: functions that do nothing, whose contracts are the laws.
 ghost use Rattle.std.specs.Prelude.{◌≡◌};
-ghost use Rattle.pf_core.specs.{Worlds.last_epoch, Laws.Commands.{LeaveTheOtherKind, WantsWhatFits, SwitchesAll, VoidsTheNamed, KeepsNoneValid, LeavesTheOthers, MentionsTheNamed, RefusedMentionNothing, TrackMakesOne}, Laws.Worlds.{TicketsAreOfTheCalls, GivesEachOnce, KeepsTheLimits, CommitsNameOnce, ShowsAll, TestsTellTheEntry, JudgesTellTheVerdict}};
+ghost use Rattle.pf_core.specs.{Worlds.last_epoch, Laws.Commands.{LeaveTheOtherKind, WantsWhatFits, SwitchesAll, VoidsTheNamed, KeepsNoneValid, LeavesTheOthers, MentionsTheNamed, RefusedMentionNothing, TrackMakesOne}, Laws.Openings.{VoidsTickets, KeepsWhole, GivesAllThatWasKept, GivesTheFold, KeepsAcknowledged, CrashesAreEvents}, Laws.Worlds.{TicketsAreOfTheCalls, GivesEachOnce, KeepsTheLimits, CommitsNameOnce, ShowsAll, TestsTellTheEntry, JudgesTellTheVerdict}};
 
 /// No opening has an epoch past 4,294,967,295.
 pub fn the_last_epoch()
@@ -77,7 +77,8 @@ pub fn commits_name_nothing_twice()
     ensures { CommitsNameOnce }
 {}
 
-/// In the opening that a world comes to every change is acknowledged, and is shown.
+/// In the opening that a world comes to every acknowledged change is shown, and no other; one group at most isn't acknowledged, and none
+/// where the device didn't fail in a call of that opening.
 pub fn shows_all()
     ensures { ShowsAll }
 {}
@@ -88,4 +89,20 @@ pub fn shows_all()
 pub fn answers_rest_on_what_is_kept()
     ensures tests { TestsTellTheEntry }
     ensures judges { JudgesTellTheVerdict }
+{}
+
+/// Of every world, over crashes and openings: no ticket that was given before an opening is valid after it; every group of changes, so
+/// every commit, stands whole or not at all; what each later opening gives is, but for its epoch, the fold of all changes that were kept
+/// since the first base, in order and each once, with every change that was acknowledged before.
+pub fn worlds()
+    ensures void { VoidsTickets }
+    ensures whole { KeepsWhole }
+    ensures given { GivesAllThatWasKept }
+    ensures fold { GivesTheFold }
+    ensures acknowledged { KeepsAcknowledged }
+{}
+
+/// Whatever a crash may leave of an opening, within a command or between two, is what is held after a world that ends in that crash.
+pub fn crashes()
+    ensures { CrashesAreEvents }
 {}

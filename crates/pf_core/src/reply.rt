@@ -127,8 +127,8 @@ pub enum Outcome {
     Peered(Counts),
 }
 
-/// Why nothing was done. After each of these all is as before: what is kept, the valid tickets, what is offered with
-/// them, and the count of the next ticket.
+/// Why nothing was done. After each of these but `Fault` all is as before: what is kept, the valid tickets, what is offered
+/// with them, and the count of the next ticket.
 #[derive(Clone, Copy, Debug, PartialEq, Eq)]
 pub enum Refusal {
     /// The line is longer than 4,096 bytes, or has a byte that no line may have. No command was read: all is as before.
@@ -150,6 +150,9 @@ pub enum Refusal {
     BadPeer(PeerFault),
     /// The bytes of a peer's message are several messages, or none. No command was read: all is as before.
     PeerCount,
+    /// The device that changes are kept on failed in this opening, so nothing more is changed in it: this comes before all that a
+    /// command may be refused for that could change something. All is as before. Own.
+    Halted,
     /// The list of a begin, a commit or a rollback without entries, or with more than 64. All is as before.
     BadCount,
     /// The first entry of a commit or a rollback, from 0, that names a ruleset named before it. All is as before, for the
@@ -179,6 +182,11 @@ pub enum Refusal {
     TicketsExhausted,
     /// The history has as many changes as it may have, which whoever keeps it says. All is as before.
     HistoryFull,
+    /// The device that changes are kept on has no room for this one, which whoever keeps them says. All is as before. Own.
+    Full,
+    /// The device failed while the change was put there. The change isn't acknowledged: the next opening may give it or not. What is
+    /// kept, the tickets and what is shown are as before, and until that opening all that may change something is `Halted`. Own.
+    Fault,
     /// A growth of memory was refused. All is as before, and the command may be asked again.
     Memory,
 }
@@ -233,6 +241,6 @@ pub enum Reply {
     Answer(Answer),
     /// A change was kept, with this number since the opening, from 1.
     Applied { seq: u64, outcome: Outcome },
-    /// Nothing was done.
+    /// Nothing was done, or, after `Fault`, nothing was acknowledged.
     Refused(Refusal),
 }

@@ -1,12 +1,12 @@
 -- One call of a book, from each way out of it.
-use Rattle.std.proofs.{Common.{◌≡◌, ℕ, ◌+◌, ◌<◌, ◌≤◌, Bool, true, false, cond, inl, inr, List, [], ◌∷◌, ◌++◌, length, Result, Ok, Err, refl, sym, ap, ◌∙◌, subst, append-nil, arith}, lemmas.Bool.Decides.nat_tests, lemmas.List.{length-append, take_all}, lemmas.List.Sums.fold_push}
-use Rattle.std.specs.Prelude.{nat_lt}
+use Rattle.std.proofs.{Common.{◌≡◌, ℕ, ◌+◌, ◌<◌, ◌≤◌, Bool, true, false, cond, inl, inr, List, [], ◌∷◌, ◌++◌, length, Result, Ok, Err, refl, sym, ap, ◌∙◌, subst, append-nil, arith}, Math.Bool.and-false, lemmas.Bool.Decides.nat_tests, lemmas.List.{length-append, take_all}, lemmas.List.Sums.fold_push}
+use Rattle.std.specs.Prelude.{nat_lt, ◌&&◌}
 use Rattle.pf_core.specs.declared.reply.Answer.TheVariants as answer
 use Rattle.pf_rule.specs.Packets.{PlainPacket}
-use Rattle.pf_core.specs.declared.{command.Command.Command, command.Command.TheVariants.Ask, command.Question.TheVariants.Judge, durable.verdict.Verdict.Verdict, reply.Answer.Answer, reply.Outcome.Outcome, reply.Refusal.Refusal, reply.Refusal.TheVariants.{HistoryFull, Memory}, reply.Reply.TheVariants.{Answer as Answered, Applied, Refused}, step.Step.Step, step.Step.TheVariants.{Done, Wants}}
+use Rattle.pf_core.specs.declared.{command.Command.Command, command.Command.TheVariants.Ask, command.Question.TheVariants.Judge, durable.verdict.Verdict.Verdict, reply.Answer.Answer, reply.Outcome.Outcome, reply.Refusal.Refusal, reply.Refusal.TheVariants.{Halted, HistoryFull, Full, Memory}, reply.Reply.TheVariants.{Answer as Answered, Applied, Refused}, step.Step.Step, step.Step.TheVariants.{Done, Wants}}
 use Rattle.pf_ticket.specs.{Tickets.Open, Mentions.{after as moved_by, switches}}
-use Rattle.pf_core.specs.{Calls.call, Commands.{step_by, takes_memory}, Durable.Edits.{Kept, Edit, applied, after, voided_by, verdict}, Refusals.OrMemory, Pages.{Page, IsFolded, IsAt, Leads}, Nexts.Ready, Wholes.{Whole, left_by}, Laws.Wanted.{wants_memory, wants_mentions}, Worlds.{Held, upshot, flat, log_of, durable_of, step_in, if_ok, or_refused, due_at, grouped, group_at, due, group_in, LegalReply}}
-use Rattle.pf_core.proofs.LongerWorlds.{flat-push, nothing-leads, refused-leads}
+use Rattle.pf_core.specs.{Calls.call, Commands.{step_by, may_change, takes_memory}, Durable.Edits.{Kept, Edit, applied, after, voided_by, verdict}, Refusals.OrMemory, Pages.{Page, IsFolded, IsAt, Leads}, Nexts.Ready, Wholes.{Whole, left_by}, Laws.Wanted.{wants_memory, wants_mentions}, Worlds.{Setting, in_memory, Held, upshot, flat, log_of, durable_of, is_halted, step_in, room_for, if_ok, or_refused, due_at, grouped, group_at, due, group_in, LegalReply}}
+use Rattle.pf_core.proofs.{Groups.room-found, LongerWorlds.{flat-push, nothing-leads, refused-leads}}
 use Rattle.pfd.specs.{declared.book.Book.TheInside.Inside, Books.{judging, page_in, singles, IsMore, IsUnkept}}
 
 pub flat-singles : (es : List Edit) → flat (singles es) ≡ es
@@ -25,20 +25,31 @@ Steps b c r = OrMemory (takes_memory b.whole.durable c) r (step_by b.whole.ticke
 durable-is : (h : Held) (b : Page) → IsAt h b → IsFolded b → b.whole.durable ≡ durable_of h
 durable-is h b at folded = folded.durable ∙ ap (λ (k : Kept). after k (flat b.acked)) at.base ∙ ap (λ (l : List (List Edit)). after h.base (flat l)) at.acked
 
--- the step that is taken is the world's
-step-is : (h : Held) (b : Page) (c : Command) (r : Result Step Refusal) → IsAt h b → IsFolded b → Steps b c r → (r ≡ Err Memory → ⊥) → r ≡ step_in h c
-step-is h b c r at folded steps other =
+-- where no group is pending the world isn't halted
+is-free : (h : Held) (b : Page) (c : Command) → IsAt h b → b.pending ≡ [] → (may_change c && is_halted h.pending) ≡ false
+is-free h b c at none = ap (λ (gs : List (List Edit)). may_change c && is_halted gs) (sym at.pending ∙ none) ∙ and-false (may_change c)
+
+-- the step that is taken is that of the world's tickets, of what it holds
+own-step : (h : Held) (b : Page) (c : Command) (r : Result Step Refusal) → IsAt h b → IsFolded b → Steps b c r → (r ≡ Err Memory → ⊥) → r ≡ step_by h.tickets (durable_of h) c
+own-step h b c r at folded steps other =
     steps.0 other ∙ ap (λ (t : Open). step_by t b.whole.durable c) at.tickets ∙ ap (λ (k : Kept). step_by h.tickets k c) (durable-is h b at folded)
+
+-- and so the world's
+step-is : (h : Held) (b : Page) (c : Command) (r : Result Step Refusal) → IsAt h b → IsFolded b → (may_change c && is_halted h.pending) ≡ false → Steps b c r → (r ≡ Err Memory → ⊥) → r ≡ step_in h c
+step-is h b c r at folded free steps other = own-step h b c r at folded steps other ∙ ap (λ (x : Bool). cond x (Err Halted) (step_by h.tickets (durable_of h) c)) (sym free)
 
 -- ---- nothing is kept
 
-pub answer-is-legal : (h : Held) (b : Page) (c : Command) (a : Answer) → IsAt h b → IsFolded b → Steps b c (Ok (Done a)) → LegalReply h c (Answered a) false
-answer-is-legal h b c a at folded steps = inl (ap (due_at h) (step-is h b c (Ok (Done a)) at folded steps (λ m. cc (m))))
+answered-legal : (h : Held) (b : Page) (c : Command) (a : Answer) → IsAt h b → IsFolded b → (may_change c && is_halted h.pending) ≡ false → Steps b c (Ok (Done a)) → LegalReply h c (Answered a) false
+answered-legal h b c a at folded free steps = inl (ap (due_at h) (step-is h b c (Ok (Done a)) at folded free steps (λ m. cc (m))))
+
+pub answer-is-legal : (h : Held) (b : Page) (c : Command) (a : Answer) → IsAt h b → IsFolded b → b.pending ≡ [] → Steps b c (Ok (Done a)) → LegalReply h c (Answered a) false
+answer-is-legal h b c a at folded none steps = answered-legal h b c a at folded (is-free h b c at none) steps
 
 -- the core's own refusal
-pub refusal-is-legal : (h : Held) (b : Page) (c : Command) (e : Refusal) → IsAt h b → IsFolded b → Steps b c (Err e) → LegalReply h c (Refused e) false
-refusal-is-legal h b c Memory at folded steps = inr (subst (λ (k : Kept). takes_memory k c ≡ true) (durable-is h b at folded) (steps.1 refl))
-refusal-is-legal h b c e at folded steps = inl (ap (due_at h) (step-is h b c (Err e) at folded steps (λ m. cc (m))))
+pub refusal-is-legal : (h : Held) (b : Page) (c : Command) (e : Refusal) → IsAt h b → IsFolded b → b.pending ≡ [] → Steps b c (Err e) → LegalReply h c (Refused e) false
+refusal-is-legal h b c Memory at folded none steps = inr (subst (λ (k : Kept). takes_memory k c ≡ true) (durable-is h b at folded) (steps.1 refl))
+refusal-is-legal h b c e at folded none steps = inl (ap (due_at h) (step-is h b c (Err e) at folded (is-free h b c at none) steps (λ m. cc (m))))
 
 -- a judge leads nowhere else
 pub judged-leads : (h : Held) (b : Page) (packet : PlainPacket) (v : Verdict) → IsFolded b → v ≡ verdict b.whole.durable packet → IsAt h b → Leads h b (judging packet v) (upshot b.shown false)
@@ -46,7 +57,7 @@ judged-leads h b packet v folded is at =
     let c : Command = Ask (Judge packet) in
     let a : Answer = answer.Judged v in
     let done : Ok (Done a) ≡ step_by b.whole.tickets b.whole.durable c = ap (λ (x : Verdict). Ok (Done (answer.Judged x))) is in
-    nothing-leads h b b.whole c (Answered a) (answer-is-legal h b c a at folded ((λ other. done), (λ m. absurd (cc (m))))) refl refl refl at
+    nothing-leads h b b.whole c (Answered a) (answered-legal h b c a at folded refl ((λ other. done), (λ m. absurd (cc (m))))) refl refl refl refl at
 
 -- ---- a change is wanted
 
@@ -58,40 +69,45 @@ log-is h b at none =
 full-is-legal : (h : Held) (b : Page) (c : Command) (e : Edit) (o : Outcome) → IsAt h b → IsFolded b → b.pending ≡ [] → Steps b c (Ok (Wants e o)) → b.limit ≤ length (flat b.acked) → LegalReply h c (Refused HistoryFull) false
 full-is-legal h b c e o at folded none steps full =
     let log : length (log_of h) ≡ length (flat b.acked) = log-is h b at none in
-    let limit : b.limit ≡ h.setting.limit = at.limit in
+    let limit : b.limit ≡ h.setting.limit = ap (λ (s : Setting). s.limit) at.setting in
     let past : nat_lt h.setting.limit (length (log_of h) + 1) ≡ true = grind (arith, nat_tests, full, log, limit) in
-    inl (sym (ap (due_at h) (sym (step-is h b c (Ok (Wants e o)) at folded steps (λ m. cc (m)))) ∙ ap (λ (x : Bool). or_refused (cond x (Err HistoryFull) (Ok tt)) (Applied (length (log_of h) + 1) o)) past))
+    let is : Ok (Wants e o) ≡ step_in h c = step-is h b c (Ok (Wants e o)) at folded (is-free h b c at none) steps (λ m. cc (m)) in
+    let behind : Result (Unit {0}) Refusal = cond (h.setting.is_full h.base h.acked (e ∷ [])) (Err Full) (Ok tt) in
+    inl (sym (ap (λ (x : Bool). or_refused (cond x (Err HistoryFull) behind) (Applied (length (log_of h) + 1) o)) past) ∙ ap (due_at h) is)
 
 -- the change that is kept, and its number
 record IsDue (h : Held) (c : Command) (e : Edit) (n : ℕ) (o : Outcome) : Type 0 where
   reply : Applied n o ≡ due h c
   group : group_in h c ≡ (e ∷ []) ∷ []
 
-is-due : (h : Held) (b : Page) (c : Command) (e : Edit) (n : ℕ) (o : Outcome) → IsAt h b → b.pending ≡ [] → Ok (Wants e o) ≡ step_in h c → length (flat b.acked) < b.limit → n ≡ length (flat b.acked) + 1 → IsDue h c e n o
-is-due h b c e n o at none is low number =
+is-due : (h : Held) (b : Page) (new : Page) (c : Command) (e : Edit) (n : ℕ) (o : Outcome) → IsAt h b → b.pending ≡ [] → Ok (Wants e o) ≡ step_in h c → IsMore b new e n → IsDue h c e n o
+is-due h b new c e n o at none is more =
     let log : length (log_of h) ≡ length (flat b.acked) = log-is h b at none in
-    let limit : b.limit ≡ h.setting.limit = at.limit in
-    let room : nat_lt h.setting.limit (length (log_of h) + 1) ≡ false = grind (arith, nat_tests, low, log, limit) in
+    let limit : b.limit ≡ h.setting.limit = ap (λ (s : Setting). s.limit) at.setting in
+    let few : length (flat b.acked) < b.limit = more.room in
+    let number : n ≡ length (flat b.acked) + 1 = more.number in
+    let free : h.setting.is_full h.base h.acked (e ∷ []) ≡ false = ap (λ (s : Setting). s.is_full h.base h.acked (e ∷ [])) (sym at.setting) in
+    let room : room_for h (e ∷ []) ≡ Ok tt = room-found h e (omega (arith, few, log, limit)) free in
     let same : n ≡ length (log_of h) + 1 = omega (arith, log, number) in
     record {
-      reply = ap (λ (m : ℕ). Applied m o) same ∙ sym (ap (λ (x : Bool). or_refused (cond x (Err HistoryFull) (Ok tt)) (Applied (length (log_of h) + 1) o)) room) ∙ ap (due_at h) is;
-      group = ap (group_at h) (sym is) ∙ ap (λ (x : Bool). if_ok (cond x (Err HistoryFull) (Ok tt)) (grouped (e ∷ [])) []) room;
+      reply = ap (λ (m : ℕ). Applied m o) same ∙ sym (ap (λ (r : Result (Unit {0}) Refusal). or_refused r (Applied (length (log_of h) + 1) o)) room) ∙ ap (due_at h) is;
+      group = ap (group_at h) (sym is) ∙ ap (λ (r : Result (Unit {0}) Refusal). if_ok r (grouped (e ∷ [])) []) room;
     }
 
 -- a change was kept
 pub kept-leads : (h : Held) (b new : Page) (c : Command) (e : Edit) (n : ℕ) (o : Outcome) → IsFolded b → b.pending ≡ [] → Steps b c (Ok (Wants e o)) → IsMore b new e n → IsAt h b → Leads h new (call c (Applied n o)) (upshot new.shown false)
 kept-leads h b new c e n o folded none steps more at =
-    let is : Ok (Wants e o) ≡ step_in h c = step-is h b c (Ok (Wants e o)) at folded steps (λ m. cc (m)) in
-    let kept : IsDue h c e n o = is-due h b c e n o at none is more.room more.number in
+    let is : Ok (Wants e o) ≡ step_in h c = step-is h b c (Ok (Wants e o)) at folded (is-free h b c at none) steps (λ m. cc (m)) in
+    let kept : IsDue h c e n o = is-due h b new c e n o at none is more in
     record {
       legal = record { reply = inl kept.reply; shown = more.shown };
       at = record {
         base = more.base ∙ at.base;
-        tickets = more.tickets ∙ ap (λ (t : Open). moved_by t (switches (voided_by e))) at.tickets ∙ ap (moved_by h.tickets) (sym (wants_mentions h.tickets (durable_of h) c e o (sym is)));
+        tickets = more.tickets ∙ ap (λ (t : Open). moved_by t (switches (voided_by e))) at.tickets ∙ ap (moved_by h.tickets) (sym (wants_mentions h.tickets (durable_of h) c e o (sym (own-step h b c (Ok (Wants e o)) at folded steps (λ m. cc (m))))));
         acked = more.acked ∙ ap (λ (l : List (List Edit)). l ++ (e ∷ []) ∷ []) at.acked ∙ ap (λ (l : List (List Edit)). h.acked ++ l) (sym kept.group);
-        pending = more.pending ∙ at.pending;
+        pending = more.pending ∙ at.pending ∙ sym (append-nil h.pending);
         shown = refl;
-        limit = more.limit ∙ at.limit;
+        setting = ap in_memory more.limit ∙ at.setting;
       };
     }
 
@@ -107,7 +123,7 @@ number-is b new e n more = more.number ∙ sym (ap (λ (l : List (List Edit)). l
 pub unkept-leads : (h : Held) (b new : Page) (c : Command) (e : Edit) (o : Outcome) (why : Refusal) → IsFolded b → b.pending ≡ [] → Steps b c (Ok (Wants e o)) → IsUnkept b why → new ≡ b → IsAt h b → Leads h new (call c (Refused why)) (upshot new.shown false)
 unkept-leads h b new c e o why folded none steps (inl memory) same at =
     subst (λ (x : Refusal). Leads h new (call c (Refused x)) (upshot new.shown false)) (sym memory)
-    (refused-leads h b new c Memory (inr (wants_memory h.tickets (durable_of h) c e o (sym (step-is h b c (Ok (Wants e o)) at folded steps (λ m. cc (m)))))) same at)
+    (refused-leads h b new c Memory (inr (wants_memory h.tickets (durable_of h) c e o (sym (own-step h b c (Ok (Wants e o)) at folded steps (λ m. cc (m)))))) same at)
 unkept-leads h b new c e o why folded none steps (inr full) same at =
     subst (λ (x : Refusal). Leads h new (call c (Refused x)) (upshot new.shown false)) (sym full.0) (refused-leads h b new c HistoryFull (full-is-legal h b c e o at folded none steps full.1) same at)
 

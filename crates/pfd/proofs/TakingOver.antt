@@ -1,10 +1,10 @@
 -- The lines of an export, given to a Book one by one.
-use Rattle.std.proofs.{Common.{◌≡◌, ◌⊎◌, ◌+◌, ◌<◌, ◌≤◌, ◌||◌, ℕ, Bool, true, false, cond, List, [], ◌∷◌, ◌++◌, length, length-append, map, Option, Some, Result, Ok, Err, inl, inr, refl, sym, subst, ap, ◌∙◌, append_assoc, arith}, lemmas.Bool.Decides.nat_tests, lemmas.List.length-map, lemmas.List.Sums.{fold-append, fold_push}}
-use Rattle.std.specs.{Prelude.nat_lt, List.flat_map}
-use Rattle.pf_core.specs.declared.{command.Command.Command, command.Command.TheVariants.States, command.StateCommand.TheVariants.Peer, reply.Outcome.Outcome, reply.Outcome.TheVariants.Peered, reply.Refusal.Refusal, reply.Refusal.TheVariants.{HistoryFull, Memory}, reply.Reply.Reply, reply.Reply.TheVariants.{Applied, Refused}, step.Step.Step, step.Step.TheVariants.Wants, durable.refusal.ChangeRefusal.TheVariants.StatesFull}
-use Rattle.pf_core.specs.{Calls.call, Commands.{steps_here, states_step, unless_unfit}, Durable.Edits.{Kept, Edit, main_sum, kept_nothing, acts, applied, after}, Pages.{Page, IsAt, StandsFor}, Worlds.{Held, State, up, down, flat, log_of, durable_of, step_in, due, due_at, group_in, group_at, or_refused, if_ok, grouped, Upshot, Event, called, opened, setting_with, begun, raised, heard, next, StandsIn, LegalCall, state_after, IsLegalFrom}}
+use Rattle.std.proofs.{Common.{◌≡◌, ◌⊎◌, ◌+◌, ◌<◌, ◌≤◌, ◌||◌, ℕ, Bool, true, false, cond, List, [], ◌∷◌, ◌++◌, length, length-append, append-nil, map, Option, Some, Result, Ok, Err, inl, inr, refl, sym, subst, ap, ◌∙◌, append_assoc, arith}, lemmas.List.length-map, lemmas.List.Sums.{fold-append, fold_push}}
+use Rattle.std.specs.List.{flat_map}
+use Rattle.pf_core.specs.declared.{command.Command.Command, command.Command.TheVariants.States, command.StateCommand.TheVariants.Peer, reply.Outcome.Outcome, reply.Outcome.TheVariants.Peered, reply.Refusal.Refusal, reply.Refusal.TheVariants.{Halted, Fault, Memory}, reply.Reply.Reply, reply.Reply.TheVariants.{Applied, Refused}, step.Step.Step, step.Step.TheVariants.Wants, durable.refusal.ChangeRefusal.TheVariants.StatesFull}
+use Rattle.pf_core.specs.{Calls.call, Commands.{steps_here, states_step, unless_unfit}, Durable.Edits.{Kept, Edit, main_sum, kept_nothing, acts, applied, after}, Pages.{Page, IsAt, StandsFor}, Worlds.{Setting, in_memory, Held, State, up, down, flat, log_of, durable_of, is_halted, step_in, room_for, due, due_at, group_in, group_at, or_refused, if_ok, grouped, upshot, Event, called, opened, begun, raised, heard, next, StandsIn, LegalCall, state_after, IsLegalFrom}}
 use Rattle.pf_addr.specs.Refusing.{unless}
-use Rattle.pf_core.proofs.LongerWorlds.{flat-push}
+use Rattle.pf_core.proofs.{Groups.room-found, LongerWorlds.flat-push}
 use Rattle.pf_line.specs.{Laws.Exports.{Message, Step as StateStep, message_text, main_count, exported_lines, TellsOf, CanBeExported, states_there}, Failover.Outgoing.exported_messages, Lines.line_at, Peer.Written.Each, Reply.Replies.reply_text, StateTables.Stated, Steps.{after as stepped_on, stepped, is_over, passes_limit, counts}}
 use Rattle.pf_line.proofs.{ExportedLines.exports_are_read, Lines.one_meaning, TakenOver.takes_over as states_taken}
 use Rattle.pfd.specs.{Serving.{Says, IsTold, Served, Serves}, Laws.Takeover.{held_in, IsReadyFor, WantedMemory, TakesOver, FreshTakesOver}}
@@ -25,10 +25,6 @@ fit-apart es (x ∷ xs) ys h =
 
 -- ---- one message
 
-flat-both : (xs ys : List (List Edit)) → flat (xs ++ ys) ≡ flat xs ++ flat ys
-flat-both [] ys = refl
-flat-both (x ∷ xs) ys = ap (λ (es : List Edit). x ++ es) (flat-both xs ys) ∙ sym (append_assoc x (flat xs) (flat ys))
-
 abbrev change : Kept → Message → Edit
 change d m = acts (steps_here d m)
 
@@ -39,39 +35,52 @@ record IsTaken (h : Held) (d : Kept) (m : Message) : Type 0 where
   reply : due h (States (Peer m)) ≡ Applied number outcome
   group : group_in h (States (Peer m)) ≡ (change d m ∷ []) ∷ []
 
-taken : (h : Held) (d : Kept) (m : Message) → durable_of h ≡ d → passes_limit d.states (steps_here d m) ≡ false → length (log_of h) < h.setting.limit → IsTaken h d m
-taken h d m is fits room =
+-- in memory, where no group is pending
+record IsInMemory (h : Held) : Type 0 where
+  setting : h.setting ≡ in_memory h.setting.limit
+  none : h.pending ≡ []
+
+taken : (h : Held) (d : Kept) (m : Message) → durable_of h ≡ d → IsInMemory h → passes_limit d.states (steps_here d m) ≡ false → length (log_of h) < h.setting.limit → IsTaken h d m
+taken h d m is memory fits few =
     let told : Outcome = Peered (counts d.states (steps_here d m)) in
     let one : Result Step Refusal = Ok (Wants (change d m) told) in
     let step : step_in h (States (Peer m)) ≡ one =
-    ap (λ (k : Kept). states_step k (Peer m)) is ∙ ap (λ (b : Bool). unless_unfit (unless b StatesFull) one) fits in
-    let low : nat_lt h.setting.limit (length (log_of h) + 1) ≡ false = grind (arith, nat_tests, room) in
+    ap (λ (gs : List (List Edit)). cond (is_halted gs) (Err Halted) (states_step (durable_of h) (Peer m))) memory.none
+    ∙ ap (λ (k : Kept). states_step k (Peer m)) is ∙ ap (λ (b : Bool). unless_unfit (unless b StatesFull) one) fits in
+    let room : room_for h (change d m ∷ []) ≡ Ok tt = room-found h (change d m) few (ap (λ (s : Setting). s.is_full h.base h.acked (change d m ∷ [])) memory.setting) in
     record {
       number = length (log_of h) + 1;
       outcome = told;
-      reply = ap (due_at h) step ∙ ap (λ (b : Bool). or_refused (cond b (Err HistoryFull) (Ok tt)) (Applied (length (log_of h) + 1) told)) low;
-      group = ap (group_at h) step ∙ ap (λ (b : Bool). if_ok (cond b (Err HistoryFull) (Ok tt)) (grouped (change d m ∷ [])) []) low;
+      reply = ap (due_at h) step ∙ ap (λ (r : Result (Unit {0}) Refusal). or_refused r (Applied (length (log_of h) + 1) told)) room;
+      group = ap (group_at h) step ∙ ap (λ (r : Result (Unit {0}) Refusal). if_ok r (grouped (change d m ∷ [])) []) room;
     }
 
 -- the opening then
-abbrev then : Held → Message → Reply → Upshot → Held
-then h m r t = heard h (call (States (Peer m)) r) t
+abbrev then : Held → Message → Reply → ℕ → Held
+then h m r shown = heard h (call (States (Peer m)) r) (upshot shown false)
 
-now-held : (h : Held) (d : Kept) (m : Message) (r : Reply) (t : Upshot) → durable_of h ≡ d → (to : IsTaken h d m) → r ≡ due h (States (Peer m)) → durable_of (then h m r t) ≡ applied d (change d m)
-now-held h d m r t is to due_is =
+record IsThen (h : Held) (d : Kept) (m : Message) (new : Held) : Type 0 where
+  held : durable_of new ≡ applied d (change d m)
+  long : length (log_of new) ≡ length (log_of h) + 1
+  memory : IsInMemory new
+
+now : (h : Held) (d : Kept) (m : Message) (r : Reply) (shown : ℕ) → durable_of h ≡ d → IsInMemory h → (to : IsTaken h d m) → r ≡ due h (States (Peer m)) → IsThen h d m (then h m r shown)
+now h d m r shown is memory to due_is =
+    let none : h.pending ++ [] ≡ [] = append-nil h.pending ∙ memory.none in
+    let more : flat (h.acked ++ (change d m ∷ []) ∷ []) ≡ flat h.acked ++ change d m ∷ [] = flat-push h.acked (change d m) in
     rw (due_is ∙ to.reply)
-    (ap (λ (g : List (List Edit)). after h.base (flat (h.acked ++ g))) to.group ∙ ap (after h.base) (flat-push h.acked (change d m)) ∙ fold_push applied h.base (flat h.acked) (change d m)
-    ∙ ap (λ (k : Kept). applied k (change d m)) is)
+    (record {
+      held = ap (λ (g : List (List Edit)). after h.base (flat (h.acked ++ g))) to.group ∙ ap (after h.base) more ∙ fold_push applied h.base (flat h.acked) (change d m) ∙ ap (λ (k : Kept). applied k (change d m)) is;
+      long = ap (λ (g : List (List Edit)). length (flat ((h.acked ++ g) ++ (h.pending ++ [])))) to.group ∙ ap (λ (l : List (List Edit)). length (flat ((h.acked ++ (change d m ∷ []) ∷ []) ++ l))) none
+          ∙ ap (λ (l : List (List Edit)). length (flat l)) (append-nil (h.acked ++ (change d m ∷ []) ∷ [])) ∙ ap length more ∙ length-append (flat h.acked) (change d m ∷ [])
+          ∙ ap (λ (l : List (List Edit)). length (flat l) + 1) (sym (ap (λ (l : List (List Edit)). h.acked ++ l) memory.none ∙ append-nil h.acked));
+      memory = record { setting = memory.setting; none = none };
+    })
 
-now-long : (h : Held) (d : Kept) (m : Message) (r : Reply) (t : Upshot) → (to : IsTaken h d m) → r ≡ due h (States (Peer m)) → length (log_of (then h m r t)) ≡ length (log_of h) + 1
-now-long h d m r t to due_is =
-    rw (due_is ∙ to.reply)
-    (ap (λ (g : List (List Edit)). length (flat ((h.acked ++ g) ++ h.pending))) to.group
-    ∙ omega (arith, ap length (flat-both (h.acked ++ (change d m ∷ []) ∷ []) h.pending), ap length (flat-push h.acked (change d m)), ap length (flat-both h.acked h.pending), length-append {A = Edit}))
-
-only-memory : (h : Held) (c : Command) (b : Bool) (due r : Reply) → StandsIn h c b due r → r ≡ Refused Memory
-only-memory h c b due (Refused Memory) stands = refl
-only-memory h c b due r stands = absurd stands
+only-memory : (h : Held) (c : Command) (due r : Reply) → StandsIn h c false due r → r ≡ Refused Memory
+only-memory h c due (Refused Memory) stands = refl
+only-memory h c (Applied n o) (Refused Fault) stands = absurd (cc (stands))
+only-memory h c due r stands = absurd stands
 
 -- ---- all of them
 
@@ -92,11 +101,11 @@ abbrev Told : Held → Kept → List Message → List Event → List ℕ → Typ
 Told h d ms events text = Comes h d (flat_map (steps_here d) ms) events ⊎ WantedMemory text
 
 -- one line, where what follows it is told too
-one-line : (m : Message) (ms : List Message) (h : Held) (d : Kept) (events : List Event) (text : List ℕ) → durable_of h ≡ d → TellsOf m (message_text m) → passes_limit d.states (flat_map (steps_here d) (m ∷ ms)) ≡ false →
+one-line : (m : Message) (ms : List Message) (h : Held) (d : Kept) (events : List Event) (text : List ℕ) → durable_of h ≡ d → IsInMemory h → TellsOf m (message_text m) → passes_limit d.states (flat_map (steps_here d) (m ∷ ms)) ≡ false →
     length (log_of h) + length (m ∷ ms) ≤ h.setting.limit → Served (map message_text (m ∷ ms)) events text → IsLegalFrom (up h) events
-    → ((r : Reply) (t : Upshot) (rest : List Event) (replies : List ℕ) → durable_of (then h m r t) ≡ applied d (change d m) → passes_limit (applied d (change d m)).states (flat_map (steps_here d) ms) ≡ false
-    → length (log_of (then h m r t)) + length ms ≤ h.setting.limit → Served (map message_text ms) rest replies → IsLegalFrom (up (then h m r t)) rest → Told (then h m r t) (applied d (change d m)) ms rest replies) → Told h d (m ∷ ms) events text
-one-line m ms h d events text is told fits room (first, rest, reply, replies, by, more, events_are, text_is) legal on = of by where
+    → ((r : Reply) (shown : ℕ) (rest : List Event) (replies : List ℕ) → IsThen h d m (then h m r shown) → passes_limit (applied d (change d m)).states (flat_map (steps_here d) ms) ≡ false
+    → length (log_of (then h m r shown)) + length ms ≤ h.setting.limit → Served (map message_text ms) rest replies → IsLegalFrom (up (then h m r shown)) rest → Told (then h m r shown) (applied d (change d m)) ms rest replies) → Told h d (m ∷ ms) events text
+one-line m ms h d events text is memory told fits room (first, rest, reply, replies, by, more, events_are, text_is) legal on = of by where
   c : Command
   c = States (Peer m)
 
@@ -104,17 +113,17 @@ one-line m ms h d events text is told fits room (first, rest, reply, replies, by
   apart = fit-apart d.states (steps_here d m) (flat_map (steps_here d) ms) fits
 
   to : IsTaken h d m
-  to = taken h d m is apart.0 (omega (arith, room))
+  to = taken h d m is memory apart.0 (omega (arith, room))
 
-  by_reply : (r : Reply) (t : Upshot) → first ≡ called (call c r) t ∷ [] → reply ≡ reply_text r → Told h d (m ∷ ms) events text
-  by_reply r t first_is reply_is = judged here.0.reply where
-    all : events ≡ called (call c r) t ∷ rest
+  by_reply : (r : Reply) (shown : ℕ) → first ≡ called (call c r) (upshot shown false) ∷ [] → reply ≡ reply_text r → Told h d (m ∷ ms) events text
+  by_reply r shown first_is reply_is = judged here.0.reply where
+    all : events ≡ called (call c r) (upshot shown false) ∷ rest
     all = events_are ∙ ap (λ (l : List Event). l ++ rest) first_is
 
-    here : LegalCall h (call c r) t × IsLegalFrom (up (then h m r t)) rest
+    here : LegalCall h (call c r) (upshot shown false) × IsLegalFrom (up (then h m r shown)) rest
     here = subst (IsLegalFrom (up h)) all legal
 
-    longer : Told (then h m r t) (applied d (change d m)) ms rest replies → Told h d (m ∷ ms) events text
+    longer : Told (then h m r shown) (applied d (change d m)) ms rest replies → Told h d (m ∷ ms) events text
     longer (inl come) = inl (record {
       held = come.held;
       comes = ap (state_after (up h)) all ∙ come.comes;
@@ -122,24 +131,25 @@ one-line m ms h d events text is told fits room (first, rest, reply, replies, by
     })
     longer (inr wanted) = inr (wanted-later reply replies text text_is wanted)
 
-    judged : (r ≡ due h c) ⊎ StandsIn h c t.failed (due h c) r → Told h d (m ∷ ms) events text
+    judged : (r ≡ due h c) ⊎ StandsIn h c false (due h c) r → Told h d (m ∷ ms) events text
     judged (inl due_is) =
-        longer (on r t rest replies (now-held h d m r t is to due_is) apart.1 (omega (arith, room, now-long h d m r t to due_is)) more here.1)
-    judged (inr stands) = inr (wanted-first reply replies text text_is (reply_is ∙ ap reply_text (only-memory h c t.failed (due h c) r stands)))
+        let next : IsThen h d m (then h m r shown) = now h d m r shown is memory to due_is in
+        longer (on r shown rest replies next apart.1 (omega (arith, room, next.long)) more here.1)
+    judged (inr stands) = inr (wanted-first reply replies text text_is (reply_is ∙ ap reply_text (only-memory h c (due h c) r stands)))
 
   of : IsTold (message_text m) first reply → Told h d (m ∷ ms) events text
   of (inl (meant, means, says)) =
       let same = one_meaning (line_at (message_text m)) meant (Ok (Some c)) means told.means in
-      let (r, t, first_is, reply_is) = subst (λ (x : Result (Option Command) Refusal). Says x first reply) same says in
-      by_reply r t first_is reply_is
+      let (r, shown, first_is, reply_is) = subst (λ (x : Result (Option Command) Refusal). Says x first reply) same says in
+      by_reply r shown first_is reply_is
   of (inr none) = inr (wanted-first reply replies text text_is none.told)
 
-given : (ms : List Message) (h : Held) (d : Kept) (events : List Event) (text : List ℕ) → durable_of h ≡ d → Each (λ m. TellsOf m (message_text m)) ms
+given : (ms : List Message) (h : Held) (d : Kept) (events : List Event) (text : List ℕ) → durable_of h ≡ d → IsInMemory h → Each (λ m. TellsOf m (message_text m)) ms
     → passes_limit d.states (flat_map (steps_here d) ms) ≡ false → length (log_of h) + length ms ≤ h.setting.limit → Served (map message_text ms) events text → IsLegalFrom (up h) events → Told h d ms events text
-given [] h d events text is told fits room served legal = inl (record { held = h; comes = ap (state_after (up h)) served.0; states = ap (λ (k : Kept). k.states) is })
-given (m ∷ ms) h d events text is told fits room served legal =
-    one-line m ms h d events text is told.0 fits room served legal
-    (λ r t rest replies next_is next_fits next_room more next_legal. given ms (then h m r t) (applied d (change d m)) rest replies next_is told.1 next_fits next_room more next_legal)
+given [] h d events text is memory told fits room served legal = inl (record { held = h; comes = ap (state_after (up h)) served.0; states = ap (λ (k : Kept). k.states) is })
+given (m ∷ ms) h d events text is memory told fits room served legal =
+    one-line m ms h d events text is memory told.0 fits room served legal
+    (λ r shown rest replies next next_fits next_room more next_legal. given ms (then h m r shown) (applied d (change d m)) rest replies next.held next.memory told.1 next_fits next_room more next_legal)
 
 -- ---- a Book
 
@@ -163,9 +173,12 @@ arrived ours es first world old new text stands ready served can =
     let left = states_taken ours (main_sum (held_in old)) (main_count (held_in old)) es can.table ready.rules in
     let fits : passes_limit (held_in old).states (flat_map (steps_here (held_in old)) ms) ≡ false =
     ap (λ (ss : List Stated). passes_limit ss (flat_map (steps_here (held_in old)) ms)) ready.no_states ∙ left.fits in
-    let log : length (log_of stands.held) ≡ length (flat (old.acked ++ old.pending)) = sym (ap (λ (l : List (List Edit)). length (flat (l ++ old.pending))) at.acked ∙ ap (λ (l : List (List Edit)). length (flat (stands.held.acked ++ l))) at.pending) in
-    given ms stands.held (held_in old) served.events text (sym (held-at stands.held old at)) (exports_are_read ours es can.sum can.bytes can.numbers) fits
-    (omega (arith, log, ready.room, at.limit, length-map ms message_text)) served.served (subst (λ (st : State). IsLegalFrom st served.events) stands.comes (legal-behind (down first) world served.events all.legal))
+    let none : stands.held.pending ≡ [] = sym at.pending ∙ ready.none_pending in
+    let log : length (log_of stands.held) ≡ length (flat old.acked) = ap (λ (l : List (List Edit)). length (flat (stands.held.acked ++ l))) none ∙ ap (λ (l : List (List Edit)). length (flat l)) (append-nil stands.held.acked ∙ sym at.acked) in
+    let limit : old.limit ≡ stands.held.setting.limit = ap (λ (s : Setting). s.limit) at.setting in
+    let memory : IsInMemory stands.held = record { setting = subst (λ (s : Setting). s ≡ in_memory s.limit) at.setting refl; none = none } in
+    given ms stands.held (held_in old) served.events text (sym (held-at stands.held old at)) memory (exports_are_read ours es can.sum can.bytes can.numbers) fits
+    (omega (arith, log, ready.room, limit, length-map ms message_text)) served.served (subst (λ (st : State). IsLegalFrom st served.events) stands.comes (legal-behind (down first) world served.events all.legal))
 
 pub takes_over : TakesOver
 takes_over ours es first world old new text can stands ready served = of (arrived ours es first world old new text stands ready served can) where
@@ -184,18 +197,20 @@ takes_over ours es first world old new text can stands ready served = of (arrive
       ∙ ap (λ (ss : List Stated). stepped_on ss (flat_map (steps_here (held_in old)) ms)) ready.no_states ∙ left.left)
   of (inr wanted) = inr wanted
 
-begun-held : (limit : ℕ) (old : Page) (stands : StandsFor (kept_nothing 0) old (opened (setting_with limit) ∷ [])) → stands.held ≡ begun (setting_with limit) (raised (kept_nothing 0))
-begun-held limit old stands = up-is stands.held (begun (setting_with limit) (raised (kept_nothing 0))) (sym stands.comes)
+begun-held : (limit : ℕ) (old : Page) (stands : StandsFor (kept_nothing 0) old (opened (in_memory limit) ∷ [])) → stands.held ≡ begun (in_memory limit) (raised (kept_nothing 0))
+begun-held limit old stands = up-is stands.held (begun (in_memory limit) (raised (kept_nothing 0))) (sym stands.comes)
 
 pub fresh_takes_over : FreshTakesOver
 fresh_takes_over ours es limit old new text can stands room served =
     let is = begun-held limit old stands in
-    let at : IsAt (begun (setting_with limit) (raised (kept_nothing 0))) old = subst (λ (h : Held). IsAt h old) is stands.at in
-    let held : held_in old ≡ kept_nothing 1 = held-at (begun (setting_with limit) (raised (kept_nothing 0))) old at in
-    let none : length (flat (old.acked ++ old.pending)) ≡ 0 = ap (λ (l : List (List Edit)). length (flat (l ++ old.pending))) at.acked ∙ ap (λ (l : List (List Edit)). length (flat l)) at.pending in
+    let at : IsAt (begun (in_memory limit) (raised (kept_nothing 0))) old = subst (λ (h : Held). IsAt h old) is stands.at in
+    let held : held_in old ≡ kept_nothing 1 = held-at (begun (in_memory limit) (raised (kept_nothing 0))) old at in
+    let none : length (flat old.acked) ≡ 0 = ap (λ (l : List (List Edit)). length (flat l)) at.acked in
+    let limit_is : old.limit ≡ limit = ap (λ (s : Setting). s.limit) at.setting in
     let ready : IsReadyFor (length (exported_lines ours es)) old = record {
       no_states = ap (λ (k : Kept). k.states) held;
-      room = omega (arith, none, room, at.limit);
+      none_pending = at.pending;
+      room = omega (arith, none, room, limit_is);
       rules = omega (arith, ap main_count held);
     } in
-    subst (λ (k : Kept). ((held_in new).states ≡ states_there k ours es) ⊎ WantedMemory text) held (takes_over ours es (kept_nothing 0) (opened (setting_with limit) ∷ []) old new text can stands ready served)
+    subst (λ (k : Kept). ((held_in new).states ≡ states_there k ours es) ⊎ WantedMemory text) held (takes_over ours es (kept_nothing 0) (opened (in_memory limit) ∷ []) old new text can stands ready served)

@@ -1,7 +1,7 @@
 -- What the program does with the words `pfd run`. Own.
 use Rattle.std.specs.{Prelude.{◌≡◌, ℕ, List, [], ◌∷◌, Option, Result, Ok, Err, codes, ◌⊎◌}, Io.KnownBytes.Keeps}
 use Rattle.std.specs.declared.{io.ErrorKind.ErrorKind, io.ErrorKind.TheVariants.OutOfMemory}
-use Rattle.pf_core.specs.{Durable.Edits.kept_nothing, Pages.{Page, StandsFor}, Worlds.{setting_with, opened}}
+use Rattle.pf_core.specs.{Durable.Edits.kept_nothing, Pages.{Page, StandsFor}, Worlds.{in_memory, opened}}
 use Rattle.pfd.specs.declared.{line_engine.fault.EngineFault.EngineFault, line_engine.fault.EngineFault.TheVariants.Memory, program.TheConstants.HISTORY_LIMIT}
 use Rattle.pfd.specs.{LineEngine.Sessions.IsSession, Serving.Serves}
 
@@ -13,7 +13,7 @@ IsRun words = (name : List ℕ) × (words ≡ name ∷ codes "run" ∷ [])
 pub record Ran (result : Result (Unit {0}) EngineFault) (unread unread' held held' : Option (List ℕ)) : Type 0 where
   pub old : Page
   pub new : Page
-  pub fresh : StandsFor (kept_nothing 0) old (opened (setting_with HISTORY_LIMIT) ∷ [])
+  pub fresh : StandsFor (kept_nothing 0) old (opened (in_memory HISTORY_LIMIT) ∷ [])
   pub limit : old.limit ≡ HISTORY_LIMIT
   pub session : IsSession Serves result unread unread' old new held held'
 

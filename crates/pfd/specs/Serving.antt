@@ -1,14 +1,14 @@
 -- What serves lines: the calls that they come to, as events, and the replies.
-use Rattle.std.specs.Prelude.{◌≡◌, ℕ, List, [], ◌∷◌, ◌++◌, Option, Some, None, Result, Ok, Err, ◌⊎◌}
+use Rattle.std.specs.Prelude.{◌≡◌, ℕ, false, List, [], ◌∷◌, ◌++◌, Option, Some, None, Result, Ok, Err, ◌⊎◌}
 use Rattle.pf_core.specs.declared.{command.Command.Command, reply.Refusal.Refusal, reply.Refusal.TheVariants.Memory, reply.Reply.Reply, reply.Reply.TheVariants.Refused}
-use Rattle.pf_core.specs.{Calls.call, Durable.Edits.Kept, Pages.{Page, StandsFor}, Worlds.{Upshot, Event, called}}
+use Rattle.pf_core.specs.{Calls.call, Durable.Edits.Kept, Pages.{Page, StandsFor}, Worlds.{upshot, Event, called}}
 use Rattle.pf_line.specs.{Lines.{line_at, Means, Speaks}, Reply.Replies.reply_text}
 
 -- What a line means, the event of the call that it comes to, and what is written for it: nothing for a silent line, the refusal of a
--- line that is refused, the reply to a command.
+-- line that is refused, the reply to a command. In memory no device fails.
 abbrev pub Says : Result (Option Command) Refusal → List Event → List ℕ → Type 0
 Says (Ok None) events text = (events ≡ []) × (text ≡ [])
-Says (Ok (Some c)) events text = (r : Reply) × (t : Upshot) × (events ≡ called (call c r) t ∷ []) × (text ≡ reply_text r)
+Says (Ok (Some c)) events text = (r : Reply) × (shown : ℕ) × (events ≡ called (call c r) (upshot shown false) ∷ []) × (text ≡ reply_text r)
 Says (Err e) events text = (events ≡ []) × (text ≡ reply_text (Refused e))
 
 -- in place of reading what a line means there was no memory: then there is no call

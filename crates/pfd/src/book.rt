@@ -1,6 +1,6 @@
 //! A core with the history of what it kept.
 ghost use Rattle.std.specs.Prelude.{◌≡◌, ℕ, ◌≤◌, [], ◌∷◌, ◌++◌, List, IfOk, IfErr, take, false};
-ghost use Rattle.pf_core.specs.{Calls.call, Durable.Edits.{Kept, kept_nothing, after, verdict}, Worlds.{Held, setting_with, upshot, Event, called, opened, flat, LegalReply, shown_by}, Pages.{IsAt, IsFolded, StandsFor, Leads}, Wholes.left_by};
+ghost use Rattle.pf_core.specs.{Calls.call, Durable.Edits.{Kept, kept_nothing, after, verdict}, Worlds.{Held, in_memory, upshot, Event, called, opened, flat, LegalReply, shown_by}, Pages.{IsAt, IsFolded, StandsFor, Leads}, Wholes.left_by};
 ghost use Rattle.pfd.specs.Books.{judging, IsNumbered, IsJudged, IsRolledBack, StaysIfRefused, IsMore, IsUnkept};
 
 use pf_core::{Change, Command, Core, Durable, Next, ReadyStep, Refusal, Reply, Verdict};
@@ -44,7 +44,7 @@ impl Book {
     pub fn fresh(alloc: Global, history_limit: usize) -> Result<Book, AllocError>
         requires low { 1 ≤ history_limit }
         requires high { history_limit ≤ 1_048_576 }
-        ensures stands { IfOk result (λ b. StandsFor (kept_nothing 0) b (opened (setting_with history_limit) ∷ [])) }
+        ensures stands { IfOk result (λ b. StandsFor (kept_nothing 0) b (opened (in_memory history_limit) ∷ [])) }
         ensures limit { IfOk result (λ b. b.limit ≡ history_limit) }
     {
         let opening = Durable::empty(alloc, FIRST_EPOCH)?;

@@ -1,7 +1,7 @@
 -- The values of the types that hold memory.
-use Rattle.pf_core.specs.{declared.{durable.change.Kind.Kind, durable.change.Kind.TheVariants.Commit, durable.change.Kind.TheVariants.Add, durable.change.Kind.TheVariants.Delete, durable.change.Kind.TheVariants.Set, durable.change.Kind.TheVariants.States, durable.change.Kind.TheVariants.Remove}, Durable.Edits.{Edit, commits, adds, deletes, sets, acts, removes}}
+use Rattle.pf_core.specs.{declared.{durable.change.ChangeKind.ChangeKind, durable.change.ChangeKind.TheVariants.Commit, durable.change.ChangeKind.TheVariants.Add, durable.change.ChangeKind.TheVariants.Delete, durable.change.ChangeKind.TheVariants.Set, durable.change.ChangeKind.TheVariants.States, durable.change.ChangeKind.TheVariants.Remove}, Durable.Edits.{Edit, commits, adds, deletes, sets, acts, removes}}
 
-abbrev pub edit_of : Kind → Edit
+abbrev pub edit_of : ChangeKind → Edit
 edit_of (Commit items) = commits items.items
 edit_of (Add p name xs) = adds p name xs
 edit_of (Delete p name xs) = deletes p name xs

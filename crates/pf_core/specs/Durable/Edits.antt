@@ -79,6 +79,10 @@ with_entries d p name es = kept d.epoch (with_tables d.config (tabled p name es 
 abbrev pub with_states : Kept → List Stated → Kept
 with_states d ss = kept d.epoch d.config ss
 
+-- the same in another opening
+abbrev pub in_epoch : ℕ → Kept → Kept
+in_epoch epoch d = kept epoch d.config d.states
+
 -- what is kept after a change: exactly the named rulesets and tables are replaced, all else stays
 abbrev pub applied : Kept → Edit → Kept
 applied d (commits items) = kept d.epoch (with_tables (with_rulesets d.config (rulesets_in items)) (tables_in items)) d.states

@@ -1,32 +1,28 @@
 -- What holds after every world.
-use Rattle.std.specs.{Prelude.{◌≡◌, ℕ, ◌≤◌, Bool, true, List, [], ◌++◌, length, fold, None, Ok}, List.list_all}
+use Rattle.std.specs.{Prelude.{◌≡◌, ℕ, ◌≤◌, ◌||◌, Bool, true, false, List, [], ◌++◌, length, fold, None, Ok}, List.list_all}
 use Rattle.pf_addr.specs.declared.addr.Addr.{Addr}
 use Rattle.pf_addr.specs.{Path.Paths.main, Path.References.PlainReference}
 use Rattle.pf_rule.specs.Packets.{PlainPacket}
 use Rattle.pf_table.specs.{Laws.Tables.DecidesAbout, Tables.deciding}
 use Rattle.pf_anchor.specs.{Evaluation.judged, Laws.Evaluation.{decides, IsToldOfMain, LeadsThere}, Rulesets.rules_at}
 use Rattle.pf_state.specs.{Flows.flow_of, Laws.States.IsStateOf, States.Stated}
-use Rattle.pf_ticket.specs.{declared.{entry.Entry.Entry, ticket.Ticket.Ticket}, Replies.commit_check, Tickets.content, Laws.Tickets.{AreOnce, IsWithin as AreTicketsWithin}, Mentions.{Mention, opened as left_by}, Names.{tickets_from, tickets_of}}
-use Rattle.pf_core.specs.{declared.{command.Command.TheVariants.Ask, command.Question.TheVariants.Judge, command.Question.TheVariants.Test, durable.verdict.Verdict.TheVariants.State as Stateful, durable.verdict.Verdict.TheVariants.Rules as ByRules, reply.Reply.Reply, reply.Reply.TheVariants.Answer as Answered}, Calls.mentions_of, Commands.items, Durable.Edits.{Kept, named_again, entries_at, verdict}, Laws.Durable.IsWithin, Worlds.{Held, up, down, Event, called, opened, flat, log_of, durable_of, LegalReply, state_after, IsWorld}}
+use Rattle.pf_ticket.specs.{declared.{entry.Entry.Entry, ticket.Ticket.Ticket}, Replies.commit_check, Tickets.content, Laws.Tickets.{AreOnce, IsWithin as AreTicketsWithin}, Mentions.{Mention, opened as left_by}, Names.tickets_from}
+use Rattle.pf_core.specs.{declared.{command.Command.TheVariants.Ask, command.Question.TheVariants.Judge, command.Question.TheVariants.Test, durable.verdict.Verdict.TheVariants.State as Stateful, durable.verdict.Verdict.TheVariants.Rules as ByRules, reply.Reply.Reply, reply.Reply.TheVariants.Answer as Answered}, Calls.mentions_of, Commands.items, Durable.Edits.{Kept, named_again, entries_at, verdict}, History.tickets_in, Laws.Durable.IsWithin, Worlds.{Held, up, down, Event, called, flat, log_of, durable_of, LegalReply, state_after, IsWorld}}
 use Rattle.pf_core.specs.declared.reply.Answer.TheVariants as answer
 
 -- ---- tickets
 
-abbrev pub tickets_in : Reply → List Ticket
-tickets_in (Answered (answer.Given range)) = tickets_of range
-tickets_in r = []
-
 abbrev pub given_by : List Ticket → Event → List Ticket
 given_by ts (called c t) = ts ++ tickets_in c.reply
-given_by ts (opened setting) = []
+given_by ts e = []
 
 -- the tickets that replies gave since the opening, in order
-abbrev pub tickets_given : List Event → List Ticket
-tickets_given world = fold given_by [] world
+abbrev pub tickets_since : List Event → List Ticket
+tickets_since world = fold given_by [] world
 
 abbrev pub mentions_by : List Mention → Event → List Mention
 mentions_by ms (called c t) = ms ++ mentions_of c
-mentions_by ms (opened setting) = []
+mentions_by ms e = []
 
 -- what was mentioned since the opening, in order
 abbrev pub mentions_since : List Event → List Mention
@@ -45,7 +41,7 @@ pub record AreGivenOnce (epoch : ℕ) (ts : List Ticket) : Type 0 where
 -- of the opening that a world comes to
 abbrev pub GivesEachOnce : Type 0
 GivesEachOnce = (first : Kept) (world : List Event) (h : Held) → IsWorld first world → state_after (down first) world ≡ up h →
-    AreGivenOnce h.base.epoch (tickets_given world)
+    AreGivenOnce h.base.epoch (tickets_since world)
 
 -- ---- limits
 
@@ -64,13 +60,22 @@ abbrev pub CommitsNameOnce : Type 0
 CommitsNameOnce = (first : Kept) (world : List Event) (h : Held) → IsWorld first world → state_after (down first) world ≡ up h →
     (entries : List Entry) → commit_check h.tickets entries ≡ Ok tt → named_again (items (content h.tickets) entries) ≡ None
 
--- every change is acknowledged, and every acknowledged change is shown
-pub record AllIsShown (h : Held) : Type 0 where
-  pub acknowledged : log_of h ≡ flat h.acked
+abbrev pub failed_by : Bool → Event → Bool
+failed_by failed (called c t) = failed || t.failed
+failed_by failed e = false
+
+-- whether the device failed in a call since the opening
+abbrev pub failed_since : List Event → Bool
+failed_since world = fold failed_by false world
+
+-- Every acknowledged change is shown, and no other. One group at most isn't acknowledged, and none where the device didn't fail.
+pub record AllIsShown (world : List Event) (h : Held) : Type 0 where
   pub shown : h.shown ≡ length (flat h.acked)
+  pub one : length h.pending ≤ 1
+  pub none : failed_since world ≡ false → h.pending ≡ []
 
 abbrev pub ShowsAll : Type 0
-ShowsAll = (first : Kept) (world : List Event) (h : Held) → IsWorld first world → state_after (down first) world ≡ up h → AllIsShown h
+ShowsAll = (first : Kept) (world : List Event) (h : Held) → IsWorld first world → state_after (down first) world ≡ up h → AllIsShown world h
 
 -- ---- answers
 

@@ -1,6 +1,7 @@
 //! A change of what is kept.
 ghost use Rattle.std.specs.Prelude.{◌≡◌, map, IfOk};
 ghost use Rattle.pf_core.specs.Durable.Edits.{commits, adds, deletes, sets, acts, removes, name_of, voided_by};
+ghost use Rattle.pf_core.specs.Durable.EditViews.{edit_of};
 
 use crate::durable::entry_list::EntryList;
 use pf_addr::path::TableName;
@@ -19,8 +20,9 @@ pub enum Item {
     Tables { path: Path, tables: Defined },
 }
 
+/// What a change keeps, by its kind.
 #[derive(Drop)]
-pub(crate) enum Kind {
+pub enum ChangeKind {
     /// What is replaced, whole, in the order of the commit's entries.
     Commit(Vec<Item>),
     /// Entries as handed in, that are added to a table.
@@ -50,7 +52,7 @@ pub(crate) enum Kind {
 /// What is to be kept. Contracts see it as an `Edit`.
 #[derive(Drop)]
 pub struct Change {
-    pub(crate) kind: Kind,
+    pub(crate) kind: ChangeKind,
 }
 
 impl Model for Change {
@@ -69,7 +71,7 @@ impl Change {
         ensures { result ≡ commits items.items }
     {
         Change {
-            kind: Kind::Commit(items),
+            kind: ChangeKind::Commit(items),
         }
     }
 
@@ -78,7 +80,7 @@ impl Change {
         ensures { result ≡ adds path name entries }
     {
         Change {
-            kind: Kind::Add {
+            kind: ChangeKind::Add {
                 path,
                 name,
                 entries,
@@ -91,7 +93,7 @@ impl Change {
         ensures { result ≡ deletes path name entries }
     {
         Change {
-            kind: Kind::Delete {
+            kind: ChangeKind::Delete {
                 path,
                 name,
                 entries,
@@ -104,7 +106,7 @@ impl Change {
         ensures { result ≡ sets path name entries }
     {
         Change {
-            kind: Kind::Set {
+            kind: ChangeKind::Set {
                 path,
                 name,
                 entries,
@@ -117,7 +119,7 @@ impl Change {
         ensures { result ≡ acts steps }
     {
         Change {
-            kind: Kind::States(steps),
+            kind: ChangeKind::States(steps),
         }
     }
 
@@ -126,8 +128,15 @@ impl Change {
         ensures { result ≡ removes name }
     {
         Change {
-            kind: Kind::Remove(name),
+            kind: ChangeKind::Remove(name),
         }
+    }
+
+    /// What it keeps, by its kind.
+    pub fn kind(&self) -> &ChangeKind
+        ensures { edit_of result.now ≡ self.now }
+    {
+        &self.kind
     }
 
     /// The rulesets whose tickets the change voids: those that a commit replaces, in its order. `AllocError`: nothing is made.
@@ -135,7 +144,7 @@ impl Change {
         ensures { IfOk result (λ v. v.items ≡ voided_by self.now) }
     {
         match &self.kind {
-            Kind::Commit(items) => names_of(alloc, items.as_slice()),
+            ChangeKind::Commit(items) => names_of(alloc, items.as_slice()),
             _ => Ok(Vec::new(alloc)),
         }
     }

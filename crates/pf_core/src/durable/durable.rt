@@ -6,9 +6,9 @@ ghost use Rattle.pf_table.specs.{Edits.{added, additions, deleted, deletions, re
 ghost use Rattle.pf_state.specs.Steps.{after, counts, without_state};
 ghost use Rattle.pf_ticket.specs.Replies.{twice_behind};
 ghost use Rattle.pf_core.specs.declared.durable.refusal.ChangeRefusal.TheVariants.{Twice, Memory};
-ghost use Rattle.pf_core.specs.Durable.Edits.{is_in_order, name_of, kept_nothing, commits, adds, deletes, sets, acts, rulesets_in, replaces_main, placed, tables_in, entries_at, sum_of, main_sum, with_entries, with_states, room_for_table, fits, applied, changed, verdict};
+ghost use Rattle.pf_core.specs.Durable.Edits.{is_in_order, name_of, kept_nothing, commits, adds, deletes, sets, acts, rulesets_in, replaces_main, placed, tables_in, entries_at, sum_of, main_sum, with_entries, with_states, in_epoch, room_for_table, fits, applied, changed, verdict};
 
-use crate::durable::change::{Change, Item, Kind, names_of};
+use crate::durable::change::{Change, ChangeKind, Item, names_of};
 use crate::durable::refusal::ChangeRefusal;
 use crate::durable::verdict::Verdict;
 use pf_addr::Addr;
@@ -391,6 +391,18 @@ impl Durable {
         })
     }
 
+    /// The same in another opening, all of it shared. `AllocError`: nothing is made.
+    pub fn in_epoch(&self, next: u32) -> Result<Durable, AllocError>
+        ensures { IfOk result (λ d. d ≡ in_epoch next self.now) }
+    {
+        Ok(Durable {
+            epoch: next,
+            config: Arc::try_clone(&self.config)?,
+            states: Arc::try_clone(&self.states)?,
+            sum: self.sum,
+        })
+    }
+
     /// What is kept after a change. Rulesets and tables that stay are shared, and no rule is copied; where a change isn't of states
     /// they are shared too.
     ///
@@ -401,11 +413,11 @@ impl Durable {
         ensures { OrMemory Memory result (changed self.now change.now) }
     {
         match &change.kind {
-            Kind::Commit(items) => {
+            ChangeKind::Commit(items) => {
                 self.check_commit(alloc, items.as_slice())?;
                 Ok(self.committed(alloc, items.as_slice())?)
             }
-            Kind::Add {
+            ChangeKind::Add {
                 path,
                 name,
                 entries,
@@ -413,7 +425,7 @@ impl Durable {
                 let (table, _) = self.with_added(alloc, path, name, entries.as_slice())?;
                 Ok(self.with_table(alloc, path, name, table)?)
             }
-            Kind::Delete {
+            ChangeKind::Delete {
                 path,
                 name,
                 entries,
@@ -421,7 +433,7 @@ impl Durable {
                 let (table, _) = self.with_deleted(alloc, path, name, entries.as_slice())?;
                 Ok(self.with_table(alloc, path, name, table)?)
             }
-            Kind::Set {
+            ChangeKind::Set {
                 path,
                 name,
                 entries,
@@ -429,11 +441,11 @@ impl Durable {
                 let table = self.with_set(alloc, path, name, entries.as_slice())?;
                 Ok(self.with_table(alloc, path, name, table)?)
             }
-            Kind::States(steps) => {
+            ChangeKind::States(steps) => {
                 let (states, _) = self.with_stepped(alloc, steps.as_slice())?;
                 Ok(self.with_states(alloc, states)?)
             }
-            Kind::Remove(name) => {
+            ChangeKind::Remove(name) => {
                 let states = self.without_state(alloc, *name)?;
                 Ok(self.with_states(alloc, states)?)
             }

@@ -78,6 +78,7 @@ refusal_text (refusals.NameTooLong at) = codes "err name " ++ decimal at
 refusal_text (refusals.BadProto at) = codes "err proto " ++ decimal at
 refusal_text refusals.MixedFamily = codes "err family"
 refusal_text refusals.PortNeedsProto = codes "err portproto"
+refusal_text refusals.Halted = codes "err halted"
 refusal_text refusals.BadCount = codes "err count"
 refusal_text (refusals.Twice at) = codes "err twice " ++ decimal at
 refusal_text (refusals.Conflict at) = codes "err conflict " ++ decimal at
@@ -92,6 +93,8 @@ refusal_text (refusals.BadPeer fault) = fault_text fault
 refusal_text refusals.PeerCount = codes "err peer count"
 refusal_text refusals.TicketsExhausted = codes "err tickets"
 refusal_text refusals.HistoryFull = codes "err history"
+refusal_text refusals.Full = codes "err full"
+refusal_text refusals.Fault = codes "err fault"
 refusal_text refusals.Memory = codes "err memory"
 
 -- the last line of a reply, which has no other unless it shows rules, tables, states or messages

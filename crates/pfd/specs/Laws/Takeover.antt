@@ -1,7 +1,7 @@
 -- What a Book holds that was given the lines of a peer's export. Own.
 use Rattle.std.specs.Prelude.{◌≡◌, ◌⊎◌, ◌+◌, ◌≤◌, ℕ, List, [], ◌∷◌, ◌++◌, length}
 use Rattle.pf_core.specs.declared.{reply.Refusal.TheVariants.Memory, reply.Reply.TheVariants.Refused}
-use Rattle.pf_core.specs.{Durable.Edits.{Kept, kept_nothing, after}, Pages.{Page, StandsFor}, Worlds.{Event, flat, opened, setting_with}}
+use Rattle.pf_core.specs.{Durable.Edits.{Kept, kept_nothing, after}, Pages.{Page, StandsFor}, Worlds.{Event, flat, in_memory, opened}}
 use Rattle.pf_line.specs.{Laws.Exports.{exported_lines, CanBeExported, main_count, states_there}, Reply.Replies.reply_text, StateTables.Stated}
 use Rattle.pfd.specs.Serving.{Serves}
 
@@ -9,10 +9,11 @@ use Rattle.pfd.specs.Serving.{Serves}
 abbrev pub held_in : Page → Kept
 held_in b = after b.base (flat b.acked)
 
--- no states yet, room for so many changes, and few enough main rules that a message can name each
+-- no states yet, no group pending, room for so many changes, and few enough main rules that a message can name each
 pub record IsReadyFor (changes : ℕ) (b : Page) : Type 0 where
   pub no_states : (held_in b).states ≡ []
-  pub room : length (flat (b.acked ++ b.pending)) + changes ≤ b.limit
+  pub none_pending : b.pending ≡ []
+  pub room : length (flat b.acked) + changes ≤ b.limit
   pub rules : main_count (held_in b) ≤ 4294967295
 
 -- some line was told that memory was refused
@@ -31,6 +32,6 @@ TakesOver = (ours : List ℕ) (es : List Stated) (first : Kept) (world : List Ev
 -- so does a fresh Book
 abbrev pub FreshTakesOver : Type 0
 FreshTakesOver = (ours : List ℕ) (es : List Stated) (limit : ℕ) (old new : Page) (text : List ℕ)
-    → CanBeExported ours es → StandsFor (kept_nothing 0) old (opened (setting_with limit) ∷ [])
+    → CanBeExported ours es → StandsFor (kept_nothing 0) old (opened (in_memory limit) ∷ [])
     → length (exported_lines ours es) ≤ limit → Serves old new (exported_lines ours es) text
     → ((held_in new).states ≡ states_there (kept_nothing 1) ours es) ⊎ WantedMemory text

@@ -1,15 +1,13 @@
 use Rattle.pf_core.specs.declared.reply.Answer.TheVariants as answer
 use Rattle.pf_core.specs.declared.reply.Reply.TheVariants.{Answer as Answered, Refused}
-use Rattle.pf_core.specs.Worlds.{upshot}
 use Rattle.pf_line.specs.Reply.Replies.{reply_text}
-use Rattle.std.proofs.Common.{false}
 use Rattle.pfd.proofs.Calling.{serves-judge, serves-refusal}
 use Rattle.pfd.proofs.engine.answer_judge.Goals as goal
 
 pub returns-in-Ok : goal.returns-in-Ok
 returns-in-Ok g c =
     let told = rw c.in-Ok.is at c.in-Some.ensures in
-    (reply_text (Answered (answer.Judged c.judge.result)), serves-judge c.args.line.now c.in-Ok.packet c.judge.result (upshot c.args.book.now.shown false) c.args.book.now told.exact c.judge.ensures.worlds, c.write_judged.ensures.text)
+    (reply_text (Answered (answer.Judged c.judge.result)), serves-judge c.args.line.now c.in-Ok.packet c.judge.result c.args.book.now.shown c.args.book.now told.exact c.judge.ensures.worlds, c.write_judged.ensures.text)
 
 pub returns-in-Err : goal.returns-in-Err
 returns-in-Err g c =

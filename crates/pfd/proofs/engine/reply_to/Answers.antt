@@ -1,5 +1,3 @@
-use Rattle.std.proofs.Common.{false}
-use Rattle.pf_core.specs.Worlds.{upshot}
 use Rattle.pfd.proofs.Calling.{told-silence, told-reply, told-refusal}
 use Rattle.pfd.proofs.engine.reply_to.Goals as goal
 
@@ -8,7 +6,7 @@ returns-in-Ok-None c = told-silence c.args.line.now c.args.book.now (rw c.in-Ok-
 
 pub returns-in-Ok-Some : goal.returns-in-Ok-Some
 returns-in-Ok-Some c =
-    told-reply c.args.line.now c.in-Ok-Some.command c.run.result (upshot c.run.new.self.shown false) c.args.book.now c.run.new.self (rw c.in-Ok-Some.field-0-is at c.in-Ok-Some.ensures.exact)
+    told-reply c.args.line.now c.in-Ok-Some.command c.run.result c.run.new.self.shown c.args.book.now c.run.new.self (rw c.in-Ok-Some.field-0-is at c.in-Ok-Some.ensures.exact)
     (record { worlds = c.run.ensures.worlds; limit = c.run.ensures.limit })
 
 pub returns-in-Err : goal.returns-in-Err

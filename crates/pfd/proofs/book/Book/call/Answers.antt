@@ -10,8 +10,8 @@ pub returns-in-Ok-Done-clause-leads : goal.returns-in-Ok-Done-clause-leads
 returns-in-Ok-Done-clause-leads c = λ h now.
     let e = rw c.in-Ok-Done.field-0-is at c.in-Ok-Done.ensures in
     let at : IsAt h (page_in c.self.inside) = subst (IsAt h) (sym c.self.view_is) now in
-    nothing-leads h (page_in c.self.inside) c.step_ready.new.self c.args.command.now (Answer c.in-Ok-Done.answer) (answer-is-legal h (page_in c.self.inside) c.args.command.now c.in-Ok-Done.answer at c.self.invariant e.reply)
-    refl refl (ap (λ (w : Whole). w.tickets) e.left) at
+    nothing-leads h (page_in c.self.inside) c.step_ready.new.self c.args.command.now (Answer c.in-Ok-Done.answer) (answer-is-legal h (page_in c.self.inside) c.args.command.now c.in-Ok-Done.answer at c.self.invariant refl e.reply)
+    refl refl refl (ap (λ (w : Whole). w.tickets) e.left) at
 
 pub returns-in-Ok-clause-leads : goal.returns-in-Ok-clause-leads
 returns-in-Ok-clause-leads c = λ h now.
@@ -35,4 +35,4 @@ pub returns-in-Err-clause-leads : goal.returns-in-Err-clause-leads
 returns-in-Err-clause-leads c = λ h now.
     let b : Page = page_in c.self.inside in
     let at : IsAt h b = subst (IsAt h) (sym c.self.view_is) now in
-    refused-leads h b _ c.args.command.now c.in-Err.refusal (refusal-is-legal h b c.args.command.now c.in-Err.refusal at c.self.invariant c.in-Err.ensures.reply) (ap (with_core b) c.in-Err.ensures.left) at
+    refused-leads h b _ c.args.command.now c.in-Err.refusal (refusal-is-legal h b c.args.command.now c.in-Err.refusal at c.self.invariant refl c.in-Err.ensures.reply) (ap (with_core b) c.in-Err.ensures.left) at

@@ -1,4 +1,4 @@
-use Rattle.std.proofs.{Common.{◌≡◌, ◌≤◌, ◌<◌, ◌+◌, ◌++◌, ◌∷◌, [], List, length, refl, sym, ap, ◌∙◌, subst, inl, inr, arith}, lemmas.Grind.common_steps, lemmas.List.map-append}
+use Rattle.std.proofs.{Common.{◌≡◌, ◌≤◌, ◌<◌, ◌+◌, ◌++◌, ◌∷◌, [], List, length, refl, sym, ap, ◌∙◌, subst, inr, arith}, lemmas.Grind.common_steps, lemmas.List.map-append}
 use Rattle.std.specs.{Prelude.map, Arc.arc_value}
 use Rattle.pf_ticket.specs.Mentions.{after, switches}
 use Rattle.pf_core.specs.{Durable.Edits.Edit, Pages.Page, Nexts.Ready, Wholes.Whole}

@@ -1,0 +1,168 @@
+-- Which groups are kept.
+use Rattle.std.proofs.{Common.{◌≡◌, ℕ, ◌+◌, ◌<◌, ◌≤◌, Bool, true, false, cond, ◌⊎◌, inl, inr, List, [], ◌∷◌, ◌++◌, length, take, refl, sym, ap, ◌∙◌, subst, append_assoc, append-nil, Result, Ok, Err, nat_lt, arith}, lemmas.Bool.Decides.nat_tests}
+use Rattle.pf_core.specs.{declared.{command.Command.Command, command.Command.TheVariants.Ask, reply.Refusal.Refusal, reply.Outcome.Outcome, reply.Refusal.TheVariants.Halted, reply.Refusal.TheVariants.HistoryFull, reply.Refusal.TheVariants.Full, reply.Reply.Reply, reply.Reply.TheVariants.Answer, reply.Reply.TheVariants.Applied, reply.Reply.TheVariants.Refused, step.Step.Step, step.Step.TheVariants.Done, step.Step.TheVariants.Wants}, Commands.step_by, Durable.Edits.Edit, History.{acked_of, pending_of, kept_by, earlier, acknowledged, history, offered_by, offered, AreAmong}, Laws.Openings.{IsFrontOf, KeepsWhole, KeepsAcknowledged}, Worlds.{Held, State, up, down, Event, called, crashed, opened, refused_opening, log_of, durable_of, is_halted, room_for, if_ok, or_refused, due_at, group_at, group_in, group_of, kept_groups, acked_by, is_fault, pending_by, next, state_after}}
+use Rattle.pf_core.proofs.Fronts.{front-more, front-trans, front-behind, among-none, among-refl, among-take, among-append, among-trans}
+
+-- ---- the group of a step
+
+-- a step's change is kept where there is room
+pub record IsKept (h : Held) (s : Result Step Refusal) : Type 0 where
+  pub change : Edit
+  pub outcome : Outcome
+  pub wanted : s ≡ Ok (Wants change outcome)
+  pub room : length (log_of h) + 1 ≤ h.setting.limit
+  pub group : group_at h s ≡ (change ∷ []) ∷ []
+  pub reply : due_at h s ≡ Applied (length (log_of h) + 1) outcome
+
+-- or it wants none, or is refused
+pub record IsNotKept (h : Held) (s : Result Step Refusal) : Type 0 where
+  pub group : group_at h s ≡ []
+  pub reply : (n : ℕ) (o : Outcome) → Applied n o ≡ due_at h s → ⊥
+
+with-room : (h : Held) (e : Edit) (full : Bool) (rest : Result (Unit {0}) Refusal) (u : Unit {0}) → nat_lt h.setting.limit (length (log_of h) + 1) ≡ full → cond full (Err HistoryFull) rest ≡ Ok u → length (log_of h) + 1 ≤ h.setting.limit
+with-room h e true rest u k is = absurd (cc (is))
+with-room h e false rest u k is = grind (arith, nat_tests, k)
+
+wanted-kept : (h : Held) (e : Edit) (o : Outcome) (room : Result (Unit {0}) Refusal) → room_for h (e ∷ []) ≡ room → IsKept h (Ok (Wants e o)) ⊎ IsNotKept h (Ok (Wants e o))
+wanted-kept h e o (Ok u) is = inl (record {
+  change = e;
+  outcome = o;
+  wanted = refl;
+  room = with-room h e (nat_lt h.setting.limit (length (log_of h) + 1)) (cond (h.setting.is_full h.base h.acked (e ∷ [])) (Err Full) (Ok tt)) u refl is;
+  group = ap (λ (r : Result (Unit {0}) Refusal). if_ok r ((e ∷ []) ∷ []) []) is;
+  reply = ap (λ (r : Result (Unit {0}) Refusal). or_refused r (Applied (length (log_of h) + 1) o)) is;
+})
+wanted-kept h e o (Err x) is = inr (record {
+  group = ap (λ (r : Result (Unit {0}) Refusal). if_ok r ((e ∷ []) ∷ []) []) is;
+  reply = λ n p same. let full : due_at h (Ok (Wants e o)) ≡ Refused x = ap (λ (r : Result (Unit {0}) Refusal). or_refused r (Applied (length (log_of h) + 1) o)) is in cc (same, full);
+})
+
+pub kept-or-not : (h : Held) (s : Result Step Refusal) → IsKept h s ⊎ IsNotKept h s
+kept-or-not h (Ok (Done a)) = inr (record { group = refl; reply = λ n o is. cc (is) })
+kept-or-not h (Ok (Wants e o)) = wanted-kept h e o (room_for h (e ∷ [])) refl
+kept-or-not h (Err x) = inr (record { group = refl; reply = λ n o is. cc (is) })
+
+pub room-found : (h : Held) (e : Edit) → length (log_of h) < h.setting.limit → h.setting.is_full h.base h.acked (e ∷ []) ≡ false → room_for h (e ∷ []) ≡ Ok tt
+room-found h e few room =
+    let low : nat_lt h.setting.limit (length (log_of h) + 1) ≡ false = grind (arith, nat_tests, few) in
+    ap (λ (b : Bool). cond b (Err HistoryFull) (cond (h.setting.is_full h.base h.acked (e ∷ [])) (Err Full) (Ok tt))) low ∙ ap (λ (b : Bool). cond b (Err Full) (Ok tt)) room
+
+-- what is refused keeps nothing
+pub refused-group : (h : Held) (s : Result Step Refusal) (e : Refusal) → Refused e ≡ due_at h s → group_at h s ≡ []
+refused-group h s e is = by (kept-or-not h s) where
+  by : IsKept h s ⊎ IsNotKept h s → group_at h s ≡ []
+  by (inl k) = absurd (cc (is, k.reply))
+  by (inr none) = none.group
+
+-- ---- what was acknowledged stays
+
+-- what an event keeps stands before all that comes later
+pub history-first : (st : State) (ev : Event) (evs : List Event) → history st (ev ∷ evs) ≡ kept_by st ev ++ history (next st ev) evs
+history-first st ev evs =
+    let mid : State = next st ev in
+    let end : State = state_after mid evs in
+    ap (λ (l : List (List Edit)). l ++ pending_of end) (append_assoc (kept_by st ev) (earlier mid evs) (acked_of end)) ∙ append_assoc (kept_by st ev) (acknowledged mid evs) (pending_of end)
+
+-- in the opening that lasts
+acked-front : (st : State) (later : List Event) → IsFrontOf (acked_of st) (history st later)
+acked-front st [] = front-more (acked_of st) (pending_of st)
+acked-front (up h) (called c t ∷ evs) =
+    let st : State = next (up h) (called c t) in
+    front-trans h.acked (acked_of st) (history st evs) (acked_by c.reply (group_in h c.command), refl) (acked-front st evs)
+acked-front (up h) (crashed doing n ∷ evs) =
+    let more : List (List Edit) = take n (h.pending ++ group_of h doing) in
+    let rest : List (List Edit) = history (next (up h) (crashed doing n)) evs in
+    (more ++ rest, history-first (up h) (crashed doing n) evs ∙ append_assoc h.acked more rest)
+acked-front (up h) (opened setting ∷ evs) = acked-front (up h) evs
+acked-front (up h) (refused_opening rose ∷ evs) = acked-front (up h) evs
+acked-front (down d) (ev ∷ evs) = (history (down d) (ev ∷ evs), refl)
+
+pub acknowledged-front : (st : State) (world later : List Event) → IsFrontOf (acknowledged st world) (history st (world ++ later))
+acknowledged-front st [] later = acked-front st later
+acknowledged-front st (ev ∷ evs) later =
+    let mid : State = next st ev in
+    let kept : List (List Edit) = kept_by st ev in
+    let rest : IsFrontOf (kept ++ acknowledged mid evs) (kept ++ history mid (evs ++ later)) = front-behind kept (acknowledged mid evs) (history mid (evs ++ later)) (acknowledged-front mid evs later) in
+    subst (λ (l : List (List Edit)). IsFrontOf l (history st (ev ∷ (evs ++ later)))) (sym (append_assoc kept (earlier mid evs) (acked_of (state_after mid evs))))
+    (subst (λ (l : List (List Edit)). IsFrontOf (kept ++ acknowledged mid evs) l) (sym (history-first st ev (evs ++ later))) rest)
+
+pub keeps_acknowledged : KeepsAcknowledged
+keeps_acknowledged first world later legal = acknowledged-front (down first) world later
+
+-- ---- groups are kept whole
+
+-- a halted opening keeps nothing more
+quiet : (h : Held) (c : Command) (g : List Edit) (gs : List (List Edit)) → h.pending ≡ g ∷ gs → group_in h c ≡ []
+quiet h (Ask q) g gs is = refl
+quiet h c g gs is = ap (λ (p : List (List Edit)). group_at h (cond (is_halted p) (Err Halted) (step_by h.tickets (durable_of h) c))) is
+
+pub either : (h : Held) (c : Command) → (h.pending ≡ []) ⊎ (group_in h c ≡ [])
+either h c = by h.pending refl where
+  by : (p : List (List Edit)) → h.pending ≡ p → (h.pending ≡ []) ⊎ (group_in h c ≡ [])
+  by [] is = inl is
+  by (g ∷ gs) is = inr (quiet h c g gs is)
+
+-- a refusal leaves its group or nothing of it
+refused-among : (fault : Bool) (g : List (List Edit)) → AreAmong (cond fault g []) g
+refused-among true g = among-refl g
+refused-among false g = among-none g
+
+-- and so does each reply
+split-among : (r : Reply) (g : List (List Edit)) → AreAmong (acked_by r g ++ pending_by r g) g
+split-among (Answer a) g = among-none g
+split-among (Applied n o) g = subst (λ (l : List (List Edit)). AreAmong l g) (sym (append-nil g)) (among-refl g)
+split-among (Refused e) g = refused-among (is_fault e) g
+
+no-parts : (a p : List (List Edit)) → a ++ p ≡ [] → (a ≡ []) × (p ≡ [])
+no-parts [] p is = (refl, is)
+no-parts (x ∷ xs) p is = absurd (cc (is))
+
+-- the log once these parts of a group were acknowledged, and not
+more-among : (acked pending group a p : List (List Edit)) → AreAmong (a ++ p) group → (pending ≡ []) ⊎ (group ≡ []) → AreAmong ((acked ++ a) ++ (pending ++ p)) ((acked ++ pending) ++ group)
+more-among acked pending group a p split (inl none) =
+    subst (λ (l : List (List Edit)). AreAmong ((acked ++ a) ++ (l ++ p)) ((acked ++ l) ++ group)) (sym none)
+    (subst (λ (l : List (List Edit)). AreAmong l ((acked ++ []) ++ group)) (sym (append_assoc acked a p))
+    (subst (λ (l : List (List Edit)). AreAmong (acked ++ (a ++ p)) (l ++ group)) (sym (append-nil acked))
+    (among-append acked acked (a ++ p) group (among-refl acked) split)))
+more-among acked pending group a p split (inr none) =
+    let parts : (a ≡ []) × (p ≡ []) = no-parts a p (subst (λ (l : List (List Edit)). AreAmong (a ++ p) l) none split) in
+    subst (λ (l : List (List Edit)). AreAmong ((acked ++ a) ++ (pending ++ p)) ((acked ++ pending) ++ l)) (sym none)
+    (rw (parts.0, parts.1) (simp (append-nil {A = List Edit}) (among-refl (acked ++ pending))))
+
+-- an event that offers nothing leaves the log
+log-stays : (h : Held) → AreAmong (h.acked ++ h.pending) ((h.acked ++ h.pending) ++ [])
+log-stays h = subst (λ (l : List (List Edit)). AreAmong (h.acked ++ h.pending) l) (sym (append-nil (h.acked ++ h.pending))) (among-refl (h.acked ++ h.pending))
+
+step-among : (st : State) (ev : Event) → AreAmong (kept_by st ev ++ (acked_of (next st ev) ++ pending_of (next st ev))) ((acked_of st ++ pending_of st) ++ offered_by st ev)
+step-among (up h) (called c t) =
+    let g : List (List Edit) = group_in h c.command in
+    more-among h.acked h.pending g (acked_by c.reply g) (pending_by c.reply g) (split-among c.reply g) (either h c.command)
+step-among (up h) (crashed doing n) =
+    let offers : List (List Edit) = h.pending ++ group_of h doing in
+    subst (λ (l : List (List Edit)). AreAmong (kept_groups h doing n ++ []) l) (sym (append_assoc h.acked h.pending (group_of h doing)))
+    (subst (λ (l : List (List Edit)). AreAmong l (h.acked ++ offers)) (sym (append-nil (kept_groups h doing n)))
+    (among-append h.acked h.acked (take n offers) offers (among-refl h.acked) (among-take n offers)))
+step-among (up h) (opened setting) = log-stays h
+step-among (up h) (refused_opening rose) = log-stays h
+step-among (down d) (called c t) = refl
+step-among (down d) (crashed doing n) = refl
+step-among (down d) (opened setting) = refl
+step-among (down d) (refused_opening rose) = refl
+
+-- from any state on
+pub among-from : (st : State) (world : List Event) → AreAmong (history st world) ((acked_of st ++ pending_of st) ++ offered st world)
+among-from st [] = subst (λ (l : List (List Edit)). AreAmong (history st []) l) (sym (append-nil (acked_of st ++ pending_of st))) (among-refl (acked_of st ++ pending_of st))
+among-from st (ev ∷ evs) =
+    let mid : State = next st ev in
+    let kept : List (List Edit) = kept_by st ev in
+    let log : List (List Edit) = acked_of mid ++ pending_of mid in
+    let rest : List (List Edit) = offered mid evs in
+    let one : AreAmong (kept ++ history mid evs) (kept ++ (log ++ rest)) = among-append kept kept (history mid evs) (log ++ rest) (among-refl kept) (among-from mid evs) in
+    let two : AreAmong ((kept ++ log) ++ rest) (((acked_of st ++ pending_of st) ++ offered_by st ev) ++ rest) = among-append (kept ++ log) ((acked_of st ++ pending_of st) ++ offered_by st ev) rest rest (step-among st ev) (among-refl rest) in
+    subst (λ (l : List (List Edit)). AreAmong l ((acked_of st ++ pending_of st) ++ offered st (ev ∷ evs))) (sym (history-first st ev evs))
+    (subst (λ (l : List (List Edit)). AreAmong (kept ++ history mid evs) l) (append_assoc (acked_of st ++ pending_of st) (offered_by st ev) rest)
+    (among-trans (kept ++ history mid evs) ((kept ++ log) ++ rest) (((acked_of st ++ pending_of st) ++ offered_by st ev) ++ rest)
+    (subst (λ (l : List (List Edit)). AreAmong (kept ++ history mid evs) l) (sym (append_assoc kept log rest)) one) two))
+
+pub keeps_whole : KeepsWhole
+keeps_whole first world legal = among-from (down first) world

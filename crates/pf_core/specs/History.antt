@@ -1,0 +1,70 @@
+-- What is kept over all openings of a world. Own.
+use Rattle.std.specs.Prelude.{◌≡◌, ◌⊎◌, List, [], ◌∷◌, ◌++◌}
+use Rattle.pf_ticket.specs.{declared.ticket.Ticket.Ticket, Names.tickets_of}
+use Rattle.pf_core.specs.{declared.{reply.Reply.Reply, reply.Reply.TheVariants.Answer as Answered}, Durable.Edits.{Kept, Edit}, Worlds.{State, up, down, Event, called, crashed, group_in, group_of, kept_groups, next, state_after}}
+use Rattle.pf_core.specs.declared.reply.Answer.TheVariants as answer
+
+-- what the opening that lasts gave, or what is held between two
+abbrev pub base_of : State → Kept
+base_of (up h) = h.base
+base_of (down d) = d
+
+abbrev pub acked_of : State → List (List Edit)
+acked_of (up h) = h.acked
+acked_of (down d) = []
+
+abbrev pub pending_of : State → List (List Edit)
+pending_of (up h) = h.pending
+pending_of (down d) = []
+
+-- ---- what is kept
+
+-- the groups that a crash keeps of its opening
+abbrev pub kept_by : State → Event → List (List Edit)
+kept_by (up h) (crashed doing n) = kept_groups h doing n
+kept_by st e = []
+
+-- the groups of all openings that ended, one opening after the other
+abbrev pub earlier : State → List Event → List (List Edit)
+earlier st [] = []
+earlier st (e ∷ es) = kept_by st e ++ earlier (next st e) es
+
+-- with those that the opening that lasts acknowledged
+abbrev pub acknowledged : State → List Event → List (List Edit)
+acknowledged st world = earlier st world ++ acked_of (state_after st world)
+
+-- and with the one that it did not
+abbrev pub history : State → List Event → List (List Edit)
+history st world = acknowledged st world ++ pending_of (state_after st world)
+
+-- ---- what was offered
+
+-- the group that an event offered to be kept, whether it was or not
+abbrev pub offered_by : State → Event → List (List Edit)
+offered_by (up h) (called c t) = group_in h c.command
+offered_by (up h) (crashed doing n) = group_of h doing
+offered_by st e = []
+
+abbrev pub offered : State → List Event → List (List Edit)
+offered st [] = []
+offered st (e ∷ es) = offered_by st e ++ offered (next st e) es
+
+-- some of these, in order and each once
+abbrev pub AreAmong : List (List Edit) → List (List Edit) → Type 0
+AreAmong gs [] = gs ≡ []
+AreAmong gs (o ∷ os) = AreAmong gs os ⊎ ((rest : List (List Edit)) × (gs ≡ o ∷ rest) × AreAmong rest os)
+
+-- ---- tickets
+
+abbrev pub tickets_in : Reply → List Ticket
+tickets_in (Answered (answer.Given range)) = tickets_of range
+tickets_in r = []
+
+abbrev pub tickets_by : Event → List Ticket
+tickets_by (called c t) = tickets_in c.reply
+tickets_by e = []
+
+-- the tickets that replies gave, in all openings
+abbrev pub tickets_given : List Event → List Ticket
+tickets_given [] = []
+tickets_given (e ∷ es) = tickets_by e ++ tickets_given es

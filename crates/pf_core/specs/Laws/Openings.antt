@@ -1,0 +1,67 @@
+-- What holds of every world over crashes and openings: what each opening gives.
+use Rattle.std.specs.{Prelude.{◌≡◌, ℕ, false, List, [], ◌∷◌, ◌++◌, ⊤}, List.AllByRecursion}
+use Rattle.pf_ticket.specs.{declared.{name.RulesetName.RulesetName, ticket.Ticket.Ticket}, Tickets.is_valid}
+use Rattle.pf_core.specs.{Durable.Edits.{Kept, in_epoch, after}, History.{base_of, acknowledged, earlier, history, offered, AreAmong, tickets_given}, Worlds.{Setting, Held, State, up, down, Doing, Event, crashed, opened, flat, next, state_after, IsWorld}}
+
+-- ---- tickets
+
+-- none of these tickets is valid for any ruleset; between two openings none is
+abbrev pub AreVoid : State → List Ticket → Type 0
+AreVoid (up h) ts = (name : RulesetName) → AllByRecursion (λ t. is_valid h.tickets name t ≡ false) ts
+AreVoid (down d) ts = ⊤
+
+-- no ticket that was given before an opening is valid after it
+abbrev pub VoidsTickets : Type 0
+VoidsTickets = (first : Kept) (world later : List Event) (setting : Setting) → IsWorld first (world ++ opened setting ∷ later) →
+    AreVoid (state_after (down first) (world ++ opened setting ∷ later)) (tickets_given world)
+
+-- ---- what is kept
+
+-- what is kept are groups that were offered, each of them whole, in order and once
+abbrev pub KeepsWhole : Type 0
+KeepsWhole = (first : Kept) (world : List Event) → IsWorld first world → AreAmong (history (down first) world) (offered (down first) world)
+
+-- the same, whatever the epoch
+abbrev pub IsButForEpoch : Kept → Kept → Type 0
+IsButForEpoch d e = d ≡ in_epoch d.epoch e
+
+-- what each opening gave is, but for its epoch, the fold of all that was kept before it; so is what is held between two
+abbrev pub GivesTheFold : Type 0
+GivesTheFold = (first : Kept) (world : List Event) → IsWorld first world →
+    IsButForEpoch (base_of (state_after (down first) world)) (after first (flat (earlier (down first) world)))
+
+abbrev pub IsFrontOf : {A : Type 0} → List A → List A → Type 0
+IsFrontOf {A} front all = (rest : List A) × (all ≡ front ++ rest)
+
+-- what was acknowledged stays
+abbrev pub KeepsAcknowledged : Type 0
+KeepsAcknowledged = (first : Kept) (world later : List Event) → IsWorld first (world ++ later) →
+    IsFrontOf (acknowledged (down first) world) (history (down first) (world ++ later))
+
+-- What an opening gives after a world and what came later: but for its epoch the fold of all groups that were kept, which are whole groups
+-- that were offered, in order and each once, and begin with those that the first part acknowledged.
+pub record IsGiven (first : Kept) (world later : List Event) (given : Kept) : Type 0 where
+  pub fold : IsButForEpoch given (after first (flat (history (down first) (world ++ later))))
+  pub whole : AreAmong (history (down first) (world ++ later)) (offered (down first) (world ++ later))
+  pub acknowledged : IsFrontOf (acknowledged (down first) world) (history (down first) (world ++ later))
+
+abbrev pub GivesAllThatWasKept : Type 0
+GivesAllThatWasKept = (first : Kept) (world later : List Event) (setting : Setting) →
+    IsWorld first ((world ++ later) ++ opened setting ∷ []) →
+    IsGiven first world later (base_of (state_after (down first) ((world ++ later) ++ opened setting ∷ [])))
+
+-- ---- crashes
+
+-- what some crash may leave of an opening
+abbrev pub Leaves : Held → Doing → Kept → Type 0
+Leaves h doing d = (n : ℕ) × (next (up h) (crashed doing n) ≡ down d)
+
+-- this is held after the world and some crash
+abbrev pub IsHeldAfter : Kept → List Event → Doing → Kept → Type 0
+IsHeldAfter first world doing d = (n : ℕ) × IsWorld first (world ++ crashed doing n ∷ []) ×
+    (state_after (down first) (world ++ crashed doing n ∷ []) ≡ down d)
+
+-- whatever a crash may leave of an opening is what is held after a world that ends in that crash
+abbrev pub CrashesAreEvents : Type 0
+CrashesAreEvents = (first : Kept) (world : List Event) (h : Held) (doing : Doing) (d : Kept) → IsWorld first world →
+    state_after (down first) world ≡ up h → Leaves h doing d → IsHeldAfter first world doing d
