@@ -6,7 +6,7 @@ ghost use Rattle.pf_table.specs.{Edits.{added, additions, deleted, deletions, re
 ghost use Rattle.pf_state.specs.Steps.{after, counts, without_state};
 ghost use Rattle.pf_ticket.specs.Replies.{twice_behind};
 ghost use Rattle.pf_core.specs.declared.durable.refusal.ChangeRefusal.TheVariants.{Twice, Memory};
-ghost use Rattle.pf_core.specs.Durable.Edits.{is_in_order, name_of, kept_nothing, commits, adds, deletes, sets, acts, rulesets_in, replaces_main, placed, tables_in, entries_at, sum_of, main_sum, with_entries, with_states, in_epoch, room_for_table, fits, applied, changed, verdict};
+ghost use Rattle.pf_core.specs.Durable.Edits.{is_in_order, name_of, kept, kept_nothing, commits, adds, deletes, sets, acts, rulesets_in, replaces_main, placed, tables_in, entries_at, sum_of, main_sum, with_entries, with_states, in_epoch, room_for_table, fits, applied, changed, verdict};
 
 use crate::durable::change::{Change, ChangeKind, Item, names_of};
 use crate::durable::refusal::ChangeRefusal;
@@ -125,6 +125,23 @@ impl Durable {
             config: shared(alloc, Config::empty())?,
             states: shared(alloc, StateTable::empty())?,
             sum: ruleset_sum(&[]),
+        })
+    }
+
+    /// These rulesets and tables, and these states, in the opening with this epoch. `AllocError`: nothing is made.
+    pub fn of(
+        alloc: Global,
+        opening: u32,
+        config: Config,
+        states: StateTable,
+    ) -> Result<Durable, AllocError>
+        ensures { IfOk result (λ d. d ≡ kept opening config states) }
+    {
+        Ok(Durable {
+            epoch: opening,
+            sum: ruleset_sum(config.rules_at(&Path::main())?.as_slice()),
+            config: shared(alloc, config)?,
+            states: shared(alloc, states)?,
         })
     }
 
