@@ -28,15 +28,19 @@ length_at-header g n small = from_be_bytes-to_be_bytes_4 n small
 pub short : (image : List ℕ) (g n : ℕ) → IsSize (length image) → HasHeader image g n → n < 2 ^ 32
 short image g n size has = omega (arith, size.most, has.fits)
 
-pub one_bank : (image : List ℕ) (g h : ℕ) (s t : List ℕ) (ps qs : List (List ℕ)) → HoldsBank image g s ps → HoldsBank image h t qs → (g ≡ h) × (s ≡ t) × (ps ≡ qs)
-one_bank image g h s t ps qs a b =
-    let same : header g (length s) ≡ header h (length t) = sym a.front.header.written ∙ b.front.header.written in
-    let early : (g < 2 ^ 64) × (h < 2 ^ 64) = (omega (arith, a.front.header.early), omega (arith, b.front.header.early)) in
+pub one_front_of_bank : (image : List ℕ) (g h : ℕ) (s t : List ℕ) → HasSnapshot image g s → HasSnapshot image h t → (g ≡ h) × (s ≡ t)
+one_front_of_bank image g h s t a b =
+    let same : header g (length s) ≡ header h (length t) = sym a.header.written ∙ b.header.written in
+    let early : (g < 2 ^ 64) × (h < 2 ^ 64) = (omega (arith, a.header.early), omega (arith, b.header.early)) in
     let g-is : g ≡ h = sym (generation_at-header g (length s) early.0) ∙ ap generation_at same ∙ generation_at-header h (length t) early.1 in
     let n-is : length s ≡ length t =
-    sym (length_at-header g (length s) (short image g (length s) a.front.size a.front.header)) ∙ ap length_at same ∙ length_at-header h (length t) (short image h (length t) b.front.size b.front.header) in
-    let s-is : s ≡ t = sym a.front.written ∙ ap (λ (k : ℕ). take (24 + k - 24) (drop 24 image)) n-is ∙ b.front.written in
-    (g-is, s-is, unique _ ps qs a.records (subst (λ (k : ℕ). StandsFor (24 + k) (bank_end (length image)) image qs) (sym n-is) b.records))
+    sym (length_at-header g (length s) (short image g (length s) a.size a.header)) ∙ ap length_at same ∙ length_at-header h (length t) (short image h (length t) b.size b.header) in
+    (g-is, sym a.written ∙ ap (λ (k : ℕ). take (24 + k - 24) (drop 24 image)) n-is ∙ b.written)
+
+pub one_bank : (image : List ℕ) (g h : ℕ) (s t : List ℕ) (ps qs : List (List ℕ)) → HoldsBank image g s ps → HoldsBank image h t qs → (g ≡ h) × (s ≡ t) × (ps ≡ qs)
+one_bank image g h s t ps qs a b =
+    let same = one_front_of_bank image g h s t a.front b.front in
+    (same.0, same.1, unique _ ps qs a.records (subst (λ (k : List ℕ). StandsFor (records_start k) (bank_end (length image)) image qs) (sym same.1) b.records))
 
 -- ---- what a look refuses
 

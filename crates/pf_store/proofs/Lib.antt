@@ -1,3 +1,14 @@
 pub mod Holding
 pub mod Formatting
 pub mod Closing
+pub mod Pushed
+pub mod Taken
+pub mod Told
+pub mod Lengthy
+pub mod Payloads
+pub mod Leading
+pub mod Refusing
+pub mod Saving
+pub mod Limiting
+pub mod Durables
+pub mod DurablesSized

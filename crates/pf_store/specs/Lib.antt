@@ -1,6 +1,14 @@
 pub mod Banks
 pub mod BankFaults
 pub mod BankKept
+pub mod Groups
+pub mod Durables
+pub mod Lengths
+pub mod Snapshots
+pub mod Stores
+pub mod StoreFaults
+pub mod StoreKept
+pub mod Openings
 -- what public clauses cite of the crates below
 pub use Rattle.pf_disk.specs.Disk
 pub use Rattle.pf_journal.specs.Records

@@ -31,6 +31,7 @@ mod looking;
 
 pub use fault::{FormatFault, LookFault};
 pub use formatting::format;
+pub(crate) use header::{HEADER, is_size};
 pub use kept::Bank;
 pub use laws::{bank_has_these_bytes, bank_is_refused_by_chance_alone, image_holds_one_bank};
 pub use looking::{Looked, look};

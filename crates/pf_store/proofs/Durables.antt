@@ -1,0 +1,365 @@
+-- What is kept: what its types keep fits its form, its data tell it, and its bytes.
+use Rattle.std.proofs.{Common.{◌*◌, ◌^◌, ◌≡◌, ◌≢◌, ◌≤◌, ◌==◌, ◌&&◌, ◌++◌, not, ℕ, Bool, true, false, T, List, [], ◌∷◌, length, map, cond, Some, None, Ok, refl, sym, ap, ◌∙◌, subst, true≢false, append_assoc, arith}, lemmas.{List.{length-map, append-nil}, Bool.{and_parts, Decides.nat_tests}, Cmp.{alike_right, tied_itself, nat_list_cmp_total}}}
+use Rattle.std.specs.{Prelude.{fold, nat_le, replicate}, declared.{cmp.Ordering.Ordering, cmp.Ordering.TheVariants.Less, cmp.Ordering.TheVariants.Equal, cmp.Ordering.TheVariants.Greater}, Cmp.IsTotalOrder, FinMap.{find, is_sorted}, FinMap.Entries.below_all, List.{list_all, AllByRecursion}, Ordering.{is_eq, is_lt, ordering_reverse}}
+use Rattle.pf_addr.specs.{Bytes.{Parts.number_bytes, Forms.{Shape, Value, Form, that, Fits, Spells, reads, writes, onto}, Lists.{in_order, ordered}}, Laws.Bytes.{Onto.onto_is, Texts.one_value}, Path.Paths.path_order}
+use Rattle.pf_addr.specs.{Bytes.Codes.below, NetForms.family, Path.PathForms.{path_form, table_name_form}}
+use Rattle.pf_anchor.specs.{declared.limits.TheConstants.{RULESET_LIMIT, TABLE_COUNT_LIMIT}, Configurations.{Configuration, nothing, with_rulesets, with_tables}, Rulesets.{Ruled, IsMap}, Tables.{Tabled, table_order, IsTableMap}}
+use Rattle.pf_anchor.proofs.TableMaps.{table_order_total}
+use Rattle.pf_core.specs.Durable.Edits.{Kept, kept, kept_nothing}
+use Rattle.pf_rule.specs.Sum.{Layouts.plain_rule}
+use Rattle.pf_state.proofs.LayoutsBack.{states_back}
+use Rattle.pf_state.specs.Layouts.States.{state_in}
+use Rattle.pf_table.specs.{EntryForms.{entry, plain_entry}, Map.ListMaps.with_list}
+use Rattle.pf_table.proofs.{Ordered.{in_order_of, sorted_of, sorted_front, put_last}, Sorted.{first_of, second_of, less_of}}
+use Rattle.pf_store.specs.declared.snapshots.{rulesets.StoredRuleset.StoredRuleset, tables.StoredPlaced.StoredPlaced}
+use Rattle.pf_store.specs.{Groups.{at_most, RulesShape, rules_form, named_form, entries_form}, Durables.{has_some, ruleset_before, are_rulesets, rulesets_form, plain_ruled, PlacedShape, placed_before, are_tables, placed_form, kept_tables_form, plain_tabled, DurableShape, durable_form, plain_durable, ruled_in, tabled_in, configured, durable_in, durable_has_form, IsDurable, example_kept, example_bytes}, Snapshots.{empty_form, IsSnapshot}}
+use Rattle.pf_store.proofs.Told.{entries_told}
+
+-- ---- lists
+
+few : {A B : Type 0} (limit : ℕ) (xs : List A) (f : A → B) → at_most limit (map f xs) ≡ at_most limit xs
+few limit xs f = ap (λ n. nat_le n limit) (length-map xs f)
+
+at_most_is : {A : Type 0} (limit : ℕ) (xs : List A) → length xs ≤ limit → at_most limit xs ≡ true
+at_most_is limit xs le = grind (arith, nat_tests, le)
+
+some_is : {X : Type 0} (x : X) (xs : List X) → has_some (x ∷ xs) ≡ true
+some_is x xs = let filled : (length (x ∷ xs) == 0) ≡ false = grind (arith, nat_tests) in ap not filled
+
+some_mapped : {A B : Type 0} (f : A → B) (xs : List A) → has_some (map f xs) ≡ has_some xs
+some_mapped f xs = ap (λ n. not (n == 0)) (length-map xs f)
+
+-- items that are seen as others are in order where those are
+seen_in_order : {A B : Type 0} (before : B → B → Bool) (view : A → B) (xs : List A)
+    → in_order before (map view xs) ≡ in_order (λ x y. before (view x) (view y)) xs
+seen_in_order before view [] = refl
+seen_in_order before view (x ∷ []) = refl
+seen_in_order before view (x ∷ y ∷ xs) = ap (λ b. before (view x) (view y) && b) (seen_in_order before view (y ∷ xs))
+
+that_read : {a : Shape} (test : Value a → Bool) (f : Form a) (before rest : List ℕ) (x : Value a) → reads f before ≡ Ok (x, rest)
+    → test x ≡ true → reads (that test f) before ≡ Ok (x, rest)
+that_read test f before rest x read is = rw (read, is) refl
+
+seen_again : {A B C : Type 0} (f : A → B) (g : B → C) (xs : List A) → map (λ x. g (f x)) xs ≡ map g (map f xs)
+seen_again f g [] = refl
+seen_again f g (x ∷ xs) = ap (λ ys. g (f x) ∷ ys) (seen_again f g xs)
+
+-- ---- lists in order, put into a map
+
+module _ {K X : Type 0} {R : K → K → Ordering} (o : IsTotalOrder R) where
+  with_last : (es : List (K × List X)) (k : K) (xs : List X) → has_some xs ≡ true → T (is_sorted R (es ++ (k, xs) ∷ []))
+      → with_list R es (k, xs) ≡ es ++ (k, xs) ∷ []
+  with_last es k [] some is = absurd (cc (some))
+  with_last es k (x ∷ xs) some is = put_last o es k (x ∷ xs) is
+
+  -- they stand behind those that are there
+  put_behind : (items es : List (K × List X)) → T (is_sorted R (es ++ items)) → list_all (λ e. has_some e.1) items ≡ true
+      → fold (with_list R) es items ≡ es ++ items
+  put_behind [] es is some = sym (append-nil es)
+  put_behind (i ∷ items) es is some =
+      let parts = and_parts (has_some i.1) (list_all (λ e. has_some e.1) items) some in
+      let regrouped : (es ++ i ∷ []) ++ items ≡ es ++ i ∷ items = append_assoc es (i ∷ []) items in
+      let whole : T (is_sorted R ((es ++ i ∷ []) ++ items)) = subst (λ l. T (is_sorted R l)) (sym regrouped) is in
+      let last : with_list R es i ≡ es ++ i ∷ [] = with_last es i.0 i.1 parts.0 (sorted_front o (es ++ i ∷ []) items whole) in
+      ap (λ l. fold (with_list R) l items) last ∙ put_behind items (es ++ i ∷ []) whole parts.1 ∙ regrouped
+
+  -- what is behind a key isn't found at it
+  tied_none : (k x : K) → R k x ≡ Equal → (es : List (K × List X)) → T (below_all R x es) → find R k es ≡ None
+  tied_none k x tied [] low = refl
+  tied_none k x tied (e ∷ es) low =
+      let less : R k e.0 ≡ Less =
+      o.antisymm k e.0
+      ∙ ap ordering_reverse (alike_right o k x e.0 tied ∙ o.antisymm e.0 x ∙ ap ordering_reverse (less_of _ (first_of _ _ low))) in
+      rw less (tied_none k x tied es (second_of (is_lt (R x e.0)) _ low))
+
+  -- a map of lists has none that is empty
+  all_some : (es : List (K × List X)) → T (is_sorted R es) → ((k : K) → find R k es ≢ Some []) → list_all (λ e. has_some e.1) es ≡ true
+  all_some [] is filled = refl
+  all_some (e ∷ es) is filled = rw (here e.1 refl) (all_some es (second_of (below_all R e.0 es) _ is) rest) where
+    here : (xs : List X) → e.1 ≡ xs → has_some e.1 ≡ true
+    here [] none =
+        absurd (filled e.0 (ap (λ (r : Ordering). cond (is_eq r) (Some e.1) (find R e.0 es)) (tied_itself o e.0)
+        ∙ ap (λ (xs : List X). Some xs) none))
+    here (x ∷ xs) some = ap (λ (ys : List X). has_some ys) some ∙ some_is x xs
+
+    rest : (k : K) → find R k es ≢ Some []
+    rest k there = filled k (by (R k e.0) refl) where
+      by : (r : Ordering) → R k e.0 ≡ r → find R k (e ∷ es) ≡ Some []
+      by Less less = rw less there
+      by Equal tied = let none = tied_none k e.0 tied es (first_of (below_all R e.0 es) _ is) in absurd (cc (none, there))
+      by Greater greater = rw greater there
+
+-- ---- rulesets
+
+rules_kept : (rs : List Ruled) → list_all (λ v. has_some v.1) (map plain_ruled rs) ≡ list_all (λ r. has_some r.1) rs
+rules_kept [] = refl
+rules_kept (r ∷ rs) = rw (some_mapped plain_rule r.1, rules_kept rs) refl
+
+pub rulesets_fit : (rs : List Ruled) → IsMap rs → length rs ≤ RULESET_LIMIT → AllByRecursion (Fits rules_form) (map plain_ruled rs)
+    → Fits rulesets_form (map plain_ruled rs)
+unfolding rulesets_form
+rulesets_fit rs is le each =
+    let some : list_all (λ r. has_some r.1) rs ≡ true = all_some nat_list_cmp_total rs is.sorted is.filled in (
+      (
+        (omega (arith, le, length-map rs plain_ruled), each),
+        seen_in_order ruleset_before plain_ruled rs
+            ∙ in_order_of nat_list_cmp_total rs is.sorted,
+      ),
+      rw (few RULESET_LIMIT rs plain_ruled, at_most_is RULESET_LIMIT rs le, rules_kept rs, some) refl,
+    )
+
+-- rows that are read in turn
+pub rulesets_sorted : (rows : List StoredRuleset) → in_order ruleset_before (map (λ r. plain_ruled r.placed) rows) ≡ true
+    → T (is_sorted path_order (map (λ r. r.placed) rows))
+rulesets_sorted rows is =
+    let plain : StoredRuleset → Value RulesShape = λ r. plain_ruled r.placed in
+    let placed : StoredRuleset → Ruled = λ r. r.placed in
+    sorted_of nat_list_cmp_total (map placed rows) (seen_in_order (λ a b. is_lt (path_order a.0 b.0)) placed rows
+    ∙ sym (seen_in_order ruleset_before plain rows) ∙ is)
+
+pub rulesets_are : (rows : List StoredRuleset)
+    → are_rulesets (map (λ r. plain_ruled r.placed) rows) ≡ (nat_le (length rows) RULESET_LIMIT && list_all (λ r. has_some r.placed.1) rows)
+rulesets_are rows =
+    ap (λ n. nat_le n RULESET_LIMIT && list_all (λ v. has_some v.1) (map plain rows)) (length-map rows plain)
+    ∙ ap (λ b. nat_le (length rows) RULESET_LIMIT && b) (filled rows) where
+      plain : StoredRuleset → Value RulesShape
+      plain r = plain_ruled r.placed
+
+      filled : (rs : List StoredRuleset) → list_all (λ v. has_some v.1) (map plain rs) ≡ list_all (λ r. has_some r.placed.1) rs
+      filled [] = refl
+      filled (r ∷ rs) = rw (some_mapped plain_rule r.placed.1, filled rs) refl
+
+pub rulesets_filled : (rows : List StoredRuleset)
+    → (nat_le (length rows) RULESET_LIMIT && list_all (λ r. has_some r.placed.1) rows) ≡ true
+    → list_all (λ r. has_some r.1) (map (λ r. r.placed) rows) ≡ true
+rulesets_filled rows is = seen rows ∙ (and_parts (nat_le (length rows) RULESET_LIMIT) (list_all (λ r. has_some r.placed.1) rows) is).1 where
+  seen : (rs : List StoredRuleset) → list_all (λ r. has_some r.1) (map (λ r. r.placed) rs) ≡ list_all (λ r. has_some r.placed.1) rs
+  seen [] = refl
+  seen (r ∷ rs) = rw (seen rs) refl
+
+pub rulesets_read : (rows : List StoredRuleset) (before rest : List ℕ)
+    → reads (ordered ruleset_before 4 rules_form) before ≡ Ok (map (λ r. plain_ruled r.placed) rows, rest)
+    → (nat_le (length rows) RULESET_LIMIT && list_all (λ r. has_some r.placed.1) rows) ≡ true
+    → reads rulesets_form before ≡ Ok (map plain_ruled (map (λ r. r.placed) rows), rest)
+unfolding rulesets_form
+rulesets_read rows before rest read is =
+    let placed : StoredRuleset → Ruled = λ r. r.placed in
+    that_read are_rulesets (ordered ruleset_before 4 rules_form) before rest
+    (map (λ r. plain_ruled (placed r)) rows) read (rulesets_are rows ∙ is)
+    ∙ ap (λ (vs : List (Value RulesShape)). Ok (vs, rest)) (seen_again placed plain_ruled rows)
+
+-- put onto nothing they are the rulesets
+rulesets_alone : (rs : List Ruled) → T (is_sorted path_order rs) → list_all (λ r. has_some r.1) rs ≡ true
+    → with_rulesets nothing rs ≡ configured rs []
+rulesets_alone rs is some = ap (λ (es : List Ruled). configured es []) (put_behind nat_list_cmp_total rs [] is some)
+
+-- ---- tables
+
+entries_kept : (ts : List Tabled) → list_all (λ v. has_some v.1.1) (map plain_tabled ts) ≡ list_all (λ t. has_some t.1) ts
+entries_kept [] = refl
+entries_kept (t ∷ ts) = rw (some_mapped plain_entry t.1, entries_kept ts) refl
+
+pub tables_fit : (ts : List Tabled) → IsTableMap ts → length ts ≤ TABLE_COUNT_LIMIT
+    → AllByRecursion (Fits placed_form) (map plain_tabled ts) → Fits kept_tables_form (map plain_tabled ts)
+unfolding kept_tables_form
+tables_fit ts is le each =
+    let some : list_all (λ t. has_some t.1) ts ≡ true = all_some table_order_total ts is.sorted is.filled in (
+      (
+        (omega (arith, le, length-map ts plain_tabled), each),
+        seen_in_order placed_before plain_tabled ts
+            ∙ in_order_of table_order_total ts is.sorted,
+      ),
+      rw (few TABLE_COUNT_LIMIT ts plain_tabled, at_most_is TABLE_COUNT_LIMIT ts le, entries_kept ts, some) refl,
+    )
+
+pub tables_sorted : (rows : List StoredPlaced) → in_order placed_before (map (λ r. plain_tabled r.placed) rows) ≡ true
+    → T (is_sorted table_order (map (λ r. r.placed) rows))
+tables_sorted rows is =
+    let plain : StoredPlaced → Value PlacedShape = λ r. plain_tabled r.placed in
+    let placed : StoredPlaced → Tabled = λ r. r.placed in
+    sorted_of table_order_total (map placed rows) (seen_in_order (λ a b. is_lt (table_order a.0 b.0)) placed rows
+    ∙ sym (seen_in_order placed_before plain rows) ∙ is)
+
+pub tables_are : (rows : List StoredPlaced)
+    → are_tables (map (λ r. plain_tabled r.placed) rows)
+    ≡ (nat_le (length rows) TABLE_COUNT_LIMIT && list_all (λ r. has_some r.placed.1) rows)
+tables_are rows =
+    ap (λ n. nat_le n TABLE_COUNT_LIMIT && list_all (λ v. has_some v.1.1) (map plain rows)) (length-map rows plain)
+    ∙ ap (λ b. nat_le (length rows) TABLE_COUNT_LIMIT && b) (filled rows) where
+      plain : StoredPlaced → Value PlacedShape
+      plain r = plain_tabled r.placed
+
+      filled : (rs : List StoredPlaced) → list_all (λ v. has_some v.1.1) (map plain rs) ≡ list_all (λ r. has_some r.placed.1) rs
+      filled [] = refl
+      filled (r ∷ rs) = rw (some_mapped plain_entry r.placed.1, filled rs) refl
+
+pub tables_filled : (rows : List StoredPlaced)
+    → (nat_le (length rows) TABLE_COUNT_LIMIT && list_all (λ r. has_some r.placed.1) rows) ≡ true
+    → list_all (λ t. has_some t.1) (map (λ r. r.placed) rows) ≡ true
+tables_filled rows is =
+    seen rows ∙ (and_parts (nat_le (length rows) TABLE_COUNT_LIMIT) (list_all (λ r. has_some r.placed.1) rows) is).1 where
+      seen : (rs : List StoredPlaced) → list_all (λ t. has_some t.1) (map (λ r. r.placed) rs) ≡ list_all (λ r. has_some r.placed.1) rs
+      seen [] = refl
+      seen (r ∷ rs) = rw (seen rs) refl
+
+pub tables_read : (rows : List StoredPlaced) (before rest : List ℕ)
+    → reads (ordered placed_before 4 placed_form) before ≡ Ok (map (λ r. plain_tabled r.placed) rows, rest)
+    → (nat_le (length rows) TABLE_COUNT_LIMIT && list_all (λ r. has_some r.placed.1) rows) ≡ true
+    → reads kept_tables_form before ≡ Ok (map plain_tabled (map (λ r. r.placed) rows), rest)
+unfolding kept_tables_form
+tables_read rows before rest read is =
+    let placed : StoredPlaced → Tabled = λ r. r.placed in
+    that_read are_tables (ordered placed_before 4 placed_form) before rest
+    (map (λ r. plain_tabled (placed r)) rows) read (tables_are rows ∙ is)
+    ∙ ap (λ (vs : List (Value PlacedShape)). Ok (vs, rest)) (seen_again placed plain_tabled rows)
+
+tables_alone : (rs : List Ruled) (ts : List Tabled) → T (is_sorted table_order ts) → list_all (λ t. has_some t.1) ts ≡ true
+    → with_tables (configured rs []) ts ≡ configured rs ts
+tables_alone rs ts is some = ap (λ (es : List Tabled). configured rs es) (put_behind table_order_total ts [] is some)
+
+-- both put onto nothing
+pub configuration_is : (c : Configuration) (rs : List Ruled) (ts : List Tabled) → c ≡ with_rulesets nothing rs
+    → T (is_sorted path_order rs) → list_all (λ r. has_some r.1) rs ≡ true
+    → T (is_sorted table_order ts) → list_all (λ t. has_some t.1) ts ≡ true → with_tables c ts ≡ configured rs ts
+configuration_is c rs ts is rs_sorted rs_some ts_sorted ts_some =
+    ap (λ (k : Configuration). with_tables k ts) (is ∙ rulesets_alone rs rs_sorted rs_some) ∙ tables_alone rs ts ts_sorted ts_some
+
+-- ---- told by its data
+
+tables_told : (ts : List Tabled) → map tabled_in (map plain_tabled ts) ≡ ts
+tables_told [] = refl
+tables_told (t ∷ ts) = λ i. (t.0, entries_told t.1 i) ∷ tables_told ts i
+
+pub durable_told : (d : Kept) → map ruled_in (map plain_ruled d.config.rulesets) ≡ d.config.rulesets → durable_in (plain_durable d) ≡ d
+durable_told d rulesets = λ i. kept d.epoch (configured (rulesets i) (tables_told d.config.tables i)) (states_back d.states i)
+
+-- ---- what has bytes
+
+-- what data tell has bytes where the data fit
+formed_of : (v : Value DurableShape) → Fits durable_form v → durable_has_form (durable_in v) ≡ true
+unfolding durable_form rulesets_form kept_tables_form
+formed_of v fits =
+    let rulesets : at_most RULESET_LIMIT v.1.0 ≡ true =
+    (and_parts (at_most RULESET_LIMIT v.1.0) (list_all (λ r. has_some r.1) v.1.0) fits.1.0.1).0 in
+    let tables : at_most TABLE_COUNT_LIMIT v.1.1.0 ≡ true =
+    (and_parts (at_most TABLE_COUNT_LIMIT v.1.1.0) (list_all (λ t. has_some t.1.1) v.1.1.0) fits.1.1.0.1).0 in
+    rw (few RULESET_LIMIT v.1.0 ruled_in, rulesets, few TABLE_COUNT_LIMIT v.1.1.0 tabled_in, tables) refl
+
+pub durable_formed : (d : Kept) → Fits durable_form (plain_durable d) → durable_has_form d ≡ true
+unfolding durable_form rulesets_form kept_tables_form
+durable_formed d fits =
+    let rs : List (Value RulesShape) = map plain_ruled d.config.rulesets in
+    let ts : List (Value PlacedShape) = map plain_tabled d.config.tables in
+    let rulesets : at_most RULESET_LIMIT rs ≡ true =
+    (and_parts (at_most RULESET_LIMIT rs) (list_all (λ r. has_some r.1) rs) fits.1.0.1).0 in
+    let tables : at_most TABLE_COUNT_LIMIT ts ≡ true =
+    (and_parts (at_most TABLE_COUNT_LIMIT ts) (list_all (λ t. has_some t.1.1) ts) fits.1.1.0.1).0 in
+    rw (sym (few RULESET_LIMIT d.config.rulesets plain_ruled), rulesets)
+    (rw (sym (few TABLE_COUNT_LIMIT d.config.tables plain_tabled), tables) refl)
+
+pub durable_formless : (d : Kept) (bytes : List ℕ) → durable_has_form d ≡ false → IsDurable d bytes → ⊥
+durable_formless d bytes none is =
+    true≢false (sym (subst (λ x. durable_has_form x ≡ true) (sym is.told) (formed_of is.plain is.spelled.fits)) ∙ none)
+
+-- ---- its bytes
+
+pub durable_spelled : (d : Kept) (bytes : List ℕ) → durable_in (plain_durable d) ≡ d → Spells durable_form (plain_durable d) bytes
+    → IsDurable d bytes
+durable_spelled d bytes told is = record { plain = plain_durable d; spelled = is; told = sym told }
+
+pub durable_pushed : (d : Kept) (out : List ℕ) → durable_in (plain_durable d) ≡ d → Fits durable_form (plain_durable d)
+    → out ≡ onto durable_form (plain_durable d) [] → IsDurable d out
+durable_pushed d out told fits is =
+    durable_spelled d out told (record { fits = fits; written = is ∙ onto_is durable_form (plain_durable d) [] })
+
+-- bytes are those of one thing kept at most
+pub one_durable : (d e : Kept) (bytes : List ℕ) → IsDurable d bytes → IsDurable e bytes → d ≡ e
+one_durable d e bytes a b = a.told ∙ ap durable_in (one_value durable_form bytes a.plain b.plain a.spelled b.spelled) ∙ sym b.told
+
+-- and what is kept has the bytes of some data that tell it
+pub none_told : {A : Type 0} (d : Kept) (bytes : List ℕ) → ((v : Value DurableShape) → Spells durable_form v bytes → A)
+    → IsDurable d bytes → A
+none_told d bytes refuses is = refuses is.plain is.spelled
+
+-- ---- the snapshot of nothing
+
+abbrev nothing_plain : ℕ → Value DurableShape
+nothing_plain epoch = (epoch, ([], ([], [])))
+
+none_mapped : {A B : Type 0} (f : A → B) (xs : List A) → [] ≡ map f xs → xs ≡ []
+none_mapped f [] is = refl
+none_mapped f (x ∷ xs) is = absurd (cc (is))
+
+plain_nothing : (epoch : ℕ) (v : Value DurableShape) → kept_nothing epoch ≡ durable_in v → v ≡ nothing_plain epoch
+plain_nothing epoch v told =
+    let rulesets : v.1.0 ≡ [] = none_mapped ruled_in v.1.0 (ap (λ (d : Kept). d.config.rulesets) told) in
+    let tables : v.1.1.0 ≡ [] = none_mapped tabled_in v.1.1.0 (ap (λ (d : Kept). d.config.tables) told) in
+    let states : v.1.1.1 ≡ [] = none_mapped state_in v.1.1.1 (ap (λ (d : Kept). d.states) told) in
+    let same : epoch ≡ v.0 = ap (λ (d : Kept). d.epoch) told in
+    λ i. (sym same i, (rulesets i, (tables i, states i)))
+
+nothing_written : (epoch : ℕ) → writes durable_form (nothing_plain epoch) ≡ writes empty_form epoch
+unfolding durable_form rulesets_form kept_tables_form empty_form number_bytes
+nothing_written epoch = refl
+
+pub nothing_is_empty : (epoch : ℕ) (bytes : List ℕ) → IsDurable (kept_nothing epoch) bytes → Spells empty_form epoch bytes
+unfolding durable_form empty_form
+nothing_is_empty epoch bytes is =
+    let spelled : Spells durable_form (nothing_plain epoch) bytes =
+    subst (λ (v : Value DurableShape). Spells durable_form v bytes) (plain_nothing epoch is.plain is.told) is.spelled in
+    record { fits = spelled.fits.0; written = spelled.written ∙ nothing_written epoch }
+
+pub empty_is_nothing : (epoch : ℕ) (bytes : List ℕ) → Spells empty_form epoch bytes → IsDurable (kept_nothing epoch) bytes
+unfolding durable_form rulesets_form kept_tables_form empty_form
+empty_is_nothing epoch bytes is = record {
+  plain = nothing_plain epoch;
+  spelled = record {
+    fits = (is.fits, ((((omega arith, tt), refl), refl), ((((omega arith, tt), refl), refl), ((omega arith, tt), refl))));
+    written = is.written ∙ sym (nothing_written epoch);
+  };
+  told = refl;
+}
+
+pub snapshot_is : (d : Kept) (bytes : List ℕ) → IsSnapshot d bytes → IsDurable d bytes
+snapshot_is d bytes is = subst (λ (k : Kept). IsDurable k bytes) (sym is.told) (empty_is_nothing is.epoch bytes is.spelled)
+
+-- ---- an example
+
+abbrev example_table : Value PlacedShape
+example_table = ([], (116 ∷ [], (4, (8, (0, 10 * 2 ^ 24))) ∷ []))
+
+entry_of_example_fits : Fits entry (4, (8, (0, 10 * 2 ^ 24)))
+unfolding entry family below
+entry_of_example_fits = (((omega arith, refl), (omega arith, ((omega arith, refl), omega arith))), refl)
+
+example_fits : Fits placed_form example_table
+unfolding placed_form path_form named_form table_name_form entries_form
+example_fits =
+    (((omega arith, tt), refl), (((omega arith, (omega arith, tt)), refl), (((omega arith, (entry_of_example_fits, tt)), refl), refl)))
+
+example_written : example_bytes ≡ writes durable_form (plain_durable example_kept)
+unfolding durable_form rulesets_form kept_tables_form placed_form path_form named_form table_name_form entries_form entry family below number_bytes
+example_written = refl
+
+pub example_is : IsDurable example_kept example_bytes
+unfolding durable_form rulesets_form kept_tables_form
+example_is = record {
+  plain = plain_durable example_kept;
+  spelled = record {
+    fits =
+        (omega arith, ((((omega arith, tt), refl), refl), ((((omega arith, (example_fits, tt)), refl), refl), ((omega arith, tt), refl))));
+    written = example_written;
+  };
+  told = refl;
+}
+
+pub zeros_are : IsDurable (kept_nothing 0) (replicate 16 0)
+unfolding durable_form rulesets_form kept_tables_form number_bytes
+zeros_are = record {
+  plain = nothing_plain 0;
+  spelled = record {
+    fits = (omega arith, ((((omega arith, tt), refl), refl), ((((omega arith, tt), refl), refl), ((omega arith, tt), refl))));
+    written = refl;
+  };
+  told = refl;
+}

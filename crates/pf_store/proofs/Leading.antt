@@ -1,0 +1,77 @@
+-- What payloads lead to.
+use Rattle.std.proofs.{Common.{◌≡◌, ◌+◌, ◌<◌, ◌≤◌, ℕ, List, [], ◌∷◌, ◌++◌, length, get_or, take, drop, Ok, Err, refl, sym, ◌∙◌, ap, subst, arith, length-append, take-append-drop}, lemmas.List.{take_more, drop_more, map-append}, lemmas.List.Concat.flat_map-append}
+use Rattle.std.specs.Prelude.{Vec, Result, IfErr}
+use Rattle.std.specs.declared.alloc.Global.{Global}
+use Rattle.pf_journal.specs.Records.{contents, counted, records}
+use Rattle.pf_journal.proofs.Gates.{length-counted, length-records-push}
+use Rattle.pf_store.specs.declared.groups.fault.GroupFault.{GroupFault}
+use Rattle.pf_store.specs.declared.groups.fault.GroupFault.TheVariants.{NoForm}
+use Rattle.pf_addr.specs.Laws.Bytes.Texts.{one_value}
+use Rattle.pf_core.specs.Durable.Edits.{Kept, kept_nothing}
+use Rattle.pf_store.specs.declared.groups.change.Recorded.{Recorded}
+use Rattle.pf_store.specs.{Groups.{IsRecorded, group_form, record_in}, Snapshots.{IsSnapshot, empty_form}, Stores.{Follows, left_by, Leads, Makes}}
+
+-- a payload is of one change or opening
+pub one_record : (x y : Recorded) (p : List ℕ) → IsRecorded x p → IsRecorded y p → x ≡ y
+one_record x y p a b = a.told ∙ ap record_in (one_value group_form p a.plain b.plain a.spelled b.spelled) ∙ sym b.told
+
+-- a snapshot is of one thing
+pub one_snapshot : (d e : Kept) (bytes : List ℕ) → IsSnapshot d bytes → IsSnapshot e bytes → d ≡ e
+one_snapshot d e bytes a b = a.told ∙ ap kept_nothing (one_value empty_form bytes a.epoch b.epoch a.spelled b.spelled) ∙ sym b.told
+
+pub leads-push : (d : Kept) (ps : List (List ℕ)) (e : Kept) (p : List ℕ) (x : Recorded) → Leads d ps e → IsRecorded x p → Follows e x → Leads d (ps ++ p ∷ []) (left_by e x)
+leads-push d [] e p x led is follows = subst (λ (f : Kept). Leads f (p ∷ []) (left_by e x)) (sym led) (x, is, follows, refl)
+leads-push d (q ∷ ps) e p x led is follows = (led.0, led.1, led.2, leads-push (left_by d led.0) ps e p x led.3 is follows)
+
+-- payloads lead to one thing
+pub one_end : (d : Kept) (ps : List (List ℕ)) (e f : Kept) → Leads d ps e → Leads d ps f → e ≡ f
+one_end d [] e f a b = sym a ∙ b
+one_end d (p ∷ ps) e f a b =
+    one_end (left_by d b.0) ps e f (subst (λ (x : Recorded). Leads (left_by d x) ps e) (one_record a.0 b.0 p a.1 b.1) a.3) b.3
+
+pub one_made : (snapshot : List ℕ) (ps : List (List ℕ)) (d e : Kept) → Makes snapshot ps d → Makes snapshot ps e → d ≡ e
+one_made snapshot ps d e a b = one_end b.first ps d e (subst (λ (f : Kept). Leads f ps d) (one_snapshot a.first b.first snapshot a.kept b.kept) a.leads) b.leads
+
+-- where a payload leads nowhere, all of them don't
+pub stopped : (first : Kept) (done : List (List ℕ)) (p : List ℕ) (rest : List (List ℕ)) (d e : Kept) → Leads first done d → ((x : Recorded) → IsRecorded x p → Follows d x → ⊥) → Leads first (done ++ p ∷ rest) e → ⊥
+stopped first [] p rest d e led none all = none all.0 all.1 (subst (λ (f : Kept). Follows f all.0) led all.2)
+stopped first (q ∷ done) p rest d e led none all =
+    stopped (left_by first all.0) done p rest d e (subst (λ (x : Recorded). Leads (left_by first x) done d) (one_record led.0 all.0 q led.1 all.1) led.3) none all.3
+
+-- ---- the loop over payloads
+
+contents-more : (payloads : List (Vec ℕ Global)) (i : ℕ) (p : Vec ℕ Global) → i < length payloads → p ≡ get_or payloads i p → contents (take (i + 1) payloads) ≡ contents (take i payloads) ++ p.items ∷ []
+contents-more payloads i p lt is = ap contents (take_more payloads i p lt) ∙ map-append (λ v. v.items) (take i payloads) (get_or payloads i p ∷ []) ∙ ap (λ (v : Vec ℕ Global). contents (take i payloads) ++ v.items ∷ []) (sym is)
+
+pub contents-split : (payloads : List (Vec ℕ Global)) (i : ℕ) (p : Vec ℕ Global) → i < length payloads → p ≡ get_or payloads i p → contents payloads ≡ contents (take i payloads) ++ p.items ∷ contents (drop (i + 1) payloads)
+contents-split payloads i p lt is =
+    ap contents (sym (take-append-drop i payloads) ∙ ap (λ (l : List (Vec ℕ Global)). take i payloads ++ l) (drop_more payloads i p lt))
+    ∙ map-append (λ v. v.items) (take i payloads) (get_or payloads i p ∷ drop (i + 1) payloads)
+    ∙ ap (λ (v : Vec ℕ Global). contents (take i payloads) ++ v.items ∷ contents (drop (i + 1) payloads)) (sym is)
+
+module _ (payloads : List (Vec ℕ Global)) (i : ℕ) (p : Vec ℕ Global) (lt : i < length payloads) (is : p ≡ get_or payloads i p) where
+  pub leads_on : (first d e : Kept) → Leads first (contents (take i payloads)) d → (x : Recorded) × IsRecorded x p.items × Follows d x × (e ≡ left_by d x) → Leads first (contents (take (i + 1) payloads)) e
+  leads_on first d e led more = subst (λ (ps : List (List ℕ)). Leads first ps e) (sym (contents-more payloads i p lt is))
+      (subst (Leads first (contents (take i payloads) ++ p.items ∷ [])) (sym more.3) (leads-push first (contents (take i payloads)) d p.items more.0 led more.1 more.2))
+
+  pub gate_on : (start gate : ℕ) → gate ≡ start + length (records (contents (take i payloads))) → gate + (5 + length p.items) ≡ start + length (records (contents (take (i + 1) payloads)))
+  gate_on start gate at = omega (arith, at, ap (λ (l : List (List ℕ)). length (records l)) (contents-more payloads i p lt is), length-records-push (contents (take i payloads)) p.items)
+
+  pub gate_within : (start gate : ℕ) → gate ≡ start + length (records (contents (take i payloads))) → gate + (5 + length p.items) ≤ start + length (records (contents payloads))
+  gate_within start gate at =
+      let ps = contents (take i payloads) in
+      let rest = contents (drop (i + 1) payloads) in
+      omega (
+        arith,
+        at,
+        ap (λ (l : List (List ℕ)). length (records l)) (contents-split payloads i p lt is),
+        ap length (flat_map-append (λ payload. 165 ∷ counted payload) ps (p.items ∷ rest)),
+        length-append (records ps) (records (p.items ∷ rest)),
+        length-append (counted p.items) (records rest),
+        length-counted p.items,
+      )
+
+-- what alone has a payload doesn't follow
+pub none_follows : {A : Type 0} (r : Result A GroupFault) (y : Recorded) (d : Kept) (p : List ℕ) → IsRecorded y p → IfErr r (λ e. e ≡ NoForm → ¬ Follows d y) → IfErr r (λ e. e ≡ NoForm → (x : Recorded) → IsRecorded x p → ¬ Follows d x)
+none_follows (Ok a) y d p is none = tt
+none_follows (Err e) y d p is none = λ no_form x here follows. none no_form (subst (Follows d) (one_record x y p here is) follows)

@@ -1,0 +1,90 @@
+-- What is held is within all limits.
+use Rattle.std.proofs.{Common.{◌≡◌, ◌≤◌, ◌&&◌, ℕ, Bool, true, false, List, [], ◌∷◌, ◌++◌, length, map, refl, sym, subst, inl, inr, arith}, lemmas.{List.length-map, Bool.Decides.nat_tests}}
+use Rattle.std.specs.{List.AllByRecursion, Ordering.is_lt}
+use Rattle.pf_addr.specs.Bytes.{Forms.{Value, Fits}, Lists.in_order}
+use Rattle.pf_anchor.specs.declared.limits.TheConstants.{RULE_LIMIT}
+use Rattle.pf_core.specs.{Durable.Edits.{Kept, kept_nothing, placed, rulesets_in, tables_in}, Laws.Durable.{AreFew, IsWithin}}
+use Rattle.pf_core.proofs.Within.{keeps_within}
+use Rattle.pf_rule.specs.Sum.Reading.{rule_of}
+use Rattle.pf_state.specs.Layouts.{States.name_in, Steps.step_in}
+use Rattle.pf_table.specs.{Entries.net_order, EntryForms.{EntryShape, entry_of, entry_before}, Laws.Order.net_total, Tables.AreEntries}
+use Rattle.pf_table.proofs.Ordered.{sorted_of}
+use Rattle.pf_store.specs.declared.groups.change.Recorded.{Recorded}
+use Rattle.pf_store.specs.{Groups.{ChangeShape, ItemShape, NamedShape, change_form, defined_form, entries_form, group_form, item_form, item_in, items_form, named_form, named_in, record_in, rule_list_form, rules_form, tables_form, IsRecorded}, Stores.{Follows, left_by, Leads, Makes}}
+
+nothing_within : (epoch : ℕ) → IsWithin (kept_nothing epoch)
+nothing_within epoch = record {
+  maps = record { rulesets = record { sorted = tt; filled = λ p found. cc (found) }; tables = record { sorted = tt; filled = λ p found. cc (found) } };
+  rulesets = omega arith;
+  rules = λ p. omega arith;
+  tables = omega arith;
+  entries = λ p name. record { sorted = tt; few = omega arith };
+  states = record { names = record { sorted = tt; one_flow = λ a b x y found other same. cc (found) }; few = omega arith };
+}
+
+-- ---- what a commit's bytes tell
+
+all_behind : {A : Type 0} (P : A → Type 0) (xs ys : List A) → AllByRecursion P xs → AllByRecursion P ys → AllByRecursion P (xs ++ ys)
+all_behind P [] ys one other = other
+all_behind P (x ∷ xs) ys one other = (one.0, all_behind P xs ys one.1 other)
+
+rules_few : (vs : List (Value ItemShape)) → AllByRecursion (Fits item_form) vs → AllByRecursion (λ r. length r.1 ≤ RULE_LIMIT) (rulesets_in (map item_in vs))
+unfolding item_form rules_form rule_list_form
+rules_few [] each = tt
+rules_few (inl v ∷ vs) each = (grind (arith, nat_tests, length-map v.1 rule_of, each.0.1.1), rules_few vs each.1)
+rules_few (inr v ∷ vs) each = rules_few vs each.1
+
+told_in_order : (es : List (Value EntryShape)) → in_order entry_before es ≡ true → in_order (λ a b. is_lt (net_order a.0 b.0)) (map entry_of es) ≡ true
+told_in_order [] is = refl
+told_in_order (e ∷ []) is = refl
+told_in_order (e ∷ f ∷ es) is = by (entry_before e f) is (told_in_order (f ∷ es)) where
+  by : (b : Bool) → (b && in_order entry_before (f ∷ es)) ≡ true → (in_order entry_before (f ∷ es) ≡ true → in_order (λ a c. is_lt (net_order a.0 c.0)) (map entry_of (f ∷ es)) ≡ true) → (b && in_order (λ a c. is_lt (net_order a.0 c.0)) (map entry_of (f ∷ es))) ≡ true
+  by true h rest = rest h
+  by false h rest = absurd (cc (h))
+
+entries_few : (es : List (Value EntryShape)) → Fits entries_form es → AreEntries (map entry_of es)
+unfolding entries_form
+entries_few es fits = record {
+  sorted = sorted_of net_total (map entry_of es) (told_in_order es fits.0.1);
+  few = grind (arith, nat_tests, length-map es entry_of, fits.1);
+}
+
+placed_few : (p : List ℕ) (ws : List (Value NamedShape)) → AllByRecursion (Fits named_form) ws → AllByRecursion (λ t. AreEntries t.1) (placed p (map named_in ws))
+unfolding named_form
+placed_few p [] each = tt
+placed_few p (w ∷ ws) each = (entries_few w.1 each.0.1, placed_few p ws each.1)
+
+tables_few : (vs : List (Value ItemShape)) → AllByRecursion (Fits item_form) vs → AllByRecursion (λ t. AreEntries t.1) (tables_in (map item_in vs))
+unfolding item_form tables_form defined_form
+tables_few [] each = tt
+tables_few (inl v ∷ vs) each = tables_few vs each.1
+tables_few (inr v ∷ vs) each = all_behind (λ t. AreEntries t.1) (placed v.0 (map named_in v.1)) (tables_in (map item_in vs)) (placed_few v.0 v.1 each.0.0.1.0.0.1) (tables_few vs each.1)
+
+items_few : (vs : List (Value ItemShape)) → Fits items_form vs → AreFew (map item_in vs)
+unfolding items_form
+items_few vs fits = record { rules = rules_few vs fits.0.1; entries = tables_few vs fits.0.1 }
+
+-- ---- what is recorded
+
+told_within : (d : Kept) (v : Value ChangeShape) → Fits change_form v → Follows d (record_in v) → IsWithin d → IsWithin (left_by d (record_in v))
+unfolding change_form
+told_within d (inl vs) fits follows within = (keeps_within d within).by_commit (map item_in vs) (items_few vs fits) follows
+told_within d (inr (inl v)) fits follows within = (keeps_within d within).by_add v.0 v.1.0 (map entry_of v.1.1) follows
+told_within d (inr (inr (inl v))) fits follows within = (keeps_within d within).by_delete v.0 v.1.0 (map entry_of v.1.1)
+told_within d (inr (inr (inr (inl v)))) fits follows within = (keeps_within d within).by_set v.0 v.1.0 (map entry_of v.1.1) follows
+told_within d (inr (inr (inr (inr (inl steps))))) fits follows within = (keeps_within d within).by_steps (map step_in steps) follows
+told_within d (inr (inr (inr (inr (inr (inl name)))))) fits follows within = (keeps_within d within).by_removal (name_in name)
+told_within d (inr (inr (inr (inr (inr (inr epoch)))))) fits follows within =
+    record { maps = within.maps; rulesets = within.rulesets; rules = within.rules; tables = within.tables; entries = within.entries; states = within.states }
+
+recorded_within : (d : Kept) (x : Recorded) (payload : List ℕ) → IsRecorded x payload → Follows d x → IsWithin d → IsWithin (left_by d x)
+unfolding group_form
+recorded_within d x payload is follows within =
+    subst (λ (y : Recorded). IsWithin (left_by d y)) (sym is.told) (told_within d is.plain is.spelled.fits (subst (Follows d) is.told follows) within)
+
+led_within : (d : Kept) (ps : List (List ℕ)) (e : Kept) → Leads d ps e → IsWithin d → IsWithin e
+led_within d [] e led within = subst IsWithin led within
+led_within d (p ∷ ps) e led within = led_within (left_by d led.0) ps e led.3 (recorded_within d led.0 p led.1 led.2 within)
+
+pub made_within : (snapshot : List ℕ) (ps : List (List ℕ)) (d : Kept) → Makes snapshot ps d → IsWithin d
+made_within snapshot ps d makes = led_within makes.first ps d makes.leads (subst IsWithin (sym makes.kept.told) (nothing_within makes.kept.epoch))

@@ -1,0 +1,9 @@
+use Rattle.std.proofs.Common.{◌++◌, length}
+use Rattle.pf_addr.specs.Bytes.Parts.{number_bytes}
+use Rattle.pf_store.specs.Groups.{named_form, plain_named}
+use Rattle.pf_state.proofs.Pushing.{Pushing}
+use Rattle.pf_store.proofs.groups.items.push_defined.Given as goal
+
+abbrev pub invariant-loop-table : goal.invariant-loop-table
+invariant-loop-table l =
+    Pushing named_form plain_named l.table-iterator l.tables (l.fn.out.items ++ number_bytes 4 (length l.tables)) l.out.items

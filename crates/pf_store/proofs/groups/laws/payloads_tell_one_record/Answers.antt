@@ -1,0 +1,8 @@
+use Rattle.pf_store.proofs.Told.{one_record, recorded_formed}
+use Rattle.pf_store.proofs.groups.laws.payloads_tell_one_record.Goals as goal
+
+pub returns-clause-one : goal.returns-clause-one
+returns-clause-one c = one_record
+
+pub returns-clause-formed : goal.returns-clause-formed
+returns-clause-formed c = recorded_formed

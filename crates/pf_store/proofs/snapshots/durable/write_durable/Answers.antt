@@ -1,0 +1,14 @@
+use Rattle.std.proofs.Common.{◌∙◌, ℕ, List, ap}
+use Rattle.pf_addr.specs.Bytes.Forms.{onto}
+use Rattle.pf_store.specs.Durables.{durable_form, plain_durable}
+use Rattle.pf_store.proofs.Durables.{durable_pushed}
+use Rattle.pf_store.proofs.DurablesSized.{snapshot_long}
+use Rattle.pf_store.proofs.snapshots.durable.write_durable.Goals as goal
+
+pub returns-clause-length : goal.returns-clause-length
+returns-clause-length c =
+    let d = c.args.durable.now in
+    let out = c.push_durable.new.out.items in
+    let written =
+    c.in_ok-push_durable.ensures.written ∙ ap (λ (bytes : List ℕ). onto durable_form (plain_durable d) bytes) c.new-out.ensures.items in
+    snapshot_long d out (durable_pushed d out c.tell_durable.ensures c.in_ok-push_durable.ensures.fits written)

@@ -1,0 +1,9 @@
+use Rattle.std.proofs.Common.{◌≡◌, map}
+use Rattle.pf_store.specs.Durables.{plain_ruled, ruled_in}
+use Rattle.pf_store.proofs.snapshots.telling.tell_rulesets.Given as goal
+
+-- where the rest is told all is
+abbrev pub invariant-loop-placed : goal.invariant-loop-placed
+invariant-loop-placed l =
+    map ruled_in (map plain_ruled l.placed-iterator) ≡ l.placed-iterator
+    → map ruled_in (map plain_ruled l.config.rulesets) ≡ l.config.rulesets

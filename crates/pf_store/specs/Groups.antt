@@ -1,0 +1,158 @@
+-- What a bank's records keep, in bytes: a group of changes, or an opening. First how many there are, which is one, and then it. Own.
+--
+--   1 commit: how many it replaces, in one byte, 1 to 64, and then each:
+--       1 and the rules at a path: the path, their number in four bytes, each rule
+--       2 and the tables at a path that were defined: the path, their number in four bytes, and of each its name and its entries
+--   2 add, 3 delete, 4 set: the path and the name of a table, and the entries as handed in
+--   5 steps that act on the states: their number in four bytes, each step
+--   6 the removal of a state: its name
+--   7 an opening: its epoch in four bytes
+--
+-- Entries stand behind their number in four bytes. Those of a table that was defined stand in its order, no network twice, and the
+-- tables in that of their names.
+use Rattle.std.specs.{Prelude.{◌≡◌, ℕ, ◌==◌, ◌^◌, ◌&&◌, not, nat_le, nat_lt, Bool, true, List, [], ◌∷◌, length, map}, List.list_all, Ordering.is_lt}
+use Rattle.std.proofs.Common.{inl, inr}
+use Rattle.pf_addr.specs.{Bytes.{Forms.{Shape, nat, both, either, list, Value, Form, Spells, number, front, or, pair, counted, that}, Lists.ordered}, Path.{Names.name_order, PathForms.{TextShape, path_form, table_name_form}}}
+use Rattle.pf_anchor.specs.declared.limits.TheConstants.{RULE_LIMIT}
+use Rattle.pf_core.specs.{declared.durable.change.Item.Item, Durable.Edits.{commits, adds, deletes, sets, acts, removes}}
+use Rattle.pf_core.specs.declared.durable.change.Item.TheVariants as item
+use Rattle.pf_store.specs.declared.groups.change.Recorded.{Recorded, TheVariants.Made as made, TheVariants.Opens as opens}
+use Rattle.pf_rule.specs.Sum.{Layouts.{RuleShape, rule_layout, plain_rule}, Reading.rule_of}
+use Rattle.pf_state.specs.Layouts.{States.{NameShape, name_form, plain_name, name_in}, Steps.{StepShape, step_form, plain_step, step_in}}
+use Rattle.pf_table.specs.{declared.limits.TheConstants.{TABLE_LIMIT}, EntryForms.{EntryShape, entry, plain_entry, entry_of, entry_before}, Entries.Row}
+use Rattle.pf_ticket.specs.{declared.limits.TheConstants.{ENTRY_LIMIT, OFFERED_TABLE_LIMIT}, NamedTables.Named}
+
+abbrev pub at_most : {A : Type 0} → ℕ → List A → Bool
+at_most limit xs = nat_le (length xs) limit
+
+-- ---- what a commit replaces
+
+abbrev pub RulesShape : Shape
+RulesShape = both TextShape (list RuleShape)
+
+unfoldable pub rule_list_form : Form (list RuleShape)
+rule_list_form = that (at_most RULE_LIMIT) (counted 4 rule_layout)
+
+unfoldable pub rules_form : Form RulesShape
+rules_form = pair path_form rule_list_form
+
+abbrev pub NamedShape : Shape
+NamedShape = both TextShape (list EntryShape)
+
+unfoldable pub entries_form : Form (list EntryShape)
+entries_form = that (at_most TABLE_LIMIT) (ordered entry_before 4 entry)
+
+unfoldable pub named_form : Form NamedShape
+named_form = pair table_name_form entries_form
+
+abbrev pub named_before : Value NamedShape → Value NamedShape → Bool
+named_before a b = is_lt (name_order a.0 b.0)
+
+abbrev pub TablesShape : Shape
+TablesShape = both TextShape (list NamedShape)
+
+unfoldable pub defined_form : Form (list NamedShape)
+defined_form = that (at_most OFFERED_TABLE_LIMIT) (ordered named_before 4 named_form)
+
+unfoldable pub tables_form : Form TablesShape
+tables_form = pair path_form defined_form
+
+abbrev pub ItemShape : Shape
+ItemShape = either RulesShape TablesShape
+
+unfoldable pub item_form : Form ItemShape
+item_form = or 1 rules_form (front (2 ∷ []) tables_form)
+
+-- as many as a commit may name
+abbrev pub is_commit : {A : Type 0} → List A → Bool
+is_commit items = not (length items == 0) && nat_le (length items) ENTRY_LIMIT
+
+unfoldable pub items_form : Form (list ItemShape)
+items_form = that is_commit (counted 1 item_form)
+
+-- ---- changes
+
+abbrev pub EditShape : Shape
+EditShape = both TextShape (both TextShape (list EntryShape))
+
+unfoldable pub edit_form : Form EditShape
+edit_form = pair path_form (pair table_name_form (counted 4 entry))
+
+abbrev pub ChangeShape : Shape
+ChangeShape =
+    either (list ItemShape) (either EditShape (either EditShape (either EditShape (either (list StepShape) (either NameShape nat)))))
+
+unfoldable pub change_form : Form ChangeShape
+change_form =
+    or 1 items_form (or 2 edit_form (or 3 edit_form (or 4 edit_form
+    (or 5 (counted 4 step_form) (or 6 name_form (front (7 ∷ []) (number 4)))))))
+
+unfoldable pub group_form : Form ChangeShape
+group_form = front (1 ∷ []) change_form
+
+-- ---- what a change's bytes say
+
+abbrev pub plain_entries : List Row → List (Value EntryShape)
+plain_entries es = map plain_entry es
+
+abbrev pub plain_named : Named → Value NamedShape
+plain_named t = (t.0, plain_entries t.1)
+
+abbrev pub plain_item : Item → Value ItemShape
+plain_item (item.Rules r) = inl (r.0, map plain_rule r.1)
+plain_item (item.Tables p named) = inr (p, map plain_named named)
+
+abbrev pub plain_record : Recorded → Value ChangeShape
+plain_record (made (commits items)) = inl (map plain_item items)
+plain_record (made (adds p name xs)) = inr (inl (p, (name, plain_entries xs)))
+plain_record (made (deletes p name xs)) = inr (inr (inl (p, (name, plain_entries xs))))
+plain_record (made (sets p name xs)) = inr (inr (inr (inl (p, (name, plain_entries xs)))))
+plain_record (made (acts steps)) = inr (inr (inr (inr (inl (map plain_step steps)))))
+plain_record (made (removes name)) = inr (inr (inr (inr (inr (inl (plain_name name))))))
+plain_record (opens epoch) = inr (inr (inr (inr (inr (inr epoch)))))
+
+-- ---- what bytes tell
+
+abbrev pub entries_in : List (Value EntryShape) → List Row
+entries_in xs = map entry_of xs
+
+abbrev pub named_in : Value NamedShape → Named
+named_in v = (v.0, entries_in v.1)
+
+abbrev pub item_in : Value ItemShape → Item
+item_in (inl v) = item.Rules (v.0, map rule_of v.1)
+item_in (inr v) = item.Tables v.0 (map named_in v.1)
+
+abbrev pub record_in : Value ChangeShape → Recorded
+record_in (inl items) = made (commits (map item_in items))
+record_in (inr (inl v)) = made (adds v.0 v.1.0 (entries_in v.1.1))
+record_in (inr (inr (inl v))) = made (deletes v.0 v.1.0 (entries_in v.1.1))
+record_in (inr (inr (inr (inl v)))) = made (sets v.0 v.1.0 (entries_in v.1.1))
+record_in (inr (inr (inr (inr (inl steps))))) = made (acts (map step_in steps))
+record_in (inr (inr (inr (inr (inr (inl name)))))) = made (removes (name_in name))
+record_in (inr (inr (inr (inr (inr (inr epoch)))))) = opens epoch
+
+-- ---- which changes have bytes
+
+abbrev is_short : {A : Type 0} → List A → Bool
+is_short xs = nat_lt (length xs) (2 ^ 32)
+
+abbrev pub has_item_form : Item → Bool
+has_item_form (item.Rules r) = true
+has_item_form (item.Tables p named) = at_most OFFERED_TABLE_LIMIT named
+
+-- those that a command can want: of a commit as many as it may name, and lists whose numbers have four bytes
+abbrev pub has_form : Recorded → Bool
+has_form (made (commits items)) = is_commit items && list_all has_item_form items
+has_form (made (adds p name xs)) = is_short xs
+has_form (made (deletes p name xs)) = is_short xs
+has_form (made (sets p name xs)) = is_short xs
+has_form (made (acts steps)) = is_short steps
+has_form (made (removes name)) = true
+has_form (opens epoch) = nat_lt epoch (2 ^ 32)
+
+-- The payload is the bytes of what is recorded.
+pub record IsRecorded (r : Recorded) (payload : List ℕ) : Type 0 where
+  pub plain : Value ChangeShape
+  pub spelled : Spells group_form plain payload
+  pub told : r ≡ record_in plain

@@ -1,0 +1,55 @@
+-- What a device's image holds: what was kept first and what changes have made of it since. Own.
+use Rattle.std.specs.Prelude.{◌≡◌, ◌⊎◌, ◌≤◌, ℕ, ◌+◌, Bool, true, List, [], ◌∷◌, Ok}
+use Rattle.pf_disk.specs.Disk.{IsImage}
+use Rattle.pf_core.specs.{Durable.Edits.{Kept, Edit, in_epoch, applied, fits}, Worlds.raised}
+use Rattle.pf_store.specs.{Banks.HoldsBank, Groups.{IsRecorded, has_form}, Snapshots.IsSnapshot, Lengths.{snapshot_length, payload_length}, declared.{bank.header.TheConstants.HEADER, groups.change.Recorded.Recorded}}
+use Rattle.pf_store.specs.declared.groups.change.Recorded.TheVariants as recorded
+
+-- It may come next: a change fits what is kept, and an opening has the next epoch.
+abbrev pub Follows : Kept → Recorded → Type 0
+Follows d (recorded.Made e) = fits d e ≡ Ok tt
+Follows d (recorded.Opens epoch) = epoch ≡ d.epoch + 1
+
+-- what it leaves
+abbrev pub left_by : Kept → Recorded → Kept
+left_by d (recorded.Made e) = applied d e
+left_by d (recorded.Opens epoch) = in_epoch epoch d
+
+-- The payloads are of changes and openings, each of which follows what the ones before it leave, and all of them leave this.
+abbrev pub Leads : Kept → List (List ℕ) → Kept → Type 0
+Leads d [] e = d ≡ e
+Leads d (p ∷ ps) e = (x : Recorded) × IsRecorded x p × Follows d x × Leads (left_by d x) ps e
+
+-- The snapshot is of what was kept first, and the payloads lead from there to this.
+pub record Makes (snapshot : List ℕ) (payloads : List (List ℕ)) (d : Kept) : Type 0 where
+  pub first : Kept
+  pub kept : IsSnapshot first snapshot
+  pub leads : Leads first payloads d
+
+-- The image holds what is kept: so its bank says.
+pub record Holds (image : List ℕ) (d : Kept) : Type 0 where
+  pub generation : ℕ
+  pub snapshot : List ℕ
+  pub payloads : List (List ℕ)
+  pub bank : HoldsBank image generation snapshot payloads
+  pub makes : Makes snapshot payloads d
+
+-- one of the two
+abbrev pub HoldsEither : Kept → Kept → List ℕ → Type 0
+HoldsEither before next image = Holds image before ⊎ Holds image next
+
+-- an image from the opening's start, or one that holds what was read, its epoch perhaps one greater
+abbrev pub IsOfOpening : List ℕ → (ℕ → Bool) → List ℕ → Type 0
+IsOfOpening seen unsynced image = IsImage seen unsynced image ⊎ ((d : Kept) × Holds seen d × HoldsEither d (raised d) image)
+
+-- A payload of n bytes finds room at this closed gate of a bank that ends there: its record does; a bank has room for it behind a snapshot
+-- of what is kept before; and for 64 bytes behind a snapshot of what is kept then.
+pub record HasRoom (end gate : ℕ) (before next : Kept) (n : ℕ) : Type 0 where
+  pub then : HEADER + snapshot_length next + 64 ≤ end
+  pub behind : HEADER + snapshot_length before + (n + 6) ≤ end
+  pub here : gate + 6 + n ≤ end
+
+-- a change that has a payload, and its payload finds room
+pub record FindsRoom (end gate : ℕ) (before next : Kept) (e : Edit) : Type 0 where
+  pub formed : has_form (recorded.Made e) ≡ true
+  pub room : HasRoom end gate before next (payload_length (recorded.Made e))

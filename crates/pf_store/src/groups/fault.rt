@@ -1,0 +1,30 @@
+//! Why a change has no bytes, or bytes no change.
+ghost use Rattle.std.specs.Prelude.{◌≡◌};
+ghost use Rattle.pf_store.specs.declared.groups.fault.GroupFault.TheVariants.{Memory};
+
+use std::alloc::{AllocError, AllocFailed};
+
+/// Why a change wasn't written or read. Own.
+#[derive(Clone, Copy, Debug)]
+pub enum GroupFault {
+    /// Memory was refused.
+    Memory,
+    /// The change has no bytes, or the bytes are no change's.
+    NoForm,
+}
+
+impl From<AllocError> for GroupFault {
+    ghost from_gives = { λ _ e. e ≡ Memory };
+
+    fn from(_: AllocError) -> Self {
+        GroupFault::Memory
+    }
+}
+
+impl<T: Drop> From<AllocFailed<T>> for GroupFault {
+    ghost from_gives = { λ _ e. e ≡ Memory };
+
+    fn from(_: AllocFailed<T>) -> Self {
+        GroupFault::Memory
+    }
+}

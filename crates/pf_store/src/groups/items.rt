@@ -1,0 +1,245 @@
+//! What a commit replaces.
+ghost use Rattle.std.specs.{Prelude.{◌≡◌, ◌≤◌, ◌&&◌, true, length, map, IfOk, OnOk}, List.list_all};
+ghost use Rattle.pf_addr.specs.{Bytes.Forms.{counted, onto, Fits}, Bytes.Readers.Reads};
+ghost use Rattle.pf_rule.specs.Sum.Layouts.{plain_rule};
+ghost use Rattle.pf_ticket.specs.declared.limits.TheConstants.{OFFERED_TABLE_LIMIT};
+ghost use Rattle.pf_store.specs.Groups.{RulesShape, rules_form, rule_list_form, TablesShape, tables_form, defined_form, item_form, items_form, plain_item, plain_named, is_commit, has_item_form};
+
+use crate::groups::tables::{StoredTable, push_named};
+use pf_addr::bytes::{
+    Fault, Layout, Rest, Stop, expect, push_bytes, push_fitting, push_key, push_list, push_u8,
+    push_u32, read_list, read_ordered_list, read_times, read_u8, takes,
+};
+use pf_addr::path::Path;
+use pf_anchor::{Placed, RULE_LIMIT, RuleList};
+use pf_core::Item;
+use pf_rule::Rule;
+use pf_ticket::{Defined, DefinedTable, ENTRY_LIMIT, OFFERED_TABLE_LIMIT};
+use std::alloc::{AllocError, Global};
+
+const RULES: u8 = 1;
+
+const TABLES: u8 = 2;
+
+// An item, as a commit has it.
+#[derive(Drop)]
+struct StoredItem {
+    item: Item,
+}
+
+impl Layout for StoredItem {
+    ghost use Rattle.std.specs.Prelude.{true};
+    ghost use Rattle.pf_store.specs.Groups.{ItemShape, item_form, plain_item};
+
+    ghost shape = { ItemShape };
+
+    ghost form = { λ version. item_form };
+
+    ghost plain = { λ row. plain_item row.item };
+
+    ghost before = { λ a b. true };
+
+    #[tactic(auto, unfolding(crate::specs::Groups::item_form))]
+    fn read<'a>(alloc: Global, _version: u8, from: &mut Rest<'a>) -> Result<StoredItem, Stop> {
+        if takes(from, RULES)? {
+            let (path, rules) = read_rules(alloc, from)?;
+            let item = Item::Rules(Placed::new(alloc, path, rules)?);
+            return Ok(StoredItem { item });
+        }
+        expect(from, &[TABLES])?;
+        let (path, tables) = read_tables(alloc, from)?;
+        let item = Item::Tables { path, tables };
+        Ok(StoredItem { item })
+    }
+
+    #[tactic(auto, using(crate::proofs::Pushed::item_formed))]
+    fn write(&self, _version: u8, out: &mut Vec<u8>) -> Result<(), AllocError> {
+        push_item(out, &self.item)
+    }
+}
+
+/// A path and the rules there, from the front of the bytes. Fails with the first fault there, or where memory is refused.
+#[tactic(auto, unfolding(crate::specs::Groups::rules_form))]
+pub(crate) fn read_rules<'a>(alloc: Global, from: &mut Rest<'a>) -> Result<(Path, RuleList), Stop>
+    ensures { Reads {a = RulesShape} (λ r. (r.0, map plain_rule r.1)) rules_form result from.old.now from.new.now }
+{
+    let path = Path::read(alloc, 1, from)?;
+    let rules = read_rule_list(alloc, from)?;
+    Ok((path, rules))
+}
+
+#[tactic(auto, unfolding(crate::specs::Groups::rule_list_form))]
+fn read_rule_list<'a>(alloc: Global, from: &mut Rest<'a>) -> Result<RuleList, Stop>
+    ensures { Reads (λ l. map plain_rule l) rule_list_form result from.old.now from.new.now }
+{
+    let left = from.len();
+    let rules = read_list::<Rule>(alloc, 1, from)?;
+    if rules.len() > RULE_LIMIT {
+        return Err(Stop::Fault(Fault::Bad(left)));
+    }
+    Ok(RuleList::of(alloc, rules)?)
+}
+
+// A path and the tables there that were defined.
+#[tactic(auto, unfolding(crate::specs::Groups::tables_form))]
+fn read_tables<'a>(alloc: Global, from: &mut Rest<'a>) -> Result<(Path, Defined), Stop>
+    ensures { Reads {a = TablesShape} (λ r. (r.0, map plain_named r.1)) tables_form result from.old.now from.new.now }
+{
+    let path = Path::read(alloc, 1, from)?;
+    let tables = read_defined(alloc, from)?;
+    Ok((path, tables))
+}
+
+#[tactic(auto, unfolding(crate::specs::Groups::defined_form))]
+fn read_defined<'a>(alloc: Global, from: &mut Rest<'a>) -> Result<Defined, Stop>
+    ensures { Reads (λ d. map plain_named d) defined_form result from.old.now from.new.now }
+{
+    let left = from.len();
+    let rows = read_ordered_list::<StoredTable>(alloc, 1, from)?;
+    if rows.len() > OFFERED_TABLE_LIMIT {
+        return Err(Stop::Fault(Fault::Bad(left)));
+    }
+    let tables = tables_of(alloc, rows)?;
+    Ok(Defined::of(alloc, &tables)?)
+}
+
+fn tables_of(alloc: Global, rows: Vec<StoredTable>) -> Result<Vec<DefinedTable>, AllocError>
+    ensures { IfOk result (λ v. v.items ≡ map (λ r. r.table) rows.items) }
+{
+    rows.into_iter().map(|row| row.table).collect(alloc)
+}
+
+/// Puts a path and the rules there behind the bytes; they fit. Fails only where memory is refused.
+#[tactic(auto, unfolding(crate::specs::Groups::rules_form))]
+pub(crate) fn push_rules(out: &mut Vec<u8>, placed: &Placed) -> Result<(), AllocError>
+    ensures written { OnOk result
+        (out.new.items ≡ onto {a = RulesShape} rules_form (placed.now.0, map plain_rule placed.now.1) out.old.items) }
+    ensures fits { OnOk result (Fits {a = RulesShape} rules_form (placed.now.0, map plain_rule placed.now.1)) }
+{
+    push_fitting(out, 1, placed.key())?;
+    push_rule_list(out, placed.value())
+}
+
+#[tactic(auto, unfolding(crate::specs::Groups::rule_list_form), using(crate::proofs::Pushed::rule_list_fits))]
+fn push_rule_list(out: &mut Vec<u8>, rules: &RuleList) -> Result<(), AllocError>
+    ensures written { OnOk result (out.new.items ≡ onto rule_list_form (map plain_rule rules.now) out.old.items) }
+    ensures fits { OnOk result (Fits rule_list_form (map plain_rule rules.now)) }
+{
+    push_list(out, 1, rules.as_slice())
+}
+
+// Puts a path and the tables there that were defined behind the bytes.
+#[tactic(auto, unfolding(crate::specs::Groups::tables_form))]
+fn push_tables(out: &mut Vec<u8>, path: &Path, tables: &Defined) -> Result<(), AllocError>
+    requires { length tables.now ≤ OFFERED_TABLE_LIMIT }
+    ensures written { OnOk result
+        (out.new.items ≡ onto {a = TablesShape} tables_form (path.now, map plain_named tables.now) out.old.items) }
+    ensures fits { OnOk result (Fits {a = TablesShape} tables_form (path.now, map plain_named tables.now)) }
+{
+    push_fitting(out, 1, path)?;
+    push_defined(out, tables)
+}
+
+#[tactic(auto, unfolding(crate::specs::Groups::defined_form), using(crate::proofs::Pushed::tables_fit))]
+fn push_defined(out: &mut Vec<u8>, tables: &Defined) -> Result<(), AllocError>
+    requires { length tables.now ≤ OFFERED_TABLE_LIMIT }
+    ensures written { OnOk result (out.new.items ≡ onto defined_form (map plain_named tables.now) out.old.items) }
+    ensures fits { OnOk result (Fits defined_form (map plain_named tables.now)) }
+{
+    let entries = tables.entries();
+    push_u32(out, tables.len() as u32)?;
+    for table in entries {
+        push_named(out, table)?;
+    }
+    Ok(())
+}
+
+#[tactic(auto, unfolding(crate::specs::Groups::item_form))]
+fn push_item(out: &mut Vec<u8>, item: &Item) -> Result<(), AllocError>
+    requires { has_item_form item.now ≡ true }
+    ensures written { OnOk result (out.new.items ≡ onto item_form (plain_item item.now) out.old.items) }
+    ensures fits { OnOk result (Fits item_form (plain_item item.now)) }
+{
+    match item {
+        Item::Rules(placed) => {
+            push_key(out, RULES)?;
+            push_rules(out, placed)
+        }
+        Item::Tables { path, tables } => {
+            push_bytes(out, &[TABLES])?;
+            push_tables(out, path, tables)
+        }
+    }
+}
+
+/// What a commit replaces, from the front of the bytes. Fails with the first fault there, or where memory is refused.
+#[tactic(auto, unfolding(crate::specs::Groups::items_form))]
+pub(crate) fn read_items<'a>(alloc: Global, from: &mut Rest<'a>) -> Result<Vec<Item>, Stop>
+    ensures { Reads (λ v. map plain_item v.items) items_form result from.old.now from.new.now }
+{
+    let left = from.len();
+    let rows = read_rows(alloc, from)?;
+    let items = items_of(alloc, rows)?;
+    if !is_commit(&items) {
+        return Err(Stop::Fault(Fault::Bad(left)));
+    }
+    Ok(items)
+}
+
+fn items_of(alloc: Global, rows: Vec<StoredItem>) -> Result<Vec<Item>, AllocError>
+    ensures { IfOk result (λ v. v.items ≡ map (λ r. r.item) rows.items) }
+{
+    rows.into_iter().map(|row| row.item).collect(alloc)
+}
+
+// Items behind their number in one byte.
+fn read_rows<'a>(alloc: Global, from: &mut Rest<'a>) -> Result<Vec<StoredItem>, Stop>
+    ensures { Reads (λ v. map (λ row. plain_item row.item) v.items) (counted 1 item_form) result from.old.now from.new.now }
+{
+    let count = read_u8(from)?;
+    read_times::<StoredItem>(alloc, 1, count as usize, from)
+}
+
+/// Puts what a commit replaces behind the bytes; it fits. Fails only where memory is refused.
+#[tactic(auto, unfolding(crate::specs::Groups::items_form), using(crate::proofs::Pushed::items_fit))]
+pub(crate) fn push_items(out: &mut Vec<u8>, items: &[Item]) -> Result<(), AllocError>
+    requires many { is_commit items.now ≡ true }
+    requires formed { list_all has_item_form items.now ≡ true }
+    ensures written { OnOk result (out.new.items ≡ onto items_form (map plain_item items.now) out.old.items) }
+    ensures fits { OnOk result (Fits items_form (map plain_item items.now)) }
+{
+    push_u8(out, items.len() as u8)?;
+    for item in items {
+        push_item(out, item)?;
+    }
+    Ok(())
+}
+
+/// Whether a commit of these has bytes.
+pub(crate) fn have_form(items: &[Item]) -> bool
+    ensures { result ≡ is_commit items.now && list_all has_item_form items.now }
+{
+    is_commit(items) && all_have_form(items)
+}
+
+fn all_have_form(items: &[Item]) -> bool
+    ensures { result ≡ list_all has_item_form items.now }
+{
+    items.iter().all(has_item_form)
+}
+
+// Whether they are as many as a commit may name.
+fn is_commit(items: &[Item]) -> bool
+    ensures { result ≡ is_commit items.now }
+{
+    !items.is_empty() && items.len() <= ENTRY_LIMIT
+}
+
+fn has_item_form(item: &Item) -> bool
+    ensures { result ≡ has_item_form item.now }
+{
+    match item {
+        Item::Rules(_) => true,
+        Item::Tables { tables, .. } => tables.len() <= OFFERED_TABLE_LIMIT,
+    }
+}

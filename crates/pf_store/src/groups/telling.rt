@@ -1,0 +1,66 @@
+//! That what is recorded is told by its data. Each function does nothing; its clause is what the types keep.
+ghost use Rattle.std.specs.Prelude.{◌≡◌, map};
+ghost use Rattle.pf_rule.specs.Sum.{Layouts.plain_rule, Reading.rule_of};
+ghost use Rattle.pf_store.specs.Groups.{plain_item, item_in, plain_record, record_in};
+
+use crate::groups::change::Recorded;
+use pf_core::{Change, ChangeKind, Item};
+use pf_rule::Rule;
+
+/// Tells contracts that what is recorded is what its data tell; it does nothing.
+pub(crate) fn tells(recorded: &Recorded)
+    ensures { record_in (plain_record recorded.now) ≡ recorded.now }
+{
+    match recorded {
+        Recorded::Made(change) => tell_change(change),
+        Recorded::Opens(_) => {}
+    }
+}
+
+#[tactic(auto, using(crate::proofs::Told::entries_told, crate::proofs::Told::steps_told))]
+pub(crate) fn tell_change(change: &Change)
+    ensures { record_in (plain_record (Recorded.Made change.now)) ≡ Recorded.Made change.now }
+{
+    match change.kind() {
+        ChangeKind::Commit(items) => tell_items(items.as_slice()),
+        ChangeKind::Add { .. } => {}
+        ChangeKind::Delete { .. } => {}
+        ChangeKind::Set { .. } => {}
+        ChangeKind::States(_) => {}
+        ChangeKind::Remove(_) => {}
+    }
+}
+
+fn tell_items(items: &[Item])
+    ensures { map item_in (map plain_item items.now) ≡ items.now }
+{
+    for item in items {
+        tell_item(item);
+    }
+}
+
+#[tactic(auto, using(crate::proofs::Told::tables_told))]
+fn tell_item(item: &Item)
+    ensures { item_in (plain_item item.now) ≡ item.now }
+{
+    if let Item::Rules(placed) = item {
+        tell_rules(placed.value().as_slice());
+    }
+}
+
+/// Tells contracts that each rule is what its data tell; it does nothing.
+pub(crate) fn tell_rules(rules: &[Rule])
+    ensures { map rule_of (map plain_rule rules.now) ≡ rules.now }
+{
+    for rule in rules {
+        tell_rule(rule);
+    }
+}
+
+#[tactic(auto, using(pf_rule::proofs::RuleBytes::rule_again))]
+fn tell_rule(rule: &Rule)
+    ensures { rule_of (plain_rule rule.now) ≡ rule.now }
+{
+    // what keeps the rule a rule is what its effect tells
+    let _effect = rule.effect();
+}

@@ -1,0 +1,127 @@
+//! Snapshots.
+ghost use Rattle.std.specs.{Prelude.{◌≡◌, ℕ, true, false, T, List, length, IfOk, IfErr, OnOk}, FinMap.is_sorted, List.list_all};
+ghost use Rattle.pf_addr.specs.{Bytes.Forms.{onto, Fits}, Path.Paths.path_order};
+ghost use Rattle.pf_anchor.specs.Tables.{table_order};
+ghost use Rattle.pf_core.specs.Durable.Edits.{Kept};
+ghost use Rattle.pf_store.specs.{Durables.{has_some, configured, durable_form, plain_durable, durable_has_form, IsDurable}, Lengths.snapshot_length};
+
+use crate::groups::GroupFault;
+use crate::snapshots::rulesets::{push_rulesets, read_rulesets};
+use crate::snapshots::tables::{push_tables, read_tables};
+use crate::snapshots::telling::tell_durable;
+use pf_addr::bytes::{Layout, Rest, Stop, decode, push_u32, read_u32};
+use pf_anchor::{Config, Placed, PlacedTable};
+use pf_core::Durable;
+use pf_state::layouts::{push_states, read_states};
+use std::alloc::{AllocError, Global};
+
+// What a snapshot keeps.
+#[derive(Drop)]
+struct Snapshot {
+    durable: Durable,
+}
+
+impl Layout for Snapshot {
+    ghost use Rattle.std.specs.Prelude.{true};
+    ghost use Rattle.pf_store.specs.Durables.{DurableShape, durable_form, plain_durable};
+
+    ghost shape = { DurableShape };
+
+    ghost form = { λ version. durable_form };
+
+    ghost plain = { λ row. plain_durable row.durable };
+
+    ghost before = { λ a b. true };
+
+    #[tactic(auto, unfolding(crate::specs::Durables::durable_form))]
+    fn read<'a>(alloc: Global, _version: u8, from: &mut Rest<'a>) -> Result<Snapshot, Stop> {
+        let epoch = read_u32(from)?;
+        let rulesets = read_rulesets(alloc, from)?;
+        let tables = read_tables(alloc, from)?;
+        let states = read_states(alloc, from)?;
+        let config = config_of(alloc, &rulesets, &tables)?;
+        Ok(Snapshot {
+            durable: Durable::of(alloc, epoch, config, states)?,
+        })
+    }
+
+    #[tactic(auto, using(crate::proofs::Durables::durable_formed))]
+    fn write(&self, _version: u8, out: &mut Vec<u8>) -> Result<(), AllocError> {
+        push_durable(out, &self.durable)
+    }
+}
+
+// These rulesets and tables.
+fn config_of(
+    alloc: Global,
+    rulesets: &[Placed],
+    tables: &[PlacedTable],
+) -> Result<Config, AllocError>
+    requires rulesets { T (is_sorted path_order rulesets.now) }
+    requires rules { list_all (λ r. has_some r.1) rulesets.now ≡ true }
+    requires tables { T (is_sorted table_order tables.now) }
+    requires entries { list_all (λ t. has_some t.1) tables.now ≡ true }
+    ensures { IfOk result (λ c. c ≡ configured rulesets.now tables.now) }
+{
+    let config = Config::empty().with_rulesets(alloc, rulesets)?;
+    config.with_tables(alloc, tables)
+}
+
+#[tactic(auto, unfolding(crate::specs::Durables::durable_form))]
+fn push_durable(out: &mut Vec<u8>, durable: &Durable) -> Result<(), AllocError>
+    requires { durable_has_form durable.now ≡ true }
+    ensures written { OnOk result (out.new.items ≡ onto durable_form (plain_durable durable.now) out.old.items) }
+    ensures fits { OnOk result (Fits durable_form (plain_durable durable.now)) }
+{
+    let epoch = durable.epoch();
+    push_u32(out, epoch)?;
+    push_rulesets(out, durable.config())?;
+    push_tables(out, durable.config())?;
+    push_states(out, durable.states())
+}
+
+// Whether it has bytes.
+fn has_form(alloc: Global, durable: &Durable) -> Result<bool, AllocError>
+    ensures { IfOk result (λ b. b ≡ durable_has_form durable.now) }
+{
+    let config = durable.config();
+    if config.would_be_too_many(alloc, &[])? {
+        return Ok(false);
+    }
+    Ok(!config.would_be_too_many_tables(alloc, &[])?)
+}
+
+/// The bytes of a snapshot of what is kept, 16 and more.
+///
+/// `NoForm`: it has none, since there are more than 1,024 rulesets or tables. `Memory`: a growth was refused. Own.
+#[tactic(auto, using(crate::proofs::Durables::durable_pushed))]
+pub fn write_durable(alloc: Global, durable: &Durable) -> Result<Vec<u8>, GroupFault>
+    ensures written { IfOk result (λ v. IsDurable durable.now v.items) }
+    ensures length { IfOk result (λ v. length v.items ≡ snapshot_length durable.now) }
+    ensures formed { OnOk result (durable_has_form durable.now ≡ true) }
+    ensures formless { IfErr result (λ e. e ≡ GroupFault.NoForm → durable_has_form durable.now ≡ false) }
+{
+    if !has_form(alloc, durable)? {
+        return Err(GroupFault::NoForm);
+    }
+    tell_durable(durable);
+    let mut out = Vec::new(alloc);
+    push_durable(&mut out, durable)?;
+    Ok(out)
+}
+
+/// What these bytes are the snapshot of. `NoForm`: they are nothing's. `Memory`: a growth was refused.
+#[tactic(auto, using(crate::proofs::Durables::durable_spelled, crate::proofs::Durables::none_told))]
+pub fn read_durable(alloc: Global, bytes: &[u8]) -> Result<Durable, GroupFault>
+    ensures found { IfOk result (λ d. IsDurable d bytes.now) }
+    ensures none { IfErr result (λ e. e ≡ GroupFault.NoForm → (d : Kept) → ¬ IsDurable d bytes.now) }
+{
+    match decode::<Snapshot>(alloc, 1, bytes) {
+        Ok(snapshot) => {
+            tell_durable(&snapshot.durable);
+            Ok(snapshot.durable)
+        }
+        Err(Stop::Memory) => Err(GroupFault::Memory),
+        Err(Stop::Fault(_)) => Err(GroupFault::NoForm),
+    }
+}

@@ -1,0 +1,121 @@
+//! Rulesets.
+ghost use Rattle.std.specs.{Prelude.{◌≡◌, ◌≤◌, ◌&&◌, nat_le, true, T, length, map, IfOk, OnOk}, FinMap.is_sorted, List.list_all};
+ghost use Rattle.pf_addr.specs.{Bytes.Forms.{onto, Fits}, Bytes.Readers.Reads, Path.Paths.path_order};
+ghost use Rattle.pf_anchor.specs.{declared.limits.TheConstants.RULESET_LIMIT, Rulesets.IsMap};
+ghost use Rattle.pf_store.specs.Durables.{has_some, rulesets_form, plain_ruled};
+
+use crate::groups::{push_rules, read_rules};
+use pf_addr::bytes::{Fault, Layout, Ordered, Rest, Stop, push_u32, read_ordered_list};
+use pf_anchor::{Config, Path, Placed, RULESET_LIMIT};
+use std::alloc::{AllocError, Global};
+
+// A ruleset, as a snapshot has it.
+#[derive(Drop)]
+struct StoredRuleset {
+    placed: Placed,
+}
+
+impl Layout for StoredRuleset {
+    ghost use Rattle.pf_store.specs.Groups.{RulesShape, rules_form};
+    ghost use Rattle.pf_store.specs.Durables.{plain_ruled, ruleset_before};
+
+    ghost shape = { RulesShape };
+
+    ghost form = { λ version. rules_form };
+
+    ghost plain = { λ row. plain_ruled row.placed };
+
+    ghost before = { ruleset_before };
+
+    fn read<'a>(alloc: Global, _version: u8, from: &mut Rest<'a>) -> Result<StoredRuleset, Stop> {
+        let (path, rules) = read_rules(alloc, from)?;
+        Ok(StoredRuleset {
+            placed: Placed::new(alloc, path, rules)?,
+        })
+    }
+
+    fn write(&self, _version: u8, out: &mut Vec<u8>) -> Result<(), AllocError> {
+        push_rules(out, &self.placed)
+    }
+}
+
+impl Ordered for StoredRuleset {
+    fn comes_before(&self, other: &StoredRuleset) -> bool {
+        self.placed.key().order(other.placed.key()).is_lt()
+    }
+}
+
+fn has_rules(row: &StoredRuleset) -> bool
+    ensures { result ≡ has_some row.now.placed.1 }
+{
+    !row.placed.value().as_slice().is_empty()
+}
+
+fn are_filled(rows: &[StoredRuleset]) -> bool
+    ensures { result ≡ list_all (λ row. has_some row.placed.1) rows.now }
+{
+    rows.iter().all(has_rules)
+}
+
+// Whether there may be so many, and none of them is empty.
+fn are_rulesets(rows: &[StoredRuleset]) -> bool
+    ensures { result ≡ nat_le (length rows.now) RULESET_LIMIT && list_all (λ row. has_some row.placed.1) rows.now }
+{
+    rows.len() <= RULESET_LIMIT && are_filled(rows)
+}
+
+fn placed_in(alloc: Global, rows: Vec<StoredRuleset>) -> Result<Vec<Placed>, AllocError>
+    ensures { IfOk result (λ v. v.items ≡ map (λ row. row.placed) rows.items) }
+{
+    rows.into_iter().map(|row| row.placed).collect(alloc)
+}
+
+/// The rulesets at the front of the bytes, in the order of their paths. Fails with the first fault of their form there, or where memory
+/// is refused.
+#[tactic(auto, unfolding(crate::specs::Durables::rulesets_form), using(crate::proofs::Durables::rulesets_sorted, crate::proofs::Durables::rulesets_are, crate::proofs::Durables::rulesets_filled))]
+pub(crate) fn read_rulesets<'a>(alloc: Global, from: &mut Rest<'a>) -> Result<Vec<Placed>, Stop>
+    ensures read { Reads (λ v. map plain_ruled v.items) rulesets_form result from.old.now from.new.now }
+    ensures sorted { IfOk result (λ v. T (is_sorted path_order v.items)) }
+    ensures filled { IfOk result (λ v. list_all (λ r. has_some r.1) v.items ≡ true) }
+{
+    let left = from.len();
+    let rows = read_ordered_list::<StoredRuleset>(alloc, 1, from)?;
+    if !are_rulesets(&rows) {
+        return Err(Stop::Fault(Fault::Bad(left)));
+    }
+    Ok(placed_in(alloc, rows)?)
+}
+
+// How many there are.
+fn count_of(config: &Config) -> u32
+    requires { length config.now.rulesets ≤ RULESET_LIMIT }
+    ensures { result ≡ length config.now.rulesets }
+{
+    let mut count = 0;
+    for placed in config.each_ruleset() {
+        count += 1;
+    }
+    count
+}
+
+// What keeps the rulesets a map is what their rules tell.
+fn tell_map(config: &Config)
+    ensures { IsMap config.now.rulesets }
+{
+    let _rules = config.rules_at(&Path::main());
+}
+
+/// Puts the rulesets, at most 1,024, behind the bytes, in the order of their paths; they fit. Fails only where memory is refused.
+#[tactic(auto, unfolding(crate::specs::Durables::rulesets_form), using(crate::proofs::Durables::rulesets_fit))]
+pub(crate) fn push_rulesets(out: &mut Vec<u8>, config: &Config) -> Result<(), AllocError>
+    requires { length config.now.rulesets ≤ RULESET_LIMIT }
+    ensures written { OnOk result (out.new.items ≡ onto rulesets_form (map plain_ruled config.now.rulesets) out.old.items) }
+    ensures fits { OnOk result (Fits rulesets_form (map plain_ruled config.now.rulesets)) }
+{
+    tell_map(config);
+    push_u32(out, count_of(config))?;
+    for placed in config.each_ruleset() {
+        push_rules(out, placed)?;
+    }
+    Ok(())
+}

@@ -1,0 +1,144 @@
+//! Tables at their places.
+ghost use Rattle.std.specs.{Prelude.{◌≡◌, ◌≤◌, ◌&&◌, nat_le, true, T, length, map, IfOk, OnOk}, FinMap.is_sorted, List.list_all};
+ghost use Rattle.pf_addr.specs.{Bytes.Forms.{onto, Fits}, Bytes.Readers.Reads};
+ghost use Rattle.pf_anchor.specs.{declared.limits.TheConstants.TABLE_COUNT_LIMIT, Tables.{IsTableMap, table_order}};
+ghost use Rattle.pf_store.specs.Durables.{has_some, kept_tables_form, placed_form, plain_tabled};
+
+use crate::groups::{push_table, read_table};
+use pf_addr::bytes::{
+    Fault, Layout, Ordered, Rest, Stop, push_fitting, push_u32, read_ordered_list,
+};
+use pf_addr::path::TableName;
+use pf_anchor::{Config, Path, PlacedTable, TABLE_COUNT_LIMIT};
+use std::alloc::{AllocError, Global};
+
+// A table at its path and under its name, as a snapshot has it.
+#[derive(Drop)]
+struct StoredPlaced {
+    placed: PlacedTable,
+}
+
+impl Layout for StoredPlaced {
+    ghost use Rattle.pf_store.specs.Durables.{PlacedShape, placed_form, placed_before, plain_tabled};
+
+    ghost shape = { PlacedShape };
+
+    ghost form = { λ version. placed_form };
+
+    ghost plain = { λ row. plain_tabled row.placed };
+
+    ghost before = { placed_before };
+
+    #[tactic(auto, unfolding(crate::specs::Durables::placed_form, crate::specs::Groups::named_form))]
+    fn read<'a>(alloc: Global, _version: u8, from: &mut Rest<'a>) -> Result<StoredPlaced, Stop> {
+        let path = Path::read(alloc, 1, from)?;
+        let name = TableName::read(alloc, 1, from)?;
+        let table = read_table(alloc, from)?;
+        Ok(StoredPlaced {
+            placed: PlacedTable::new(alloc, (path, name), table)?,
+        })
+    }
+
+    fn write(&self, _version: u8, out: &mut Vec<u8>) -> Result<(), AllocError> {
+        push_placed(out, &self.placed)
+    }
+}
+
+impl Ordered for StoredPlaced {
+    fn comes_before(&self, other: &StoredPlaced) -> bool {
+        let (path, name) = self.placed.key();
+        let (other_path, other_name) = other.placed.key();
+        path.order(other_path).then(name.order(other_name)).is_lt()
+    }
+}
+
+fn has_entries(row: &StoredPlaced) -> bool
+    ensures { result ≡ has_some row.now.placed.1 }
+{
+    !row.placed.value().is_empty()
+}
+
+fn are_filled(rows: &[StoredPlaced]) -> bool
+    ensures { result ≡ list_all (λ row. has_some row.placed.1) rows.now }
+{
+    rows.iter().all(has_entries)
+}
+
+// Whether there may be so many, and none of them is empty.
+fn are_tables(rows: &[StoredPlaced]) -> bool
+    ensures { result ≡ nat_le (length rows.now) TABLE_COUNT_LIMIT && list_all (λ row. has_some row.placed.1) rows.now }
+{
+    rows.len() <= TABLE_COUNT_LIMIT && are_filled(rows)
+}
+
+fn placed_in(alloc: Global, rows: Vec<StoredPlaced>) -> Result<Vec<PlacedTable>, AllocError>
+    ensures { IfOk result (λ v. v.items ≡ map (λ row. row.placed) rows.items) }
+{
+    rows.into_iter().map(|row| row.placed).collect(alloc)
+}
+
+/// The tables at the front of the bytes, in the order of their paths, at one path in that of their names. Fails with the first fault of
+/// their form there, or where memory is refused.
+#[tactic(auto, unfolding(crate::specs::Durables::kept_tables_form), using(crate::proofs::Durables::tables_sorted, crate::proofs::Durables::tables_are, crate::proofs::Durables::tables_filled))]
+pub(crate) fn read_tables<'a>(alloc: Global, from: &mut Rest<'a>) -> Result<Vec<PlacedTable>, Stop>
+    ensures read { Reads (λ v. map plain_tabled v.items) kept_tables_form result from.old.now from.new.now }
+    ensures sorted { IfOk result (λ v. T (is_sorted table_order v.items)) }
+    ensures filled { IfOk result (λ v. list_all (λ t. has_some t.1) v.items ≡ true) }
+{
+    let left = from.len();
+    let rows = read_ordered_list::<StoredPlaced>(alloc, 1, from)?;
+    if !are_tables(&rows) {
+        return Err(Stop::Fault(Fault::Bad(left)));
+    }
+    Ok(placed_in(alloc, rows)?)
+}
+
+// How many there are.
+fn count_of(config: &Config) -> u32
+    requires { length config.now.tables ≤ TABLE_COUNT_LIMIT }
+    ensures { result ≡ length config.now.tables }
+{
+    let mut count = 0;
+    for placed in config.each_table() {
+        count += 1;
+    }
+    count
+}
+
+// What keeps the tables a map is what the place of the first one tells.
+fn tell_map(config: &Config)
+    ensures { IsTableMap config.now.tables }
+{
+    if let Some(first) = config.each_table().next() {
+        let (path, name) = first.key();
+        let _table = config.table_at(path, name);
+    }
+}
+
+// Puts a table's path, its name and its entries behind the bytes.
+#[tactic(auto, unfolding(crate::specs::Durables::placed_form, crate::specs::Groups::named_form))]
+fn push_placed(out: &mut Vec<u8>, placed: &PlacedTable) -> Result<(), AllocError>
+    ensures written { OnOk result (out.new.items ≡ onto placed_form (plain_tabled placed.now) out.old.items) }
+    ensures fits { OnOk result (Fits placed_form (plain_tabled placed.now)) }
+{
+    let (path, name) = placed.key();
+    push_fitting(out, 1, path)?;
+    push_fitting(out, 1, name)?;
+    push_table(out, placed.value())
+}
+
+/// Puts the tables, at most 1,024, behind the bytes, in the order of their paths and names; they fit. Fails only where memory is
+/// refused.
+#[tactic(auto, unfolding(crate::specs::Durables::kept_tables_form), using(crate::proofs::Durables::tables_fit))]
+pub(crate) fn push_tables(out: &mut Vec<u8>, config: &Config) -> Result<(), AllocError>
+    requires { length config.now.tables ≤ TABLE_COUNT_LIMIT }
+    ensures written { OnOk result (out.new.items ≡ onto kept_tables_form (map plain_tabled config.now.tables) out.old.items) }
+    ensures fits { OnOk result (Fits kept_tables_form (map plain_tabled config.now.tables)) }
+{
+    tell_map(config);
+    push_u32(out, count_of(config))?;
+    for placed in config.each_table() {
+        push_placed(out, placed)?;
+    }
+    Ok(())
+}

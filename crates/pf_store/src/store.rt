@@ -1,0 +1,28 @@
+//! A device that holds what is kept: its bank has a snapshot of what was kept first, and a record for each change since.
+//!
+//! Read first `specs/Stores.antt`: what an image holds, then `specs/Openings.antt`: why a device isn't opened. The modules:
+//!
+//! - `keeping`: [`Store`], which saves a change, and [`Store::open`].
+//! - `finding`: [`peek`], what a device holds.
+//! - `formatting`: [`format`], which makes a device hold nothing.
+//! - `replaying`: what a snapshot and payloads make.
+//! - `lengths`: how long a snapshot would be.
+//! - `fault`: why any of them ends without its result.
+//! - `laws`: an image holds one thing at most, which is within all limits.
+
+mod fault;
+mod finding;
+mod formatting;
+mod keeping;
+mod laws;
+mod lengths;
+mod replaying;
+
+pub use fault::{OpenFault, SaveFault};
+pub use finding::peek;
+pub use formatting::format;
+pub use keeping::Store;
+pub use laws::{
+    held_state_is_found, held_state_is_within_limits, image_holds_one_state,
+    state_with_room_is_refused_by_chance_alone,
+};

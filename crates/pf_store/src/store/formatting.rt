@@ -1,0 +1,32 @@
+//! Making a device hold nothing.
+ghost use Rattle.std.specs.Prelude.{◌≡◌, ◌↔◌, ◌+◌, ◌^◌, ◌<◌, ◌≤◌, ◌≢◌, ℕ, List, length, replicate, slice_index, OnOk, IsErrOf, if◌then◌else◌};
+ghost use Rattle.pf_disk.specs.{Disk.{EachMoment, IsImage, IsSynced}, declared.image.TheConstants.OPEN_GATE};
+ghost use Rattle.pf_core.specs.Durable.Edits.{kept_nothing};
+ghost use Rattle.pf_store.specs.{Banks.{IsSize, bank_end, IsOfFormat}, BankFaults.is_format_fault, Stores.Holds};
+
+use crate::bank::{self, FormatFault};
+use pf_disk::Disk;
+use std::alloc::Global;
+
+/// Makes a device hold nothing but the epoch 0, whatever it held, in seven moments of the device at most. `Err`: the device is as before,
+/// or a call of it failed. Own.
+pub fn format<D: Disk>(alloc: Global, disk: &mut D) -> Result<(), FormatFault>
+    requires few { D.fault_count disk.old < 2 ^ 63 }
+    ensures holds { OnOk result ((c : List ℕ) → IsImage (D.seen disk.new) (D.unsynced disk.new) c → Holds c (kept_nothing 0)) }
+    ensures other { OnOk result ((c : List ℕ) → IsImage (D.seen disk.new) (D.unsynced disk.new) c
+        → slice_index c (bank_end (length (D.seen disk.old))) ≢ OPEN_GATE) }
+    ensures synced { OnOk result (IsSynced (D.unsynced disk.new)) }
+
+    // At each moment an image is as before but for the banks' gates, or its first gate is closed, or it holds a bank of nothing.
+    ensures any_moment { EachMoment D.moment D.left_since disk.old disk.new
+        (IsOfFormat (D.seen disk.old) (D.unsynced disk.old) (replicate 16 0)) }
+
+    ensures bad_size { IsErrOf result FormatFault.BadSize ↔ ¬ IsSize (length (D.seen disk.old)) }
+    ensures unchanged_at_bad_size { IsErrOf result FormatFault.BadSize → disk.new ≡ disk.old }
+    ensures unchanged_without_memory { IsErrOf result FormatFault.Memory → disk.new ≡ disk.old }
+    ensures same_size { length (D.seen disk.new) ≡ length (D.seen disk.old) }
+    ensures moments { D.moment disk.new ≤ D.moment disk.old + 7 }
+    ensures faults { D.fault_count disk.new ≡ D.fault_count disk.old + (if is_format_fault result then 1 else 0) }
+{
+    bank::format(alloc, disk, &[0; 16])
+}
