@@ -62,7 +62,7 @@ fn left_by(
 }
 
 /// One of the six fills; the last is by these bytes.
-fn fill(number: u32, bytes: &[u8]) -> Fill<'_>
+pub fn fill(number: u32, bytes: &[u8]) -> Fill<'_>
     ensures { FillsAll result (length bytes.now) }
 {
     match number {
