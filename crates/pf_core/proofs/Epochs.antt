@@ -3,7 +3,7 @@ use Rattle.std.proofs.{Common.{◌≡◌, ℕ, ◌<◌, ◌≤◌, ◌==◌, ◌
 use Rattle.std.specs.{List.AllByRecursion}
 use Rattle.pf_ticket.specs.{declared.{name.RulesetName.RulesetName, ticket.Ticket.Ticket}, Laws.Tickets.IsGivenLast, Mentions.{Mention, opened as left_by}, Names.{is_ticket, tickets_from}, Tickets.{Open, fresh, valid_ticket}}
 use Rattle.pf_ticket.proofs.{Latest.valid_is_given_last, Moves.epoch-stays}
-use Rattle.pf_core.specs.{Durable.Edits.after, History.{base_of, tickets_in, tickets_by, tickets_given}, Laws.Openings.{AreVoid, VoidsTickets}, Laws.Worlds.{mentions_by, mentions_since}, Worlds.{Setting, Held, State, up, down, Event, called, crashed, opened, refused_opening, flat, kept_groups, next, IsLegal, state_after, IsLegalFrom}}
+use Rattle.pf_core.specs.{Durable.Edits.after, History.{base_of, tickets_in, tickets_by, tickets_given}, Laws.Openings.{AreVoid, VoidsTickets, RaisesTheEpoch}, Laws.Worlds.{mentions_by, mentions_since}, Worlds.{Setting, Held, State, up, down, Event, called, entered, learned, crashed, opened, refused_opening, flat, kept_groups, next, IsLegal, state_after, IsLegalFrom}}
 use Rattle.pf_core.proofs.{Folds.after-epoch, Limits.legal-told, LongerWorlds.{AgreesIn, agrees-next, agrees-from, AreLegal, in-two}}
 
 -- ---- epochs
@@ -11,12 +11,16 @@ use Rattle.pf_core.proofs.{Folds.after-epoch, Limits.legal-told, LongerWorlds.{A
 epoch-next : (st : State) (ev : Event) → (base_of st).epoch ≤ (base_of (next st ev)).epoch
 epoch-next (up h) (crashed doing n) = let same : (after h.base (flat (kept_groups h doing n))).epoch ≡ h.base.epoch = after-epoch h.base (flat (kept_groups h doing n)) in omega (arith, same)
 epoch-next (up h) (called c t) = le_refl _
+epoch-next (up h) (entered w n) = le_refl _
+epoch-next (up h) (learned w n) = le_refl _
 epoch-next (up h) (opened setting) = le_refl _
 epoch-next (up h) (refused_opening rose) = le_refl _
 epoch-next (down d) (opened setting) = omega arith
 epoch-next (down d) (refused_opening true) = omega arith
 epoch-next (down d) (refused_opening false) = le_refl _
 epoch-next (down d) (called c t) = le_refl _
+epoch-next (down d) (entered w n) = le_refl _
+epoch-next (down d) (learned w n) = le_refl _
 epoch-next (down d) (crashed doing n) = le_refl _
 
 epoch-after : (st : State) (world : List Event) → (base_of st).epoch ≤ (base_of (state_after st world)).epoch
@@ -95,3 +99,17 @@ voids_tickets first world later setting legal =
     let end : state_after (down first) all ≡ state_after begun later = fold-append next (down first) world (opened setting ∷ later) in
     are-void (state_after (down first) all) (mentions_since all) (tickets_given world) (base_of mid).epoch (agrees-from (down first) [] all legal tt) (given-up (down first) [] world parts.before tt)
     (subst (λ (st : State). (base_of mid).epoch < (base_of st).epoch) (sym end) (omega (arith, higher, rest)))
+
+-- ---- and are of an earlier epoch
+
+all-below : (e higher : ℕ) (ts : List Ticket) → AreUpTo e ts → e < higher → AllByRecursion (λ t. t.epoch < higher) ts
+all-below e higher [] up_to low = tt
+all-below e higher (t ∷ ts) up_to low = (let one : t.epoch ≤ e = up_to.0 in omega (arith, one, low), all-below e higher ts up_to.1 low)
+
+pub raises_the_epoch : RaisesTheEpoch
+raises_the_epoch first world setting legal =
+    let parts : AreLegal (down first) world (opened setting) [] = in-two (down first) world (opened setting) [] legal in
+    let mid : State = state_after (down first) world in
+    let end : state_after (down first) (world ++ opened setting ∷ []) ≡ next mid (opened setting) = fold-append next (down first) world (opened setting ∷ []) in
+    all-below (base_of mid).epoch (base_of (state_after (down first) (world ++ opened setting ∷ []))).epoch (tickets_given world) (given-up (down first) [] world parts.before tt)
+    (subst (λ (st : State). (base_of mid).epoch < (base_of st).epoch) (sym end) (opened-higher mid setting parts.here))

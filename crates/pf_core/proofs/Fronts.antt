@@ -1,5 +1,5 @@
 -- Fronts of lists, and some groups among others.
-use Rattle.std.proofs.Common.{◌≡◌, ℕ, zero, suc, inl, inr, List, [], ◌∷◌, ◌++◌, take, refl, sym, ap, ◌∙◌, subst, append_assoc}
+use Rattle.std.proofs.Common.{◌≡◌, ℕ, zero, suc, inl, inr, List, [], ◌∷◌, ◌++◌, take, drop, take-append-drop, refl, sym, ap, ◌∙◌, subst, append_assoc}
 use Rattle.pf_core.specs.{Durable.Edits.Edit, History.AreAmong, Laws.Openings.IsFrontOf, Worlds.flat}
 
 pub flat-append : (xs ys : List (List Edit)) → flat (xs ++ ys) ≡ flat xs ++ flat ys
@@ -16,6 +16,12 @@ front-trans {A} xs ys zs f g = (f.0 ++ g.0, g.1 ∙ ap (λ (l : List A). l ++ g.
 
 pub front-behind : {A : Type 0} (ps xs ys : List A) → IsFrontOf xs ys → IsFrontOf (ps ++ xs) (ps ++ ys)
 front-behind {A} ps xs ys f = (f.0, ap (λ (l : List A). ps ++ l) f.1 ∙ sym (append_assoc ps xs f.0))
+
+pub front-take : {A : Type 0} (n : ℕ) (xs : List A) → IsFrontOf (take n xs) xs
+front-take n xs = (drop n xs, sym (take-append-drop n xs))
+
+pub front-flat : (xs ys : List (List Edit)) → IsFrontOf xs ys → IsFrontOf (flat xs) (flat ys)
+front-flat xs ys f = (flat f.0, ap flat f.1 ∙ flat-append xs f.0)
 
 -- ---- parts
 

@@ -1,7 +1,7 @@
 -- Which groups are kept.
 use Rattle.std.proofs.{Common.{◌≡◌, ℕ, ◌+◌, ◌<◌, ◌≤◌, Bool, true, false, cond, ◌⊎◌, inl, inr, List, [], ◌∷◌, ◌++◌, length, take, refl, sym, ap, ◌∙◌, subst, append_assoc, append-nil, Result, Ok, Err, nat_lt, arith}, lemmas.Bool.Decides.nat_tests}
-use Rattle.pf_core.specs.{declared.{command.Command.Command, command.Command.TheVariants.Ask, reply.Refusal.Refusal, reply.Outcome.Outcome, reply.Refusal.TheVariants.Halted, reply.Refusal.TheVariants.HistoryFull, reply.Refusal.TheVariants.Full, reply.Reply.Reply, reply.Reply.TheVariants.Answer, reply.Reply.TheVariants.Applied, reply.Reply.TheVariants.Refused, step.Step.Step, step.Step.TheVariants.Done, step.Step.TheVariants.Wants}, Commands.step_by, Durable.Edits.Edit, History.{acked_of, pending_of, kept_by, earlier, acknowledged, history, offered_by, offered, AreAmong}, Laws.Openings.{IsFrontOf, KeepsWhole, KeepsAcknowledged}, Worlds.{Held, State, up, down, Event, called, crashed, opened, refused_opening, log_of, durable_of, is_halted, room_for, if_ok, or_refused, due_at, group_at, group_in, group_of, kept_groups, acked_by, is_fault, pending_by, next, state_after}}
-use Rattle.pf_core.proofs.Fronts.{front-more, front-trans, front-behind, among-none, among-refl, among-take, among-append, among-trans}
+use Rattle.pf_core.specs.{declared.{command.Command.Command, command.Command.TheVariants.Ask, command.Command.TheVariants.History, reply.Refusal.Refusal, reply.Outcome.Outcome, reply.Refusal.TheVariants.Halted, reply.Refusal.TheVariants.HistoryFull, reply.Refusal.TheVariants.Full, reply.Reply.Reply, reply.Reply.TheVariants.Answer, reply.Reply.TheVariants.Applied, reply.Reply.TheVariants.Stored, reply.Reply.TheVariants.Refused, step.Step.Step, step.Step.TheVariants.Done, step.Step.TheVariants.Wants, step.Step.TheVariants.OfHistory}, Commands.step_by, Durable.Edits.Edit, History.{acked_of, pending_of, kept_by, earlier, acknowledged, history, offered_by, offered, AreAmong}, Laws.Openings.{IsFrontOf, KeepsWhole, KeepsAcknowledged}, Worlds.{Held, State, up, down, Event, called, entered, learned, crashed, opened, refused_opening, log_of, durable_of, is_halted, room_for, if_ok, or_refused, due_at, group_at, group_in, group_of, kept_groups, acked_by, is_fault, pending_by, next, state_after}}
+use Rattle.pf_core.proofs.Fronts.{front-more, front-trans, front-behind, among-refl, among-take, among-append, among-trans}
 
 -- ---- the group of a step
 
@@ -40,6 +40,7 @@ wanted-kept h e o (Err x) is = inr (record {
 pub kept-or-not : (h : Held) (s : Result Step Refusal) → IsKept h s ⊎ IsNotKept h s
 kept-or-not h (Ok (Done a)) = inr (record { group = refl; reply = λ n o is. cc (is) })
 kept-or-not h (Ok (Wants e o)) = wanted-kept h e o (room_for h (e ∷ [])) refl
+kept-or-not h (Ok (OfHistory c)) = inr (record { group = refl; reply = λ n o is. cc (is) })
 kept-or-not h (Err x) = inr (record { group = refl; reply = λ n o is. cc (is) })
 
 pub room-found : (h : Held) (e : Edit) → length (log_of h) < h.setting.limit → h.setting.is_full h.base h.acked (e ∷ []) ≡ false → room_for h (e ∷ []) ≡ Ok tt
@@ -69,6 +70,8 @@ acked-front st [] = front-more (acked_of st) (pending_of st)
 acked-front (up h) (called c t ∷ evs) =
     let st : State = next (up h) (called c t) in
     front-trans h.acked (acked_of st) (history st evs) (acked_by c.reply (group_in h c.command), refl) (acked-front st evs)
+acked-front (up h) (entered w n ∷ evs) = acked-front (next (up h) (entered w n)) evs
+acked-front (up h) (learned w n ∷ evs) = acked-front (next (up h) (learned w n)) evs
 acked-front (up h) (crashed doing n ∷ evs) =
     let more : List (List Edit) = take n (h.pending ++ group_of h doing) in
     let rest : List (List Edit) = history (next (up h) (crashed doing n)) evs in
@@ -94,6 +97,7 @@ keeps_acknowledged first world later legal = acknowledged-front (down first) wor
 -- a halted opening keeps nothing more
 quiet : (h : Held) (c : Command) (g : List Edit) (gs : List (List Edit)) → h.pending ≡ g ∷ gs → group_in h c ≡ []
 quiet h (Ask q) g gs is = refl
+quiet h (History c) g gs is = refl
 quiet h c g gs is = ap (λ (p : List (List Edit)). group_at h (cond (is_halted p) (Err Halted) (step_by h.tickets (durable_of h) c))) is
 
 pub either : (h : Held) (c : Command) → (h.pending ≡ []) ⊎ (group_in h c ≡ [])
@@ -102,30 +106,35 @@ either h c = by h.pending refl where
   by [] is = inl is
   by (g ∷ gs) is = inr (quiet h c g gs is)
 
--- a refusal leaves its group or nothing of it
-refused-among : (fault : Bool) (g : List (List Edit)) → AreAmong (cond fault g []) g
-refused-among true g = among-refl g
-refused-among false g = among-none g
+-- of no group nothing is offered
+none-offered : (r : Reply) → acked_by r [] ++ pending_by r [] ≡ []
+none-offered (Answer a) = refl
+none-offered (Applied n o) = refl
+none-offered (Stored n o) = refl
+none-offered (Refused e) = by (is_fault e) where
+  by : (fault : Bool) → cond {A = List (List Edit)} fault [] [] ≡ []
+  by true = refl
+  by false = refl
 
--- and so does each reply
-split-among : (r : Reply) (g : List (List Edit)) → AreAmong (acked_by r g ++ pending_by r g) g
-split-among (Answer a) g = among-none g
-split-among (Applied n o) g = subst (λ (l : List (List Edit)). AreAmong l g) (sym (append-nil g)) (among-refl g)
-split-among (Refused e) g = refused-among (is_fault e) g
+-- either there was no group before, or none is offered now
+either-offered : (h : Held) (c : Command) (r : Reply) → (h.pending ≡ []) ⊎ (acked_by r (group_in h c) ++ pending_by r (group_in h c) ≡ [])
+either-offered h c r = by (either h c) where
+  by : (h.pending ≡ []) ⊎ (group_in h c ≡ []) → (h.pending ≡ []) ⊎ (acked_by r (group_in h c) ++ pending_by r (group_in h c) ≡ [])
+  by (inl none) = inl none
+  by (inr none) = inr (ap (λ (g : List (List Edit)). acked_by r g ++ pending_by r g) none ∙ none-offered r)
 
 no-parts : (a p : List (List Edit)) → a ++ p ≡ [] → (a ≡ []) × (p ≡ [])
 no-parts [] p is = (refl, is)
 no-parts (x ∷ xs) p is = absurd (cc (is))
 
--- the log once these parts of a group were acknowledged, and not
-more-among : (acked pending group a p : List (List Edit)) → AreAmong (a ++ p) group → (pending ≡ []) ⊎ (group ≡ []) → AreAmong ((acked ++ a) ++ (pending ++ p)) ((acked ++ pending) ++ group)
-more-among acked pending group a p split (inl none) =
-    subst (λ (l : List (List Edit)). AreAmong ((acked ++ a) ++ (l ++ p)) ((acked ++ l) ++ group)) (sym none)
-    (subst (λ (l : List (List Edit)). AreAmong l ((acked ++ []) ++ group)) (sym (append_assoc acked a p))
-    (subst (λ (l : List (List Edit)). AreAmong (acked ++ (a ++ p)) (l ++ group)) (sym (append-nil acked))
-    (among-append acked acked (a ++ p) group (among-refl acked) split)))
-more-among acked pending group a p split (inr none) =
-    let parts : (a ≡ []) × (p ≡ []) = no-parts a p (subst (λ (l : List (List Edit)). AreAmong (a ++ p) l) none split) in
+-- the log once these groups were acknowledged, and not
+more-among : (acked pending a p : List (List Edit)) → (pending ≡ []) ⊎ (a ++ p ≡ []) → AreAmong ((acked ++ a) ++ (pending ++ p)) ((acked ++ pending) ++ (a ++ p))
+more-among acked pending a p (inl none) =
+    subst (λ (l : List (List Edit)). AreAmong ((acked ++ a) ++ (l ++ p)) ((acked ++ l) ++ (a ++ p))) (sym none)
+    (subst (λ (l : List (List Edit)). AreAmong l ((acked ++ []) ++ (a ++ p))) (sym (append_assoc acked a p))
+    (subst (λ (l : List (List Edit)). AreAmong (acked ++ (a ++ p)) (l ++ (a ++ p))) (sym (append-nil acked)) (among-refl (acked ++ (a ++ p)))))
+more-among acked pending a p (inr none) =
+    let parts : (a ≡ []) × (p ≡ []) = no-parts a p none in
     subst (λ (l : List (List Edit)). AreAmong ((acked ++ a) ++ (pending ++ p)) ((acked ++ pending) ++ l)) (sym none)
     (rw (parts.0, parts.1) (simp (append-nil {A = List Edit}) (among-refl (acked ++ pending))))
 
@@ -136,7 +145,9 @@ log-stays h = subst (λ (l : List (List Edit)). AreAmong (h.acked ++ h.pending) 
 step-among : (st : State) (ev : Event) → AreAmong (kept_by st ev ++ (acked_of (next st ev) ++ pending_of (next st ev))) ((acked_of st ++ pending_of st) ++ offered_by st ev)
 step-among (up h) (called c t) =
     let g : List (List Edit) = group_in h c.command in
-    more-among h.acked h.pending g (acked_by c.reply g) (pending_by c.reply g) (split-among c.reply g) (either h c.command)
+    more-among h.acked h.pending (acked_by c.reply g) (pending_by c.reply g) (either-offered h c.command c.reply)
+step-among (up h) (entered w n) = log-stays h
+step-among (up h) (learned w n) = log-stays h
 step-among (up h) (crashed doing n) =
     let offers : List (List Edit) = h.pending ++ group_of h doing in
     subst (λ (l : List (List Edit)). AreAmong (kept_groups h doing n ++ []) l) (sym (append_assoc h.acked h.pending (group_of h doing)))
@@ -145,6 +156,8 @@ step-among (up h) (crashed doing n) =
 step-among (up h) (opened setting) = log-stays h
 step-among (up h) (refused_opening rose) = log-stays h
 step-among (down d) (called c t) = refl
+step-among (down d) (entered w n) = refl
+step-among (down d) (learned w n) = refl
 step-among (down d) (crashed doing n) = refl
 step-among (down d) (opened setting) = refl
 step-among (down d) (refused_opening rose) = refl

@@ -9,6 +9,7 @@ pub mod Folds
 pub mod Groups
 pub mod LongerWorlds
 pub mod Limits
+pub mod Showing
 pub mod Epochs
 pub mod Given
 pub mod Tracking

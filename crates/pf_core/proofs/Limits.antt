@@ -1,13 +1,13 @@
--- In each opening that a world comes to each ticket was given once, all limits hold, and all that was acknowledged is shown.
+-- In each opening that a world comes to each ticket was given once, and all limits hold.
 use Rattle.std.proofs.{Common.{T, ◌&&◌, ◌||◌, ◌⊎◌, ◌≡◌, ℕ, ◌+◌, ◌≤◌, Bool, true, false, cond, List, [], ◌∷◌, length, refl, sym, ap, ◌∙◌, subst, inl, inr, Option, Some, None, Result, Ok, Err, arith, zero, suc, ◌++◌, take}, Math.Seq.take-nil, lemmas.List.{append-nil, length-append}, lemmas.List.Sums.fold_push}
 use Rattle.std.specs.{Prelude.{map, fold, is_some, if◌then◌else◌}, FinMap.is_sorted, List.{list_all, AllByRecursion}}
 use Rattle.pf_addr.specs.{Path.Names.name_order, Refusing.{refused_at, both_passed}}
 use Rattle.pf_ticket.specs.declared.refusal.TicketRefusal.TheVariants.{Busy}
-use Rattle.pf_ticket.specs.{Replies.{bad_count, twice_in, twice_behind, busy_in, begin_reply, add_reply, define_reply, list_check, commit_check}, declared.{name.RulesetName.RulesetName, refusal.TicketRefusal.TicketRefusal, ticket.Ticket.Ticket, name.RulesetKind.RulesetKind, name.RulesetKind.TheVariants.Filter, name.RulesetKind.TheVariants.Table, entry.Entry.Entry}, Laws.Tickets.{AreGiven, IsFew, IsWithin as AreTicketsWithin, AreOnce}, Mentions.{Mention, gives, switches, after as moved_by}, Names.{filter_at, table_ruleset_at, tickets_from, ticket}, NamedTables.Named, Tickets.{Loaded, Open, offered_as, loaded, content}}
+use Rattle.pf_ticket.specs.{Replies.{bad_count, twice_in, twice_behind, busy_in, begin_reply, add_reply, define_reply, list_check, commit_check}, declared.{name.RulesetName.RulesetName, refusal.TicketRefusal.TicketRefusal, ticket.Ticket.Ticket, ticket.TicketRange.TicketRange, name.RulesetKind.RulesetKind, name.RulesetKind.TheVariants.Filter, name.RulesetKind.TheVariants.Table, entry.Entry.Entry}, Laws.Tickets.{AreGiven, IsFew, IsWithin as AreTicketsWithin, AreOnce}, Mentions.{Mention, gives, switches, after as moved_by}, Names.{filter_at, table_ruleset_at, tickets_from, ticket}, NamedTables.Named, Tickets.{Loaded, Open, offered_as, loaded, content}}
 use Rattle.pf_core.specs.declared.durable.refusal.ChangeRefusal.TheVariants.{Twice as Again}
-use Rattle.pf_core.specs.{Durable.Edits.{name_of, is_in_order, Kept, Edit, commits, adds, deletes, sets, acts, removes, verdict, placed, tables_in, entries_at, applied, voided_by, after, no_conflict, fits}, History.tickets_in, Laws.Worlds.{CommitsNameOnce, given_by, tickets_since, GivesEachOnce, KeepsTheLimits, failed_by, failed_since, ShowsAll}, Laws.Wanted.{names-items, unit_is, IsPassed, passed, none-wanted, fit, IsThis, wants_commit, edit_of, wants_edit, IsOfStates, of_steps, of_removal, IsStateChange, wants_states, IsWanted, wants}, declared.{command.Command.Command, durable.change.Item.Item, command.Command.TheVariants.Transact, command.Command.TheVariants.Edit as Change, command.Command.TheVariants.States as OfStates, command.Command.TheVariants.Ask, durable.verdict.Verdict.Verdict, durable.verdict.Verdict.TheVariants.State as Stateful, durable.verdict.Verdict.TheVariants.Rules as ByRules, command.StateCommand.StateCommand, command.StateCommand.TheVariants.Track, command.StateCommand.TheVariants.Peer, command.StateCommand.TheVariants.Kill as KillState, command.TableEdit.TableEdit, command.TableEdit.TheVariants.Add as AddTo, command.TableEdit.TheVariants.Delete, command.TableEdit.TheVariants.Set, command.TableEdit.TheVariants.Kill, command.Question.Question, command.Transaction.TheVariants.Begin, command.Transaction.TheVariants.Add, command.Transaction.TheVariants.Define, command.Transaction.TheVariants.Commit, command.Transaction.TheVariants.Rollback, reply.Answer.Answer, reply.Outcome.Outcome, reply.Refusal.Refusal, reply.Refusal.TheVariants.Halted, durable.refusal.ChangeRefusal.ChangeRefusal, reply.Reply.Reply, reply.Reply.TheVariants.Answer as Answered, reply.Reply.TheVariants.Applied, reply.Reply.TheVariants.Refused, step.Step.Step, step.Step.TheVariants.Done, step.Step.TheVariants.Wants}, Calls.{call, mentions_of, Call}, Commands.{item_of, unless_refused, unless_unfit, if_there, is_table, items, wanting, added_of, deleted_of, edit_step, makes_state, tracked, track_step, steps_here, states_step, answer_of, step_by, may_change, mentioned}, Laws.Durable.{IsWithin, AreFew}, Worlds.{Held, log_of, durable_of, is_halted, step_in, room_for, or_refused, due_at, LegalReply, State, up, down, raised, Upshot, Doing, idle, calling, Event, called, crashed, opened, refused_opening, flat, group_in, kept_groups, acked_by, is_fault, pending_by, shown_by, heard, next, LegalCall, IsLegal, state_after, IsLegalFrom, IsWorld}}
+use Rattle.pf_core.specs.{Durable.Edits.{name_of, is_in_order, Kept, Edit, commits, acts, removes, verdict, placed, tables_in, applied, voided_by, after, fits}, History.tickets_in, Laws.Worlds.{CommitsNameOnce, given_by, tickets_since, GivesEachOnce, KeepsTheLimits, failed_by, failed_since}, Laws.Wanted.{names-items, unit_is, IsPassed, passed, none-wanted, IsThis, IsNoChange, never-wanted, never-committed, never-there, never-edited, wants_commit, edit_of, wants_edit, IsOfStates, of_steps, of_removal, IsStateChange, wants_states, IsWanted, wants, left_is}, declared.{command.Command.Command, durable.change.Item.Item, command.Command.TheVariants.Transact, command.Command.TheVariants.Edit as Change, command.Command.TheVariants.States as OfStates, command.Command.TheVariants.Ask, command.Command.TheVariants.History, command.HistoryCommand.HistoryCommand, command.HistoryCommand.TheVariants.Log, command.HistoryCommand.TheVariants.Publish, durable.verdict.Verdict.Verdict, durable.verdict.Verdict.TheVariants.State as Stateful, durable.verdict.Verdict.TheVariants.Rules as ByRules, command.StateCommand.StateCommand, command.StateCommand.TheVariants.Track, command.StateCommand.TheVariants.Peer, command.StateCommand.TheVariants.Kill as KillState, command.TableEdit.TableEdit, command.TableEdit.TheVariants.Add as AddTo, command.TableEdit.TheVariants.Delete, command.TableEdit.TheVariants.Set, command.TableEdit.TheVariants.Kill, command.Question.Question, command.Transaction.TheVariants.Begin, command.Transaction.TheVariants.Add, command.Transaction.TheVariants.Define, command.Transaction.TheVariants.Commit, command.Transaction.TheVariants.Rollback, reply.Answer.Answer, reply.Outcome.Outcome, reply.Refusal.Refusal, reply.Refusal.TheVariants.Halted, reply.Reply.Reply, reply.Reply.TheVariants.Answer as Answered, reply.Reply.TheVariants.Applied, reply.Reply.TheVariants.Stored, reply.Reply.TheVariants.Refused, step.Step.Step, step.Step.TheVariants.Done, step.Step.TheVariants.Wants, step.Step.TheVariants.OfHistory}, Calls.{call, mentions_of, Call}, Commands.{item_of, unless_refused, items, wanting, makes_state, tracked, track_step, steps_here, states_step, answer_of, step_by, may_change, mentioned}, Laws.Durable.{IsWithin, AreFew}, Worlds.{Held, log_of, durable_of, is_halted, step_in, told_of_history, room_for, or_refused, due_at, due, StandsIn, LegalReply, State, up, down, raised, Upshot, Doing, idle, calling, Event, called, entered, learned, crashed, opened, refused_opening, flat, group_in, kept_groups, acked_by, is_fault, pending_by, heard, sighted, next, LegalCall, IsLegal, state_after, IsLegalFrom, IsWorld}}
 use Rattle.pf_core.proofs.{Checks.named_once, Groups.{IsKept, IsNotKept, kept-or-not, either}, LongerWorlds.{flat-push, refused-unkept}, Switching.not-twice, Within.keeps_within}
-use Rattle.pf_table.specs.{Edits.{additions, deletions}, Tables.AreEntries}
+use Rattle.pf_table.specs.{Tables.AreEntries}
 use Rattle.pf_ticket.proofs.{Keeping.{begins_give, keeps_the_limits as tickets_keep}, Twice.gives_each_once as once_given}
 use Rattle.pf_rule.specs.Packets.{PlainPacket}
 use Rattle.pf_anchor.specs.declared.verdict.RuleVerdict.{RuleVerdict}
@@ -52,52 +52,61 @@ question-told : (d : Kept) (q : Question) → tickets_in (Answered (answer_of d 
 question-told d q = grind arith
 
 -- what wants a change isn't only answered
-never-done : (fit : Result (Unit {0}) ChangeRefusal) (e : Edit) (o : Outcome) (a : Answer) → unless_unfit fit (Ok (Wants e o)) ≡ Ok (Done a) → ⊥
-never-done (Ok u) e o a h = cc (h)
-never-done (Err x) e o a h = cc (h)
+done-is-none : (a : Answer) → IsNoChange (Done a)
+done-is-none a e o is = cc (is)
 
-never-there : (b : Bool) (e : Edit) (o : Outcome) (a : Answer) → if_there b (Ok (Wants e o)) ≡ Ok (Done a) → ⊥
-never-there true e o a h = cc (h)
-never-there false e o a h = cc (h)
+-- a change of states that is only answered tells what happens to a packet, or that a name is taken
+told-is : (P : Answer → Type 0) (x a : Answer) → P x → ◌≡◌ {A = Result Step Refusal} (Ok (Done x)) (Ok (Done a)) → P a
+told-is P x a holds h =
+    let is : x ≡ a = cc (h) in
+    subst P is holds
 
-never-committed : (r : Result (Unit {0}) TicketRefusal) (d : Kept) (e : Edit) (o : Outcome) (a : Answer) → unless_refused r (λ _. wanting d e o) ≡ Ok (Done a) → ⊥
-never-committed (Ok u) d e o a h = never-done (fits d e) e o a h
-never-committed (Err x) d e o a h = cc (h)
+record IsOfPackets (P : Answer → Type 0) : Type 0 where
+  judged : (v : Verdict) → P (answer.Judged v)
+  stale : (v : RuleVerdict) → P (answer.Stale v)
 
-never-edited : (d : Kept) (edit : TableEdit) (a : Answer) → edit_step d edit ≡ Ok (Done a) → ⊥
-never-edited d (AddTo p name xs) a h = never-done (fits d (adds p name xs)) (adds p name xs) (added_of (additions (entries_at d p name) xs)) a h
-never-edited d (Delete p name xs) a h =
-    let e : Edit = deletes p name xs in
-    let o : Outcome = deleted_of (deletions (entries_at d p name) xs) in
-    never-there (is_table (entries_at d p name)) e o a (fit (no_conflict xs) (if_there (is_table (entries_at d p name)) (Ok (Wants e o))) (Done a) h).second
-never-edited d (Set p name xs) a h = never-done (fits d (sets p name xs)) (sets p name xs) outcome.Set a h
-never-edited d (Kill p name) a h = never-there (is_table (entries_at d p name)) (sets p name []) outcome.Killed a h
+make-told : (P : Answer → Type 0) → IsOfPackets P → (d : Kept) (v : RuleVerdict) (s : Stated) (stale : Bool) (a : Answer) → (if stale then Ok (Done (answer.Stale v)) else wanting d (acts (step.Insert s ∷ [])) (outcome.Tracked v)) ≡ Ok (Done a) → P a
+make-told P all d v s true a h = told-is P (answer.Stale v) a (all.stale v) h
+make-told P all d v s false a h = absurd (never-wanted (fits d (acts (step.Insert s ∷ []))) (acts (step.Insert s ∷ [])) (outcome.Tracked v) (Done a) (done-is-none a) h)
 
--- a change of states that is only answered tells none
-told-is : (x a : Answer) (r : Result Step Refusal) → r ≡ Ok (Done x) → tickets_in (Answered x) ≡ [] → r ≡ Ok (Done a) → tickets_in (Answered a) ≡ []
-told-is x a r this none h =
-    let is : x ≡ a = cc (this, h) in
-    subst (λ (y : Answer). tickets_in (Answered y) ≡ []) is none
-
-make-told : (d : Kept) (v : RuleVerdict) (s : Stated) (stale : Bool) (a : Answer) → (if stale then Ok (Done (answer.Stale v)) else wanting d (acts (step.Insert s ∷ [])) (outcome.Tracked v)) ≡ Ok (Done a) → tickets_in (Answered a) ≡ []
-make-told d v s true a h = told-is (answer.Stale v) a (Ok (Done (answer.Stale v))) refl refl h
-make-told d v s false a h = absurd (never-done (fits d (acts (step.Insert s ∷ []))) (acts (step.Insert s ∷ [])) (outcome.Tracked v) a h)
-
-tracked-told : (d : Kept) (name : StateName) (packet : PlainPacket) (v : RuleVerdict) (made : Option Bound) (a : Answer) → tracked d name packet v made ≡ Ok (Done a) → tickets_in (Answered a) ≡ []
-tracked-told d name packet v None a h = told-is (answer.Judged (ByRules v)) a (Ok (Done (answer.Judged (ByRules v)))) refl refl h
-tracked-told d name packet v (Some b) a h =
+tracked-told : (P : Answer → Type 0) → IsOfPackets P → (d : Kept) (name : StateName) (packet : PlainPacket) (v : RuleVerdict) (made : Option Bound) (a : Answer) → tracked d name packet v made ≡ Ok (Done a) → P a
+tracked-told P all d name packet v None a h = told-is P (answer.Judged (ByRules v)) a (all.judged (ByRules v)) h
+tracked-told P all d name packet v (Some b) a h =
     let s : Stated = (name, record { generation = 0; flow = flow_of packet; bound = b }) in
-    make-told d v s (is_some (held_at s.0 d.states)) a h
+    make-told P all d v s (is_some (held_at s.0 d.states)) a h
 
-verdict-told : (d : Kept) (name : StateName) (packet : PlainPacket) (v : Verdict) (a : Answer) → track_step d name packet v ≡ Ok (Done a) → tickets_in (Answered a) ≡ []
-verdict-told d name packet (Stateful s) a h = told-is (answer.Judged (Stateful s)) a (Ok (Done (answer.Judged (Stateful s)))) refl refl h
-verdict-told d name packet (ByRules by) a h = tracked-told d name packet by (makes_state d by) a h
+verdict-told : (P : Answer → Type 0) → IsOfPackets P → (d : Kept) (name : StateName) (packet : PlainPacket) (v : Verdict) (a : Answer) → track_step d name packet v ≡ Ok (Done a) → P a
+verdict-told P all d name packet (Stateful s) a h = told-is P (answer.Judged (Stateful s)) a (all.judged (Stateful s)) h
+verdict-told P all d name packet (ByRules by) a h = tracked-told P all d name packet by (makes_state d by) a h
 
-states-told : (d : Kept) (c : StateCommand) (a : Answer) → states_step d c ≡ Ok (Done a) → tickets_in (Answered a) ≡ []
-states-told d (Track name packet) a h = verdict-told d name packet (verdict d packet) a h
-states-told d (Peer m) a h =
-    absurd (never-done (fits d (acts (steps_here d m))) (acts (steps_here d m)) (outcome.Peered (counts d.states (steps_here d m))) a h)
-states-told d (KillState name) a h = absurd (never-there (is_some (held_at name d.states)) (removes name) outcome.Killed a h)
+states-told : (P : Answer → Type 0) → IsOfPackets P → (d : Kept) (c : StateCommand) (a : Answer) → states_step d c ≡ Ok (Done a) → P a
+states-told P all d (Track name packet) a h = verdict-told P all d name packet (verdict d packet) a h
+states-told P all d (Peer m) a h =
+    absurd (never-wanted (fits d (acts (steps_here d m))) (acts (steps_here d m)) (outcome.Peered (counts d.states (steps_here d m))) (Done a) (done-is-none a) h)
+states-told P all d (KillState name) a h = absurd (never-there (is_some (held_at name d.states)) (removes name) outcome.Killed (Done a) (done-is-none a) h)
+
+-- whatever holds of each answer that a step gives by itself holds of this one
+pub record IsOfSteps (P : Answer → Type 0) : Type 0 where
+  pub given : (range : TicketRange) → P (answer.Given range)
+  pub done : P answer.Done
+  pub judged : (v : Verdict) → P (answer.Judged v)
+  pub stale : (v : RuleVerdict) → P (answer.Stale v)
+  pub asked : (d : Kept) (q : Question) → P (answer_of d q)
+
+passed-holds : {A : Type 0} (P : Answer → Type 0) (r : Result A TicketRefusal) (told : A → Answer) (a : Answer) → ((x : A) → P (told x)) → unless_refused r (λ x. Ok (Done (told x))) ≡ Ok (Done a) → P a
+passed-holds P (Ok x) told a each h = told-is P (told x) a (each x) h
+passed-holds P (Err e) told a each h = absurd (cc (h))
+
+pub step-answers : (P : Answer → Type 0) → IsOfSteps P → (t : Open) (d : Kept) (c : Command) (a : Answer) → step_by t d c ≡ Ok (Done a) → P a
+step-answers P all t d (Transact (Begin names)) a h = passed-holds P (begin_reply t names) (λ range. answer.Given range) a all.given h
+step-answers P all t d (Transact (Add p u r)) a h = passed-holds P (add_reply t (filter_at p) u) (λ _. answer.Done) a (λ _. all.done) h
+step-answers P all t d (Transact (Define p u name xs)) a h = passed-holds P (define_reply t (table_ruleset_at p) u name xs) (λ _. answer.Done) a (λ _. all.done) h
+step-answers P all t d (Transact (Commit entries)) a h = absurd (never-committed (commit_check t entries) d (commits (items (content t) entries)) outcome.Committed (Done a) (done-is-none a) h)
+step-answers P all t d (Transact (Rollback entries)) a h = passed-holds P (list_check entries) (λ _. answer.Done) a (λ _. all.done) h
+step-answers P all t d (Change edit) a h = absurd (never-edited d edit (Done a) (done-is-none a) h)
+step-answers P all t d (OfStates c) a h = states-told P (record { judged = all.judged; stale = all.stale }) d c a h
+step-answers P all t d (Ask q) a h = told-is P (answer_of d q) a (all.asked d q) h
+step-answers P all t d (History c) a h = absurd (cc (h))
 
 answered-told : (t : Open) (d : Kept) (c : Command) (a : Answer) → step_by t d c ≡ Ok (Done a) → AreTold t (moved_by t (mentioned c)) (tickets_in (Answered a))
 answered-told t d (Transact (Begin names)) a h = begin-told t names a (passed (begin_reply t names) (λ range. Ok (Done (answer.Given range))) (Done a) h)
@@ -110,15 +119,26 @@ answered-told t d (Transact (Define p u name xs)) a h =
     let s : IsPassed reply (λ _. Ok (Done answer.Done)) (Done a) = passed reply (λ _. Ok (Done answer.Done)) (Done a) h in
     let new : Open = moved_by t (mentioned (Transact (Define p u name xs))) in
     subst (AreTold t new) (sym (done-told reply a h)) (none-told t new (tickets_keep.define t p u name xs (unit_is reply s.value s.passed)) (begins_give.define t (table_ruleset_at p) u name xs))
-answered-told t d (Transact (Commit entries)) a h = absurd (never-committed (commit_check t entries) d (commits (items (content t) entries)) outcome.Committed a h)
+answered-told t d (Transact (Commit entries)) a h = absurd (never-committed (commit_check t entries) d (commits (items (content t) entries)) outcome.Committed (Done a) (done-is-none a) h)
 answered-told t d (Transact (Rollback entries)) a h =
     let new : Open = moved_by t (mentioned (Transact (Rollback entries))) in
     subst (AreTold t new) (sym (done-told (list_check entries) a h)) (none-told t new (tickets_keep.rollback t entries) (begins_give.rollback t entries))
-answered-told t d (Change edit) a h = absurd (never-edited d edit a h)
-answered-told t d (OfStates c) a h = subst (AreTold t t) (sym (states-told d c a h)) (none-told t t (λ w. w) (record { epoch = refl; next = omega arith }))
+answered-told t d (Change edit) a h = absurd (never-edited d edit (Done a) (done-is-none a) h)
+answered-told t d (OfStates c) a h = subst (AreTold t t) (sym (states-told (λ (x : Answer). tickets_in (Answered x) ≡ []) (record { judged = λ v. refl; stale = λ v. refl }) d c a h)) (none-told t t (λ w. w) (record { epoch = refl; next = omega arith }))
 answered-told t d (Ask q) a h =
     let is : answer_of d q ≡ a = cc (h) in
     subst (AreTold t t) (sym (question-told d q) ∙ ap (λ (x : Answer). tickets_in (Answered x)) is) (none-told t t (λ w. w) (record { epoch = refl; next = omega arith }))
+answered-told t d (History c) a h = absurd (cc (h))
+
+-- what is left to whoever keeps the history tells none, and mentions no ruleset
+history-told : (h : Held) (x : HistoryCommand) → tickets_in (Answered (told_of_history h x)) ≡ []
+history-told h Log = refl
+history-told h Publish = refl
+
+left-told : (h : Held) (t : Open) (d : Kept) (c : Command) (x : HistoryCommand) (a : Answer) → step_by t d c ≡ Ok (OfHistory x) → a ≡ told_of_history h x → AreTold t (moved_by t (mentioned c)) (tickets_in (Answered a))
+left-told h t d c x a left is =
+    subst (λ (ms : List Mention). AreTold t (moved_by t ms) (tickets_in (Answered a))) (ap mentioned (sym (left_is t d c x left)))
+    (subst (AreTold t t) (sym (ap (λ (y : Answer). tickets_in (Answered y)) is ∙ history-told h x)) (none-told t t (λ w. w) (record { epoch = refl; next = omega arith })))
 
 applied-told : (t : Open) (d : Kept) (c : Command) (e : Edit) → IsWanted d c e → AreTold t (moved_by t (mentioned c)) []
 applied-told t d c e is =
@@ -126,8 +146,15 @@ applied-told t d c e is =
 
 -- ---- by the reply
 
-answered-step : (h : Held) (s : Result Step Refusal) (a : Answer) → Answered a ≡ due_at h s → s ≡ Ok (Done a)
-answered-step h (Ok (Done b)) a is = let same : a ≡ b = cc (is) in ap (λ (x : Answer). Ok (Done x)) (sym same)
+-- what whoever keeps the history answers
+pub record IsOfHistory (h : Held) (s : Result Step Refusal) (a : Answer) : Type 0 where
+  pub command : HistoryCommand
+  pub left : s ≡ Ok (OfHistory command)
+  pub answer : a ≡ told_of_history h command
+
+pub answered-step : (h : Held) (s : Result Step Refusal) (a : Answer) → Answered a ≡ due_at h s → (s ≡ Ok (Done a)) ⊎ IsOfHistory h s a
+answered-step h (Ok (Done b)) a is = let same : a ≡ b = cc (is) in inl (ap (λ (x : Answer). Ok (Done x)) (sym same))
+answered-step h (Ok (OfHistory c)) a is = inr (record { command = c; left = refl; answer = cc (is) })
 answered-step h (Ok (Wants e o)) a is = absurd (no-answer (room_for h (e ∷ [])) is) where
   no-answer : (room : Result (Unit {0}) Refusal) → Answered a ≡ or_refused room (Applied (length (log_of h) + 1) o) → ⊥
   no-answer (Ok u) is = cc (is)
@@ -135,33 +162,62 @@ answered-step h (Ok (Wants e o)) a is = absurd (no-answer (room_for h (e ∷ [])
 answered-step h (Err e) a is = absurd (cc (is))
 
 -- what isn't refused isn't halted
-unhalted : (halted : Bool) (s : Result Step Refusal) (x : Step) → cond halted (Err Halted) s ≡ Ok x → s ≡ Ok x
+pub unhalted : (halted : Bool) (s : Result Step Refusal) (x : Step) → cond halted (Err Halted) s ≡ Ok x → s ≡ Ok x
 unhalted true s x is = absurd (cc (is))
 unhalted false s x is = is
 
 -- what was applied was kept
-record IsApplied (h : Held) (s : Result Step Refusal) (n : ℕ) : Type 0 where
-  kept : IsKept h s
-  number : n ≡ length (log_of h) + 1
+pub record IsApplied (h : Held) (s : Result Step Refusal) (n : ℕ) : Type 0 where
+  pub kept : IsKept h s
+  pub number : n ≡ length (log_of h) + 1
 
-applied-step : (h : Held) (s : Result Step Refusal) (n : ℕ) (o : Outcome) → Applied n o ≡ due_at h s → IsApplied h s n
+pub applied-step : (h : Held) (s : Result Step Refusal) (n : ℕ) (o : Outcome) → Applied n o ≡ due_at h s → IsApplied h s n
 applied-step h s n o is = by (kept-or-not h s) where
   by : IsKept h s ⊎ IsNotKept h s → IsApplied h s n
   by (inl k) = record { kept = k; number = cc (is, k.reply) }
   by (inr none) = absurd (none.reply n o is)
+
+-- and so was what was stored
+stored-undue : (h : Held) (s : Result Step Refusal) (n : ℕ) (o : Outcome) → Stored n o ≡ due_at h s → ⊥
+stored-undue h (Ok (Done a)) n o is = cc (is)
+stored-undue h (Ok (OfHistory c)) n o is = cc (is)
+stored-undue h (Err e) n o is = cc (is)
+stored-undue h (Ok (Wants e p)) n o is = by (room_for h (e ∷ [])) is where
+  by : (room : Result (Unit {0}) Refusal) → Stored n o ≡ or_refused room (Applied (length (log_of h) + 1) p) → ⊥
+  by (Ok u) is = cc (is)
+  by (Err x) is = cc (is)
+
+stored-stands : (h : Held) (c : Command) (failed : Bool) (told : Reply) (n : ℕ) (o : Outcome) → StandsIn h c failed told (Stored n o) → Applied n o ≡ told
+stored-stands h c failed (Applied m p) n o stands = cc (stands.0, stands.1)
+stored-stands h c failed told n o stands = absurd stands
+
+pub stored-step : (h : Held) (c : Command) (n : ℕ) (o : Outcome) (failed : Bool) → LegalReply h c (Stored n o) failed → IsApplied h (step_in h c) n
+stored-step h c n o failed (inl is) = absurd (stored-undue h (step_in h c) n o is)
+stored-step h c n o failed (inr stands) = applied-step h (step_in h c) n o (stored-stands h c failed (due h c) n o stands)
 
 -- the change is the one that the command is due
 due-wanted : (h : Held) (c : Command) (k : IsKept h (step_in h c)) → step_by h.tickets (durable_of h) c ≡ Ok (Wants k.change k.outcome)
 due-wanted h c k = unhalted (may_change c && is_halted h.pending) (step_by h.tickets (durable_of h) c) (Wants k.change k.outcome) k.wanted
 
 pub legal-told : (h : Held) (c : Command) (r : Reply) (failed : Bool) → LegalReply h c r failed → AreTold h.tickets (moved_by h.tickets (mentions_of (call c r))) (tickets_in r)
-legal-told h c (Answered a) failed (inl is) =
-    answered-told h.tickets (durable_of h) c a (unhalted (may_change c && is_halted h.pending) (step_by h.tickets (durable_of h) c) (Done a) (answered-step h (step_in h c) a is))
+legal-told h c (Answered a) failed (inl is) = by (answered-step h (step_in h c) a is) where
+  halted : Bool
+  halted = may_change c && is_halted h.pending
+
+  own : Result Step Refusal
+  own = step_by h.tickets (durable_of h) c
+
+  by : (step_in h c ≡ Ok (Done a)) ⊎ IsOfHistory h (step_in h c) a → AreTold h.tickets (moved_by h.tickets (mentioned c)) (tickets_in (Answered a))
+  by (inl done) = answered-told h.tickets (durable_of h) c a (unhalted halted own (Done a) done)
+  by (inr k) = left-told h h.tickets (durable_of h) c k.command a (unhalted halted own (OfHistory k.command) k.left) k.answer
 legal-told h c (Answered a) failed (inr none) = absurd none
 legal-told h c (Applied n o) failed (inl is) =
     let k : IsKept h (step_in h c) = (applied-step h (step_in h c) n o is).kept in
     applied-told h.tickets (durable_of h) c k.change (wants h.tickets (durable_of h) c k.change k.outcome (due-wanted h c k))
 legal-told h c (Applied n o) failed (inr none) = absurd none
+legal-told h c (Stored n o) failed legal =
+    let k : IsKept h (step_in h c) = (stored-step h c n o failed legal).kept in
+    applied-told h.tickets (durable_of h) c k.change (wants h.tickets (durable_of h) c k.change k.outcome (due-wanted h c k))
 legal-told h c (Refused e) failed legal = none-told h.tickets h.tickets (λ w. w) (record { epoch = refl; next = omega arith })
 
 -- ---- a change keeps what is kept within the limits
@@ -203,13 +259,13 @@ change-within t d (OfStates c) e o h all w =
     let change : IsStateChange d e = wants_states d c e o h in
     states-within d e change.is change.fits w
 change-within t d (Ask q) e o h all w = absurd (cc (h))
+change-within t d (History c) e o h all w = absurd (cc (h))
 
 -- ---- one event more
 
 -- What holds of the groups of an opening, wherever it has come to. What is kept is within the limits after each front that a crash may keep.
-record IsLogged (first base : Kept) (limit : ℕ) (acked pending : List (List Edit)) (number : ℕ) : Type 0 where
+record IsLogged (first base : Kept) (limit : ℕ) (acked pending : List (List Edit)) : Type 0 where
   one : length pending ≤ 1
-  shown : number ≡ length (flat acked)
   room : length (flat (acked ++ pending)) ≤ limit
   kept : IsWithin first → (n : ℕ) → IsWithin (after base (flat (acked ++ take n pending)))
 
@@ -220,7 +276,7 @@ record Holds (first : Kept) (h : Held) (ts : List Ticket) (failed : Bool) : Type
   next : h.tickets.next ≡ 1 + length ts
   numbered : ts ≡ tickets_from h.base.epoch 1 (length ts)
   quiet : failed ≡ false → h.pending ≡ []
-  logged : IsLogged first h.base h.setting.limit h.acked h.pending h.shown
+  logged : IsLogged first h.base h.setting.limit h.acked h.pending
 
 more-from : (epoch count n m : ℕ) → tickets_from epoch count (n + m) ≡ tickets_from epoch count n ++ tickets_from epoch (count + n) m
 more-from epoch count zero m =
@@ -241,12 +297,12 @@ acked-within : (first : Kept) (h : Held) (ts : List Ticket) (failed : Bool) → 
 acked-within first h ts failed all within = subst (λ (gs : List (List Edit)). IsWithin (after h.base (flat gs))) (append-nil h.acked) (all.logged.kept within 0)
 
 -- the group of one change more, kept or not
-one-more : (first : Kept) (h : Held) (ts : List Ticket) (failed : Bool) (c : Command) → Holds first h ts failed → h.pending ≡ [] → (k : IsKept h (step_in h c)) → IsLogged first h.base h.setting.limit h.acked ((k.change ∷ []) ∷ []) h.shown
+one-more : (first : Kept) (h : Held) (ts : List Ticket) (failed : Bool) (c : Command) → Holds first h ts failed → h.pending ≡ [] → (k : IsKept h (step_in h c)) → IsLogged first h.base h.setting.limit h.acked ((k.change ∷ []) ∷ [])
 one-more first h ts failed c all none k =
     let log : length (log_of h) ≡ length (flat h.acked) = ap (λ (gs : List (List Edit)). length (flat (h.acked ++ gs))) none ∙ ap (λ (gs : List (List Edit)). length (flat gs)) (append-nil h.acked) in
     let more : length (flat (h.acked ++ (k.change ∷ []) ∷ [])) ≡ length (flat h.acked) + 1 = ap length (flat-push h.acked k.change) ∙ length-append (flat h.acked) (k.change ∷ []) in
     let room : length (log_of h) + 1 ≤ h.setting.limit = k.room in
-    record { one = omega arith; shown = all.logged.shown; room = omega (arith, log, more, room); kept = fronts } where
+    record { one = omega arith; room = omega (arith, log, more, room); kept = fronts } where
       fronts : IsWithin first → (n : ℕ) → IsWithin (after h.base (flat (h.acked ++ take n ((k.change ∷ []) ∷ []))))
       fronts within zero = all.logged.kept within 0
       fronts within (suc n) =
@@ -254,51 +310,50 @@ one-more first h ts failed c all none k =
           (change-within h.tickets (durable_of h) c k.change k.outcome (due-wanted h c k) all.tickets (acked-within first h ts failed all within)))
 
 -- what a command's group may leave in the log, acknowledged by nobody
-group-logged : (first : Kept) (h : Held) (ts : List Ticket) (failed : Bool) (c : Command) → Holds first h ts failed → IsLogged first h.base h.setting.limit h.acked (h.pending ++ group_in h c) h.shown
+group-logged : (first : Kept) (h : Held) (ts : List Ticket) (failed : Bool) (c : Command) → Holds first h ts failed → IsLogged first h.base h.setting.limit h.acked (h.pending ++ group_in h c)
 group-logged first h ts failed c all = by (either h c) (kept-or-not h (step_in h c)) where
-  still : group_in h c ≡ [] → IsLogged first h.base h.setting.limit h.acked (h.pending ++ group_in h c) h.shown
-  still none = subst (λ (gs : List (List Edit)). IsLogged first h.base h.setting.limit h.acked gs h.shown) (sym (ap (λ (gs : List (List Edit)). h.pending ++ gs) none ∙ append-nil h.pending)) all.logged
+  still : group_in h c ≡ [] → IsLogged first h.base h.setting.limit h.acked (h.pending ++ group_in h c)
+  still none = subst (λ (gs : List (List Edit)). IsLogged first h.base h.setting.limit h.acked gs) (sym (ap (λ (gs : List (List Edit)). h.pending ++ gs) none ∙ append-nil h.pending)) all.logged
 
-  by : (h.pending ≡ []) ⊎ (group_in h c ≡ []) → IsKept h (step_in h c) ⊎ IsNotKept h (step_in h c) → IsLogged first h.base h.setting.limit h.acked (h.pending ++ group_in h c) h.shown
+  by : (h.pending ≡ []) ⊎ (group_in h c ≡ []) → IsKept h (step_in h c) ⊎ IsNotKept h (step_in h c) → IsLogged first h.base h.setting.limit h.acked (h.pending ++ group_in h c)
   by (inr none) k = still none
   by (inl none) (inr not) = still not.group
-  by (inl none) (inl k) = subst (λ (gs : List (List Edit)). IsLogged first h.base h.setting.limit h.acked gs h.shown) (sym (ap (λ (gs : List (List Edit)). gs ++ group_in h c) none ∙ k.group)) (one-more first h ts failed c all none k)
+  by (inl none) (inl k) = subst (λ (gs : List (List Edit)). IsLogged first h.base h.setting.limit h.acked gs) (sym (ap (λ (gs : List (List Edit)). gs ++ group_in h c) none ∙ k.group)) (one-more first h ts failed c all none k)
 
-applied-logged : (first : Kept) (h : Held) (ts : List Ticket) (failed : Bool) (c : Command) (n : ℕ) → IsApplied h (step_in h c) n → Holds first h ts failed → IsLogged first h.base h.setting.limit (h.acked ++ group_in h c) (h.pending ++ []) n
+applied-logged : (first : Kept) (h : Held) (ts : List Ticket) (failed : Bool) (c : Command) (n : ℕ) → IsApplied h (step_in h c) n → Holds first h ts failed → IsLogged first h.base h.setting.limit (h.acked ++ group_in h c) (h.pending ++ [])
 applied-logged first h ts failed c n was all = by (either h c) where
   k : IsKept h (step_in h c)
   k = was.kept
 
-  by : (h.pending ≡ []) ⊎ (group_in h c ≡ []) → IsLogged first h.base h.setting.limit (h.acked ++ group_in h c) (h.pending ++ []) n
+  by : (h.pending ≡ []) ⊎ (group_in h c ≡ []) → IsLogged first h.base h.setting.limit (h.acked ++ group_in h c) (h.pending ++ [])
   by (inr none) = absurd (cc (none, k.group))
   by (inl none) =
-      let more : IsLogged first h.base h.setting.limit h.acked ((k.change ∷ []) ∷ []) h.shown = one-more first h ts failed c all none k in
+      let more : IsLogged first h.base h.setting.limit h.acked ((k.change ∷ []) ∷ []) = one-more first h ts failed c all none k in
       let log : length (log_of h) ≡ length (flat h.acked) = ap (λ (gs : List (List Edit)). length (flat (h.acked ++ gs))) none ∙ ap (λ (gs : List (List Edit)). length (flat gs)) (append-nil h.acked) in
       let new : List (List Edit) = h.acked ++ (k.change ∷ []) ∷ [] in
       let long : length (flat new) ≡ length (flat h.acked) + 1 = ap length (flat-push h.acked k.change) ∙ length-append (flat h.acked) (k.change ∷ []) in
       let same : new ++ [] ≡ new = append-nil new in
       let room : length (flat new) ≤ h.setting.limit = more.room in
-      let number : n ≡ length (log_of h) + 1 = was.number in
-      subst (λ (g : List (List Edit)). IsLogged first h.base h.setting.limit (h.acked ++ g) (h.pending ++ []) n) (sym k.group)
-      (subst (λ (gs : List (List Edit)). IsLogged first h.base h.setting.limit new gs n) (sym (append-nil h.pending ∙ none)) (record {
+      subst (λ (g : List (List Edit)). IsLogged first h.base h.setting.limit (h.acked ++ g) (h.pending ++ [])) (sym k.group)
+      (subst (λ (gs : List (List Edit)). IsLogged first h.base h.setting.limit new gs) (sym (append-nil h.pending ∙ none)) (record {
         one = omega arith;
-        shown = omega (arith, log, long, number);
         room = rw same room;
         kept = λ within m. rw (take-nil m, same) (more.kept within 1);
       }))
 
-still-logged : (first : Kept) (h : Held) → IsLogged first h.base h.setting.limit h.acked h.pending h.shown → IsLogged first h.base h.setting.limit (h.acked ++ []) (h.pending ++ []) h.shown
+still-logged : (first : Kept) (h : Held) → IsLogged first h.base h.setting.limit h.acked h.pending → IsLogged first h.base h.setting.limit (h.acked ++ []) (h.pending ++ [])
 still-logged first h old = rw (append-nil h.acked, append-nil h.pending) old
 
-refused-logged : (first : Kept) (h : Held) (g : List (List Edit)) (fault : Bool) → IsLogged first h.base h.setting.limit h.acked h.pending h.shown → IsLogged first h.base h.setting.limit h.acked (h.pending ++ g) h.shown → IsLogged first h.base h.setting.limit (h.acked ++ []) (h.pending ++ cond fault g []) h.shown
-refused-logged first h g true old new = subst (λ (gs : List (List Edit)). IsLogged first h.base h.setting.limit gs (h.pending ++ g) h.shown) (sym (append-nil h.acked)) new
+refused-logged : (first : Kept) (h : Held) (g : List (List Edit)) (fault : Bool) → IsLogged first h.base h.setting.limit h.acked h.pending → IsLogged first h.base h.setting.limit h.acked (h.pending ++ g) → IsLogged first h.base h.setting.limit (h.acked ++ []) (h.pending ++ cond fault g [])
+refused-logged first h g true old new = subst (λ (gs : List (List Edit)). IsLogged first h.base h.setting.limit gs (h.pending ++ g)) (sym (append-nil h.acked)) new
 refused-logged first h g false old new = still-logged first h old
 
 logged-on : (first : Kept) (h : Held) (ts : List Ticket) (was : Bool) (c : Command) (r : Reply) (failed : Bool) → LegalReply h c r failed → Holds first h ts was →
-    IsLogged first h.base h.setting.limit (h.acked ++ acked_by r (group_in h c)) (h.pending ++ pending_by r (group_in h c)) (shown_by r h.shown)
+    IsLogged first h.base h.setting.limit (h.acked ++ acked_by r (group_in h c)) (h.pending ++ pending_by r (group_in h c))
 logged-on first h ts was c (Answered a) failed legal all = still-logged first h all.logged
 logged-on first h ts was c (Applied n o) failed (inl is) all = applied-logged first h ts was c n (applied-step h (step_in h c) n o is) all
 logged-on first h ts was c (Applied n o) failed (inr none) all = absurd none
+logged-on first h ts was c (Stored n o) failed legal all = applied-logged first h ts was c n (stored-step h c n o failed legal) all
 logged-on first h ts was c (Refused e) failed legal all = refused-logged first h (group_in h c) (is_fault e) all.logged (group-logged first h ts was c all)
 
 -- where the device didn't fail, no group is left
@@ -309,6 +364,7 @@ quiet-on h c r false false legal quiet none = ap (λ (gs : List (List Edit)). gs
   by : (r : Reply) → LegalReply h c r false → pending_by r (group_in h c) ≡ []
   by (Answered a) legal = refl
   by (Applied n o) legal = refl
+  by (Stored n o) legal = refl
   by (Refused e) legal = refused-unkept h c e legal
 
 holds-on : (first : Kept) (h : Held) (ts : List Ticket) (failed : Bool) (c : Call) (t : Upshot) → LegalCall h c t → Holds first h ts failed → Holds first (heard h c t) (ts ++ tickets_in c.reply) (failed || t.failed)
@@ -317,15 +373,18 @@ holds-on first h ts failed c t legal all =
     let new : AreTold h.tickets (moved_by h.tickets (mentions_of c)) us = legal-told h c.command c.reply t.failed legal.reply in
     let before : h.tickets.next ≡ 1 + length ts = all.next in
     let count : (moved_by h.tickets (mentions_of c)).next ≡ h.tickets.next + length us = new.given.next in
-    let g : List (List Edit) = group_in h c.command in
     record {
       tickets = new.within all.tickets;
       epoch = new.given.epoch ∙ all.epoch;
       next = omega (arith, count, before, length-append ts us);
       numbered = numbered-on h.base.epoch ts us all.numbered (new.told ∙ ap (λ (e : ℕ). tickets_from e h.tickets.next (length us)) all.epoch ∙ ap (λ (n : ℕ). tickets_from h.base.epoch n (length us)) before);
       quiet = quiet-on h c.command c.reply failed t.failed legal.reply all.quiet;
-      logged = subst (λ (n : ℕ). IsLogged first h.base h.setting.limit (h.acked ++ acked_by c.reply g) (h.pending ++ pending_by c.reply g) n) (sym legal.shown) (logged-on first h ts failed c.command c.reply t.failed legal.reply all);
+      logged = logged-on first h ts failed c.command c.reply t.failed legal.reply all;
     }
+
+-- what is seen changes nothing of it
+holds-sighted : (first : Kept) (h : Held) (ts : List Ticket) (failed : Bool) (w n : ℕ) → Holds first h ts failed → Holds first (sighted h w n) ts failed
+holds-sighted first h ts failed w n all = record { tickets = all.tickets; epoch = all.epoch; next = all.next; numbered = all.numbered; quiet = all.quiet; logged = all.logged }
 
 -- whatever a crash keeps is within the limits
 crash-within : (first : Kept) (h : Held) (ts : List Ticket) (failed : Bool) (doing : Doing) (n : ℕ) → Holds first h ts failed → IsWithin first → IsWithin (after h.base (flat (kept_groups h doing n)))
@@ -344,6 +403,8 @@ within-raised d w = record { maps = w.maps; rulesets = w.rulesets; rules = w.rul
 
 holds-next : (first : Kept) (st : State) (ts : List Ticket) (failed : Bool) (e : Event) → IsLegal st e → HoldsOf first st ts failed → HoldsOf first (next st e) (given_by ts e) (failed_by failed e)
 holds-next first (up h) ts failed (called c t) legal all = holds-on first h ts failed c t legal all
+holds-next first (up h) ts failed (entered w n) legal all = holds-sighted first h ts failed w n all
+holds-next first (up h) ts failed (learned w n) legal all = holds-sighted first h ts failed w n all
 holds-next first (up h) ts failed (crashed doing n) legal all = crash-within first h ts failed doing n all
 holds-next first (down d) ts failed (opened setting) legal all = record {
   tickets = tickets_keep.first (d.epoch + 1);
@@ -351,7 +412,7 @@ holds-next first (down d) ts failed (opened setting) legal all = record {
   next = omega arith;
   numbered = refl;
   quiet = λ none. refl;
-  logged = record { one = omega arith; shown = refl; room = omega arith; kept = λ within n. rw (take-nil n) (within-raised d (all within)) };
+  logged = record { one = omega arith; room = omega arith; kept = λ within n. rw (take-nil n) (within-raised d (all within)) };
 }
 holds-next first (down d) ts failed (refused_opening true) legal all = λ within. within-raised d (all within)
 holds-next first (down d) ts failed (refused_opening false) legal all = all
@@ -375,10 +436,15 @@ keeps_the_limits first world h within legal comes =
     let all : Holds first h (tickets_since world) (failed_since world) = holds-after first world h legal comes in
     record { tickets = all.tickets; log = all.logged.room; kept = acked-within first h (tickets_since world) (failed_since world) all within }
 
-pub shows_all : ShowsAll
-shows_all first world h legal comes =
+-- one group at most isn't acknowledged, and none where the device didn't fail
+pub record AreFewUnacknowledged (world : List Event) (h : Held) : Type 0 where
+  pub one : length h.pending ≤ 1
+  pub none : failed_since world ≡ false → h.pending ≡ []
+
+pub few-unacknowledged : (first : Kept) (world : List Event) (h : Held) → IsWorld first world → state_after (down first) world ≡ up h → AreFewUnacknowledged world h
+few-unacknowledged first world h legal comes =
     let all : Holds first h (tickets_since world) (failed_since world) = holds-after first world h legal comes in
-    record { shown = all.logged.shown; one = all.logged.one; none = all.quiet }
+    record { one = all.logged.one; none = all.quiet }
 
 -- ---- no name twice
 

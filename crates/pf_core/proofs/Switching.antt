@@ -6,9 +6,9 @@ use Rattle.pf_addr.specs.{Refusing.{refused_at, both_passed}, Path.Names.name_or
 use Rattle.pf_table.specs.{Entries.Row, Map.ListMaps.list_by}
 use Rattle.pf_anchor.specs.{Laws.Configurations.rules_by, Rulesets.{Ruled, rules_at, with_rules}, Tables.{TableKey, Tabled, table_order, with_table}}
 use Rattle.pf_anchor.proofs.{RulesetMaps.replaced_in_turn, TableMaps.tables_replaced}
-use Rattle.pf_ticket.specs.{declared.{entry.Entry.Entry, name.RulesetKind.RulesetKind, name.RulesetKind.TheVariants.Filter, name.RulesetKind.TheVariants.Table, name.RulesetName.RulesetName, refusal.TicketRefusal.TheVariants.BadCount, refusal.TicketRefusal.TheVariants.Twice, refusal.TicketRefusal.TheVariants.Busy}, Laws.Names.{paths_alike, name_is}, Names.{same_kind, same_name, is_named, names_of, filter_at, table_ruleset_at, IsDistinct}, Replies.{bad_count, twice_in, busy_in, list_check, commit_check}, Mentions.{Mention, switched, dropped, named_in, after}, NamedTables.Named, Tickets.{Loaded, Open, offered_as, loaded, offer_at, ticket_in, content}}
+use Rattle.pf_ticket.specs.{declared.{entry.Entry.Entry, name.RulesetKind.RulesetKind, name.RulesetKind.TheVariants.Filter, name.RulesetKind.TheVariants.Table, name.RulesetName.RulesetName, refusal.TicketRefusal.TheVariants.BadCount, refusal.TicketRefusal.TheVariants.Twice, refusal.TicketRefusal.TheVariants.Busy}, Laws.Names.{paths_alike, name_is}, Names.{same_kind, same_name, is_named, names_of, filter_at, table_ruleset_at, IsDistinct}, Replies.{bad_count, twice_in, busy_in, list_check, commit_check}, Mentions.{Mention, switched, switches, dropped, named_in, after}, NamedTables.Named, Tickets.{Loaded, Open, offered_as, loaded, offer_at, ticket_in, valid_ticket, content}}
 use Rattle.pf_ticket.proofs.{Moves.{leaves_the_others as mentions_leave, commit_takes_out, gives-named}, Twice.otherwise_once}
-use Rattle.pf_core.specs.{declared.{durable.change.Item.Item, command.Command.TheVariants.Transact, command.Command.TheVariants.Edit as Change, command.Command.TheVariants.States as OfStates, command.Command.TheVariants.Ask, command.Transaction.TheVariants.Begin, command.Transaction.TheVariants.Add, command.Transaction.TheVariants.Define, command.Transaction.TheVariants.Commit, command.Transaction.TheVariants.Rollback}, Commands.{item_of, items, mentioned, is_accepted}, Durable.Edits.{Kept, Edit, commits, rulesets_in, placed, tables_in, entries_at, applied}, Laws.Commands.{tables_offered, AreTablesSwitched, AreSwitched, SwitchesAll, LeaveTheOtherKind, KeepsNoneValid, MentionsTheNamed, LeavesTheOthers, RefusedMentionNothing}, Laws.Wanted.{IsCommitted, wants_commit}}
+use Rattle.pf_core.specs.{declared.{durable.change.Item.Item, command.Command.TheVariants.Transact, command.Command.TheVariants.Edit as Change, command.Command.TheVariants.States as OfStates, command.Command.TheVariants.Ask, command.Command.TheVariants.History, command.Transaction.TheVariants.Begin, command.Transaction.TheVariants.Add, command.Transaction.TheVariants.Define, command.Transaction.TheVariants.Commit, command.Transaction.TheVariants.Rollback}, Commands.{item_of, items, mentioned, is_accepted}, Durable.Edits.{Kept, Edit, commits, rulesets_in, placed, tables_in, entries_at, applied}, Laws.Commands.{tables_offered, AreTablesSwitched, AreSwitched, SwitchesAll, LeaveTheOtherKind, KeepsNoneValid, MentionsTheNamed, LeavesTheOthers, RefusedMentionNothing}, Laws.Wanted.{IsCommitted, wants_commit}}
 use Rattle.pf_core.proofs.Edited.{same-keys, equal-is}
 
 first_holds : (a b : Bool) → T (a && b) → T a
@@ -207,6 +207,7 @@ mentions_the_named (Transact (Rollback entries)) = map-map named_in (λ (e : Ent
 mentions_the_named (Change edit) = refl
 mentions_the_named (OfStates c) = refl
 mentions_the_named (Ask q) = refl
+mentions_the_named (History c) = refl
 
 pub leaves_the_others : LeavesTheOthers
 leaves_the_others t c name h =
@@ -214,7 +215,9 @@ leaves_the_others t c name h =
     (λ e. mentions_leave t (mentioned c.command) name (ap (λ (ns : List RulesetName). is_named ns name) (mentions_the_named c.command) ∙ h)) (λ e. refl)
 
 pub keeps_none_valid : KeepsNoneValid
-keeps_none_valid t entries n o name h = ap ticket_in (commit_takes_out t (names_of entries) name ∙ ap (λ (b : Bool). cond b None (offer_at t.offers name)) h)
+keeps_none_valid t entries r name accepted h =
+    ap (λ (b : Bool). valid_ticket (after t (cond b (switches (names_of entries)) [])) name) accepted
+    ∙ ap ticket_in (commit_takes_out t (names_of entries) name ∙ ap (λ (b : Bool). cond b None (offer_at t.offers name)) h)
 
 pub refused_mention_nothing : RefusedMentionNothing
 refused_mention_nothing c e = refl

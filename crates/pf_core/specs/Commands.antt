@@ -13,7 +13,7 @@ use Rattle.pf_state.specs.declared.state.Bound.TheVariants as bound
 use Rattle.pf_state.specs.declared.step.Step.TheVariants as step
 use Rattle.pf_ticket.specs.{declared.{entry.Entry.Entry, name.RulesetName.RulesetName, offered.Offered.Offered, refusal.TicketRefusal.TicketRefusal}, Names.{filter_at, table_ruleset_at, names_of}, Mentions.{Mention, added, defined, gives, switches, drops}, Tickets.{Open, content}, Replies.{begin_reply, add_reply, define_reply, list_check, commit_check}}
 use Rattle.pf_ticket.specs.declared.offered.Offered.TheVariants as offered
-use Rattle.pf_core.specs.{declared.{durable.change.Item.Item, command.Command.Command, command.Command.TheVariants.Transact, command.Command.TheVariants.Edit as Change, command.Command.TheVariants.States as OfStates, command.Command.TheVariants.Ask, command.Question.Question, command.Question.TheVariants.Judge, command.Question.TheVariants.Test, command.Question.TheVariants.ShowRules, command.Question.TheVariants.ShowTables, command.Question.TheVariants.ShowStates, command.Question.TheVariants.Sum, command.Question.TheVariants.Export, command.StateCommand.StateCommand, command.StateCommand.TheVariants.Track, command.StateCommand.TheVariants.Peer, command.StateCommand.TheVariants.Kill as KillState, command.TableEdit.TableEdit, command.TableEdit.TheVariants.Add as AddTo, command.TableEdit.TheVariants.Delete, command.TableEdit.TheVariants.Set, command.TableEdit.TheVariants.Kill, command.Transaction.Transaction, command.Transaction.TheVariants.Begin, command.Transaction.TheVariants.Add, command.Transaction.TheVariants.Define, command.Transaction.TheVariants.Commit, command.Transaction.TheVariants.Rollback, reply.Answer.Answer, reply.Outcome.Outcome, reply.Refusal.Refusal, reply.Refusal.TheVariants.Absent, reply.Reply.Reply, reply.Reply.TheVariants.Answer as Answered, reply.Reply.TheVariants.Applied, reply.Reply.TheVariants.Refused, step.Step.Step, step.Step.TheVariants.Done, step.Step.TheVariants.Wants, durable.refusal.ChangeRefusal.ChangeRefusal, durable.verdict.Verdict.Verdict, durable.verdict.Verdict.TheVariants.State as Stateful, durable.verdict.Verdict.TheVariants.Rules as ByRules}, Durable.Edits.{Kept, Edit, commits, adds, deletes, sets, acts, removes, entries_at, main_sum, no_conflict, fits, verdict}, Refusals.{refusal_of, change_refusal_of}}
+use Rattle.pf_core.specs.{declared.{durable.change.Item.Item, command.Command.Command, command.Command.TheVariants.Transact, command.Command.TheVariants.Edit as Change, command.Command.TheVariants.States as OfStates, command.Command.TheVariants.Ask, command.Command.TheVariants.History, command.HistoryCommand.TheVariants.Log, command.HistoryCommand.TheVariants.Publish, command.Question.Question, command.Question.TheVariants.Judge, command.Question.TheVariants.Test, command.Question.TheVariants.ShowRules, command.Question.TheVariants.ShowTables, command.Question.TheVariants.ShowStates, command.Question.TheVariants.Sum, command.Question.TheVariants.Export, command.StateCommand.StateCommand, command.StateCommand.TheVariants.Track, command.StateCommand.TheVariants.Peer, command.StateCommand.TheVariants.Kill as KillState, command.TableEdit.TableEdit, command.TableEdit.TheVariants.Add as AddTo, command.TableEdit.TheVariants.Delete, command.TableEdit.TheVariants.Set, command.TableEdit.TheVariants.Kill, command.Transaction.Transaction, command.Transaction.TheVariants.Begin, command.Transaction.TheVariants.Add, command.Transaction.TheVariants.Define, command.Transaction.TheVariants.Commit, command.Transaction.TheVariants.Rollback, reply.Answer.Answer, reply.Outcome.Outcome, reply.Refusal.Refusal, reply.Refusal.TheVariants.Absent, reply.Reply.Reply, reply.Reply.TheVariants.Answer as Answered, reply.Reply.TheVariants.Applied, reply.Reply.TheVariants.Stored, reply.Reply.TheVariants.Refused, step.Step.Step, step.Step.TheVariants.Done, step.Step.TheVariants.Wants, step.Step.TheVariants.OfHistory, durable.refusal.ChangeRefusal.ChangeRefusal, durable.verdict.Verdict.Verdict, durable.verdict.Verdict.TheVariants.State as Stateful, durable.verdict.Verdict.TheVariants.Rules as ByRules}, Durable.Edits.{Kept, Edit, commits, adds, deletes, sets, acts, removes, entries_at, main_sum, no_conflict, fits, verdict}, Refusals.{refusal_of, change_refusal_of}}
 use Rattle.pf_core.specs.declared.durable.change.Item.TheVariants as item
 use Rattle.pf_core.specs.declared.reply.Answer.TheVariants as answer
 use Rattle.pf_core.specs.declared.reply.Outcome.TheVariants as outcome
@@ -146,12 +146,14 @@ answer_of d ShowStates = answer.States d.states
 answer_of d Sum = answer.Sum (main_sum d)
 answer_of d Export = answer.Exported (map message_bytes (exported_messages (main_sum d) d.states))
 
--- by the open transactions, and what is kept. A question is never refused, and changes nothing
+-- By the open transactions, and what is kept. A question is never refused, and changes nothing; and what the history is asked is left to
+-- whoever keeps it.
 abbrev pub step_by : Open → Kept → Command → Result Step Refusal
 step_by t d (Transact transaction) = transact_step t d transaction
 step_by t d (Change edit) = edit_step d edit
 step_by t d (OfStates c) = states_step d c
 step_by t d (Ask q) = Ok (Done (answer_of d q))
+step_by t d (History c) = Ok (OfHistory c)
 
 -- a command that may change something
 abbrev pub may_change : Command → Bool
@@ -159,6 +161,7 @@ may_change (Transact transaction) = true
 may_change (Change edit) = true
 may_change (OfStates c) = true
 may_change (Ask q) = false
+may_change (History c) = false
 
 -- ---- mentions
 
@@ -170,12 +173,13 @@ transacted (Define p t name xs) = defined (table_ruleset_at p) t name xs ∷ []
 transacted (Commit entries) = switches (names_of entries)
 transacted (Rollback entries) = drops entries
 
--- an edit of a table mentions no ruleset, and neither does a change of states or a question
+-- of all commands the steps of a transaction alone mention rulesets
 abbrev pub mentioned : Command → List Mention
 mentioned (Transact t) = transacted t
 mentioned (Change edit) = []
 mentioned (OfStates c) = []
 mentioned (Ask q) = []
+mentioned (History c) = []
 
 -- the rulesets that a command names, by its own words
 abbrev pub named_by : Command → List RulesetName
@@ -187,10 +191,12 @@ named_by (Transact (Rollback entries)) = names_of entries
 named_by (Change edit) = []
 named_by (OfStates c) = []
 named_by (Ask q) = []
+named_by (History c) = []
 
 abbrev pub is_accepted : Reply → Bool
 is_accepted (Answered a) = true
 is_accepted (Applied n o) = true
+is_accepted (Stored n o) = true
 is_accepted (Refused e) = false
 
 -- ---- memory
@@ -222,6 +228,7 @@ edits_in_memory d (Kill p name) = is_table (entries_at d p name)
 abbrev pub is_done : Result Step Refusal → Bool
 is_done (Ok (Done a)) = true
 is_done (Ok (Wants e o)) = false
+is_done (Ok (OfHistory c)) = false
 is_done (Err e) = false
 
 -- a packet that is tracked takes none where it is answered without a change
@@ -236,3 +243,5 @@ takes_memory d (Transact t) = transacts_in_memory t
 takes_memory d (Change edit) = edits_in_memory d edit
 takes_memory d (OfStates c) = changes_states_in_memory d c
 takes_memory d (Ask q) = asks_for_memory q
+takes_memory d (History Log) = false
+takes_memory d (History Publish) = true

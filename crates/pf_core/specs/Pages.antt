@@ -1,15 +1,15 @@
 -- What contracts see of a Book, and when it stands for a world. Own.
 use Rattle.std.specs.Prelude.{◌≡◌, ℕ, ◌≤◌, List, length, take}
-use Rattle.pf_core.specs.{Calls.Call, Durable.Edits.{Kept, Edit, after}, Wholes.Whole, Worlds.{Setting, in_memory, Held, up, down, Upshot, Event, flat, LegalCall, heard, state_after, IsWorld}}
+use Rattle.pf_core.specs.{Calls.Call, Durable.Edits.{Kept, Edit, after}, Wholes.Whole, Worlds.{Setting, Held, up, down, Upshot, Event, flat, LegalCall, heard, state_after, IsWorld}}
 
--- a Book: what its opening gave, the core, the groups of changes that were acknowledged, and the one that wasn't, how
--- many changes there may be, how many are shown, and the copy that shows them
+-- a Book: what its opening gave, the core, the groups of changes that were acknowledged, and the one that wasn't, what
+-- the opening was given to keep within, how many changes are shown, and the copy that shows them
 pub record Page : Type 0 where
   pub base : Kept
   pub whole : Whole
   pub acked : List (List Edit)
   pub pending : List (List Edit)
-  pub limit : ℕ
+  pub setting : Setting
   pub shown : ℕ
   pub published : Kept
 
@@ -19,10 +19,6 @@ pub record IsFolded (b : Page) : Type 0 where
   pub within : b.shown ≤ length (flat b.acked)
   pub published : b.published ≡ after b.base (take b.shown (flat b.acked))
 
--- what its opening was given: there is no device yet that may be full
-abbrev pub setting_of : Page → Setting
-setting_of b = in_memory b.limit
-
 -- the page is this opening, as it has come so far
 pub record IsAt (h : Held) (b : Page) : Type 0 where
   pub base : b.base ≡ h.base
@@ -30,7 +26,7 @@ pub record IsAt (h : Held) (b : Page) : Type 0 where
   pub acked : b.acked ≡ h.acked
   pub pending : b.pending ≡ h.pending
   pub shown : b.shown ≡ h.shown
-  pub setting : setting_of b ≡ h.setting
+  pub setting : b.setting ≡ h.setting
 
 -- these events were legal, and the Book is what they leave
 pub record StandsFor (first : Kept) (b : Page) (world : List Event) : Type 0 where

@@ -1,6 +1,6 @@
 -- What contracts see of a core, and what a step leaves of it. Own.
 use Rattle.std.specs.Prelude.{◌≡◌, Result, Ok, Err, ⊤}
-use Rattle.pf_core.specs.{declared.{command.Command.Command, reply.Refusal.Refusal, step.ReadyStep.ReadyStep, step.Step.Step, step.Step.TheVariants.Done, step.Step.TheVariants.Wants}, Commands.{mentioned, unless_unfit}, Durable.Edits.{Kept, Edit, applied, voided_by, fits}, Nexts.{Ready, ready}}
+use Rattle.pf_core.specs.{declared.{command.Command.Command, reply.Refusal.Refusal, step.ReadyStep.ReadyStep, step.Step.Step, step.Step.TheVariants.Done, step.Step.TheVariants.Wants, step.Step.TheVariants.OfHistory}, Commands.{mentioned, unless_unfit}, Durable.Edits.{Kept, Edit, applied, voided_by, fits}, Nexts.{Ready, ready}}
 use Rattle.pf_core.specs.declared.step.ReadyStep.TheVariants as made
 use Rattle.pf_ticket.specs.{Tickets.Open, Mentions.after}
 
@@ -20,10 +20,12 @@ left_by d e = ready (applied d e) (voided_by e)
 abbrev pub prepared : Kept → Edit → Result Ready Refusal
 prepared d e = unless_unfit (fits d e) (Ok (left_by d e))
 
--- what a command leaves of the open transactions: a step that wants a change kept, or is refused, leaves them as they were
+-- what a command leaves of the open transactions: a step that wants a change kept, is left to whoever keeps the history, or is refused,
+-- leaves them as they were
 abbrev pub answered : Open → Command → Result Step Refusal → Open
 answered t c (Ok (Done a)) = after t (mentioned c)
 answered t c (Ok (Wants e o)) = t
+answered t c (Ok (OfHistory x)) = t
 answered t c (Err e) = t
 
 abbrev pub stepped : Whole → Command → Result Step Refusal → Whole
@@ -35,10 +37,12 @@ stepped w c r = whole w.durable (answered w.tickets c r)
 abbrev pub plain : Result ReadyStep Refusal → Result Step Refusal
 plain (Ok (made.Done a)) = Ok (Done a)
 plain (Ok (made.Wants e n o)) = Ok (Wants e o)
+plain (Ok (made.OfHistory c)) = Ok (OfHistory c)
 plain (Err e) = Err e
 
 -- what was made is what the change leaves
 abbrev pub IsMade : Kept → Result ReadyStep Refusal → Type 0
 IsMade d (Ok (made.Done a)) = ⊤
 IsMade d (Ok (made.Wants e n o)) = n ≡ left_by d e
+IsMade d (Ok (made.OfHistory c)) = ⊤
 IsMade d (Err e) = ⊤

@@ -99,6 +99,15 @@ pub enum Question {
     Export,
 }
 
+/// What is asked of whoever keeps the history of changes (pf_book, or pfd in memory). Own.
+#[derive(Clone, Copy)]
+pub enum HistoryCommand {
+    /// Tells how many changes there are since the opening, how many of them are acknowledged, and how many are shown.
+    Log,
+    /// Shows all changes that are acknowledged.
+    Publish,
+}
+
 /// One command.
 #[derive(Drop)]
 pub enum Command {
@@ -110,4 +119,6 @@ pub enum Command {
     States(StateCommand),
     /// A question.
     Ask(Question),
+    /// What is asked of whoever keeps the history.
+    History(HistoryCommand),
 }

@@ -163,17 +163,25 @@ impl Core {
         &self.durable
     }
 
-    /// One command. Where it wants a change, or is refused, the core is as before. A judge, a test, a sum and a rollback take no memory,
-    /// and neither does a `track` that makes no state or a kill of what isn't there.
+    /// What is kept, shared. `AllocError`: it can't have another owner, and nothing changes.
+    pub fn shared(&self) -> Result<Arc<Durable>, AllocError>
+        ensures { IfOk result (λ d. arc_value d ≡ self.now.durable) }
+    {
+        Arc::try_clone(&self.durable)
+    }
+
+    /// One command. Where it wants a change, is left to whoever keeps the history, or is refused, the core is as before. A judge, a test,
+    /// a sum and a rollback take no memory, and neither does a `track` that makes no state or a kill of what isn't there.
     ///
     /// It is refused for the first of these that holds. A begin: `BadCount`, `TooManyRulesets`, `TicketsExhausted`. An
     /// add of a rule: `Busy`, `RulesetFull`. A define: `Conflict`, `Busy`, `TableFull`, `TooManyTables`. A commit: `BadCount`,
     /// `Twice`, `Busy`, `TooManyRulesets`, `TooManyTables`. A rollback: `BadCount`, `Twice`. Entries that are added to a table or
     /// take the place of its own: `Conflict`, `TableFull`, `TooManyTables`. Entries that are deleted: `Conflict`, `Absent`. A
     /// table or a state that is killed: `Absent`. A packet that is tracked, where a state is to be made of it, and a peer's message:
-    /// `StatesFull`. A question: none. Where a growth of memory is refused, `Memory` may come before any of them.
+    /// `StatesFull`. A question, or what the history is asked: none. Where a growth of memory is refused, `Memory` may come before any of them.
     /// The history's limit and its device aren't the core's: whoever keeps the history answers `HistoryFull`, `Full` or `Fault` to a
-    /// change that is wanted, and doesn't accept it; and after a `Fault` he answers `Halted`, without asking the core.
+    /// change that is wanted, and doesn't accept it; and after a `Fault` he answers `Halted`, without asking the core. What is shown isn't
+    /// the core's either: he answers `Stored` to a change that he accepts and can't show.
     pub fn step(&mut self, command: &Command) -> Result<Step, Refusal>
         ensures reply { OrMemory (takes_memory self.old.durable command.now) result
             (step_by self.old.tickets self.old.durable command.now) }
@@ -186,6 +194,7 @@ impl Core {
         match self.step_ready(command) {
             Ok(ReadyStep::Done(answer)) => Ok(Step::Done(answer)),
             Ok(ReadyStep::Wants(change, _, outcome)) => Ok(Step::Wants(change, outcome)),
+            Ok(ReadyStep::OfHistory(command)) => Ok(Step::OfHistory(command)),
             Err(refusal) => Err(refusal),
         }
     }
@@ -213,6 +222,7 @@ impl Core {
             Command::Ask(question) => {
                 Ok(ReadyStep::Done(answer(self.alloc, &self.durable, question)?))
             }
+            Command::History(command) => Ok(ReadyStep::OfHistory(*command)),
         }
     }
 

@@ -1,6 +1,6 @@
 //! What follows from the definitions that contracts cite: functions that do nothing, whose contracts are the laws.
 ghost use Rattle.std.specs.Prelude.{◌≡◌};
-ghost use Rattle.pf_core.specs.{Worlds.last_epoch, Laws.Commands.{LeaveTheOtherKind, WantsWhatFits, SwitchesAll, VoidsTheNamed, KeepsNoneValid, LeavesTheOthers, MentionsTheNamed, RefusedMentionNothing, TrackMakesOne}, Laws.Openings.{VoidsTickets, KeepsWhole, GivesAllThatWasKept, GivesTheFold, KeepsAcknowledged, CrashesAreEvents}, Laws.Worlds.{TicketsAreOfTheCalls, GivesEachOnce, KeepsTheLimits, CommitsNameOnce, ShowsAll, TestsTellTheEntry, JudgesTellTheVerdict}};
+ghost use Rattle.pf_core.specs.{Worlds.last_epoch, Laws.Commands.{LeaveTheOtherKind, WantsWhatFits, SwitchesAll, VoidsTheNamed, KeepsNoneValid, LeavesTheOthers, MentionsTheNamed, RefusedMentionNothing, TrackMakesOne}, Laws.Openings.{VoidsTickets, KeepsWhole, GivesAllThatWasKept, GivesTheFold, KeepsAcknowledged, KeepsSeen, RaisesTheEpoch, CrashesAreEvents}, Laws.Worlds.{TicketsAreOfTheCalls, GivesEachOnce, KeepsTheLimits, CommitsNameOnce, ShowsAll, TestsTellTheEntry, JudgesTellTheVerdict}};
 
 /// No opening has an epoch past 4,294,967,295.
 pub fn the_last_epoch()
@@ -77,8 +77,8 @@ pub fn commits_name_nothing_twice()
     ensures { CommitsNameOnce }
 {}
 
-/// In the opening that a world comes to every acknowledged change is shown, and no other; one group at most isn't acknowledged, and none
-/// where the device didn't fail in a call of that opening.
+/// In the opening that a world comes to no change is shown that wasn't acknowledged, and every one is that was, but where some were stored
+/// and not shown since; one group at most isn't acknowledged, and none where the device didn't fail in a call of that opening.
 pub fn shows_all()
     ensures { ShowsAll }
 {}
@@ -93,13 +93,16 @@ pub fn answers_rest_on_what_is_kept()
 
 /// Of every world, over crashes and openings: no ticket that was given before an opening is valid after it; every group of changes, so
 /// every commit, stands whole or not at all; what each later opening gives is, but for its epoch, the fold of all changes that were kept
-/// since the first base, in order and each once, with every change that was acknowledged before.
+/// since the first base, in order and each once, with every change that was acknowledged before; what a worker saw was acknowledged, and
+/// what is kept begins with it.
 pub fn worlds()
     ensures void { VoidsTickets }
     ensures whole { KeepsWhole }
     ensures given { GivesAllThatWasKept }
     ensures fold { GivesTheFold }
     ensures acknowledged { KeepsAcknowledged }
+    ensures seen { KeepsSeen }
+    ensures epochs { RaisesTheEpoch }
 {}
 
 /// Whatever a crash may leave of an opening, within a command or between two, is what is held after a world that ends in that crash.

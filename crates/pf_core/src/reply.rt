@@ -98,6 +98,10 @@ pub enum Answer {
     Sum([u8; 16]),
     /// Messages that tell a peer of all states.
     Exported(Exported),
+    /// How many changes there are since the opening, how many of them are acknowledged, and how many are shown.
+    Logged { len: u64, acked: u64, shown: u64 },
+    /// All changes that are acknowledged are shown, and these are so many.
+    Shown(u64),
 }
 
 /// What is told, beside its number, of a change that was kept.
@@ -239,8 +243,11 @@ impl From<ChangeRefusal> for Refusal {
 pub enum Reply {
     /// The answer, with nothing to be kept.
     Answer(Answer),
-    /// A change was kept, with this number since the opening, from 1.
+    /// A change was kept, with this number since the opening, from 1, and is shown with all before it.
     Applied { seq: u64, outcome: Outcome },
+    /// A change was kept, with this number since the opening, from 1. Memory was refused for showing it: it is shown with the next
+    /// change that is, or by a publish.
+    Stored { seq: u64, outcome: Outcome },
     /// Nothing was done, or, after `Fault`, nothing was acknowledged.
     Refused(Refusal),
 }

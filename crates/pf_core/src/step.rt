@@ -3,6 +3,7 @@ ghost use Rattle.std.specs.Prelude.{◌≡◌, IfOk};
 ghost use Rattle.pf_core.specs.{Durable.Edits.voided_by, Nexts.ready};
 ghost use Rattle.pf_core.specs.declared.step.ReadyStep.TheVariants as made;
 
+use crate::command::HistoryCommand;
 use crate::durable::{Change, Durable};
 use crate::next::Next;
 use crate::reply::{Answer, Outcome};
@@ -15,6 +16,8 @@ pub enum Step {
     Done(Answer),
     /// It wants this change kept, and is then told this outcome with the change's number.
     Wants(Change, Outcome),
+    /// Whoever keeps the history answers it.
+    OfHistory(HistoryCommand),
 }
 
 /// What a command comes to, where it isn't refused, with what its change leaves: that was found out for the outcome.
@@ -24,6 +27,8 @@ pub enum ReadyStep {
     Done(Answer),
     /// It wants this change kept, which leaves this, and is then told this outcome with the change's number.
     Wants(Change, Next, Outcome),
+    /// Whoever keeps the history answers it.
+    OfHistory(HistoryCommand),
 }
 
 // A change that is wanted, and leaves this.

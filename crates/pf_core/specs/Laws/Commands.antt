@@ -5,7 +5,7 @@ use Rattle.pf_anchor.specs.Rulesets.{rules_at}
 use Rattle.pf_ticket.specs.{declared.{entry.Entry.Entry, name.RulesetKind.TheVariants.Filter, name.RulesetKind.TheVariants.Table, name.RulesetName.RulesetName}, NamedTables.Named, Tickets.{rules_in as offered_rules, tables_in as offered_tables, offer_at, Open, valid_ticket, content}, Mentions.{named_in, after, switches}, Names.{same_kind, is_named, names_of, filter_at, table_ruleset_at}}
 use Rattle.pf_rule.specs.Packets.{PlainPacket}
 use Rattle.pf_state.specs.{declared.{state.StateName.StateName, step.Insertion.TheVariants.New, step.Step.TheVariants.Insert}, States.Stated, Steps.insertion}
-use Rattle.pf_core.specs.{declared.{command.Command.Command, command.StateCommand.TheVariants.Track, command.Command.TheVariants.Transact, command.Transaction.TheVariants.Commit, reply.Outcome.Outcome, reply.Refusal.Refusal, reply.Reply.TheVariants.Applied, reply.Reply.TheVariants.Refused, step.Step.TheVariants.Wants}, Calls.{Call, call, mentions_of}, Commands.{items, step_by, states_step, mentioned, named_by}, Durable.Edits.{Kept, Edit, commits, acts, entries_at, applied, voided_by, fits}}
+use Rattle.pf_core.specs.{declared.{command.Command.Command, command.StateCommand.TheVariants.Track, command.Command.TheVariants.Transact, command.Transaction.TheVariants.Commit, reply.Outcome.Outcome, reply.Refusal.Refusal, reply.Reply.Reply, reply.Reply.TheVariants.Refused, step.Step.TheVariants.Wants}, Calls.{Call, call, mentions_of}, Commands.{items, step_by, states_step, mentioned, named_by, is_accepted}, Durable.Edits.{Kept, Edit, commits, acts, entries_at, applied, voided_by, fits}}
 
 -- the tables that are offered for the table ruleset at a path
 abbrev pub tables_offered : Open → List ℕ → List Named
@@ -48,10 +48,10 @@ abbrev pub VoidsTheNamed : Type 0
 VoidsTheNamed = (t : Open) (d : Kept) (c : Command) (e : Edit) (o : Outcome) → step_by t d c ≡ Ok (Wants e o) →
     mentioned c ≡ switches (voided_by e)
 
--- after a commit no ruleset that it names has a valid ticket
+-- after a commit that isn't refused no ruleset that it names has a valid ticket
 abbrev pub KeepsNoneValid : Type 0
-KeepsNoneValid = (t : Open) (entries : List Entry) (n : ℕ) (o : Outcome) (name : RulesetName) → is_named (names_of entries) name ≡ true →
-    valid_ticket (after t (mentions_of (call (Transact (Commit entries)) (Applied n o)))) name ≡ None
+KeepsNoneValid = (t : Open) (entries : List Entry) (r : Reply) (name : RulesetName) → is_accepted r ≡ true →
+    is_named (names_of entries) name ≡ true → valid_ticket (after t (mentions_of (call (Transact (Commit entries)) r))) name ≡ None
 
 -- a call leaves each ruleset that it doesn't name its valid ticket, and what is offered with it
 abbrev pub LeavesTheOthers : Type 0

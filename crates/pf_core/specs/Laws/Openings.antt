@@ -1,7 +1,7 @@
--- What holds of every world over crashes and openings: what each opening gives.
-use Rattle.std.specs.{Prelude.{◌≡◌, ℕ, false, List, [], ◌∷◌, ◌++◌, ⊤}, List.AllByRecursion}
+-- What holds of every world over crashes and openings: what each opening gives, and what workers saw of it.
+use Rattle.std.specs.{Prelude.{◌≡◌, ℕ, ◌<◌, ◌≤◌, false, List, [], ◌∷◌, ◌++◌, length, take, ⊤}, List.AllByRecursion}
 use Rattle.pf_ticket.specs.{declared.{name.RulesetName.RulesetName, ticket.Ticket.Ticket}, Tickets.is_valid}
-use Rattle.pf_core.specs.{Durable.Edits.{Kept, in_epoch, after}, History.{base_of, acknowledged, earlier, history, offered, AreAmong, tickets_given}, Worlds.{Setting, Held, State, up, down, Doing, Event, crashed, opened, flat, next, state_after, IsWorld}}
+use Rattle.pf_core.specs.{Durable.Edits.{Kept, Edit, in_epoch, after}, History.{base_of, acked_of, acknowledged, earlier, history, offered, AreAmong, tickets_given}, Worlds.{Setting, Held, State, up, down, Doing, Event, entered, crashed, opened, flat, next, state_after, IsWorld}}
 
 -- ---- tickets
 
@@ -14,6 +14,11 @@ AreVoid (down d) ts = ⊤
 abbrev pub VoidsTickets : Type 0
 VoidsTickets = (first : Kept) (world later : List Event) (setting : Setting) → IsWorld first (world ++ opened setting ∷ later) →
     AreVoid (state_after (down first) (world ++ opened setting ∷ later)) (tickets_given world)
+
+-- an opening's epoch is greater than that of each ticket that was given before it
+abbrev pub RaisesTheEpoch : Type 0
+RaisesTheEpoch = (first : Kept) (world : List Event) (setting : Setting) → IsWorld first (world ++ opened setting ∷ []) →
+    AllByRecursion (λ t. t.epoch < (base_of (state_after (down first) (world ++ opened setting ∷ []))).epoch) (tickets_given world)
 
 -- ---- what is kept
 
@@ -49,6 +54,21 @@ abbrev pub GivesAllThatWasKept : Type 0
 GivesAllThatWasKept = (first : Kept) (world later : List Event) (setting : Setting) →
     IsWorld first ((world ++ later) ++ opened setting ∷ []) →
     IsGiven first world later (base_of (state_after (down first) ((world ++ later) ++ opened setting ∷ [])))
+
+-- ---- what is seen
+
+-- the changes that a worker sees who sees the first n of the opening that a world comes to: with those of all openings before it
+abbrev pub seen : Kept → List Event → ℕ → List Edit
+seen first world n = flat (earlier (down first) world) ++ take n (flat (acked_of (state_after (down first) world)))
+
+-- the n changes that a worker saw were acknowledged in their opening, and what is kept begins with all that he saw, whatever came later
+pub record IsSeen (first : Kept) (world later : List Event) (worker n : ℕ) : Type 0 where
+  pub acknowledged : n ≤ length (flat (acked_of (state_after (down first) world)))
+  pub stays : IsFrontOf (seen first world n) (flat (history (down first) (world ++ entered worker n ∷ later)))
+
+abbrev pub KeepsSeen : Type 0
+KeepsSeen = (first : Kept) (world later : List Event) (worker n : ℕ) → IsWorld first (world ++ entered worker n ∷ later) →
+    IsSeen first world later worker n
 
 -- ---- crashes
 

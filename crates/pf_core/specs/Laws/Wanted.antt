@@ -5,7 +5,7 @@ use Rattle.pf_addr.specs.Refusing.{unless}
 use Rattle.pf_table.specs.Edits.{added, additions, deletions, conflict_behind}
 use Rattle.pf_anchor.specs.declared.{limits.TheConstants.TABLE_COUNT_LIMIT, verdict.RuleVerdict.RuleVerdict}
 use Rattle.pf_ticket.specs.{declared.{entry.Entry.Entry, name.RulesetKind.RulesetKind, name.RulesetKind.TheVariants.Filter, name.RulesetKind.TheVariants.Table, name.RulesetName.RulesetName, refusal.TicketRefusal.TicketRefusal}, Names.{filter_at, table_ruleset_at, names_of}, Laws.Names.{filter_is, table_is}, Mentions.switches, Replies.{begin_reply, add_reply, define_reply, list_check, commit_check}, Tickets.{Open, Loaded, offered_as, loaded, content}}
-use Rattle.pf_core.specs.{declared.{command.Command.Command, command.Command.TheVariants.Transact, command.Command.TheVariants.Edit as Change, command.Command.TheVariants.States as OfStates, command.Command.TheVariants.Ask, durable.refusal.ChangeRefusal.ChangeRefusal, durable.verdict.Verdict.Verdict, durable.verdict.Verdict.TheVariants.State as Stateful, durable.verdict.Verdict.TheVariants.Rules as ByRules, command.StateCommand.StateCommand, command.StateCommand.TheVariants.Track, command.StateCommand.TheVariants.Peer, command.StateCommand.TheVariants.Kill as KillState, command.TableEdit.TableEdit, command.TableEdit.TheVariants.Add as AddTo, command.TableEdit.TheVariants.Delete, command.TableEdit.TheVariants.Set, command.TableEdit.TheVariants.Kill, command.Transaction.TheVariants.Begin, command.Transaction.TheVariants.Add, command.Transaction.TheVariants.Define, command.Transaction.TheVariants.Commit, command.Transaction.TheVariants.Rollback, reply.Answer.Answer, reply.Outcome.Outcome, reply.Outcome.TheVariants.Committed, reply.Refusal.Refusal, durable.refusal.ChangeRefusal.TheVariants.TooManyTables, step.Step.Step, step.Step.TheVariants.Done, step.Step.TheVariants.Wants}, Commands.{unless_refused, unless_unfit, if_there, is_table, item_of, items, wanting, commit_step, added_of, deleted_of, edit_step, makes_state, tracked, track_step, steps_here, states_step, step_by, mentioned, edits_in_memory, is_done, changes_states_in_memory, takes_memory}, Durable.Edits.{Kept, Edit, commits, adds, deletes, sets, acts, removes, entries_at, with_entries, name_of, voided_by, no_conflict, fits, verdict}}
+use Rattle.pf_core.specs.{declared.{command.Command.Command, command.Command.TheVariants.Transact, command.Command.TheVariants.Edit as Change, command.Command.TheVariants.States as OfStates, command.Command.TheVariants.Ask, command.Command.TheVariants.History, command.HistoryCommand.HistoryCommand, durable.refusal.ChangeRefusal.ChangeRefusal, durable.verdict.Verdict.Verdict, durable.verdict.Verdict.TheVariants.State as Stateful, durable.verdict.Verdict.TheVariants.Rules as ByRules, command.StateCommand.StateCommand, command.StateCommand.TheVariants.Track, command.StateCommand.TheVariants.Peer, command.StateCommand.TheVariants.Kill as KillState, command.TableEdit.TableEdit, command.TableEdit.TheVariants.Add as AddTo, command.TableEdit.TheVariants.Delete, command.TableEdit.TheVariants.Set, command.TableEdit.TheVariants.Kill, command.Transaction.TheVariants.Begin, command.Transaction.TheVariants.Add, command.Transaction.TheVariants.Define, command.Transaction.TheVariants.Commit, command.Transaction.TheVariants.Rollback, reply.Answer.Answer, reply.Outcome.Outcome, reply.Outcome.TheVariants.Committed, reply.Refusal.Refusal, durable.refusal.ChangeRefusal.TheVariants.TooManyTables, step.Step.Step, step.Step.TheVariants.Done, step.Step.TheVariants.Wants, step.Step.TheVariants.OfHistory}, Commands.{unless_refused, unless_unfit, if_there, is_table, item_of, items, wanting, commit_step, added_of, deleted_of, edit_step, makes_state, tracked, track_step, steps_here, states_step, step_by, mentioned, edits_in_memory, is_done, changes_states_in_memory, takes_memory}, Durable.Edits.{Kept, Edit, commits, adds, deletes, sets, acts, removes, entries_at, with_entries, name_of, voided_by, no_conflict, fits, verdict}}
 use Rattle.pf_rule.specs.Packets.{PlainPacket}
 use Rattle.pf_state.specs.{declared.{state.Bound.Bound, state.StateName.StateName, step.Step.Step as StateStep}, Flows.flow_of, States.{Stated, held_at}, Steps.counts}
 use Rattle.pf_state.specs.declared.step.Step.TheVariants as step
@@ -198,6 +198,75 @@ wants t d (OfStates c) e o h =
     let change : IsStateChange d e = wants_states d c e o h in
     record { fits = change.fits; memory = states-memory d c e o h; mentions = voids_none_of_states e change.is }
 wants t d (Ask q) e o h = absurd (cc (h))
+wants t d (History c) e o h = absurd (cc (h))
+
+-- ---- what wants a change comes to nothing else
+
+abbrev pub IsNoChange : Step → Type 0
+IsNoChange s = (e : Edit) (o : Outcome) → Wants e o ≡ s → ⊥
+
+pub never-wanted : (r : Result (Unit {0}) ChangeRefusal) (e : Edit) (o : Outcome) (s : Step) → IsNoChange s → unless_unfit r (Ok (Wants e o)) ≡ Ok s → ⊥
+never-wanted (Ok u) e o s none h = none e o (cc (h))
+never-wanted (Err y) e o s none h = cc (h)
+
+pub never-committed : (r : Result (Unit {0}) TicketRefusal) (d : Kept) (e : Edit) (o : Outcome) (s : Step) → IsNoChange s → unless_refused r (λ _. wanting d e o) ≡ Ok s → ⊥
+never-committed (Ok u) d e o s none h = never-wanted (fits d e) e o s none h
+never-committed (Err y) d e o s none h = cc (h)
+
+pub never-there : (there : Bool) (e : Edit) (o : Outcome) (s : Step) → IsNoChange s → if_there there (Ok (Wants e o)) ≡ Ok s → ⊥
+never-there true e o s none h = none e o (cc (h))
+never-there false e o s none h = cc (h)
+
+pub never-edited : (d : Kept) (edit : TableEdit) (s : Step) → IsNoChange s → edit_step d edit ≡ Ok s → ⊥
+never-edited d (AddTo p name xs) s none h = never-wanted (fits d (adds p name xs)) (adds p name xs) (added_of (additions (entries_at d p name) xs)) s none h
+never-edited d (Delete p name xs) s none h =
+    let e : Edit = deletes p name xs in
+    let o : Outcome = deleted_of (deletions (entries_at d p name) xs) in
+    never-there (is_table (entries_at d p name)) e o s none (fit (no_conflict xs) (if_there (is_table (entries_at d p name)) (Ok (Wants e o))) s h).second
+never-edited d (Set p name xs) s none h = never-wanted (fits d (sets p name xs)) (sets p name xs) outcome.Set s none h
+never-edited d (Kill p name) s none h = never-there (is_table (entries_at d p name)) (sets p name []) outcome.Killed s none h
+
+-- ---- what is left to whoever keeps the history
+
+history-is-none : (x : HistoryCommand) → IsNoChange (OfHistory x)
+history-is-none x e o is = cc (is)
+
+never-left : {A : Type 0} (r : Result A TicketRefusal) (told : A → Answer) (x : HistoryCommand) → unless_refused r (λ v. Ok (Done (told v))) ≡ Ok (OfHistory x) → ⊥
+never-left (Ok v) told x h = cc (h)
+never-left (Err e) told x h = cc (h)
+
+never-made : (d : Kept) (v : RuleVerdict) (s : Stated) (stale : Bool) (x : HistoryCommand) → (if stale then Ok (Done (answer.Stale v)) else wanting d (acts (step.Insert s ∷ [])) (outcome.Tracked v)) ≡ Ok (OfHistory x) → ⊥
+never-made d v s true x h = cc (h)
+never-made d v s false x h = never-wanted (fits d (acts (step.Insert s ∷ []))) (acts (step.Insert s ∷ [])) (outcome.Tracked v) (OfHistory x) (history-is-none x) h
+
+never-tracked : (d : Kept) (name : StateName) (packet : PlainPacket) (v : RuleVerdict) (made : Option Bound) (x : HistoryCommand) → tracked d name packet v made ≡ Ok (OfHistory x) → ⊥
+never-tracked d name packet v None x h = cc (h)
+never-tracked d name packet v (Some b) x h =
+    let s : Stated = (name, record { generation = 0; flow = flow_of packet; bound = b }) in
+    never-made d v s (is_some (held_at s.0 d.states)) x h
+
+never-judged : (d : Kept) (name : StateName) (packet : PlainPacket) (v : Verdict) (x : HistoryCommand) → track_step d name packet v ≡ Ok (OfHistory x) → ⊥
+never-judged d name packet (Stateful s) x h = cc (h)
+never-judged d name packet (ByRules by) x h = never-tracked d name packet by (makes_state d by) x h
+
+never-stated : (d : Kept) (c : StateCommand) (x : HistoryCommand) → states_step d c ≡ Ok (OfHistory x) → ⊥
+never-stated d (Track name packet) x h = never-judged d name packet (verdict d packet) x h
+never-stated d (Peer m) x h = never-wanted (fits d (acts (steps_here d m))) (acts (steps_here d m)) (outcome.Peered (counts d.states (steps_here d m))) (OfHistory x) (history-is-none x) h
+never-stated d (KillState name) x h = never-there (is_some (held_at name d.states)) (removes name) outcome.Killed (OfHistory x) (history-is-none x) h
+
+-- is what the history is asked
+pub left_is : (t : Open) (d : Kept) (c : Command) (x : HistoryCommand) → step_by t d c ≡ Ok (OfHistory x) → c ≡ History x
+left_is t d (Transact (Begin names)) x h = absurd (never-left (begin_reply t names) (λ range. answer.Given range) x h)
+left_is t d (Transact (Add p u r)) x h = absurd (never-left (add_reply t (filter_at p) u) (λ _. answer.Done) x h)
+left_is t d (Transact (Define p u name xs)) x h = absurd (never-left (define_reply t (table_ruleset_at p) u name xs) (λ _. answer.Done) x h)
+left_is t d (Transact (Commit entries)) x h = absurd (never-committed (commit_check t entries) d (commits (items (content t) entries)) outcome.Committed (OfHistory x) (history-is-none x) h)
+left_is t d (Transact (Rollback entries)) x h = absurd (never-left (list_check entries) (λ _. answer.Done) x h)
+left_is t d (Change edit) x h = absurd (never-edited d edit (OfHistory x) (history-is-none x) h)
+left_is t d (OfStates c) x h = absurd (never-stated d c x h)
+left_is t d (Ask q) x h = absurd (cc (h))
+left_is t d (History y) x h = let same : y ≡ x = cc (h) in ap (λ (z : HistoryCommand). History z) same
+
+-- ---- of any command that wants a change
 
 -- a change that is wanted fits
 pub wants_what_fits : (t : Open) (d : Kept) (c : Command) (e : Edit) (o : Outcome) → step_by t d c ≡ Ok (Wants e o) → fits d e ≡ Ok tt

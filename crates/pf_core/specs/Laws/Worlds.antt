@@ -7,14 +7,15 @@ use Rattle.pf_table.specs.{Laws.Tables.DecidesAbout, Tables.deciding}
 use Rattle.pf_anchor.specs.{Evaluation.judged, Laws.Evaluation.{decides, IsToldOfMain, LeadsThere}, Rulesets.rules_at}
 use Rattle.pf_state.specs.{Flows.flow_of, Laws.States.IsStateOf, States.Stated}
 use Rattle.pf_ticket.specs.{declared.{entry.Entry.Entry, ticket.Ticket.Ticket}, Replies.commit_check, Tickets.content, Laws.Tickets.{AreOnce, IsWithin as AreTicketsWithin}, Mentions.{Mention, opened as left_by}, Names.tickets_from}
-use Rattle.pf_core.specs.{declared.{command.Command.TheVariants.Ask, command.Question.TheVariants.Judge, command.Question.TheVariants.Test, durable.verdict.Verdict.TheVariants.State as Stateful, durable.verdict.Verdict.TheVariants.Rules as ByRules, reply.Reply.Reply, reply.Reply.TheVariants.Answer as Answered}, Calls.mentions_of, Commands.items, Durable.Edits.{Kept, named_again, entries_at, verdict}, History.tickets_in, Laws.Durable.IsWithin, Worlds.{Held, up, down, Event, called, flat, log_of, durable_of, LegalReply, state_after, IsWorld}}
+use Rattle.pf_core.specs.{declared.{command.Command.TheVariants.Ask, command.Question.TheVariants.Judge, command.Question.TheVariants.Test, durable.verdict.Verdict.TheVariants.State as Stateful, durable.verdict.Verdict.TheVariants.Rules as ByRules, reply.Reply.Reply, reply.Reply.TheVariants.Answer as Answered, reply.Reply.TheVariants.Applied, reply.Reply.TheVariants.Stored}, Calls.mentions_of, Commands.items, Durable.Edits.{Kept, named_again, entries_at, verdict}, History.tickets_in, Laws.Durable.IsWithin, Worlds.{Held, up, down, Event, called, opened, flat, log_of, durable_of, LegalReply, state_after, IsWorld}}
 use Rattle.pf_core.specs.declared.reply.Answer.TheVariants as answer
 
 -- ---- tickets
 
 abbrev pub given_by : List Ticket → Event → List Ticket
 given_by ts (called c t) = ts ++ tickets_in c.reply
-given_by ts e = []
+given_by ts (opened setting) = []
+given_by ts e = ts
 
 -- the tickets that replies gave since the opening, in order
 abbrev pub tickets_since : List Event → List Ticket
@@ -22,7 +23,8 @@ tickets_since world = fold given_by [] world
 
 abbrev pub mentions_by : List Mention → Event → List Mention
 mentions_by ms (called c t) = ms ++ mentions_of c
-mentions_by ms e = []
+mentions_by ms (opened setting) = []
+mentions_by ms e = ms
 
 -- what was mentioned since the opening, in order
 abbrev pub mentions_since : List Event → List Mention
@@ -62,15 +64,33 @@ CommitsNameOnce = (first : Kept) (world : List Event) (h : Held) → IsWorld fir
 
 abbrev pub failed_by : Bool → Event → Bool
 failed_by failed (called c t) = failed || t.failed
-failed_by failed e = false
+failed_by failed (opened setting) = false
+failed_by failed e = failed
 
 -- whether the device failed in a call since the opening
 abbrev pub failed_since : List Event → Bool
 failed_since world = fold failed_by false world
 
--- Every acknowledged change is shown, and no other. One group at most isn't acknowledged, and none where the device didn't fail.
+abbrev pub hides : Bool → Reply → Bool
+hides hidden (Stored n o) = true
+hides hidden (Applied n o) = false
+hides hidden (Answered (answer.Shown n)) = false
+hides hidden r = hidden
+
+abbrev pub hidden_by : Bool → Event → Bool
+hidden_by hidden (called c t) = hides hidden c.reply
+hidden_by hidden (opened setting) = false
+hidden_by hidden e = hidden
+
+-- whether a change was answered `Stored` since the opening, and all was not shown since
+abbrev pub hidden_since : List Event → Bool
+hidden_since world = fold hidden_by false world
+
+-- No change is shown that wasn't acknowledged, and every one is that was, but where some were stored and not shown since. One group at
+-- most isn't acknowledged, and none where the device didn't fail.
 pub record AllIsShown (world : List Event) (h : Held) : Type 0 where
-  pub shown : h.shown ≡ length (flat h.acked)
+  pub within : h.shown ≤ length (flat h.acked)
+  pub all : hidden_since world ≡ false → h.shown ≡ length (flat h.acked)
   pub one : length h.pending ≤ 1
   pub none : failed_since world ≡ false → h.pending ≡ []
 
