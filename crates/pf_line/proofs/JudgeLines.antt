@@ -19,7 +19,7 @@ taken k (w ∷ ws) rest t e is = by (bytes_eq w k) refl e where
 
 -- behind its word a judge says what its packet says
 pub judge_said : (ws rest : List Word) → ws ≡ codes "judge" ∷ rest → read_all grammar.line ws ≡ read_all (making Says grammar.judged) rest
-unfolding grammar.question grammar.state_or_question grammar.edit_or_question grammar.command
+unfolding grammar.question grammar.history_or_question grammar.state_or_question grammar.edit_or_question grammar.command
 judge_said ws rest is = rw is refl
 
 pub judge_speaks : (ws rest : List Word) → ws ≡ codes "judge" ∷ rest → no_command ws ≡ false

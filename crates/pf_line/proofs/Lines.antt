@@ -18,11 +18,11 @@ use Rattle.pf_line.specs.{Grammar.{Spoken, Says, Tells, decided}, Lines.{is_line
 -- ---- words that spell a line are no comment
 
 no_hash : (bs : List ℕ) → begins grammar.line (35 ∷ bs) ≡ false
-unfolding grammar.overview grammar.question grammar.state_or_question grammar.edit_or_question grammar.command
+unfolding grammar.overview grammar.question grammar.history_or_question grammar.state_or_question grammar.edit_or_question grammar.command
 no_hash bs = refl
 
 some_words : empties grammar.line ≡ false
-unfolding grammar.overview grammar.question grammar.state_or_question grammar.edit_or_question grammar.command
+unfolding grammar.overview grammar.question grammar.history_or_question grammar.state_or_question grammar.edit_or_question grammar.command
 some_words = refl
 
 not_both : (t : Bool) → t ≡ false → t ≡ true → ⊥

@@ -7,7 +7,7 @@ use Rattle.pf_addr.specs.declared.addr.Addr.TheVariants as addr
 use Rattle.pf_rule.specs.declared.fault.Mistake.{Mistake}
 use Rattle.pf_rule.specs.{Rules.PlainRule, RuleGrammar.{rule, rule_decided}, Packets.PlainPacket, PacketGrammar.{packet, packet_decided}, Value.Values.an_address}
 use Rattle.pf_table.specs.Entries.{Row}
-use Rattle.pf_core.specs.declared.{command.Command.Command, command.Command.TheVariants.{Transact, Edit, States, Ask}, command.StateCommand.TheVariants.{Track, Kill as KillState}, command.Transaction.TheVariants.{Begin, Add, Define, Commit, Rollback}, command.Question.TheVariants.{Judge, Test, ShowRules, ShowTables, ShowStates, Sum, Export}}
+use Rattle.pf_core.specs.declared.{command.Command.Command, command.Command.TheVariants.{Transact, Edit, States, Ask, History}, command.HistoryCommand.HistoryCommand, command.HistoryCommand.TheVariants.{Log, Publish}, command.StateCommand.TheVariants.{Track, Kill as KillState}, command.Transaction.TheVariants.{Begin, Add, Define, Commit, Rollback}, command.Question.TheVariants.{Judge, Test, ShowRules, ShowTables, ShowStates, Sum, Export}}
 use Rattle.pf_core.specs.declared.command.TableEdit.TheVariants as edits
 use Rattle.pf_ticket.specs.declared.{entry.Entry.Entry, name.RulesetKind.RulesetKind, name.RulesetKind.TheVariants.{Filter, Table}, name.RulesetName.RulesetName, ticket.Ticket.Ticket}
 use Rattle.pf_ticket.specs.Names.{ticket}
@@ -185,17 +185,26 @@ overview = or (codes "sum") (nothing (Ok (Ask Sum))) (or (codes "export") (nothi
 unfoldable pub question : Form (Result Command Mistake)
 question = or (codes "judge") judged (or (codes "test") tested overview)
 
--- "track" ID CREATOR PACKET | "kill" ID CREATOR | a question
-unfoldable pub state_or_question : Form (Result Command Mistake)
-state_or_question = or (codes "track") tracked (or (codes "kill") state_killed question)
+-- nothing behind its word
+abbrev pub alone : HistoryCommand → Form (Result Command Mistake)
+alone c = nothing (Ok (History c))
 
--- "tadd" PATH NAME ENTRY .. | "tdel" PATH NAME ENTRY .. | "tset" PATH NAME [ENTRY ..] | "tkill" PATH NAME | of states, or a question
+-- "log" | "publish" | a question
+unfoldable pub history_or_question : Form (Result Command Mistake)
+history_or_question = or (codes "log") (alone Log) (or (codes "publish") (alone Publish) question)
+
+-- "track" ID CREATOR PACKET | "kill" ID CREATOR | of the history, or a question
+unfoldable pub state_or_question : Form (Result Command Mistake)
+state_or_question = or (codes "track") tracked (or (codes "kill") state_killed history_or_question)
+
+-- "tadd" PATH NAME ENTRY .. | "tdel" PATH NAME ENTRY .. | "tset" PATH NAME [ENTRY ..] | "tkill" PATH NAME | of states, of the history, or
+-- a question
 unfoldable pub edit_or_question : Form (Result Command Mistake)
 edit_or_question = or (codes "tadd") entries_added (or (codes "tdel") entries_deleted
     (or (codes "tset") entries_set (or (codes "tkill") killed state_or_question)))
 
 -- "begin" KIND PATH .. | "add" PATH T RULE | "define" PATH T NAME [ENTRY ..] | "commit" KIND PATH T .. | "rollback" KIND PATH T ..
--- | an edit, of states, or a question
+-- | an edit, of states, of the history, or a question
 unfoldable pub command : Form (Result Command Mistake)
 command = or (codes "begin") begun (or (codes "add") added (or (codes "define") defined
     (or (codes "commit") committed (or (codes "rollback") rolled_back edit_or_question))))
@@ -214,5 +223,5 @@ line = or (codes "peer") (making Tells hex) (making Says command)
 -- One word of look-ahead decides it.
 pub decided : is_decided line ≡ true
 unfolding begun added defined committed rolled_back entries_added entries_deleted entries_set killed tracked state_killed judged tested
-    shown overview question state_or_question edit_or_question command
+    shown overview question history_or_question state_or_question edit_or_question command
 decided = rw (rule_decided, packet_decided) refl

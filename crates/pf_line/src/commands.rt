@@ -1,13 +1,13 @@
 //! Reading the words of a line.
 ghost use Rattle.pf_addr.specs.Form.Readers.{ReadsWhole, ReadsAll};
-ghost use Rattle.pf_line.specs.Grammar.{begun, added, defined, committed, rolled_back, entries_added, entries_deleted, entries_set, killed, judged, tested, tracked, state_killed, shown, overview, question, state_or_question, edit_or_question, command};
+ghost use Rattle.pf_line.specs.Grammar.{begun, added, defined, committed, rolled_back, entries_added, entries_deleted, entries_set, killed, judged, tested, tracked, state_killed, shown, overview, question, alone, history_or_question, state_or_question, edit_or_question, command};
 
 use crate::lists::{read_rows, read_some_rows};
 use crate::words::{
     path_word, read_entry, read_name, read_offered, read_state, read_table, ticket_word,
 };
 use pf_addr::form::{Stop, Unread, Words, each, end, expect, takes};
-use pf_core::{Command, Question, StateCommand, TableEdit, Transaction};
+use pf_core::{Command, HistoryCommand, Question, StateCommand, TableEdit, Transaction};
 use pf_rule::value::address_word;
 use pf_rule::{Mistake, Packet, Rule};
 use pf_ticket::{Entries, RulesetNames};
@@ -235,7 +235,30 @@ fn ask<'a>(words: Words<'a>) -> Result<Result<Command, Mistake>, Stop>
     ask_overview(rest)
 }
 
-/// A change of states whose words say it whole, or a question.
+/// What the history is asked, behind whose word nothing stands.
+fn ask_history(words: &[&[u8]], command: HistoryCommand) -> Result<Result<Command, Mistake>, Stop>
+    ensures { ReadsWhole (λ x. x) (alone command) result words.now }
+{
+    end(words)?;
+    Ok(Ok(Command::History(command)))
+}
+
+/// What the history is asked, or a question.
+#[tactic(auto, unfolding(crate::specs::Grammar::history_or_question))]
+fn ask_history_or_ask<'a>(words: Words<'a>) -> Result<Result<Command, Mistake>, Stop>
+    ensures { ReadsWhole (λ x. x) history_or_question result words.now }
+{
+    let mut rest = words;
+    if takes(&mut rest, b"log") {
+        return ask_history(rest, HistoryCommand::Log);
+    }
+    if takes(&mut rest, b"publish") {
+        return ask_history(rest, HistoryCommand::Publish);
+    }
+    ask(rest)
+}
+
+/// A change of states whose words say it whole, what the history is asked, or a question.
 #[tactic(auto, unfolding(crate::specs::Grammar::state_or_question))]
 fn change_state_or_ask<'a>(words: Words<'a>) -> Result<Result<Command, Mistake>, Stop>
     ensures { ReadsWhole (λ x. x) state_or_question result words.now }
@@ -247,10 +270,10 @@ fn change_state_or_ask<'a>(words: Words<'a>) -> Result<Result<Command, Mistake>,
     if takes(&mut rest, b"kill") {
         return kill_state(rest);
     }
-    ask(rest)
+    ask_history_or_ask(rest)
 }
 
-/// A change of one table, a change of states, or a question.
+/// A change of one table, a change of states, what the history is asked, or a question.
 #[tactic(auto, unfolding(crate::specs::Grammar::edit_or_question))]
 fn edit_or_ask<'a>(alloc: Global, words: Words<'a>) -> Result<Result<Command, Mistake>, Unread>
     ensures { ReadsAll (λ x. x) edit_or_question result words.now }

@@ -58,6 +58,9 @@ answer_text (answers.Tables tables) = codes "end " ++ decimal (length tables)
 answer_text (answers.States states) = codes "end " ++ decimal (length states)
 answer_text (answers.Sum sum) = encode_lower sum
 answer_text (answers.Exported messages) = codes "end " ++ decimal (length messages)
+answer_text (answers.Logged len acked shown) =
+    codes "log " ++ decimal len ++ (codes " acked " ++ decimal acked ++ (codes " shown " ++ decimal shown))
+answer_text (answers.Shown n) = codes "shown " ++ decimal n
 
 -- what is told behind a change's number: of an edit what became of the entries, of a message what became of its records, and of a packet
 -- that was tracked what happens to it
@@ -101,6 +104,7 @@ refusal_text refusals.Memory = codes "err memory"
 abbrev pub last_line : Reply → List ℕ
 last_line (replies.Answer a) = answer_text a
 last_line (replies.Applied seq outcome) = codes "applied " ++ decimal seq ++ outcome_text outcome
+last_line (replies.Stored seq outcome) = codes "stored " ++ decimal seq ++ outcome_text outcome
 last_line (replies.Refused e) = refusal_text e
 
 -- ---- what is shown

@@ -1,6 +1,6 @@
 //! Texts of answers, and of what is told of a change.
 ghost use Rattle.std.specs.Prelude.{◌≡◌, ◌∷◌, ◌++◌, codes, decimal};
-ghost use Rattle.pf_core.specs.declared.{reply.Outcome.TheVariants.{Added, Deleted}, reply.Reply.TheVariants.Applied};
+ghost use Rattle.pf_core.specs.declared.{reply.Answer.TheVariants.Logged, reply.Outcome.TheVariants.{Added, Deleted}, reply.Reply.TheVariants.{Applied, Stored}};
 ghost use Rattle.pf_line.specs.{Reply.Parts.GoesOn, Reply.Replies.{rule_verdict_text, answer_text, outcome_text, last_line}};
 
 use crate::reply::part::{write_numbered, write_part};
@@ -29,7 +29,25 @@ pub(crate) fn write_answer<W: Write>(
         Answer::States(states) => write_end(out, so_far, states.as_slice().len()),
         Answer::Sum(sum) => write_hex(out, so_far, sum),
         Answer::Exported(exported) => write_end(out, so_far, exported.len()),
+        Answer::Logged { len, acked, shown } => write_logged(out, so_far, *len, *acked, *shown),
+        Answer::Shown(changes) => write_numbered(out, so_far, b"shown ", *changes),
     }
+}
+
+/// Writes how many changes there are, how many are acknowledged, and how many are shown.
+#[tactic(auto, using(crate::proofs::Writers::goes_on))]
+fn write_logged<W: Write>(
+    out: &mut W,
+    so_far: io::Result<()>,
+    len: u64,
+    acked: u64,
+    shown: u64,
+) -> io::Result<()>
+    ensures { GoesOn so_far (W.contents out.old) result (W.contents out.new) (answer_text (Logged len acked shown)) }
+{
+    let so_far = write_numbered(out, so_far, b"log ", len);
+    let so_far = write_numbered(out, so_far, b" acked ", acked);
+    write_numbered(out, so_far, b" shown ", shown)
 }
 
 /// Writes what a rule says of a packet whose state's name is taken.
@@ -63,6 +81,20 @@ pub(crate) fn write_applied<W: Write>(
     ensures { GoesOn so_far (W.contents out.old) result (W.contents out.new) (last_line (Applied seq outcome.now)) }
 {
     let so_far = write_numbered(out, so_far, b"applied ", seq);
+    write_outcome(out, so_far, outcome)
+}
+
+/// Writes the same of a change that isn't shown yet.
+#[tactic(auto, using(crate::proofs::Writers::goes_on))]
+pub(crate) fn write_stored<W: Write>(
+    out: &mut W,
+    so_far: io::Result<()>,
+    seq: u64,
+    outcome: &Outcome,
+) -> io::Result<()>
+    ensures { GoesOn so_far (W.contents out.old) result (W.contents out.new) (last_line (Stored seq outcome.now)) }
+{
+    let so_far = write_numbered(out, so_far, b"stored ", seq);
     write_outcome(out, so_far, outcome)
 }
 

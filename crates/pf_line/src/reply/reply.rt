@@ -7,7 +7,7 @@ ghost use Rattle.pf_core.specs.declared.reply.Answer.TheVariants as answers;
 ghost use Rattle.pf_core.specs.declared.reply.Reply.TheVariants as replies;
 ghost use Rattle.pf_line.specs.{Reply.Parts.{HasLines, GoesOn, WroteLines}, Reply.Replies.{last_line, shown_lines, reply_text, line_count}};
 
-use crate::reply::answer::{write_answer, write_applied};
+use crate::reply::answer::{write_answer, write_applied, write_stored};
 use crate::reply::part::end_line;
 use crate::reply::refusal::write_refusal;
 use crate::reply::shown::{write_rules, write_tables};
@@ -60,6 +60,7 @@ fn write_words<W: Write>(out: &mut W, so_far: io::Result<()>, reply: &Reply) -> 
     match reply {
         Reply::Answer(answer) => write_answer(out, so_far, answer),
         Reply::Applied { seq, outcome } => write_applied(out, so_far, *seq, outcome),
+        Reply::Stored { seq, outcome } => write_stored(out, so_far, *seq, outcome),
         Reply::Refused(refusal) => write_refusal(out, so_far, *refusal),
     }
 }
