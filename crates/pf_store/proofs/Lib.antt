@@ -9,6 +9,7 @@ pub mod Payloads
 pub mod Leading
 pub mod Refusing
 pub mod Saving
+pub mod Rooming
 pub mod Limiting
 pub mod Durables
 pub mod DurablesSized

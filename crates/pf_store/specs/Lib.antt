@@ -9,6 +9,7 @@ pub mod Stores
 pub mod StoreFaults
 pub mod StoreKept
 pub mod Openings
+pub mod Rooms
 -- what public clauses cite of the crates below
 pub use Rattle.pf_disk.specs.Disk
 pub use Rattle.pf_journal.specs.Records

@@ -23,6 +23,6 @@ pub use finding::peek;
 pub use formatting::format;
 pub use keeping::Store;
 pub use laws::{
-    held_state_is_found, held_state_is_within_limits, image_holds_one_state,
-    state_with_room_is_refused_by_chance_alone,
+    group_of_one_fits_where_its_record_does, held_state_is_found, held_state_is_within_limits,
+    image_holds_one_state, state_with_room_is_refused_by_chance_alone,
 };

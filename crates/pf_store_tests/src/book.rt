@@ -4,7 +4,9 @@ ghost use Rattle.pf_core.specs.{Durable.Edits.fits, Wholes.left_by};
 ghost use Rattle.pf_store.specs.BankKept.{IsReady};
 
 use pf_core::laws::wants_what_fits;
-use pf_core::{Change, Command, Core, Durable, Next, ReadyStep, Refusal, Reply};
+use pf_core::{
+    Answer, Change, Command, Core, Durable, HistoryCommand, Next, ReadyStep, Refusal, Reply,
+};
 use pf_disk::Disk;
 use pf_store::store::{OpenFault, SaveFault, Store};
 use std::alloc::{AllocError, Global};
@@ -50,6 +52,14 @@ impl<D: Disk + Drop> Book<D> {
                 Ok(seq) => Reply::Applied { seq, outcome },
                 Err(refusal) => Reply::Refused(refusal),
             },
+            Ok(ReadyStep::OfHistory(HistoryCommand::Log)) => Reply::Answer(Answer::Logged {
+                len: self.saved,
+                acked: self.saved,
+                shown: self.saved,
+            }),
+            Ok(ReadyStep::OfHistory(HistoryCommand::Publish)) => {
+                Reply::Answer(Answer::Shown(self.saved))
+            }
             Err(refusal) => Reply::Refused(refusal),
         }
     }

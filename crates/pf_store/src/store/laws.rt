@@ -1,8 +1,9 @@
 //! Laws of what is held. Each function does nothing; its clauses are what is proved.
-ghost use Rattle.std.specs.Prelude.{◌≡◌, ◌⊎◌, ◌+◌, ◌<◌, ◌≤◌, List, ℕ, length};
-ghost use Rattle.pf_core.specs.{Durable.Edits.Kept, Laws.Durable.IsWithin, Worlds.last_epoch};
+ghost use Rattle.std.specs.Prelude.{◌≡◌, ◌⊎◌, ◌↔◌, ◌+◌, ◌<◌, ◌≤◌, true, [], ◌∷◌, List, ℕ, length};
+ghost use Rattle.pf_core.specs.{Durable.Edits.{Kept, Edit}, Laws.Durable.IsWithin, Worlds.last_epoch};
 ghost use Rattle.pf_store.specs.declared.store.fault.{OpenFault.OpenFault, OpenFault.TheVariants.{Memory, Fault}};
-ghost use Rattle.pf_store.specs.{Banks.bank_end, Stores.Holds, StoreFaults.SaysNone, Openings.{IsUnopened, gate_of}};
+ghost use Rattle.pf_store.specs.declared.groups.change.Recorded.TheVariants as recorded;
+ghost use Rattle.pf_store.specs.{Banks.bank_end, Lengths.payload_length, Rooms.{group_fits, group_length}, Stores.{FindsRoom, Holds}, StoreFaults.SaysNone, Openings.{IsUnopened, gate_of}};
 
 /// An image holds one state of what is kept at most. Own.
 pub fn image_holds_one_state()
@@ -24,4 +25,11 @@ pub fn state_with_room_is_refused_by_chance_alone()
 /// What is held is within all limits, whatever bytes hold it. Own.
 pub fn held_state_is_within_limits()
     ensures { (image : List ℕ) (d : Kept) → Holds image d → IsWithin d }
+{}
+
+/// A change's record finds room exactly where a group of it alone fits, and is as long. Own.
+pub fn group_of_one_fits_where_its_record_does()
+    ensures fits { (end gate : ℕ) (before next : Kept) (e : Edit)
+        → (group_fits end gate before next (e ∷ []) ≡ true) ↔ FindsRoom end gate before next e }
+    ensures length { (e : Edit) → group_length (e ∷ []) ≡ payload_length (recorded.Made e) }
 {}
