@@ -1,0 +1,10 @@
+use Rattle.std.proofs.Common.{◌≡◌, ◌≤◌, All, vec_len, vec_capacity}
+use Rattle.pf_view.specs.Known.{IsNewSeer}
+use Rattle.pf_view.proofs.opening.seated.Given as goal
+
+abbrev pub invariant-loop : goal.invariant-loop
+invariant-loop g l = record {
+  count : vec_len l.all ≡ l.counter;
+  room : l.seers ≤ vec_capacity l.all;
+  new : All IsNewSeer l.all.items;
+}
