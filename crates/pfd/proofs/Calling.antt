@@ -3,7 +3,8 @@ use Rattle.std.proofs.Common.{sym, append-nil, ℕ, false, List, [], ◌∷◌, 
 use Rattle.pf_rule.specs.Packets.{PlainPacket}
 use Rattle.pf_core.specs.declared.reply.Answer.TheVariants as answer
 use Rattle.pf_core.specs.declared.{command.Command.Command, command.Command.TheVariants.Ask, command.Question.TheVariants.Judge, durable.verdict.Verdict.Verdict, reply.Refusal.Refusal, reply.Refusal.TheVariants.Memory, reply.Reply.Reply, reply.Reply.TheVariants.{Answer as Answered, Refused}}
-use Rattle.pf_core.specs.{Calls.call, Durable.Edits.Kept, Pages.{Page, StandsFor}, Worlds.{upshot, Event, called}}
+use Rattle.pf_core.specs.{Calls.call, Durable.Edits.Kept, Worlds.{upshot, Event, called}}
+use Rattle.pfd.specs.Pages.{Page, StandsFor}
 use Rattle.pf_line.specs.{Lines.{Parses, line_at, Refused as IsRefusal}, Reply.Replies.reply_text}
 use Rattle.std.specs.Io.KnownBytes.{Appends}
 use Rattle.pfd.specs.{Books.judging, Serving.{Continues, Serves, Told}, Laws.Serving.{continues-still, serves-one}}

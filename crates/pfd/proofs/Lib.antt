@@ -4,3 +4,6 @@ pub mod Booking
 pub mod Calling
 pub mod Limits
 mod TakingOver
+pub mod Asking
+pub mod Showing
+pub mod Running

@@ -1,6 +1,6 @@
 -- A session keeps the history's limit.
 use Rattle.std.proofs.Common.{◌≡◌, ℕ, List, Option, Result, Ok, Err, inl, inr, ap, ◌∙◌}
-use Rattle.pf_core.specs.Pages.{Page}
+use Rattle.pfd.specs.Pages.{Page}
 use Rattle.pfd.specs.declared.line_engine.fault.EngineFault.{EngineFault}
 use Rattle.pfd.specs.declared.line_engine.fault.EngineFault.TheVariants as fault
 use Rattle.pfd.specs.{LineEngine.Sessions.{CutOff, Ends}, Serving.Serves}

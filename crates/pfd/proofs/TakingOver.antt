@@ -1,12 +1,13 @@
 -- The lines of an export, given to a Book one by one.
 use Rattle.std.proofs.{Common.{◌≡◌, ◌⊎◌, ◌+◌, ◌<◌, ◌≤◌, ◌||◌, ℕ, Bool, true, false, cond, List, [], ◌∷◌, ◌++◌, length, length-append, append-nil, map, Option, Some, Result, Ok, Err, inl, inr, refl, sym, subst, ap, ◌∙◌, append_assoc, arith}, lemmas.List.length-map, lemmas.List.Sums.{fold-append, fold_push}}
 use Rattle.std.specs.List.{flat_map}
-use Rattle.pf_core.specs.declared.{command.Command.Command, command.Command.TheVariants.States, command.StateCommand.TheVariants.Peer, reply.Outcome.Outcome, reply.Outcome.TheVariants.Peered, reply.Refusal.Refusal, reply.Refusal.TheVariants.{Halted, Fault, Memory}, reply.Reply.Reply, reply.Reply.TheVariants.{Applied, Refused}, step.Step.Step, step.Step.TheVariants.Wants, durable.refusal.ChangeRefusal.TheVariants.StatesFull}
-use Rattle.pf_core.specs.{Calls.call, Commands.{steps_here, states_step, unless_unfit}, Durable.Edits.{Kept, Edit, main_sum, kept_nothing, acts, applied, after}, Pages.{Page, IsAt, StandsFor}, Worlds.{Setting, in_memory, Held, State, up, down, flat, log_of, durable_of, is_halted, step_in, room_for, due, due_at, group_in, group_at, or_refused, if_ok, grouped, upshot, Event, called, opened, begun, raised, heard, next, StandsIn, LegalCall, state_after, IsLegalFrom}}
+use Rattle.pf_core.specs.declared.{command.Command.Command, command.Command.TheVariants.States, command.StateCommand.TheVariants.Peer, reply.Outcome.Outcome, reply.Outcome.TheVariants.Peered, reply.Refusal.Refusal, reply.Refusal.TheVariants.{Halted, Fault, Memory}, reply.Reply.Reply, reply.Reply.TheVariants.{Applied, Stored, Refused}, step.Step.Step, step.Step.TheVariants.Wants, durable.refusal.ChangeRefusal.TheVariants.StatesFull}
+use Rattle.pf_core.specs.{Calls.call, Commands.{steps_here, states_step, unless_unfit}, Durable.Edits.{Kept, Edit, main_sum, kept_nothing, acts, applied, after}, Worlds.{Setting, in_memory, Held, State, up, down, flat, log_of, durable_of, is_halted, step_in, room_for, due, due_at, group_in, group_at, or_refused, if_ok, grouped, upshot, Event, called, acked_by, pending_by, opened, begun, raised, heard, next, StandsIn, LegalCall, state_after, IsLegalFrom}}
 use Rattle.pf_addr.specs.Refusing.{unless}
 use Rattle.pf_core.proofs.{Groups.room-found, LongerWorlds.flat-push}
 use Rattle.pf_line.specs.{Laws.Exports.{Message, Step as StateStep, message_text, main_count, exported_lines, TellsOf, CanBeExported, states_there}, Failover.Outgoing.exported_messages, Lines.line_at, Peer.Written.Each, Reply.Replies.reply_text, StateTables.Stated, Steps.{after as stepped_on, stepped, is_over, passes_limit, counts}}
 use Rattle.pf_line.proofs.{ExportedLines.exports_are_read, Lines.one_meaning, TakenOver.takes_over as states_taken}
+use Rattle.pfd.specs.Pages.{Page, IsAt, StandsFor}
 use Rattle.pfd.specs.{Serving.{Says, IsTold, Served, Serves}, Laws.Takeover.{held_in, IsReadyFor, WantedMemory, TakesOver, FreshTakesOver}}
 
 -- ---- steps in two parts
@@ -64,23 +65,32 @@ record IsThen (h : Held) (d : Kept) (m : Message) (new : Held) : Type 0 where
   long : length (log_of new) ≡ length (log_of h) + 1
   memory : IsInMemory new
 
-now : (h : Held) (d : Kept) (m : Message) (r : Reply) (shown : ℕ) → durable_of h ≡ d → IsInMemory h → (to : IsTaken h d m) → r ≡ due h (States (Peer m)) → IsThen h d m (then h m r shown)
-now h d m r shown is memory to due_is =
-    let none : h.pending ++ [] ≡ [] = append-nil h.pending ∙ memory.none in
+-- this reply acknowledges the group that is kept with it
+record Acknowledges (r : Reply) (g : List (List Edit)) : Type 0 where
+  acked : acked_by r g ≡ g
+  pending : pending_by r g ≡ []
+
+now : (h : Held) (d : Kept) (m : Message) (r : Reply) (shown : ℕ) → durable_of h ≡ d → IsInMemory h → (to : IsTaken h d m) → Acknowledges r (group_in h (States (Peer m))) → IsThen h d m (then h m r shown)
+now h d m r shown is memory to keeps =
+    let group : List (List Edit) = group_in h (States (Peer m)) in
+    let kept : acked_by r group ≡ (change d m ∷ []) ∷ [] = keeps.acked ∙ to.group in
+    let none : h.pending ++ pending_by r group ≡ [] = ap (λ (l : List (List Edit)). h.pending ++ l) keeps.pending ∙ append-nil h.pending ∙ memory.none in
     let more : flat (h.acked ++ (change d m ∷ []) ∷ []) ≡ flat h.acked ++ change d m ∷ [] = flat-push h.acked (change d m) in
-    rw (due_is ∙ to.reply)
-    (record {
-      held = ap (λ (g : List (List Edit)). after h.base (flat (h.acked ++ g))) to.group ∙ ap (after h.base) more ∙ fold_push applied h.base (flat h.acked) (change d m) ∙ ap (λ (k : Kept). applied k (change d m)) is;
-      long = ap (λ (g : List (List Edit)). length (flat ((h.acked ++ g) ++ (h.pending ++ [])))) to.group ∙ ap (λ (l : List (List Edit)). length (flat ((h.acked ++ (change d m ∷ []) ∷ []) ++ l))) none
+    record {
+      held = ap (λ (g : List (List Edit)). after h.base (flat (h.acked ++ g))) kept ∙ ap (after h.base) more ∙ fold_push applied h.base (flat h.acked) (change d m) ∙ ap (λ (k : Kept). applied k (change d m)) is;
+      long = ap (λ (g : List (List Edit)). length (flat ((h.acked ++ g) ++ (h.pending ++ pending_by r group)))) kept ∙ ap (λ (l : List (List Edit)). length (flat ((h.acked ++ (change d m ∷ []) ∷ []) ++ l))) none
           ∙ ap (λ (l : List (List Edit)). length (flat l)) (append-nil (h.acked ++ (change d m ∷ []) ∷ [])) ∙ ap length more ∙ length-append (flat h.acked) (change d m ∷ [])
           ∙ ap (λ (l : List (List Edit)). length (flat l) + 1) (sym (ap (λ (l : List (List Edit)). h.acked ++ l) memory.none ∙ append-nil h.acked));
       memory = record { setting = memory.setting; none = none };
-    })
+    }
 
-only-memory : (h : Held) (c : Command) (due r : Reply) → StandsIn h c false due r → r ≡ Refused Memory
-only-memory h c due (Refused Memory) stands = refl
-only-memory h c (Applied n o) (Refused Fault) stands = absurd (cc (stands))
-only-memory h c due r stands = absurd stands
+-- where a change is due it is acknowledged, or memory was refused
+kept-or-memory : (h : Held) (c : Command) (n : ℕ) (o : Outcome) (r : Reply) (g : List (List Edit)) → (r ≡ Applied n o) ⊎ StandsIn h c false (Applied n o) r → Acknowledges r g ⊎ (r ≡ Refused Memory)
+kept-or-memory h c n o r g (inl is) = inl (subst (λ (x : Reply). Acknowledges x g) (sym is) (record { acked = refl; pending = refl }))
+kept-or-memory h c n o (Stored m p) g (inr stands) = inl (record { acked = refl; pending = refl })
+kept-or-memory h c n o (Refused Memory) g (inr stands) = inr refl
+kept-or-memory h c n o (Refused Fault) g (inr stands) = absurd (cc (stands))
+kept-or-memory h c n o r g (inr stands) = absurd stands
 
 -- ---- all of them
 
@@ -116,26 +126,27 @@ one-line m ms h d events text is memory told fits room (first, rest, reply, repl
   to = taken h d m is memory apart.0 (omega (arith, room))
 
   by_reply : (r : Reply) (shown : ℕ) → first ≡ called (call c r) (upshot shown false) ∷ [] → reply ≡ reply_text r → Told h d (m ∷ ms) events text
-  by_reply r shown first_is reply_is = judged here.0.reply where
-    all : events ≡ called (call c r) (upshot shown false) ∷ rest
-    all = events_are ∙ ap (λ (l : List Event). l ++ rest) first_is
+  by_reply r shown first_is reply_is =
+      judged (kept-or-memory h c to.number to.outcome r (group_in h c) (subst (λ (x : Reply). (r ≡ x) ⊎ StandsIn h c false x r) to.reply here.0.reply)) where
+        all : events ≡ called (call c r) (upshot shown false) ∷ rest
+        all = events_are ∙ ap (λ (l : List Event). l ++ rest) first_is
 
-    here : LegalCall h (call c r) (upshot shown false) × IsLegalFrom (up (then h m r shown)) rest
-    here = subst (IsLegalFrom (up h)) all legal
+        here : LegalCall h (call c r) (upshot shown false) × IsLegalFrom (up (then h m r shown)) rest
+        here = subst (IsLegalFrom (up h)) all legal
 
-    longer : Told (then h m r shown) (applied d (change d m)) ms rest replies → Told h d (m ∷ ms) events text
-    longer (inl come) = inl (record {
-      held = come.held;
-      comes = ap (state_after (up h)) all ∙ come.comes;
-      states = come.states ∙ sym (fold-append stepped d.states (steps_here d m) (flat_map (steps_here d) ms));
-    })
-    longer (inr wanted) = inr (wanted-later reply replies text text_is wanted)
+        longer : Told (then h m r shown) (applied d (change d m)) ms rest replies → Told h d (m ∷ ms) events text
+        longer (inl come) = inl (record {
+          held = come.held;
+          comes = ap (state_after (up h)) all ∙ come.comes;
+          states = come.states ∙ sym (fold-append stepped d.states (steps_here d m) (flat_map (steps_here d) ms));
+        })
+        longer (inr wanted) = inr (wanted-later reply replies text text_is wanted)
 
-    judged : (r ≡ due h c) ⊎ StandsIn h c false (due h c) r → Told h d (m ∷ ms) events text
-    judged (inl due_is) =
-        let next : IsThen h d m (then h m r shown) = now h d m r shown is memory to due_is in
-        longer (on r shown rest replies next apart.1 (omega (arith, room, next.long)) more here.1)
-    judged (inr stands) = inr (wanted-first reply replies text text_is (reply_is ∙ ap reply_text (only-memory h c (due h c) r stands)))
+        judged : Acknowledges r (group_in h c) ⊎ (r ≡ Refused Memory) → Told h d (m ∷ ms) events text
+        judged (inl keeps) =
+            let next : IsThen h d m (then h m r shown) = now h d m r shown is memory to keeps in
+            longer (on r shown rest replies next apart.1 (omega (arith, room, next.long)) more here.1)
+        judged (inr none) = inr (wanted-first reply replies text text_is (reply_is ∙ ap reply_text none))
 
   of : IsTold (message_text m) first reply → Told h d (m ∷ ms) events text
   of (inl (meant, means, says)) =

@@ -2,10 +2,11 @@
 use Rattle.std.specs.{Prelude.{◌≡◌, ◌⊎◌, ℕ, ◌+◌, ◌<◌, ◌≤◌, List, [], ◌∷◌, ◌++◌, length, map, ⊤, Result, Ok, Err}, Arc.arc_value}
 use Rattle.pf_ticket.specs.declared.refusal.TicketRefusal.{TicketRefusal}
 use Rattle.pf_ticket.specs.{Mentions.{after, switches}, Replies.list_check}
-use Rattle.pf_core.specs.declared.{command.Command.Command, command.Command.TheVariants.{Transact, Ask}, command.Question.TheVariants.Judge, command.Transaction.TheVariants.Rollback, reply.Refusal.Refusal, reply.Refusal.TheVariants.{HistoryFull, Memory}, reply.Reply.Reply, reply.Reply.TheVariants.{Answer, Applied, Refused}, durable.verdict.Verdict.Verdict}
+use Rattle.pf_core.specs.declared.{command.Command.Command, command.Command.TheVariants.{Transact, Ask}, command.Question.TheVariants.Judge, command.Transaction.TheVariants.Rollback, reply.Refusal.Refusal, reply.Refusal.TheVariants.{HistoryFull, Memory}, reply.Reply.Reply, reply.Reply.TheVariants.{Answer, Applied, Stored, Refused}, durable.verdict.Verdict.Verdict}
 use Rattle.pf_core.specs.declared.reply.Answer.TheVariants as answer
 use Rattle.pf_rule.specs.Packets.{PlainPacket}
-use Rattle.pf_core.specs.{Calls.{Call, call}, Durable.Edits.{Kept, Edit, voided_by, verdict}, Pages.Page, Refusals.refusal_of, Worlds.flat}
+use Rattle.pf_core.specs.{Calls.{Call, call}, Durable.Edits.{Kept, Edit, voided_by, verdict}, Refusals.refusal_of, Worlds.flat}
+use Rattle.pfd.specs.Pages.{Page}
 use Rattle.pfd.specs.declared.book.Book.TheInside.{Inside}
 
 -- each change is a group of its own
@@ -26,10 +27,11 @@ page_in b = record {
 
 -- ---- replies
 
--- a change's number is how many changes were acknowledged by then
+-- A change's number is how many changes were acknowledged by then. In memory it is shown at once: none is only stored.
 abbrev pub IsNumbered : Reply → Page → Type 0
 IsNumbered (Answer a) new = ⊤
 IsNumbered (Applied seq outcome) new = seq ≡ length (flat new.acked)
+IsNumbered (Stored seq outcome) new = ⊥
 IsNumbered (Refused e) new = ⊤
 
 -- a packet is always judged, and by what is kept
@@ -50,6 +52,7 @@ IsRolledBack c r = ⊤
 abbrev pub StaysIfRefused : Reply → Page → Page → Type 0
 StaysIfRefused (Answer a) old new = ⊤
 StaysIfRefused (Applied seq outcome) old new = ⊤
+StaysIfRefused (Stored seq outcome) old new = ⊤
 StaysIfRefused (Refused e) old new = new ≡ old
 
 -- the call that asks what happens to a packet, answered so
@@ -72,3 +75,13 @@ pub record IsMore (old new : Page) (e : Edit) (seq : ℕ) : Type 0 where
 -- why a change that fits is not kept: memory was refused, or the history is full
 abbrev pub IsUnkept : Page → Refusal → Type 0
 IsUnkept b why = (why ≡ Memory) ⊎ ((why ≡ HistoryFull) × (b.limit ≤ length (flat b.acked)))
+
+-- all that was kept is shown, and these are so many changes
+pub record IsPublished (old new : Page) (n : ℕ) : Type 0 where
+  pub number : n ≡ length (flat old.acked)
+  pub shown : new.shown ≡ n
+  pub whole : new.whole ≡ old.whole
+  pub acked : new.acked ≡ old.acked
+  pub base : new.base ≡ old.base
+  pub pending : new.pending ≡ old.pending
+  pub limit : new.limit ≡ old.limit

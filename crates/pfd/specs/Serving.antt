@@ -1,7 +1,8 @@
 -- What serves lines: the calls that they come to, as events, and the replies.
 use Rattle.std.specs.Prelude.{◌≡◌, ℕ, false, List, [], ◌∷◌, ◌++◌, Option, Some, None, Result, Ok, Err, ◌⊎◌}
 use Rattle.pf_core.specs.declared.{command.Command.Command, reply.Refusal.Refusal, reply.Refusal.TheVariants.Memory, reply.Reply.Reply, reply.Reply.TheVariants.Refused}
-use Rattle.pf_core.specs.{Calls.call, Durable.Edits.Kept, Pages.{Page, StandsFor}, Worlds.{upshot, Event, called}}
+use Rattle.pf_core.specs.{Calls.call, Durable.Edits.Kept, Worlds.{upshot, Event, called}}
+use Rattle.pfd.specs.Pages.{Page, StandsFor}
 use Rattle.pf_line.specs.{Lines.{line_at, Means, Speaks}, Reply.Replies.reply_text}
 
 -- What a line means, the event of the call that it comes to, and what is written for it: nothing for a silent line, the refusal of a

@@ -1,9 +1,14 @@
 //! A core with the history of what it kept.
-ghost use Rattle.std.specs.Prelude.{◌≡◌, ℕ, ◌≤◌, [], ◌∷◌, ◌++◌, List, IfOk, IfErr, take, false};
-ghost use Rattle.pf_core.specs.{Calls.call, Durable.Edits.{Kept, kept_nothing, after, verdict}, Worlds.{Held, in_memory, upshot, Event, called, opened, flat, LegalReply, shown_by}, Pages.{IsAt, IsFolded, StandsFor, Leads}, Wholes.left_by};
-ghost use Rattle.pfd.specs.Books.{judging, IsNumbered, IsJudged, IsRolledBack, StaysIfRefused, IsMore, IsUnkept};
+ghost use Rattle.std.specs.Prelude.{◌≡◌, ℕ, ◌≤◌, [], ◌∷◌, ◌++◌, List, IfOk, IfErr, length, take, false};
+ghost use Rattle.pf_core.specs.declared.{reply.Answer.TheVariants.Logged, reply.Refusal.TheVariants.Memory};
+ghost use Rattle.pf_core.specs.{Calls.call, Durable.Edits.{Kept, kept_nothing, after, verdict}, Worlds.{Held, in_memory, upshot, Event, called, opened, flat, LegalReply, shown_by}, Wholes.left_by};
+ghost use Rattle.pfd.specs.Pages.{IsAt, IsFolded, StandsFor, Leads};
+ghost use Rattle.pfd.specs.Books.{judging, IsNumbered, IsJudged, IsRolledBack, StaysIfRefused, IsMore, IsUnkept, IsPublished};
 
-use pf_core::{Change, Command, Core, Durable, Next, ReadyStep, Refusal, Reply, Verdict};
+use pf_core::{
+    Answer, Change, Command, Core, Durable, HistoryCommand, Next, ReadyStep, Refusal, Reply,
+    Verdict,
+};
 use pf_rule::Packet;
 use std::alloc::{AllocError, Global};
 use std::marker::Model;
@@ -26,7 +31,7 @@ pub struct Book {
 }
 
 impl Model for Book {
-    ghost use Rattle.pf_core.specs.Pages.{Page, IsFolded};
+    ghost use Rattle.pfd.specs.Pages.{Page, IsFolded};
 
     ghost Value = { Page };
 
@@ -83,6 +88,29 @@ impl Book {
         Ok(self.shown_len as u64)
     }
 
+    // Shows all that was kept, which is shown already. It gives how many changes these are.
+    fn publish(&mut self) -> Result<u64, Refusal>
+        ensures ok { IfOk result (λ n. IsPublished self.old self.new n) }
+        ensures err { IfErr result (λ e. (e ≡ Memory) × (self.new ≡ self.old)) }
+    {
+        self.shown = self.core.shared()?;
+        let changes = self.log.len();
+        self.shown_len = changes;
+        Ok(changes as u64)
+    }
+
+    // How many changes there are, are acknowledged, and are shown.
+    fn numbers(&self) -> Answer
+        ensures { result ≡ Logged (length (flat self.now.acked)) (length (flat self.now.acked)) self.now.shown }
+    {
+        let changes = self.log.len() as u64;
+        Answer::Logged {
+            len: changes,
+            acked: changes,
+            shown: self.shown_len as u64,
+        }
+    }
+
     // One call, wherever the opening has come to.
     fn call(&mut self, command: &Command) -> Reply
         ensures leads { (h : Held) → IsAt h self.old → Leads h self.new (call command.now result) (upshot self.new.shown false) }
@@ -99,6 +127,11 @@ impl Book {
                 Ok(seq) => Reply::Applied { seq, outcome },
                 Err(refusal) => Reply::Refused(refusal),
             },
+            Ok(ReadyStep::OfHistory(HistoryCommand::Log)) => Reply::Answer(self.numbers()),
+            Ok(ReadyStep::OfHistory(HistoryCommand::Publish)) => match self.publish() {
+                Ok(changes) => Reply::Answer(Answer::Shown(changes)),
+                Err(refusal) => Reply::Refused(refusal),
+            },
             Err(refusal) => Reply::Refused(refusal),
         }
     }
@@ -106,8 +139,8 @@ impl Book {
     /// One call. A change is kept and shown before it is answered, and is answered with its number, from 1.
     ///
     /// The core's refusals come first, then `HistoryFull`, where the history has as many changes as it may have. `Memory`
-    /// may come instead of any reply but that to a judge, a test or a rollback, for which it is never refused. After every refusal
-    /// all is as before.
+    /// may come instead of any reply but that to a judge, a test, a sum, a rollback or a `log`, for which it is never refused. After
+    /// every refusal all is as before. All changes are shown at once, so none is `Stored`.
     pub fn run(&mut self, command: Command) -> Reply
         ensures worlds { (first : Kept) (world : List Event) → StandsFor first self.old world →
             StandsFor first self.new (world ++ called (call command result) (upshot self.new.shown false) ∷ []) }

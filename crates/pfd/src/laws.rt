@@ -1,6 +1,6 @@
 //! Laws of a Book. Each function does nothing; its contract is the law.
 ghost use Rattle.std.specs.Prelude.{◌≡◌};
-ghost use Rattle.pfd.specs.declared.{line_engine.answer_line.TheConstants.LOOKED_AT, program.TheConstants.HISTORY_LIMIT};
+ghost use Rattle.pfd.specs.declared.{line_engine.answer_line.TheConstants.LOOKED_AT, program.words.TheConstants.{HISTORY_LIMIT, MEMORY_SIZE, MOST_HISTORY}};
 ghost use Rattle.pfd.specs.Laws.Takeover.{TakesOver, FreshTakesOver};
 
 /// A Book without states that is given the lines of a peer's export, one by one, holds the states that were exported, unless a line
@@ -12,8 +12,11 @@ pub fn takes_over()
     ensures fresh { FreshTakesOver }
 {}
 
-/// The history of a session may have 65,536 changes, and 4,097 bytes of a line are looked at.
+/// Where the words don't say, the history of a session may have 65,536 changes, of 1,048,576 at most, and its disk has 1,048,576 bytes.
+/// 4,097 bytes of a line are looked at.
 pub fn the_limits_of_sessions()
     ensures history { HISTORY_LIMIT ≡ 65536 }
+    ensures most { MOST_HISTORY ≡ 1048576 }
+    ensures size { MEMORY_SIZE ≡ 1048576 }
     ensures line { LOOKED_AT ≡ 4097 }
 {}

@@ -25,4 +25,7 @@ mod program;
 pub use book::Book;
 pub use engine::serve_alone;
 pub use line_engine::EngineFault;
-pub use program::{HISTORY_LIMIT, run_process, start, without_words};
+pub use program::{
+    Fault, HISTORY_LIMIT, MEMORY_SIZE, MOST_HISTORY, format_on, run_process, show_on, start,
+    without_words,
+};

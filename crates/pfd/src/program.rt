@@ -1,53 +1,73 @@
-//! The program's words, and the status with which it ends.
-ghost use Rattle.std.specs.{Prelude.{◌≡◌, ◌≤◌, ◌⊎◌, IfErr, IfOk, map, string_bytes}, Io.KnownBytes.Keeps, IoError.error_kind};
-ghost use Rattle.clap.specs.Words.{kind_of};
-ghost use Rattle.pfd.specs.Program.{IsRun, Runs, RanWith, status_without_words};
+//! The program: its words, what they ask, and the status with which it ends.
+//!
+//! - `words`: what the words ask.
+//! - `devices`: what is done with a disk, whatever it lies on; `files`: the same with a file.
+//! - `fault`: why the program ends with status 1, in one line each.
+ghost use Rattle.std.specs.{Prelude.{◌≡◌, ◌≤◌, ◌⊎◌, IfOk, Result, map, string_bytes}, Io.KnownBytes.Keeps, IoError.error_kind};
+ghost use Rattle.clap.specs.Words.{kind_of, subcommand_of};
+ghost use Rattle.pfd.specs.declared.program.{fault.Fault.{Fault}, words.Task.{Task}};
+ghost use Rattle.pfd.specs.{Program.{IsDone, IsRun, RanOver, RanWith, status_of, status_without_words}, Words.{HasHistory, IsAsked, IsHistory, program_words}};
+
+mod devices;
+mod fault;
+mod files;
+mod words;
 
 use crate::book::Book;
 use crate::engine::serve_alone;
-use crate::line_engine::EngineFault;
+use crate::program::files::{format_file, show_file};
+use crate::program::words::{Task, read_words};
+use clap::Error;
 use clap::error::ErrorKind;
-use clap::{Command, Error};
+pub use devices::{format_on, show_on};
+pub use fault::Fault;
 use std::alloc::Global;
 use std::env;
+use std::fs::{File, Files};
 use std::io::{self, BufWriter, Read, Write};
+pub use words::{HISTORY_LIMIT, MEMORY_SIZE, MOST_HISTORY};
 
-/// How many changes the history of a session may have. Definitions cite it.
-pub const HISTORY_LIMIT: usize = 65_536;
-
-/// The program's version, which `pfd --version` tells behind its name.
-const VERSION: &str = "0.1.0";
-
-// What the words ask: a session, or else why not. `run` is the only subcommand, and there has to be one.
-fn check_words(alloc: Global, words: &[String]) -> Result<(), Error>
-    ensures { IsRun (map string_bytes words.now) → IfErr result (λ e. kind_of e ≡ ErrorKind.OutOfMemory) }
+// A session over a fresh book. The disk in memory is to have so many bytes.
+fn run<R: Read, W: Write>(
+    alloc: Global,
+    size: usize,
+    history: usize,
+    reader: &mut R,
+    writer: &mut W,
+) -> Result<(), Fault>
+    requires { IsHistory history }
+    ensures { RanOver size history result (R.remaining reader.old) (R.remaining reader.new) (W.contents writer.old) (W.contents writer.new) }
 {
-    let run = Command::new(alloc, "run").about(
-        "Answers the lines of standard input on standard output",
-    );
-    let program = Command::new(alloc, "pfd")
-        .about("A control plane for rulesets of pf")
-        .version(VERSION)
-        .subcommand_required(true)
-        .subcommand(run)?;
-    match program.try_get_matches_from(words) {
-        Ok(_) => Ok(()),
-        Err(error) => Err(error),
+    if !devices::is_size(size) {
+        return Err(Fault::BadSize);
+    }
+    let Ok(mut book) = Book::fresh(alloc, history) else {
+        return Err(Fault::Memory);
+    };
+    serve_alone(alloc, reader, writer, &mut book)?;
+    Ok(())
+}
+
+// Does what the words ask. Of what is done with a file only this much is known: what it holds no clause can say.
+fn perform<S: Files<File = File>, R: Read, W: Write>(
+    alloc: Global,
+    files: &S,
+    task: Task<'_>,
+    reader: &mut R,
+    writer: &mut W,
+) -> Result<(), Fault>
+    requires { HasHistory task }
+    ensures { IsDone task.entry result (R.remaining reader.old) (R.remaining reader.new) (W.contents writer.old) (W.contents writer.new) }
+{
+    match task {
+        Task::Run { size, history } => run(alloc, size, history, reader, writer),
+        Task::Format { path, size } => format_file(alloc, files, path, size),
+        Task::Show { path } => show_file(alloc, files, path, writer),
     }
 }
 
-// A session over a fresh book.
-fn run<R: Read, W: Write>(alloc: Global, reader: &mut R, writer: &mut W) -> Result<(), EngineFault>
-    ensures { Runs result (R.remaining reader.old) (R.remaining reader.new) (W.contents writer.old) (W.contents writer.new) }
-{
-    let Ok(mut book) = Book::fresh(alloc, HISTORY_LIMIT) else {
-        return Err(EngineFault::Memory);
-    };
-    serve_alone(alloc, reader, writer, &mut book)
-}
-
 // Says in one line what failed. Where that can't be written there is nowhere else to say it.
-fn fail<F: Write>(fault: EngineFault, faults: &mut F) -> u8
+fn fail<F: Write>(fault: Fault, faults: &mut F) -> u8
     ensures { result ≡ 1 }
 {
     let _ = writeln!(faults, "pfd: {fault}");
@@ -68,7 +88,7 @@ fn explain<W: Write, F: Write>(error: &Error, writer: &mut W, faults: &mut F) ->
     ensures refused { result ≡ 2 → Keeps (W.contents writer.old) (W.contents writer.new) }
 {
     if error.kind() == ErrorKind::OutOfMemory {
-        return fail(EngineFault::Memory, faults);
+        return fail(Fault::Memory, faults);
     }
     if error.use_stderr() {
         let _ = print(error, faults);
@@ -76,23 +96,27 @@ fn explain<W: Write, F: Write>(error: &Error, writer: &mut W, faults: &mut F) ->
     }
     match print(error, writer) {
         Ok(()) => 0,
-        Err(_) => fail(EngineFault::Write, faults),
+        Err(_) => fail(Fault::Output, faults),
     }
 }
 
-/// The program, with its words as `env::args` gives them, the program's own name first.
+/// The program, with its words as `env::args` gives them, the program's own name first, and the files that it opens.
 ///
-/// `pfd run` serves the reader's lines to the writer from a fresh book whose history may have `HISTORY_LIMIT` changes.
-/// Status 0: the input ended, or help or the version was asked for, whose text goes to the writer. Status 1: a read, a write, a flush
-/// or a growth of memory failed, also one for the words; one line on the faults says `pfd: input`, `pfd: output` or `pfd: memory`.
-/// Status 2: the words were refused, as where there are none; the faults have clap's text, and nothing was read or
-/// written. Where the faults can't be written, the status alone tells. Words that aren't text don't come here but to
-/// `without_words`.
+/// `pfd run [--size N] [--history N]` serves the reader's lines to the writer from a fresh book, whose history may have so many changes,
+/// 65,536 where the words don't say. It is in memory for now, and its disk is to have so many bytes, 1,048,576 where they don't.
+/// `pfd format --disk FILE --size N` makes the file so many bytes long, and a disk that holds nothing. `pfd show --disk FILE` tells the
+/// writer what the disk holds that lies on the file, and doesn't write the file.
 ///
-/// Whatever the words are, it is such a session, or nothing is read. What the texts are, and which other words are help or the
-/// version and which are refused, is only tested.
-pub fn start<R: Read, W: Write, F: Write>(
+/// Status 0: the input ended, the disk was made or told, or help or the version was asked for, whose text goes to the writer. Status 1: one
+/// line on the faults says what failed, as [`Fault`] has it; what is wrong with the file is found before what is wrong with the disk.
+/// Status 2: the words were refused, as where there are none; the faults have clap's text, and nothing was read or written. Where the
+/// faults can't be written, the status alone tells. Words that aren't text don't come here but to `without_words`.
+///
+/// Whatever the words are, it is what they ask, or nothing is read. What the texts are, what becomes of files, and which other words are
+/// help or the version and which are refused, is only tested.
+pub fn start<S: Files<File = File>, R: Read, W: Write, F: Write>(
     alloc: Global,
+    files: &S,
     words: &[String],
     reader: &mut R,
     writer: &mut W,
@@ -100,14 +124,16 @@ pub fn start<R: Read, W: Write, F: Write>(
 ) -> u8
     ensures status { result ≤ 2 }
     ensures run { IsRun (map string_bytes words.now) →
-        RanWith result (R.remaining reader.old) (R.remaining reader.new) (W.contents writer.old) (W.contents writer.new) }
-    ensures others { RanWith result (R.remaining reader.old) (R.remaining reader.new) (W.contents writer.old) (W.contents writer.new) ⊎
+        RanWith HISTORY_LIMIT result (R.remaining reader.old) (R.remaining reader.new) (W.contents writer.old) (W.contents writer.new) }
+    ensures others { ((task : Task) × (end : Result (Unit {0}) Fault) × IsAsked (subcommand_of program_words (map string_bytes words.now)) task
+        × HasHistory task × (result ≡ status_of end)
+        × IsDone task end (R.remaining reader.old) (R.remaining reader.new) (W.contents writer.old) (W.contents writer.new)) ⊎
         Keeps (R.remaining reader.old) (R.remaining reader.new) }
     ensures refused { result ≡ 2 → Keeps (R.remaining reader.old) (R.remaining reader.new) ×
         Keeps (W.contents writer.old) (W.contents writer.new) }
 {
-    match check_words(alloc, words) {
-        Ok(()) => match run(alloc, reader, writer) {
+    match read_words(alloc, words) {
+        Ok(task) => match perform(alloc, files, task, reader, writer) {
             Ok(()) => 0,
             Err(fault) => fail(fault, faults),
         },
@@ -121,7 +147,7 @@ pub fn without_words<F: Write>(error: &io::Error, faults: &mut F) -> u8
     ensures { result ≡ status_without_words (error_kind error.now) }
 {
     match error.kind() {
-        io::ErrorKind::OutOfMemory => fail(EngineFault::Memory, faults),
+        io::ErrorKind::OutOfMemory => fail(Fault::Memory, faults),
         _ => {
             let _ = faults.write_all(b"pfd: a word isn't text\n");
             2
@@ -129,7 +155,7 @@ pub fn without_words<F: Write>(error: &io::Error, faults: &mut F) -> u8
     }
 }
 
-// The same with the process's words and streams; an error where its words can't be had. Standard input is read as it is:
+// The same with the process's words, files and streams; an error where its words can't be had. Standard input is read as it is:
 // the engine's own buffer takes all that is there in one read.
 fn start_on<F: Write>(rt: &HostRuntime, faults: &mut F) -> io::Result<u8>
     ensures { IfOk result (λ status. status ≤ 2) }
@@ -138,10 +164,17 @@ fn start_on<F: Write>(rt: &HostRuntime, faults: &mut F) -> io::Result<u8>
     let words: Vec<String> = env::args(rt)?.collect(alloc)?;
     let mut reader = rt.stdin();
     let mut writer = BufWriter::new(alloc, rt.stdout())?;
-    Ok(start(alloc, words.as_slice(), &mut reader, &mut writer, faults))
+    Ok(start(
+        alloc,
+        rt,
+        words.as_slice(),
+        &mut reader,
+        &mut writer,
+        faults,
+    ))
 }
 
-/// The program over this process: its words, standard input, output and error. It gives the status to end with, as
+/// The program over this process: its words, files, standard input, output and error. It gives the status to end with, as
 /// `start` and `without_words` say.
 pub fn run_process(rt: &HostRuntime) -> u8
     ensures { result ≤ 2 }

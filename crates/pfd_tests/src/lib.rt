@@ -7,6 +7,8 @@ mod addresses;
 #[cfg(test)]
 mod anchors;
 #[cfg(test)]
+mod disks;
+#[cfg(test)]
 mod peers;
 #[cfg(test)]
 mod sessions;

@@ -3,6 +3,7 @@ use crate::streams::{Script, Tight};
 use pfd::{run_process, start, without_words};
 use std::alloc::Global;
 use std::cell::Cell;
+use std::fs::{File, Files};
 use std::io::{self, ErrorKind};
 use std::process::Abort;
 use std::test::*;
@@ -19,8 +20,9 @@ fn words_of(alloc: Global, line: &str) -> Result<Vec<String>, Fail> {
 }
 
 // Starts with such words: the status, and what is written and what the faults are told.
-fn status_of(
+fn status_of<S: Files<File = File>>(
     alloc: Global,
+    files: &S,
     (line, read, room, flushes): Case,
     written: &mut Vec<u8>,
     told: &mut Vec<u8>,
@@ -36,7 +38,14 @@ fn status_of(
         flushes,
         waiting,
     };
-    Ok(start(alloc, words.as_slice(), &mut reader, &mut writer, told))
+    Ok(start(
+        alloc,
+        files,
+        words.as_slice(),
+        &mut reader,
+        &mut writer,
+        told,
+    ))
 }
 
 /// Whether the status is this one, and what is written and what the faults are told begin so.
@@ -51,10 +60,15 @@ fn is_so(
     status == wanted && is_written && told.starts_with(faults.as_bytes()) && is_whole
 }
 
-fn check(rt: &impl Abort, alloc: Global, case: Case, wanted: (u8, &str, &str)) -> Result<(), Fail> {
+fn check<R: Abort + Files<File = File>>(
+    rt: &R,
+    alloc: Global,
+    case: Case,
+    wanted: (u8, &str, &str),
+) -> Result<(), Fail> {
     let mut written = Vec::new(alloc);
     let mut told = Vec::new(alloc);
-    let status = status_of(alloc, case, &mut written, &mut told)?;
+    let status = status_of(alloc, rt, case, &mut written, &mut told)?;
     let got = (status, written.as_slice(), told.as_slice());
     assert!(rt; is_so(got, wanted), "at {}", case.0);
     Ok(())
@@ -85,8 +99,34 @@ const STARTS: &[(Case, (u8, &str, &str))] = &[
         (2, "", "error: unexpected argument 'now'"),
     ),
     (
-        ("pfd run --size 1", "frob", 99, 9),
-        (2, "", "error: unexpected argument"),
+        ("pfd run --size 256", "frob", 99, 9),
+        (0, "err word 0\n", ""),
+    ),
+    (
+        (
+            "pfd run --history 1 --size 300",
+            "tset - t 10/8\ntset - t 10/8",
+            99,
+            9,
+        ),
+        (0, "applied 1\nerr history\n", ""),
+    ),
+    (
+        (
+            "pfd run --history 2",
+            "tset - t 10/8\ntset - t 10/8\ntset - t 10/8",
+            99,
+            9,
+        ),
+        (0, "applied 1\napplied 2\nerr history\n", ""),
+    ),
+    (
+        ("pfd format --help", "frob", 9_999, 9),
+        (0, "Makes a file a disk", ""),
+    ),
+    (
+        ("pfd help show", "frob", 9_999, 9),
+        (0, "Tells what a disk holds", ""),
     ),
     // A reader or a writer that fails.
     (("pfd run", "!", 100, 9), (1, "", "pfd: input\n")),
@@ -102,6 +142,113 @@ const STARTS: &[(Case, (u8, &str, &str))] = &[
 fn starts_as_its_words_say(rt: HostRuntime) -> Result<(), Fail> {
     for (case, wanted) in STARTS {
         check(&rt, rt.alloc(), *case, *wanted)?;
+    }
+    Ok(())
+}
+
+/// The words, and what standard error is told or how clap's text begins: nothing is read, and nothing written.
+const REFUSED: &[(&str, u8, &str)] = &[
+    // A session's disk.
+    ("pfd run --size 0", 1, "pfd: bad size\n"),
+    ("pfd run --size 254", 1, "pfd: bad size\n"),
+    ("pfd run --size 257", 1, "pfd: bad size\n"),
+    ("pfd run --size=1073741826", 1, "pfd: bad size\n"),
+    ("pfd run --size 4294967295", 1, "pfd: bad size\n"),
+    (
+        "pfd run --size 4294967296",
+        2,
+        "error: invalid value '4294967296' for '--size <N>': 4294967296 is not in 0..=4294967295",
+    ),
+    (
+        "pfd run --size",
+        2,
+        "error: a value is required for '--size <N>'",
+    ),
+    (
+        "pfd run --size few",
+        2,
+        "error: invalid value 'few' for '--size <N>': invalid digit found in string",
+    ),
+    (
+        "pfd run --size 256 --size 256",
+        2,
+        "error: the argument '--size <N>' cannot be used multiple times",
+    ),
+    // A session's history.
+    (
+        "pfd run --history 0",
+        2,
+        "error: invalid value '0' for '--history <N>': 0 is not in 1..=1048576",
+    ),
+    (
+        "pfd run --history 1048577",
+        2,
+        "error: invalid value '1048577' for '--history <N>': 1048577 is not in 1..=1048576",
+    ),
+    (
+        "pfd run --history 0 --size 0",
+        2,
+        "error: invalid value '0' for '--history <N>'",
+    ),
+    (
+        "pfd run --disk none",
+        2,
+        "error: unexpected argument '--disk' found",
+    ),
+    // Files, before disks.
+    (
+        "pfd show",
+        2,
+        "error: the following required arguments were not provided:\n  --disk <FILE>",
+    ),
+    (
+        "pfd show --disk",
+        2,
+        "error: a value is required for '--disk <FILE>'",
+    ),
+    (
+        "pfd show --disk none --size 300",
+        2,
+        "error: unexpected argument '--size' found",
+    ),
+    ("pfd show --disk no/such/file", 1, "pfd: input\n"),
+    ("pfd show --disk /", 1, "pfd: input\n"),
+    ("pfd show --disk /dev/null", 1, "pfd: bad size\n"),
+    (
+        "pfd format --size 300",
+        2,
+        "error: the following required arguments were not provided:\n  --disk <FILE>",
+    ),
+    (
+        "pfd format --disk none",
+        2,
+        "error: the following required arguments were not provided:\n  --size <N>",
+    ),
+    ("pfd format --disk / --size 300", 1, "pfd: input\n"),
+    ("pfd format --disk / --size 255", 1, "pfd: input\n"),
+    (
+        "pfd format --disk no/such/file --size 300",
+        1,
+        "pfd: input\n",
+    ),
+    ("pfd format --disk /dev/null --size 300", 1, "pfd: input\n"),
+    (
+        "pfd format --disk /dev/null --size 255",
+        1,
+        "pfd: bad size\n",
+    ),
+];
+
+// The reader fails at its first read, which would be told as the input's fault.
+#[test]
+fn refuses_before_it_reads(rt: HostRuntime) -> Result<(), Fail> {
+    for (line, status, faults) in REFUSED {
+        check(
+            &rt,
+            rt.alloc(),
+            (*line, "!", 9_999, 9),
+            (*status, "", *faults),
+        )?;
     }
     Ok(())
 }

@@ -1,7 +1,8 @@
 -- Lines that were served one list after another, and what is looked at of a line.
 use Rattle.std.proofs.{Common.{◌≡◌, ℕ, List, [], ◌∷◌, ◌++◌, length, Option, Result, inl, inr, refl, sym, ap, ◌∙◌, subst, append_assoc, arith}, lemmas.List.{append-nil, length-take, take_all}, lemmas.Bool.cases_lt}
 use Rattle.pf_core.specs.declared.{reply.Refusal.Refusal, reply.Reply.Reply}
-use Rattle.pf_core.specs.{Pages.{Page, StandsFor}, Worlds.Event}
+use Rattle.pf_core.specs.{Worlds.Event}
+use Rattle.pfd.specs.Pages.{Page, StandsFor}
 use Rattle.pf_line.specs.{Grammar.Spoken, Lines.{line_at, long_line, Means, Speaks, speaks}}
 use Rattle.pfd.specs.{LineEngine.Lines.seen, Serving.{IsTold, Served, Continues, Serves, Told, text_of}}
 

@@ -1,7 +1,8 @@
 -- What a Book holds that was given the lines of a peer's export. Own.
 use Rattle.std.specs.Prelude.{◌≡◌, ◌⊎◌, ◌+◌, ◌≤◌, ℕ, List, [], ◌∷◌, ◌++◌, length}
 use Rattle.pf_core.specs.declared.{reply.Refusal.TheVariants.Memory, reply.Reply.TheVariants.Refused}
-use Rattle.pf_core.specs.{Durable.Edits.{Kept, kept_nothing, after}, Pages.{Page, StandsFor}, Worlds.{Event, flat, in_memory, opened}}
+use Rattle.pf_core.specs.{Durable.Edits.{Kept, kept_nothing, after}, Worlds.{Event, flat, in_memory, opened}}
+use Rattle.pfd.specs.Pages.{Page, StandsFor}
 use Rattle.pf_line.specs.{Laws.Exports.{exported_lines, CanBeExported, main_count, states_there}, Reply.Replies.reply_text, StateTables.Stated}
 use Rattle.pfd.specs.Serving.{Serves}
 

@@ -1,17 +1,23 @@
 use Rattle.std.proofs.Common.{◌≡◌, sym, ap, ◌∙◌, subst, refl}
 use Rattle.pf_core.specs.declared.reply.Reply.TheVariants.{Answer}
-use Rattle.pf_core.specs.{Pages.{Page, IsAt}, Wholes.Whole}
+use Rattle.pf_core.specs.{Wholes.Whole}
+use Rattle.pfd.specs.Pages.{Page, in_worlds, IsAt}
 use Rattle.pf_core.proofs.LongerWorlds.{nothing-leads, refused-leads}
 use Rattle.pfd.specs.Books.{page_in, IsMore, IsUnkept}
-use Rattle.pfd.proofs.Booking.{with_core, answer-is-legal, refusal-is-legal, kept-leads, number-is, unkept-leads}
+use Rattle.pfd.proofs.Booking.{with_core, answer-is-legal, answer-shows-nothing, refusal-is-legal, kept-leads, number-is, unkept-leads}
 use Rattle.pfd.proofs.book.Book.call.Goals as goal
 
 pub returns-in-Ok-Done-clause-leads : goal.returns-in-Ok-Done-clause-leads
 returns-in-Ok-Done-clause-leads c = λ h now.
     let e = rw c.in-Ok-Done.field-0-is at c.in-Ok-Done.ensures in
     let at : IsAt h (page_in c.self.inside) = subst (IsAt h) (sym c.self.view_is) now in
-    nothing-leads h (page_in c.self.inside) c.step_ready.new.self c.args.command.now (Answer c.in-Ok-Done.answer) (answer-is-legal h (page_in c.self.inside) c.args.command.now c.in-Ok-Done.answer at c.self.invariant refl e.reply)
-    refl refl refl (ap (λ (w : Whole). w.tickets) e.left) at
+    nothing-leads h (in_worlds (page_in c.self.inside)) c.step_ready.new.self c.args.command.now (Answer c.in-Ok-Done.answer) (answer-is-legal h (page_in c.self.inside) c.args.command.now c.in-Ok-Done.answer at c.self.invariant refl e.reply)
+    refl refl (answer-shows-nothing (page_in c.self.inside) c.args.command.now c.in-Ok-Done.answer e.reply h.shown) (ap (λ (w : Whole). w.tickets) e.left) at
+
+pub returns-in-Ok-Done-clause-shown : goal.returns-in-Ok-Done-clause-shown
+returns-in-Ok-Done-clause-shown c =
+    let e = rw c.in-Ok-Done.field-0-is at c.in-Ok-Done.ensures in
+    ap (λ (b : Page). b.shown) c.self.view_is ∙ sym (answer-shows-nothing (page_in c.self.inside) c.args.command.now c.in-Ok-Done.answer e.reply c.args.self.now.shown)
 
 pub returns-in-Ok-clause-leads : goal.returns-in-Ok-clause-leads
 returns-in-Ok-clause-leads c = λ h now.
@@ -35,4 +41,4 @@ pub returns-in-Err-clause-leads : goal.returns-in-Err-clause-leads
 returns-in-Err-clause-leads c = λ h now.
     let b : Page = page_in c.self.inside in
     let at : IsAt h b = subst (IsAt h) (sym c.self.view_is) now in
-    refused-leads h b _ c.args.command.now c.in-Err.refusal (refusal-is-legal h b c.args.command.now c.in-Err.refusal at c.self.invariant refl c.in-Err.ensures.reply) (ap (with_core b) c.in-Err.ensures.left) at
+    refused-leads h (in_worlds b) _ c.args.command.now c.in-Err.refusal (refusal-is-legal h b c.args.command.now c.in-Err.refusal at c.self.invariant refl c.in-Err.ensures.reply) (ap in_worlds (ap (with_core b) c.in-Err.ensures.left)) at

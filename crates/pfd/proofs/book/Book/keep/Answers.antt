@@ -1,7 +1,8 @@
 use Rattle.std.proofs.{Common.{◌≡◌, ◌≤◌, ◌<◌, ◌+◌, ◌++◌, ◌∷◌, [], List, length, refl, sym, ap, ◌∙◌, subst, inr, arith}, lemmas.Grind.common_steps, lemmas.List.map-append}
 use Rattle.std.specs.{Prelude.map, Arc.arc_value}
 use Rattle.pf_ticket.specs.Mentions.{after, switches}
-use Rattle.pf_core.specs.{Durable.Edits.Edit, Pages.Page, Nexts.Ready, Wholes.Whole}
+use Rattle.pf_core.specs.{Durable.Edits.Edit, Nexts.Ready, Wholes.Whole}
+use Rattle.pfd.specs.Pages.{Page}
 use Rattle.pf_core.specs.declared.reply.Refusal.TheVariants.{HistoryFull}
 use Rattle.pfd.specs.Books.{page_in, singles, IsUnkept}
 use Rattle.pfd.proofs.Booking.{flat-singles, more-from, folded-more, left-is}

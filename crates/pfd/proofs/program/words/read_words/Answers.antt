@@ -1,0 +1,14 @@
+use Rattle.std.proofs.Common.{ap, ap₂, map, string_bytes, subst, ◌∙◌}
+use Rattle.clap.specs.Words.{App, is_simple, subcommand_of, takes}
+use Rattle.pfd.specs.Words.{IsAsked}
+use Rattle.pfd.proofs.Asking.{simple, taken}
+use Rattle.pfd.proofs.program.words.read_words.Goals as goal
+
+pub returns-in-Ok-clause-asked : goal.returns-in-Ok-clause-asked
+returns-in-Ok-clause-asked c =
+    let met = c.in-Ok.ensures.matches (ap is_simple c.in_ok-program_words.ensures ∙ simple) in
+    let is = met.1 ∙ ap (λ (a : App). subcommand_of a (map string_bytes c.args.words.now)) c.in_ok-program_words.ensures in
+    subst (λ m. IsAsked m c.task_of.result) is c.task_of.ensures.asked
+
+pub returns-in-Err-clause-run : goal.returns-in-Err-clause-run
+returns-in-Err-clause-run c = λ words. c.in-Err.ensures.passes (ap₂ takes c.in_ok-program_words.ensures words.1 ∙ taken words.0)

@@ -1,0 +1,38 @@
+-- What the program tells of what failed below it. Own.
+use Rattle.std.specs.Prelude.{Result, Ok, Err}
+use Rattle.pf_disk.specs.declared.file.FileFault.{FileFault}
+use Rattle.pf_disk.specs.declared.file.FileFault.TheVariants as file
+use Rattle.pf_store.specs.declared.{bank.fault.FormatFault.FormatFault, store.fault.OpenFault.OpenFault}
+use Rattle.pf_store.specs.declared.bank.fault.FormatFault.TheVariants as formatting
+use Rattle.pf_store.specs.declared.store.fault.OpenFault.TheVariants as opening
+use Rattle.pfd.specs.declared.{line_engine.fault.EngineFault.EngineFault, program.fault.Fault.Fault, program.fault.Fault.TheVariants.{BadSize, NoBank, Corrupt, Device, Memory, EpochsExhausted, Full, Input, Output}}
+use Rattle.pfd.specs.declared.line_engine.fault.EngineFault.TheVariants as session
+
+abbrev pub told_of_session : EngineFault → Fault
+told_of_session session.Read = Input
+told_of_session session.Write = Output
+told_of_session session.Memory = Memory
+
+abbrev pub told_of_opening : OpenFault → Fault
+told_of_opening opening.BadSize = BadSize
+told_of_opening opening.NoBank = NoBank
+told_of_opening (opening.Corrupt at) = Corrupt at
+told_of_opening opening.Memory = Memory
+told_of_opening opening.Fault = Device
+told_of_opening opening.EpochsExhausted = EpochsExhausted
+told_of_opening opening.NoRoom = Full
+
+abbrev pub told_of_formatting : FormatFault → Fault
+told_of_formatting formatting.BadSize = BadSize
+told_of_formatting formatting.Memory = Memory
+told_of_formatting formatting.Fault = Device
+
+abbrev pub told_of_file : FileFault → Fault
+told_of_file file.WrongLength = Input
+told_of_file file.Fault = Device
+told_of_file file.Memory = Memory
+
+-- what the program tells of a session
+abbrev pub ended : Result (Unit {0}) EngineFault → Result (Unit {0}) Fault
+ended (Ok u) = Ok u
+ended (Err fault) = Err (told_of_session fault)

@@ -1,0 +1,70 @@
+//! Disks that lie on files. What a file holds no clause can say, so this is only tested.
+use crate::program::devices::{format_on, is_size, show_on};
+use crate::program::fault::Fault;
+use pf_disk::FileDisk;
+use std::alloc::Global;
+use std::fs::{File, Files, OpenOptions, TryLockError};
+use std::io::Write;
+
+/// Makes the file so many bytes long, whether it was there or not, and a disk that holds nothing. A size that no disk may have is refused
+/// before the file's length changes.
+pub(crate) fn format_file<S: Files<File = File>>(
+    alloc: Global,
+    files: &S,
+    path: &str,
+    size: usize,
+) -> Result<(), Fault> {
+    let file = open_to_write(files, path)?;
+    if !is_size(size) {
+        return Err(Fault::BadSize);
+    }
+    if file.set_len(size as u64).is_err() {
+        return Err(Fault::Input);
+    }
+    let mut disk = FileDisk::of(alloc, file, size)?;
+    format_on(alloc, &mut disk)
+}
+
+/// Tells what the disk holds that lies on a file. The file is open for reading alone.
+pub(crate) fn show_file<S: Files<File = File>, W: Write>(
+    alloc: Global,
+    files: &S,
+    path: &str,
+    writer: &mut W,
+) -> Result<(), Fault> {
+    let (file, size) = open_to_read(files, path)?;
+    if !is_size(size) {
+        return Err(Fault::BadSize);
+    }
+    let mut disk = FileDisk::of(alloc, file, size)?;
+    show_on(alloc, &mut disk, writer)
+}
+
+// The file, made where it is missing, and locked until it is closed. It may be another's disk: then it isn't opened.
+fn open_to_write<S: Files<File = File>>(files: &S, path: &str) -> Result<File, Fault> {
+    let opened = OpenOptions::new()
+        .read(true)
+        .write(true)
+        .create(true)
+        .open(files, path);
+    let Ok(file) = opened else {
+        return Err(Fault::Input);
+    };
+    match file.try_lock() {
+        Err(TryLockError::WouldBlock) => Err(Fault::Input),
+        // where files have no locks it goes without
+        _ => Ok(file),
+    }
+}
+
+// The file, and how many bytes it has.
+fn open_to_read<S: Files<File = File>>(files: &S, path: &str) -> Result<(File, usize), Fault> {
+    let Ok(file) = File::open(files, path) else {
+        return Err(Fault::Input);
+    };
+    match file.metadata() {
+        // a folder can be opened, and not read
+        Ok(metadata) if !metadata.is_dir() => Ok((file, metadata.len() as usize)),
+        _ => Err(Fault::Input),
+    }
+}

@@ -1,0 +1,160 @@
+//! The program's words.
+ghost use Rattle.std.specs.Prelude.{◌≡◌, ◌≤◌, IfErr, IfOk, [], codes, false, map, string_bytes, unwrap_or};
+ghost use Rattle.clap.specs.Words.{app_of, found_of, kind_of, one_of, first_of, rows_of, rule_of, subcommand_of, subcommand_rows_of};
+ghost use Rattle.clap.specs.declared.builder.command.Command.TheViews.{out-Command};
+ghost use Rattle.pfd.specs.Program.{IsRun};
+ghost use Rattle.pfd.specs.Words.{HasHistory, IsAsked, SaysNumber, disk_rule, history_rule, size_rule, run_words, format_words, show_words, program_words};
+
+use clap::error::ErrorKind;
+use clap::{Arg, ArgMatches, Command, Error, value_parser};
+use std::alloc::{AllocError, Global};
+
+/// How many bytes the memory disk of a session has where the words don't say. Definitions cite it.
+pub const MEMORY_SIZE: usize = 1_048_576;
+
+/// How many changes the history of a session may have where the words don't say. Definitions cite it.
+pub const HISTORY_LIMIT: usize = 65_536;
+
+/// How many changes a history may have at most.
+pub const MOST_HISTORY: usize = 1_048_576;
+
+/// The program's version, which `pfd --version` tells behind its name.
+const VERSION: &str = "0.1.0";
+
+/// What the words ask.
+#[derive(Clone, Copy, Debug, PartialEq, Eq)]
+pub(crate) enum Task<'a> {
+    /// A session over a memory disk of so many bytes, whose history may have so many changes.
+    Run { size: usize, history: usize },
+    /// The file is made so many bytes long and formatted.
+    Format { path: &'a str, size: usize },
+    /// It is told what the file holds.
+    Show { path: &'a str },
+}
+
+fn disk<'a>(alloc: Global) -> Arg<'a>
+    ensures rule { rule_of result ≡ disk_rule }
+    ensures local { result.global ≡ false }
+{
+    Arg::new(alloc, "disk")
+        .long("disk")
+        .value_name("FILE")
+        .required(true)
+        .help("The file that is the disk")
+}
+
+fn size<'a>(alloc: Global) -> Arg<'a>
+    ensures rule { rule_of result ≡ size_rule }
+    ensures local { result.global ≡ false }
+{
+    Arg::new(alloc, "size")
+        .long("size")
+        .value_name("N")
+        .value_parser(value_parser!(u32))
+}
+
+fn history<'a>(alloc: Global) -> Arg<'a>
+    ensures rule { rule_of result ≡ history_rule }
+    ensures local { result.global ≡ false }
+{
+    Arg::new(alloc, "history")
+        .long("history")
+        .value_name("N")
+        .value_parser(value_parser!(u32).range(1..=1_048_576))
+        .help("How many changes the session may have [default: 65536]")
+}
+
+fn run_words<'a>(alloc: Global) -> Result<Command<'a>, AllocError>
+    ensures app { IfOk result (λ c. app_of c ≡ run_words) }
+    ensures local { IfOk result (λ c. (out-Command c).has_globals ≡ false) }
+{
+    let size = size(alloc).help("How many bytes its disk in memory has [default: 1048576]");
+    Command::new(alloc, "run")
+        .about("Answers the lines of standard input on standard output")
+        .arg(size)?
+        .arg(history(alloc))
+}
+
+fn format_words<'a>(alloc: Global) -> Result<Command<'a>, AllocError>
+    ensures app { IfOk result (λ c. app_of c ≡ format_words) }
+    ensures local { IfOk result (λ c. (out-Command c).has_globals ≡ false) }
+{
+    let size = size(alloc).required(true).help(
+        "How many bytes it has: an even number from 256 to 1073741824",
+    );
+    Command::new(alloc, "format")
+        .about("Makes a file a disk that holds nothing")
+        .arg(disk(alloc))?
+        .arg(size)
+}
+
+fn show_words<'a>(alloc: Global) -> Result<Command<'a>, AllocError>
+    ensures app { IfOk result (λ c. app_of c ≡ show_words) }
+    ensures local { IfOk result (λ c. (out-Command c).has_globals ≡ false) }
+{
+    Command::new(alloc, "show")
+        .about("Tells what a disk holds")
+        .arg(disk(alloc))
+}
+
+fn program_words<'a>(alloc: Global) -> Result<Command<'a>, AllocError>
+    ensures { IfOk result (λ c. app_of c ≡ program_words) }
+{
+    Command::new(alloc, "pfd")
+        .about("A control plane for rulesets of pf")
+        .version(VERSION)
+        .subcommand_required(true)
+        .subcommand(run_words(alloc)?)?
+        .subcommand(format_words(alloc)?)?
+        .subcommand(show_words(alloc)?)
+}
+
+/// What the words ask, the program's own name first among them; or the text for who started it, which is help, the version or why the
+/// words are refused, or that memory was.
+pub(crate) fn read_words<'a>(alloc: Global, words: &'a [String]) -> Result<Task<'a>, Error>
+    ensures asked { IfOk result (λ task. IsAsked (subcommand_of program_words (map string_bytes words.entry.now)) task) }
+    ensures history { IfOk result HasHistory }
+    ensures run { IsRun (map string_bytes words.entry.now) → IfErr result (λ e. kind_of e ≡ ErrorKind.OutOfMemory) }
+{
+    match program_words(alloc)?.try_get_matches_from(words) {
+        Ok(matches) => Ok(task_of(&matches)),
+        Err(error) => Err(error),
+    }
+}
+
+// The subcommand that was met. There is one, and it has the options that are required.
+fn task_of<'a>(matches: &ArgMatches<'a>) -> Task<'a>
+    ensures asked { IsAsked (subcommand_rows_of matches.now) result }
+    ensures history { HasHistory result }
+{
+    match matches.subcommand() {
+        Some(("format", found)) => Task::Format {
+            path: path_in(found),
+            size: number_in(found, "size", 0),
+        },
+        Some(("show", found)) => Task::Show {
+            path: path_in(found),
+        },
+        Some((_, found)) => Task::Run {
+            size: number_in(found, "size", MEMORY_SIZE),
+            history: number_in(found, "history", HISTORY_LIMIT).clamp(1, MOST_HISTORY),
+        },
+        None => Task::Run {
+            size: MEMORY_SIZE,
+            history: HISTORY_LIMIT,
+        },
+    }
+}
+
+fn path_in<'a>(found: &ArgMatches<'a>) -> &'a str
+    ensures { result.now ≡ unwrap_or (first_of (codes "disk") (rows_of (found_of found.now))) [] }
+{
+    found.get_str("disk").unwrap_or("")
+}
+
+// The number of an option, or this one where it isn't there.
+fn number_in(found: &ArgMatches<'_>, option: &str, default: usize) -> usize
+    ensures { SaysNumber 0 18446744073709551615 default (one_of option.now (rows_of (found_of found.now))) result }
+{
+    found.get_one::<usize>(option).unwrap_or(default)
+}
