@@ -1,0 +1,222 @@
+-- What a Book's type keeps, from each thing that changes it.
+use Rattle.std.proofs.{Common.{◌≡◌, inl, inr, ℕ, ◌+◌, ◌<◌, ◌≤◌, ◌^◌, Bool, true, false, List, [], ◌∷◌, ◌++◌, length, take, drop, refl, ap, sym, ◌∙◌, subst, append-nil, arith}, lemmas.{Bool.Decides.nat_tests, List.{length-append, take_all, take-append-le}, List.Sums.{fold_push}}}
+use Rattle.std.specs.Prelude.{nat_lt}
+use mathlib.Core.List.{IsPrefix}
+use Rattle.pf_disk.specs.Disk.{IsImage}
+use Rattle.pf_core.specs.{Durable.Edits.{Kept, Edit, applied, after}, Pages.{Page, IsFolded}, Wholes.Whole, Worlds.{Setting, flat}}
+use Rattle.pf_core.proofs.LongerWorlds.{flat-push}
+use Rattle.pf_store.specs.{Lengths.payload_length, Rooms.{group_length, gate_after}, Stores.{Holds, HoldsEither}, StoreKept.Stands}
+use Rattle.pf_store.specs.declared.groups.change.Recorded.TheVariants as recorded
+use Rattle.pf_store.specs.declared.store.keeping.Store.{Store}
+use Rattle.pf_view.specs.Known.{Stage}
+use Rattle.pf_book.specs.Books.{singles, page_of, HoldsFront, IsOpened, IsBook, shows_all}
+use Rattle.pf_book.proofs.Parts.{flat-singles, all-acked, taken-more, taken-still, left-one, singles-more, prefix_is, prefix_short}
+
+-- ---- pages
+
+-- the log is what was acknowledged, where nothing is pending
+pub acked-is : (log : List Edit) (acked : ℕ) → acked ≡ length log → flat (singles (take acked log)) ≡ log
+acked-is log acked all = flat-singles (take acked log) ∙ take_all acked log (omega (arith, all))
+
+pub acked-more : (log : List Edit) (e : Edit) (acked : ℕ) → acked ≡ length log → singles (take (acked + 1) (log ++ e ∷ [])) ≡ singles (take acked log) ++ (e ∷ []) ∷ []
+acked-more log e acked all = ap singles (taken-more log e acked all) ∙ singles-more (take acked log) e
+
+-- a change more leaves what is shown as it is
+pub folded-more : (base : Kept) (whole whole' : Whole) (log : List Edit) (e : Edit) (acked : ℕ) (setting setting' : Setting) (shown : List Edit) → acked ≡ length log →
+    whole'.durable ≡ applied whole.durable e → IsFolded (page_of base whole log acked setting shown) → IsFolded (page_of base whole' (log ++ e ∷ []) (acked + 1) setting' shown)
+folded-more base whole whole' log e acked setting setting' shown all left folded =
+    let groups : List (List Edit) = singles (take acked log) in
+    let grown : singles (take (acked + 1) (log ++ e ∷ [])) ≡ groups ++ (e ∷ []) ∷ [] = acked-more log e acked all in
+    let flat-grown : flat (singles (take (acked + 1) (log ++ e ∷ []))) ≡ flat groups ++ e ∷ [] = ap flat grown ∙ flat-push groups e in
+    record {
+      durable = left ∙ ap (λ (k : Kept). applied k e) folded.durable ∙ sym (fold_push applied base (flat groups) e) ∙ ap (after base) (sym flat-grown);
+      within = omega (arith, folded.within, ap length flat-grown, length-append (flat groups) (e ∷ []));
+      published = folded.published ∙ ap (after base) (sym (take-append-le (length shown) (flat groups) (e ∷ []) folded.within) ∙ ap (take (length shown)) (sym flat-grown));
+    }
+
+-- nor does one that isn't acknowledged
+pub folded-pending : (base : Kept) (whole : Whole) (log : List Edit) (e : Edit) (acked : ℕ) (setting setting' : Setting) (shown : List Edit) → acked ≤ length log →
+    IsFolded (page_of base whole log acked setting shown) → IsFolded (page_of base whole (log ++ e ∷ []) acked setting' shown)
+folded-pending base whole log e acked setting setting' shown low folded =
+    let same : flat (singles (take acked (log ++ e ∷ []))) ≡ flat (singles (take acked log)) = ap (λ (l : List Edit). flat (singles l)) (taken-still log e acked low) in
+    record {
+      durable = folded.durable ∙ ap (after base) (sym same);
+      within = omega (arith, folded.within, ap length same);
+      published = folded.published ∙ ap (λ (l : List Edit). after base (take (length shown) l)) (sym same);
+    }
+
+-- what is shown is a front of what was acknowledged
+pub folded-shown : (base : Kept) (whole : Whole) (log : List Edit) (acked : ℕ) (setting setting' : Setting) (shown shown' : List Edit) →
+    IsPrefix shown' (take acked log) → IsFolded (page_of base whole log acked setting shown) → IsFolded (page_of base whole log acked setting' shown')
+folded-shown base whole log acked setting setting' shown shown' front folded =
+    let is : flat (singles (take acked log)) ≡ take acked log = flat-singles (take acked log) in
+    record {
+      durable = folded.durable;
+      within = omega (arith, prefix_short shown' (take acked log) front, ap length is);
+      published = ap (after base) (prefix_is shown' (take acked log) front ∙ ap (take (length shown')) (sym is));
+    }
+
+-- a page that shows all that was acknowledged
+pub shows-page : (base : Kept) (whole : Whole) (log : List Edit) (acked : ℕ) (setting : Setting) (shown shown' : List Edit) → shown' ≡ take acked log →
+    page_of base whole log acked setting shown' ≡ shows_all (page_of base whole log acked setting shown)
+shows-page base whole log acked setting shown shown' is =
+    ap (page_of base whole log acked setting) is ∙ ap (λ (l : List Edit). record (page_of base whole log acked setting shown) { shown = length l; published = after base l }) (sym (flat-singles (take acked log)))
+
+-- a page with a change behind it that wasn't acknowledged
+pub pending-page : (base : Kept) (whole : Whole) (log log' : List Edit) (e : Edit) (acked : ℕ) (setting setting' : Setting) (shown : List Edit) → log' ≡ log ++ e ∷ [] → acked ≡ length log → setting' ≡ setting →
+    page_of base whole log' acked setting' shown ≡ record (page_of base whole log acked setting shown) { pending = (e ∷ []) ∷ [] }
+pending-page base whole log log' e acked setting setting' shown logged all same =
+    let P : List (List Edit) → List (List Edit) → Page = λ front rest. record (page_of base whole log acked setting shown) { acked = front; pending = rest } in
+    ap (λ (l : List Edit). page_of base whole l acked setting' shown) logged ∙ ap (λ (s : Setting). page_of base whole (log ++ e ∷ []) acked s shown) same
+    ∙ ap (λ (gs : List (List Edit)). P gs (singles (drop acked (log ++ e ∷ [])))) (ap singles (taken-still log e acked (omega (arith, all))))
+    ∙ ap (P (singles (take acked log))) (ap singles (left-one log e acked all))
+
+-- a store that isn't halted
+pub goes-on : (halted : Bool) (log : List Edit) (acked : ℕ) → halted ≡ nat_lt acked (length log) → acked ≡ length log → halted ≡ false
+goes-on halted log acked is all = is ∙ grind (arith, nat_tests, all)
+
+-- ---- gates
+
+gate-push : (gate : ℕ) (groups : List (List Edit)) (g : List Edit) → gate_after gate (groups ++ g ∷ []) ≡ gate_after gate groups + 5 + group_length g
+gate-push gate [] g = refl
+gate-push gate (x ∷ xs) g = gate-push (gate + 5 + group_length x) xs g
+
+one-long : (e : Edit) → group_length (e ∷ []) ≡ payload_length (recorded.Made e)
+unfolding group_length
+one-long e = omega arith
+
+-- ---- a Book
+
+module _ {D : Type 0} (seen : D → List ℕ) (unsynced : D → ℕ → Bool) (faults : D → ℕ) where
+  -- each image of the device holds what was acknowledged, where nothing is pending
+  pub kept-front : (base : Kept) (whole : Whole) (log : List Edit) (acked : ℕ) (setting : Setting) (shown : List Edit) (c : List ℕ) →
+      IsFolded (page_of base whole log acked setting shown) → Holds c whole.durable → HoldsFront (page_of base whole log acked setting shown) c
+  kept-front base whole log acked setting shown c folded holds =
+      (0, subst (λ (k : Kept). Holds c k) (folded.durable ∙ ap (λ (gs : List (List Edit)). after base (flat gs)) (sym (append-nil (singles (take acked log))))) holds)
+
+  -- a change was kept
+  pub more-book : (store store' : Store D) (base : Kept) (whole whole' : Whole) (d d' : Kept) (log log' : List Edit) (e : Edit) (acked acked' offered first : ℕ) (setting setting' : Setting) (stage : Stage)
+      → IsBook seen unsynced faults store (page_of base whole log acked setting stage.shown) d log acked offered first stage
+      → singles (drop acked log) ≡ [] → acked' ≡ acked + 1 → log' ≡ log ++ e ∷ [] → whole'.durable ≡ applied whole.durable e → d' ≡ whole'.durable
+      → store.halted ≡ false → store'.halted ≡ false → Stands seen unsynced store' whole'.durable → faults store'.bank.journal.disk < 2 ^ 63
+      → store'.bank.journal.gate ≡ store.bank.journal.gate + 5 + payload_length (recorded.Made e)
+      → ((c : List ℕ) → IsImage (seen store'.bank.journal.disk) (unsynced store'.bank.journal.disk) c → Holds c whole'.durable)
+      → IsBook seen unsynced faults store' (page_of base whole' log' acked' setting' stage.shown) d' log' acked' offered first stage
+  more-book store store' base whole whole' d d' log log' e acked acked' offered first setting setting' stage i none counted logged left latest was on stands few gate images =
+      let all : acked ≡ length log = all-acked log acked i.low none in
+      let page : Page = page_of base whole' (log ++ e ∷ []) (acked + 1) setting' stage.shown in
+      let folded : IsFolded page = folded-more base whole whole' log e acked setting setting' stage.shown all left i.folded in
+      let long : length (log ++ e ∷ []) ≡ length log + 1 = length-append log (e ∷ []) in
+      rw (counted, logged) (record {
+        folded = folded;
+        low = omega (arith, all, long);
+        high = omega (arith, all, long);
+        halted = on ∙ sym (grind (arith, nat_tests, all, long));
+        stands = λ h. stands;
+        few = λ h. few;
+        gate = λ h. gate ∙ ap (λ (n : ℕ). n + 5 + payload_length (recorded.Made e)) (i.gate was) ∙ ap (λ (n : ℕ). gate_after first (singles (take acked log)) + 5 + n) (sym (one-long e))
+            ∙ sym (gate-push first (singles (take acked log)) (e ∷ [])) ∙ ap (gate_after first) (sym (acked-more log e acked all));
+        images = λ c image. kept-front base whole' (log ++ e ∷ []) (acked + 1) setting' stage.shown c folded (images c image);
+        offered_low = omega (arith, i.offered_low);
+        offered_is = i.offered_is ∙ sym (taken-still log e offered (omega (arith, i.offered_low, i.low)));
+        shown_is = i.shown_is;
+        latest = latest;
+      })
+
+  -- the device failed while one was
+  pub fault-book : (store store' : Store D) (base : Kept) (whole : Whole) (d : Kept) (log log' : List Edit) (e : Edit) (acked offered first : ℕ) (setting setting' : Setting) (stage : Stage)
+      → IsBook seen unsynced faults store (page_of base whole log acked setting stage.shown) d log acked offered first stage
+      → singles (drop acked log) ≡ [] → log' ≡ log ++ e ∷ [] → store'.halted ≡ true
+      → ((c : List ℕ) → IsImage (seen store'.bank.journal.disk) (unsynced store'.bank.journal.disk) c → HoldsEither whole.durable (applied whole.durable e) c)
+      → IsBook seen unsynced faults store' (page_of base whole log' acked setting' stage.shown) d log' acked offered first stage
+  fault-book store store' base whole d log log' e acked offered first setting setting' stage i none logged off images =
+      let all : acked ≡ length log = all-acked log acked i.low none in
+      let long : length (log ++ e ∷ []) ≡ length log + 1 = length-append log (e ∷ []) in
+      let folded : IsFolded (page_of base whole (log ++ e ∷ []) acked setting' stage.shown) = folded-pending base whole log e acked setting setting' stage.shown i.low i.folded in
+      let out : store'.halted ≡ false → ⊥ = λ h. cc (h, off) in
+      rw logged (record {
+        folded = folded;
+        low = omega (arith, i.low, long);
+        high = omega (arith, all, long);
+        halted = off ∙ sym (grind (arith, nat_tests, all, long));
+        stands = λ h. absurd (out h);
+        few = λ h. absurd (out h);
+        gate = λ h. absurd (out h);
+        images = λ c image. either c (images c image);
+        offered_low = i.offered_low;
+        offered_is = i.offered_is ∙ sym (taken-still log e offered (omega (arith, i.offered_low, i.low)));
+        shown_is = i.shown_is;
+        latest = i.latest;
+      })
+    where
+      all' : acked ≡ length log
+      all' = all-acked log acked i.low none
+
+      either : (c : List ℕ) → HoldsEither whole.durable (applied whole.durable e) c → HoldsFront (page_of base whole (log ++ e ∷ []) acked setting' stage.shown) c
+      either c (inl before) = kept-front base whole (log ++ e ∷ []) acked setting' stage.shown c (folded-pending base whole log e acked setting setting' stage.shown i.low i.folded) before
+      either c (inr next) =
+          let groups : List (List Edit) = singles (take acked (log ++ e ∷ [])) in
+          let same : groups ≡ singles (take acked log) = ap singles (taken-still log e acked i.low) in
+          let pending : take 1 (singles (drop acked (log ++ e ∷ []))) ≡ (e ∷ []) ∷ [] = ap (λ (l : List Edit). take 1 (singles l)) (left-one log e acked all') in
+          let is : applied whole.durable e ≡ after base (flat (groups ++ take 1 (singles (drop acked (log ++ e ∷ []))))) =
+          ap (λ (k : Kept). applied k e) i.folded.durable ∙ sym (fold_push applied base (flat (singles (take acked log))) e) ∙ ap (after base) (sym (flat-push (singles (take acked log)) e))
+          ∙ ap (λ (gs : List (List Edit)). after base (flat (gs ++ (e ∷ []) ∷ []))) (sym same) ∙ ap (λ (gs : List (List Edit)). after base (flat (groups ++ gs))) (sym pending) in
+          (1, subst (λ (k : Kept). Holds c k) is next)
+
+  -- more is offered, and perhaps shown
+  pub shown-book : (store : Store D) (base : Kept) (whole : Whole) (d : Kept) (log : List Edit) (acked offered first : ℕ) (setting : Setting) (stage stage' : Stage)
+      → IsBook seen unsynced faults store (page_of base whole log acked setting stage.shown) d log acked offered first stage
+      → stage'.offered ≡ take acked log → IsPrefix stage'.shown stage'.offered
+      → IsBook seen unsynced faults store (page_of base whole log acked setting stage'.shown) d log acked acked first stage'
+  shown-book store base whole d log acked offered first setting stage stage' i is front = record {
+    folded = folded-shown base whole log acked setting setting stage.shown stage'.shown (subst (λ (l : List Edit). IsPrefix stage'.shown l) is front) i.folded;
+    low = i.low;
+    high = i.high;
+    halted = i.halted;
+    stands = i.stands;
+    few = i.few;
+    gate = i.gate;
+    images = i.images;
+    offered_low = omega arith;
+    offered_is = is;
+    shown_is = front;
+    latest = i.latest;
+  }
+
+  -- other tickets
+  pub other-tickets : (store : Store D) (base : Kept) (whole whole' : Whole) (d : Kept) (log : List Edit) (acked offered first : ℕ) (setting : Setting) (stage : Stage)
+      → IsBook seen unsynced faults store (page_of base whole log acked setting stage.shown) d log acked offered first stage → whole'.durable ≡ whole.durable
+      → IsBook seen unsynced faults store (page_of base whole' log acked setting stage.shown) d log acked offered first stage
+  other-tickets store base whole whole' d log acked offered first setting stage i same = record {
+    folded = record { durable = same ∙ i.folded.durable; within = i.folded.within; published = i.folded.published };
+    low = i.low;
+    high = i.high;
+    halted = i.halted;
+    stands = λ h. subst (λ (k : Kept). Stands seen unsynced store k) (sym same) (i.stands h);
+    few = i.few;
+    gate = i.gate;
+    images = i.images;
+    offered_low = i.offered_low;
+    offered_is = i.offered_is;
+    shown_is = i.shown_is;
+    latest = i.latest ∙ sym same;
+  }
+
+  -- a new Book
+  pub new-book : (store : Store D) (base : Kept) (whole : Whole) (d : Kept) (first : ℕ) (setting : Setting) (stage : Stage)
+      → IsOpened seen unsynced faults store d → d ≡ base → whole.durable ≡ d → store.bank.journal.gate ≡ first → stage.shown ≡ [] → stage.offered ≡ []
+      → IsBook seen unsynced faults store (page_of base whole [] 0 setting stage.shown) d [] 0 0 first stage
+  new-book store base whole d first setting stage o same kept gate shown offered = record {
+    folded = record { durable = kept ∙ same; within = omega (arith, ap length shown); published = ap (after base) shown ∙ sym (ap (λ (n : ℕ). after base (take n [])) (ap length shown)) };
+    low = omega arith;
+    high = omega arith;
+    halted = o.goes_on;
+    stands = λ h. subst (λ (k : Kept). Stands seen unsynced store k) (sym kept) o.stands;
+    few = λ h. o.few;
+    gate = λ h. gate;
+    images = λ c image. (0, subst (λ (k : Kept). Holds c k) same (o.images c image));
+    offered_low = omega arith;
+    offered_is = offered;
+    shown_is = subst (λ (l : List Edit). IsPrefix l stage.offered) (sym shown) (stage.offered, refl);
+    latest = sym kept;
+  }

@@ -1,0 +1,151 @@
+use Rattle.std.proofs.{Common.{◌≡◌, ℕ, List, length, map, Ok, sym, ap, ◌∙◌, subst, arith}, lemmas.Grind.common_steps}
+use Rattle.std.specs.{Arc.arc_value, Prelude.nat_lt}
+use Rattle.pf_disk.specs.Disk.{EachMoment}
+use Rattle.pf_core.specs.declared.reply.{Reply.TheVariants.{Answer}}
+use Rattle.pf_core.specs.{Calls.call, Durable.Edits.{Edit, fits}, Laws.Wanted.wants_what_fits, Pages.{Page, IsAt, Leads}, Wholes.Whole, Worlds.{Held, calling, upshot}}
+use Rattle.pf_store.specs.Rooms.{on_device}
+use Rattle.pf_book.specs.Books.{Ledger, page, page_of, HoldsLeft, IsMade, IsTold, is_fault_reply}
+use Rattle.pf_book.proofs.Calling.{with_core, IsFree, unchanging, none-behind, no-fault, not-more, fault-flag, answer-leads, history-leads, made-leads, made-stays, made-moment, still-left, err-not-fault}
+use Rattle.pf_book.proofs.book.Book.call.Goals.{else-self-len-via-then-self-len+else-may_change, else-self-len-via-else-self-len}
+use Rattle.pf_book.proofs.book.Book.call.Goals as goal
+
+pub returns-then-may_change-clause-any_moment : goal.returns-then-may_change-clause-any_moment
+returns-then-may_change-clause-any_moment g c =
+    let k = c.args.command.now in
+    subst (λ (l : Ledger g.row.D.Denot). (h : Held) → IsAt h (page l) → EachMoment g.D.Disk.moment g.D.Disk.left_since l.disk l.disk (HoldsLeft h (calling k))) c.self.view_is
+    (λ h at. still-left g.D.Disk.seen g.D.Disk.unsynced g.D.Disk.moment g.D.Disk.left_since h _ (calling k) c.self.inside.store.bank.journal.disk (g.met.D.Disk.only_now c.self.inside.store.bank.journal.disk) c.self.invariant.images at)
+
+pub make-requires-clause-fits : goal.make-requires-clause-fits
+make-requires-clause-fits g c =
+    let s = c.self.inside in
+    let e = rw c.in-Ok-Wants.field-0-is at c.in-Ok-Wants.ensures in
+    subst (λ (w : Whole). fits w.durable c.in-Ok-Wants.change ≡ Ok tt) (sym e.left) (wants_what_fits s.core.tickets s.core.durable c.args.command.now c.in-Ok-Wants.change c.in-Ok-Wants.outcome (sym (e.reply.0 (λ m. cc (m)))))
+
+pub returns-in-Ok-Done-clause-leads : goal.returns-in-Ok-Done-clause-leads
+returns-in-Ok-Done-clause-leads g c =
+    let s = c.self.inside in
+    let k = c.args.command.now in
+    let disk = s.store.bank.journal.disk in
+    let log : List Edit = map arc_value s.log.items in
+    let b : Page = page_of g.J.Naming.base s.core log s.acked (on_device s.limit s.store.bank.journal.end s.first_gate) s.shower.shown in
+    let counted : c.len.result ≡ length log = grind (arith, common_steps, c.len.ensures) in
+    let free : IsFree b k = elim c.else-self-len.branch [
+      | else-self-len-via-then-self-len+else-may_change w ↦ unchanging b k (sym w.may_change.ensures ∙ w.if-may_change.false)
+      | else-self-len-via-else-self-len w ↦ none-behind g.J.Naming.base s.core log s.acked (on_device s.limit s.store.bank.journal.end s.first_gate) s.shower.shown k c.self.invariant.low (omega (arith, counted, w.if-self-len.false))
+    ] in
+    let e = rw c.in-Ok-Done.field-0-is at c.in-Ok-Done.ensures in
+    let f : ℕ = g.D.Disk.fault_count disk in
+    subst (λ (l : Ledger g.row.D.Denot). (h : Held) → IsAt h (page l) → Leads h (with_core b c.step_ready.new.self) (call k (Answer c.in-Ok-Done.answer)) (upshot (length s.shower.shown) (nat_lt (g.D.Disk.fault_count l.disk) f))) c.self.view_is
+    (λ h at. no-fault h (with_core b c.step_ready.new.self) (call k (Answer c.in-Ok-Done.answer)) (length s.shower.shown) (nat_lt f f) (not-more f f (omega arith))
+    (answer-leads h b c.step_ready.new.self k c.in-Ok-Done.answer at c.self.invariant.folded free e.reply (ap (λ (w : Whole). w.tickets) e.left)))
+
+pub returns-in-Ok-Done-clause-any_moment : goal.returns-in-Ok-Done-clause-any_moment
+returns-in-Ok-Done-clause-any_moment g c =
+    let k = c.args.command.now in
+    let disk = c.self.inside.store.bank.journal.disk in
+    subst (λ (l : Ledger g.row.D.Denot). (h : Held) → IsAt h (page l) → EachMoment g.D.Disk.moment g.D.Disk.left_since l.disk disk (HoldsLeft h (calling k))) c.self.view_is
+    (λ h at. still-left g.D.Disk.seen g.D.Disk.unsynced g.D.Disk.moment g.D.Disk.left_since h _ (calling k) disk (g.met.D.Disk.only_now disk) c.self.invariant.images at)
+
+pub returns-in-Ok-Wants-clause-leads : goal.returns-in-Ok-Wants-clause-leads
+returns-in-Ok-Wants-clause-leads g c =
+    let s = c.self.inside in
+    let k = c.args.command.now in
+    let disk = s.store.bank.journal.disk in
+    let log : List Edit = map arc_value s.log.items in
+    let b : Page = page_of g.J.Naming.base s.core log s.acked (on_device s.limit s.store.bank.journal.end s.first_gate) s.shower.shown in
+    let counted : c.len.result ≡ length log = grind (arith, common_steps, c.len.ensures) in
+    let free : IsFree b k = elim c.else-self-len.branch [
+      | else-self-len-via-then-self-len+else-may_change w ↦ unchanging b k (sym w.may_change.ensures ∙ w.if-may_change.false)
+      | else-self-len-via-else-self-len w ↦ none-behind g.J.Naming.base s.core log s.acked (on_device s.limit s.store.bank.journal.end s.first_gate) s.shower.shown k c.self.invariant.low (omega (arith, counted, w.if-self-len.false))
+    ] in
+    let e = rw c.in-Ok-Wants.field-0-is at c.in-Ok-Wants.ensures in
+    let change = c.in-Ok-Wants.change in
+    let outcome = c.in-Ok-Wants.outcome in
+    let new = c.make.new.self in
+    let made : IsMade c.make.result outcome change b (page new) = subst (λ (w : Whole). IsMade c.make.result outcome change (with_core b w) (page new)) e.left c.make.ensures.made in
+    subst (λ (l : Ledger g.row.D.Denot). (h : Held) → IsAt h (page l) → Leads h (page new) (call k c.make.result) (upshot new.shown (nat_lt (g.D.Disk.fault_count l.disk) (g.D.Disk.fault_count new.disk)))) c.self.view_is
+    (λ h at. made-leads h b k change outcome at c.self.invariant.folded free e.reply c.make.result (page new) (nat_lt (g.D.Disk.fault_count disk) (g.D.Disk.fault_count new.disk)) made
+    (fault-flag (g.D.Disk.fault_count disk) (g.D.Disk.fault_count new.disk) (is_fault_reply c.make.result) c.make.ensures.faults))
+
+pub returns-in-Ok-Wants-clause-any_moment : goal.returns-in-Ok-Wants-clause-any_moment
+returns-in-Ok-Wants-clause-any_moment g c =
+    let s = c.self.inside in
+    let k = c.args.command.now in
+    let disk = s.store.bank.journal.disk in
+    let log : List Edit = map arc_value s.log.items in
+    let b : Page = page_of g.J.Naming.base s.core log s.acked (on_device s.limit s.store.bank.journal.end s.first_gate) s.shower.shown in
+    let counted : c.len.result ≡ length log = grind (arith, common_steps, c.len.ensures) in
+    let free : IsFree b k = elim c.else-self-len.branch [
+      | else-self-len-via-then-self-len+else-may_change w ↦ unchanging b k (sym w.may_change.ensures ∙ w.if-may_change.false)
+      | else-self-len-via-else-self-len w ↦ none-behind g.J.Naming.base s.core log s.acked (on_device s.limit s.store.bank.journal.end s.first_gate) s.shower.shown k c.self.invariant.low (omega (arith, counted, w.if-self-len.false))
+    ] in
+    let e = rw c.in-Ok-Wants.field-0-is at c.in-Ok-Wants.ensures in
+    let change = c.in-Ok-Wants.change in
+    let outcome = c.in-Ok-Wants.outcome in
+    let new = c.make.new.self in
+    let made : IsMade c.make.result outcome change b (page new) = subst (λ (w : Whole). IsMade c.make.result outcome change (with_core b w) (page new)) e.left c.make.ensures.made in
+    subst (λ (l : Ledger g.row.D.Denot). (h : Held) → IsAt h (page l) → EachMoment g.D.Disk.moment g.D.Disk.left_since l.disk new.disk (HoldsLeft h (calling k))) c.self.view_is
+    (λ h at. made-moment g.D.Disk.seen g.D.Disk.unsynced g.D.Disk.moment g.D.Disk.left_since h b (page new) k change outcome at c.self.invariant.folded free e.reply disk new.disk (g.met.D.Disk.only_now disk) c.self.invariant.images
+    (rw e.left at c.make.ensures.any_moment) c.make.result made c.make.ensures.still)
+
+pub returns-in-Ok-Wants-clause-refused : goal.returns-in-Ok-Wants-clause-refused
+returns-in-Ok-Wants-clause-refused g c =
+    let s = c.self.inside in
+    let log : List Edit = map arc_value s.log.items in
+    let b : Page = page_of g.J.Naming.base s.core log s.acked (on_device s.limit s.store.bank.journal.end s.first_gate) s.shower.shown in
+    let e = rw c.in-Ok-Wants.field-0-is at c.in-Ok-Wants.ensures in
+    let change = c.in-Ok-Wants.change in
+    let outcome = c.in-Ok-Wants.outcome in
+    let new = c.make.new.self in
+    let made : IsMade c.make.result outcome change b (page new) = subst (λ (w : Whole). IsMade c.make.result outcome change (with_core b w) (page new)) e.left c.make.ensures.made in
+    let made' : IsMade c.make.result outcome change (page c.args.self.now) (page new) = subst (λ (l : Ledger g.row.D.Denot). IsMade c.make.result outcome change (page l) (page new)) c.self.view_is made in
+    made-stays c.args.self.now new c.make.result outcome change made' (λ why is quiet. c.make.ensures.still why is quiet ∙ ap (λ (l : Ledger g.row.D.Denot). l.disk) c.self.view_is)
+
+pub returns-in-Ok-OfHistory-clause-leads : goal.returns-in-Ok-OfHistory-clause-leads
+returns-in-Ok-OfHistory-clause-leads g c =
+    let s = c.self.inside in
+    let k = c.args.command.now in
+    let disk = s.store.bank.journal.disk in
+    let log : List Edit = map arc_value s.log.items in
+    let b : Page = page_of g.J.Naming.base s.core log s.acked (on_device s.limit s.store.bank.journal.end s.first_gate) s.shower.shown in
+    let e = rw c.in-Ok-OfHistory.field-0-is at c.in-Ok-OfHistory.ensures in
+    let x = c.in-Ok-OfHistory.command in
+    let new = c.tell.new.self in
+    let told : IsTold x c.tell.result b (page new) = subst (λ (w : Whole). IsTold x c.tell.result (with_core b w) (page new)) e.left c.tell.ensures.told in
+    let f : ℕ = g.D.Disk.fault_count disk in
+    let still : g.D.Disk.fault_count new.disk ≡ f = ap g.D.Disk.fault_count c.tell.ensures.device in
+    subst (λ (l : Ledger g.row.D.Denot). (h : Held) → IsAt h (page l) → Leads h (page new) (call k c.tell.result) (upshot new.shown (nat_lt (g.D.Disk.fault_count l.disk) (g.D.Disk.fault_count new.disk)))) c.self.view_is
+    (λ h at. no-fault h (page new) (call k c.tell.result) new.shown (nat_lt f (g.D.Disk.fault_count new.disk)) (not-more f (g.D.Disk.fault_count new.disk) (omega (arith, still))) (history-leads h b (page new) k x c.tell.result at e.reply told))
+
+pub returns-in-Ok-OfHistory-clause-any_moment : goal.returns-in-Ok-OfHistory-clause-any_moment
+returns-in-Ok-OfHistory-clause-any_moment g c =
+    let k = c.args.command.now in
+    let disk = c.self.inside.store.bank.journal.disk in
+    subst (λ d. (h : Held) → IsAt h (page c.args.self.now) → EachMoment g.D.Disk.moment g.D.Disk.left_since c.args.self.now.disk d (HoldsLeft h (calling k))) (sym c.tell.ensures.device)
+    (subst (λ (l : Ledger g.row.D.Denot). (h : Held) → IsAt h (page l) → EachMoment g.D.Disk.moment g.D.Disk.left_since l.disk disk (HoldsLeft h (calling k))) c.self.view_is
+    (λ h at. still-left g.D.Disk.seen g.D.Disk.unsynced g.D.Disk.moment g.D.Disk.left_since h _ (calling k) disk (g.met.D.Disk.only_now disk) c.self.invariant.images at))
+
+pub returns-in-Err-clause-any_moment : goal.returns-in-Err-clause-any_moment
+returns-in-Err-clause-any_moment g c =
+    let k = c.args.command.now in
+    let disk = c.self.inside.store.bank.journal.disk in
+    subst (λ (l : Ledger g.row.D.Denot). (h : Held) → IsAt h (page l) → EachMoment g.D.Disk.moment g.D.Disk.left_since l.disk disk (HoldsLeft h (calling k))) c.self.view_is
+    (λ h at. still-left g.D.Disk.seen g.D.Disk.unsynced g.D.Disk.moment g.D.Disk.left_since h _ (calling k) disk (g.met.D.Disk.only_now disk) c.self.invariant.images at)
+
+pub returns-in-Err-clause-faults : goal.returns-in-Err-clause-faults
+returns-in-Err-clause-faults g c =
+    let s = c.self.inside in
+    let b : Page = page_of g.J.Naming.base s.core (map arc_value s.log.items) s.acked (on_device s.limit s.store.bank.journal.end s.first_gate) s.shower.shown in
+    let quiet = err-not-fault b c.args.command.now c.in-Err.refusal c.in-Err.ensures.reply in
+    let same : g.D.Disk.fault_count s.store.bank.journal.disk ≡ g.D.Disk.fault_count c.args.self.now.disk = ap (λ (l : Ledger g.row.D.Denot). g.D.Disk.fault_count l.disk) c.self.view_is in
+    rw quiet (omega (arith, same))
+
+pub returns-in-Err-clause-refused : goal.returns-in-Err-clause-refused
+returns-in-Err-clause-refused g c =
+    let s = c.self.inside in
+    let b : Page = page_of g.J.Naming.base s.core (map arc_value s.log.items) s.acked (on_device s.limit s.store.bank.journal.end s.first_gate) s.shower.shown in
+    let quiet = err-not-fault b c.args.command.now c.in-Err.refusal c.in-Err.ensures.reply in
+    record {
+      same = λ is. (ap (with_core b) c.in-Err.ensures.left ∙ ap page c.self.view_is, ap (λ (l : Ledger g.row.D.Denot). l.disk) c.self.view_is);
+      pending = λ is. absurd (cc (is, quiet));
+    }

@@ -1,0 +1,211 @@
+-- What contracts see of an opened device and of a Book, and what an image of its device holds. Own.
+use Rattle.std.specs.Prelude.{◌≡◌, ◌⊎◌, ℕ, ◌+◌, ◌<◌, ◌≤◌, ◌^◌, Bool, true, false, nat_lt, List, [], ◌∷◌, ◌++◌, length, take, drop, map, ⊤, Result, Ok, Err}
+use mathlib.Core.List.{IsPrefix}
+use Rattle.pf_disk.specs.Disk.{IsImage}
+use Rattle.pf_rule.specs.Packets.{PlainPacket}
+use Rattle.pf_ticket.specs.{Mentions.{after as moved_by, switches}}
+use Rattle.pf_core.specs.declared.{command.Command.Command, command.Command.TheVariants.{Ask}, command.HistoryCommand.HistoryCommand, command.HistoryCommand.TheVariants.{Log, Publish}, command.Question.TheVariants.Judge, durable.verdict.Verdict.Verdict, reply.Outcome.Outcome, reply.Refusal.Refusal, reply.Refusal.TheVariants.{HistoryFull, Full, Fault, Memory}, reply.Reply.Reply, reply.Reply.TheVariants.{Answer, Applied, Stored, Refused}}
+use Rattle.pf_core.specs.declared.reply.Answer.TheVariants as answer
+use Rattle.pf_core.specs.{Calls.{Call, call}, Durable.Edits.{Kept, Edit, after, voided_by, verdict}, Laws.{Durable.IsWithin, Openings.Leaves}, Pages.{Page, IsFolded}, Wholes.Whole, Worlds.{Setting, Held, Doing, flat, is_fault}}
+use Rattle.pf_store.specs.{Rooms.{gate_after, on_device}, Stores.Holds, StoreKept.Stands}
+use Rattle.pf_store.specs.declared.store.keeping.Store.{Store}
+use Rattle.pf_view.specs.Known.{Stage}
+
+-- ---- an opened device
+
+-- the device, what it held, in the next epoch, where its bank ends, and where its closed gate stands
+pub record Opened (D : Type 0) : Type 0 where
+  pub disk : D
+  pub given : Kept
+  pub end : ℕ
+  pub gate : ℕ
+
+abbrev pub opened_store : {D : Type 0} → Store D → Kept → Opened D
+opened_store store d = record { disk = store.bank.journal.disk; given = d; end = store.bank.journal.end; gate = store.bank.journal.gate }
+
+-- what its type keeps
+pub record IsOpened {D : Type 0} (seen : D → List ℕ) (unsynced : D → ℕ → Bool) (faults : D → ℕ) (store : Store D) (d : Kept) : Type 0 where
+  pub goes_on : store.halted ≡ false
+  pub stands : Stands seen unsynced store d
+  pub few : faults store.bank.journal.disk < 2 ^ 63
+  pub images : (c : List ℕ) → IsImage (seen store.bank.journal.disk) (unsynced store.bank.journal.disk) c → Holds c d
+  pub within : IsWithin d
+
+-- ---- a Book
+
+-- each change is a group of its own
+abbrev pub singles : List Edit → List (List Edit)
+singles es = map (λ e. e ∷ []) es
+
+-- of the changes since the opening the first so many were acknowledged, and these are shown
+abbrev pub page_of : Kept → Whole → List Edit → ℕ → Setting → List Edit → Page
+page_of base whole log acked setting shown = record {
+  base = base;
+  whole = whole;
+  acked = singles (take acked log);
+  pending = singles (drop acked log);
+  setting = setting;
+  shown = length shown;
+  published = after base shown;
+}
+
+-- What contracts see of a Book: its device; what its opening gave; its core; the groups of changes that were acknowledged, and the one that
+-- wasn't; how many changes it may have, where its bank ends, and where the closed gate stood after the opening; how many changes are shown,
+-- and the copy that shows them.
+pub record Ledger (D : Type 0) : Type 0 where
+  pub disk : D
+  pub base : Kept
+  pub whole : Whole
+  pub acked : List (List Edit)
+  pub pending : List (List Edit)
+  pub limit : ℕ
+  pub end : ℕ
+  pub gate : ℕ
+  pub shown : ℕ
+  pub published : Kept
+
+abbrev pub ledger : {D : Type 0} → D → Kept → Whole → List Edit → (acked limit end gate : ℕ) → List Edit → Ledger D
+ledger disk base whole log acked limit end gate shown = record {
+  disk = disk;
+  base = base;
+  whole = whole;
+  acked = singles (take acked log);
+  pending = singles (drop acked log);
+  limit = limit;
+  end = end;
+  gate = gate;
+  shown = length shown;
+  published = after base shown;
+}
+
+-- the page in it, whose opening keeps within that room
+abbrev pub page : {D : Type 0} → Ledger D → Page
+page b = record {
+  base = b.base;
+  whole = b.whole;
+  acked = b.acked;
+  pending = b.pending;
+  setting = on_device b.limit b.end b.gate;
+  shown = b.shown;
+  published = b.published;
+}
+
+-- The image holds the fold of a front of the history, which has all that was acknowledged and cuts no group.
+abbrev pub HoldsFront : Page → List ℕ → Type 0
+HoldsFront b image = (n : ℕ) × Holds image (after b.base (flat (b.acked ++ take n b.pending)))
+
+-- The image holds what some crash within this leaves of the opening.
+abbrev pub HoldsLeft : Held → Doing → List ℕ → Type 0
+HoldsLeft h doing image = (d : Kept) × Holds image d × Leaves h doing d
+
+-- what a Book's type keeps
+pub record IsBook {D : Type 0} (seen : D → List ℕ) (unsynced : D → ℕ → Bool) (faults : D → ℕ)
+    (store : Store D) (b : Page) (d : Kept) (log : List Edit) (acked offered first_gate : ℕ) (stage : Stage) : Type 0 where
+  pub folded : IsFolded b
+  pub low : acked ≤ length log
+  pub high : length log ≤ acked + 1
+  pub halted : store.halted ≡ nat_lt acked (length log)
+  pub stands : store.halted ≡ false → Stands seen unsynced store b.whole.durable
+  pub few : store.halted ≡ false → faults store.bank.journal.disk < 2 ^ 63
+  pub gate : store.halted ≡ false → store.bank.journal.gate ≡ gate_after first_gate b.acked
+  pub images : (c : List ℕ) → IsImage (seen store.bank.journal.disk) (unsynced store.bank.journal.disk) c → HoldsFront b c
+  pub offered_low : offered ≤ acked
+  pub offered_is : stage.offered ≡ take offered log
+  pub shown_is : IsPrefix stage.shown stage.offered
+  pub latest : d ≡ b.whole.durable
+
+-- ---- what a call leaves
+
+-- the changes since the opening
+abbrev pub log_in : Page → List Edit
+log_in b = flat (b.acked ++ b.pending)
+
+-- it has room for the change: the history isn't full, and the device isn't
+pub record HasRoom (b : Page) (e : Edit) : Type 0 where
+  pub few : length (flat b.acked) < b.setting.limit
+  pub device : b.setting.is_full b.base b.acked (e ∷ []) ≡ false
+
+-- the change was kept
+pub record IsMore (old new : Page) (e : Edit) : Type 0 where
+  pub room : HasRoom old e
+  pub base : new.base ≡ old.base
+  pub tickets : new.whole.tickets ≡ moved_by old.whole.tickets (switches (voided_by e))
+  pub acked : new.acked ≡ old.acked ++ (e ∷ []) ∷ []
+  pub pending : new.pending ≡ old.pending
+  pub setting : new.setting ≡ old.setting
+  pub shown : new.shown ≡ old.shown
+
+-- the device failed while it was kept
+pub record IsPending (old new : Page) (e : Edit) : Type 0 where
+  pub room : HasRoom old e
+  pub same : new ≡ record old { pending = (e ∷ []) ∷ [] }
+
+-- why a change that fits wasn't kept, and what that leaves
+abbrev pub IsUnkept : Refusal → Page → Page → Edit → Type 0
+IsUnkept Memory old new e = new ≡ old
+IsUnkept HistoryFull old new e = (new ≡ old) × (old.setting.limit ≤ length (flat old.acked))
+IsUnkept Full old new e = (new ≡ old) × (length (flat old.acked) < old.setting.limit) × (old.setting.is_full old.base old.acked (e ∷ []) ≡ true)
+IsUnkept Fault old new e = IsPending old new e
+IsUnkept why old new e = ⊥
+
+-- all that was acknowledged is shown
+abbrev pub shows_all : Page → Page
+shows_all b = record b { shown = length (flat b.acked); published = after b.base (flat b.acked) }
+
+-- a device failed in the call that was told this
+abbrev pub is_fault_reply : Reply → Bool
+is_fault_reply (Answer a) = false
+is_fault_reply (Applied n o) = false
+is_fault_reply (Stored n o) = false
+is_fault_reply (Refused e) = is_fault e
+
+abbrev pub is_fault_result : {T : Type 0} → Result T Refusal → Bool
+is_fault_result (Ok x) = false
+is_fault_result (Err e) = is_fault e
+
+-- a change's number is how many changes were acknowledged by then
+abbrev pub IsNumbered : Reply → Page → Type 0
+IsNumbered (Answer a) new = ⊤
+IsNumbered (Applied seq outcome) new = seq ≡ length (flat new.acked)
+IsNumbered (Stored seq outcome) new = seq ≡ length (flat new.acked)
+IsNumbered (Refused e) new = ⊤
+
+-- a packet is always judged, and by what is kept
+abbrev pub IsJudged : Kept → Command → Reply → Type 0
+IsJudged d (Ask (Judge packet)) r = r ≡ Answer (answer.Judged (verdict d packet))
+IsJudged d c r = ⊤
+
+-- the call that asks what happens to a packet, answered so
+abbrev pub judging : PlainPacket → Verdict → Call
+judging packet v = call (Ask (Judge packet)) (Answer (answer.Judged v))
+
+-- Where a command is refused nothing changes, unless the device failed: then a group is pending, and nothing else has changed.
+pub record Stays {D : Type 0} (e : Refusal) (old new : Ledger D) : Type 0 where
+  pub same : is_fault e ≡ false → (page new ≡ page old) × (new.disk ≡ old.disk)
+  pub pending : is_fault e ≡ true → (group : List Edit) × (page new ≡ record (page old) { pending = group ∷ [] })
+
+abbrev pub StaysIfRefused : {D : Type 0} → Reply → Ledger D → Ledger D → Type 0
+StaysIfRefused (Answer a) old new = ⊤
+StaysIfRefused (Applied seq outcome) old new = ⊤
+StaysIfRefused (Stored seq outcome) old new = ⊤
+StaysIfRefused (Refused e) old new = Stays e old new
+
+-- ---- what a change comes to, and what the history is asked
+
+-- the change was kept with this number
+pub record IsKept (old new : Page) (e : Edit) (n : ℕ) : Type 0 where
+  pub more : IsMore old new e
+  pub number : n ≡ length (flat new.acked)
+
+-- the reply to a change that is wanted, with this outcome
+abbrev pub IsMade : Reply → Outcome → Edit → Page → Page → Type 0
+IsMade (Answer a) o e old new = ⊥
+IsMade (Applied n p) o e old new = (p ≡ o) × (kept : Page) × IsKept old kept e n × (new ≡ shows_all kept)
+IsMade (Stored n p) o e old new = (p ≡ o) × IsKept old new e n
+IsMade (Refused why) o e old new = IsUnkept why old new e
+
+-- how much there is, is acknowledged and is shown; or all that was acknowledged is shown, unless memory was refused
+abbrev pub IsTold : HistoryCommand → Reply → Page → Page → Type 0
+IsTold Log r old new = (new ≡ old) × (r ≡ Answer (answer.Logged (length (log_in old)) (length (flat old.acked)) old.shown))
+IsTold Publish r old new =
+    ((r ≡ Answer (answer.Shown (length (flat old.acked)))) × (new ≡ shows_all old)) ⊎ ((r ≡ Refused Memory) × (new ≡ old))

@@ -1,0 +1,365 @@
+//! One history over a device.
+ghost use Rattle.std.specs.Prelude.{◌≡◌, ℕ, ◌+◌, ◌<◌, ◌≤◌, [], ◌∷◌, ◌++◌, List, All, Ok, false, IfOk, IfErr, IfSome, OnOk, OnErr, IsErrOf, MatchBool, MatchResult, length, take, slice_get, nat_lt, not, if◌then◌else◌};
+ghost use Rattle.std.specs.Arc.{arc_value};
+ghost use Rattle.pf_disk.specs.Disk.{EachMoment, IsImage};
+ghost use Rattle.pf_core.specs.declared.reply.Refusal.TheVariants as told;
+ghost use Rattle.pf_core.specs.{Calls.call, Commands.may_change, Durable.Edits.{Kept, applied, after, fits, verdict}, Pages.{IsAt, IsFolded, StandsFor, Leads}, Wholes.left_by, Worlds.{Held, idle, calling, begun, upshot, Event, called, opened, is_fault, flat, raised, last_epoch, down, state_after, IsWorld, LegalReply, shown_by}};
+ghost use Rattle.pf_store.specs.{Rooms.on_device, Stores.HoldsEither};
+ghost use Rattle.pf_view.specs.Known.{IsNewSeer};
+ghost use Rattle.pf_book.specs.Books.{page, HoldsLeft, IsMore, IsUnkept, IsMade, IsTold, Stays, StaysIfRefused, shows_all, log_in, is_fault_reply, is_fault_result, IsNumbered, IsJudged, judging};
+
+use crate::opening::Opening;
+use crate::showing::offer_rest;
+use pf_core::{
+    Answer, Change, Command, Core, Durable, HistoryCommand, Next, Outcome, ReadyStep, Refusal,
+    Reply, Verdict,
+};
+use pf_disk::Disk;
+use pf_rule::Packet;
+use pf_store::{SaveFault, Store};
+use pf_view::{Naming, Seer, Shower, ViewFault, views};
+use std::alloc::Global;
+use std::marker::Model;
+use std::sync::{Arc, Wait};
+
+/// What an opening gave, and each change since: saved on the device before it is answered, and shown to the packet workers. It keeps the
+/// handle `R`, by which it waits for workers that are judging. Contracts see it as a `Ledger`, whose groups are
+/// single changes. Own.
+#[derive(Drop)]
+pub struct Book<D: Disk + Drop, J: Naming, R: Wait + Drop> {
+    alloc: Global,
+    store: Store<D>,
+    core: Core,
+    // what the core keeps, shared
+    durable: Arc<Durable>,
+    log: Vec<Arc<Change>>,
+    acked: usize,
+    offered: usize,
+    limit: usize,
+    // where the closed gate stood after the opening
+    first_gate: usize,
+    shower: Shower<J, R>,
+}
+
+impl<D: Disk + Drop, J: Naming, R: Wait + Drop> Model for Book<D, J, R> {
+    ghost use Rattle.std.specs.Prelude.{map};
+    ghost use Rattle.std.specs.Arc.{arc_value};
+    ghost use Rattle.pf_store.specs.Rooms.{on_device};
+    ghost use Rattle.pf_book.specs.Books.{Ledger, ledger, page_of, IsBook};
+
+    ghost Value = { Ledger D };
+
+    ghost view = { λ b. ledger b.store.bank.journal.disk J.base b.core (map arc_value b.log.items) b.acked
+        b.limit b.store.bank.journal.end b.first_gate b.shower.shown };
+
+    ghost invariant = { λ b. IsBook D.seen D.unsynced D.fault_count b.store
+        (page_of J.base b.core (map arc_value b.log.items) b.acked (on_device b.limit b.store.bank.journal.end b.first_gate) b.shower.shown)
+        (arc_value b.durable) (map arc_value b.log.items) b.acked b.offered b.first_gate b.shower };
+}
+
+// Whether it may change something, so that it is refused once the device has failed.
+fn may_change(command: &Command) -> bool
+    ensures { result ≡ may_change command.now }
+{
+    match command {
+        Command::Transact(_) | Command::Edit(_) | Command::States(_) => true,
+        Command::Ask(_) | Command::History(_) => false,
+    }
+}
+
+impl<D: Disk + Drop, J: Naming, R: Wait + Drop> Book<D, J, R> {
+    /// The history of an opening, which has no change yet and will have at most so many, and so many workers' ways into what is shown.
+    ///
+    /// `Err` hands the device back: `Memory` was refused, or a worker's place wasn't given (`Places`). The device holds what the opening
+    /// gave. Own.
+    pub fn of(
+        rt: R,
+        alloc: Global,
+        opening: Opening<D>,
+        history_limit: usize,
+        seers: usize,
+    ) -> Result<(Book<D, J, R>, Vec<Seer<J>>), (ViewFault, D)>
+        requires name { opening.given ≡ J.base }
+        requires low { 1 ≤ history_limit }
+        requires high { history_limit ≤ 1_048_576 }
+        requires seers { (0 < seers) × (seers ≤ 64) }
+        ensures at { IfOk result (λ r. IsAt (begun (on_device history_limit opening.end opening.gate) opening.given) (page r.0)) }
+        ensures device { IfOk result (λ r. r.0.disk ≡ opening.disk) }
+        ensures device_err { IfErr result (λ e. e.1 ≡ opening.disk) }
+        ensures seers { IfOk result (λ r. (length r.1.items ≡ seers) × All IsNewSeer r.1.items) }
+
+        // Of whatever world the device held this after, but for the epoch, it stands for that with an opening at its end.
+        ensures worlds { IfOk result (λ r. (first d : Kept) (world : List Event) → IsWorld first world → state_after (down first) world ≡ down d
+            → d.epoch < last_epoch → opening.given ≡ raised d
+            → StandsFor first (page r.0) (world ++ opened (on_device history_limit opening.end opening.gate) ∷ [])) }
+    {
+        let Opening { durable, store } = opening;
+        let Ok(shared) = Arc::try_clone(&durable) else {
+            return Err((ViewFault::Memory, store.into_disk()));
+        };
+        match views::<J, R>(rt, alloc, &durable, seers) {
+            Ok((shower, all)) => {
+                let first_gate = store.bank.journal.gate;
+                let book = Book {
+                    alloc,
+                    store,
+                    core: Core::new(alloc, shared),
+                    durable,
+                    log: Vec::new(alloc),
+                    acked: 0,
+                    offered: 0,
+                    limit: history_limit,
+                    first_gate,
+                    shower,
+                };
+                Ok((book, all))
+            }
+            Err(fault) => Err((fault, store.into_disk())),
+        }
+    }
+
+    // Keeps a change of the core's, which leaves this. It isn't shown yet.
+    fn keep(&mut self, change: Change, next: Next) -> Result<(), Refusal>
+        requires made { next ≡ left_by self.old.whole.durable change }
+        requires fits { fits self.old.whole.durable change ≡ Ok tt }
+        requires free { self.old.pending ≡ [] }
+        ensures ok { OnOk result (IsMore (page self.old) (page self.new) change) }
+        ensures err { IfErr result (λ e. IsUnkept e (page self.old) (page self.new) change) }
+        ensures any_moment { EachMoment D.moment D.left_since self.old.disk self.new.disk
+            (HoldsEither self.old.whole.durable (applied self.old.whole.durable change)) }
+        ensures still { IfErr result (λ e. is_fault e ≡ false → self.new.disk ≡ self.old.disk) }
+        ensures moments { D.moment self.new.disk ≤ D.moment self.old.disk + 4 }
+        ensures same_size { length (D.seen self.new.disk) ≡ length (D.seen self.old.disk) }
+        ensures faults { D.fault_count self.new.disk ≡ D.fault_count self.old.disk + (if is_fault_result result then 1 else 0) }
+    {
+        if self.log.len() >= self.limit {
+            return Err(Refusal::HistoryFull);
+        }
+        let after = next.durable()?;
+        let Ok(change) = Arc::new(self.alloc, change) else {
+            return Err(Refusal::Memory);
+        };
+        self.log.reserve(1)?;
+        match self
+            .store
+            .save(self.alloc, self.core.durable(), &change, &after)
+        {
+            Ok(()) => {
+                self.log.push_reserved(change);
+                self.acked += 1;
+                self.core.accept(next);
+                self.durable = after;
+                Ok(())
+            }
+            Err(SaveFault::Memory) => Err(Refusal::Memory),
+            Err(SaveFault::Full) => Err(Refusal::Full),
+            Err(SaveFault::Fault) => {
+                self.log.push_reserved(change);
+                Err(Refusal::Fault)
+            }
+            Err(SaveFault::Halted) => Err(Refusal::Halted),
+        }
+    }
+
+    // Shows all that was acknowledged, unless memory is refused: then what is shown stays.
+    fn show_all(&mut self) -> bool
+        ensures device { self.new.disk ≡ self.old.disk }
+        ensures page { MatchBool result ((page self.new) ≡ shows_all (page self.old)) ((page self.new) ≡ (page self.old)) }
+    {
+        if !offer_rest(
+            &mut self.shower,
+            self.alloc,
+            self.log.as_slice(),
+            self.offered,
+            self.acked,
+            &self.durable,
+        ) {
+            return false;
+        }
+        self.offered = self.acked;
+        match self.shower.show() {
+            Ok(()) => true,
+            Err(_) => false,
+        }
+    }
+
+    // Keeps a change that the core wants, and shows it.
+    fn make(&mut self, change: Change, next: Next, outcome: Outcome) -> Reply
+        requires made { next ≡ left_by self.old.whole.durable change }
+        requires fits { fits self.old.whole.durable change ≡ Ok tt }
+        requires free { self.old.pending ≡ [] }
+        ensures made { IsMade result outcome change (page self.old) (page self.new) }
+        ensures any_moment { EachMoment D.moment D.left_since self.old.disk self.new.disk
+            (HoldsEither self.old.whole.durable (applied self.old.whole.durable change)) }
+        ensures still { (e : Refusal) → result ≡ Reply.Refused e → is_fault e ≡ false → self.new.disk ≡ self.old.disk }
+        ensures moments { D.moment self.new.disk ≤ D.moment self.old.disk + 4 }
+        ensures same_size { length (D.seen self.new.disk) ≡ length (D.seen self.old.disk) }
+        ensures faults { D.fault_count self.new.disk ≡ D.fault_count self.old.disk + (if is_fault_reply result then 1 else 0) }
+    {
+        match self.keep(change, next) {
+            Ok(()) => {
+                let seq = self.acked as u64;
+                if self.show_all() {
+                    Reply::Applied { seq, outcome }
+                } else {
+                    Reply::Stored { seq, outcome }
+                }
+            }
+            Err(refusal) => Reply::Refused(refusal),
+        }
+    }
+
+    // What is asked of the history itself.
+    fn tell(&mut self, command: HistoryCommand) -> Reply
+        ensures device { self.new.disk ≡ self.old.disk }
+        ensures told { IsTold command result (page self.old) (page self.new) }
+    {
+        let acked = self.acked as u64;
+        match command {
+            HistoryCommand::Log => Reply::Answer(Answer::Logged {
+                len: self.log.len() as u64,
+                acked,
+                shown: self.shower.len() as u64,
+            }),
+            HistoryCommand::Publish => {
+                if self.show_all() {
+                    Reply::Answer(Answer::Shown(acked))
+                } else {
+                    Reply::Refused(Refusal::Memory)
+                }
+            }
+        }
+    }
+
+    // One call, wherever the opening has come to.
+    fn call(&mut self, command: &Command) -> Reply
+        ensures leads { (h : Held) → IsAt h (page self.old) → Leads h (page self.new) (call command.now result)
+            (upshot self.new.shown (nat_lt (D.fault_count self.old.disk) (D.fault_count self.new.disk))) }
+        ensures any_moment { (h : Held) → IsAt h (page self.old) → EachMoment D.moment D.left_since self.old.disk self.new.disk (HoldsLeft h (calling command.now)) }
+        ensures numbered { IsNumbered result (page self.new) }
+        ensures judged { IsJudged self.old.whole.durable command.now result }
+        ensures moments { D.moment self.new.disk ≤ D.moment self.old.disk + 4 }
+        ensures same_size { length (D.seen self.new.disk) ≡ length (D.seen self.old.disk) }
+        ensures faults { D.fault_count self.new.disk ≡ D.fault_count self.old.disk + (if is_fault_reply result then 1 else 0) }
+        ensures base { self.new.base ≡ self.old.base }
+        ensures setting { (page self.new).setting ≡ (page self.old).setting }
+        ensures refused { StaysIfRefused result self.old self.new }
+    {
+        if self.acked < self.log.len() && may_change(command) {
+            return Reply::Refused(Refusal::Halted);
+        }
+        match self.core.step_ready(command) {
+            Ok(ReadyStep::Done(answer)) => Reply::Answer(answer),
+            Ok(ReadyStep::Wants(change, next, outcome)) => self.make(change, next, outcome),
+            Ok(ReadyStep::OfHistory(command)) => self.tell(command),
+            Err(refusal) => Reply::Refused(refusal),
+        }
+    }
+
+    /// One call. A change is saved before it is answered, and its number, from 1 on, is how many changes the history then has.
+    ///
+    /// `Applied`: the change is on the device, and shown with all before it. `Stored`: it is on the device, and not shown yet, as memory
+    /// was refused for that. The refusals, in their order: `Halted`, where the device failed in an earlier call and the command may change
+    /// something; the core's own; `HistoryFull`, where the history has as many changes as it may have; `Full`, where the device has no room
+    /// for the change; `Fault`, where a call of the device failed. `Memory` may come instead of any reply but that to a judge, a test, a
+    /// sum, a rollback and a `log`; all growths but those for showing come before the device is written.
+    ///
+    /// After every refusal but `Fault` all is as before. After `Fault` the change stands in the history, not acknowledged, all else is as
+    /// before, and each later command that may change something is `Halted`. Own.
+    pub fn run(&mut self, command: Command) -> Reply
+        // The reply is legal in each world that the Book stood for, and it stands for that with this call at its end.
+        ensures worlds { (first : Kept) (world : List Event) → StandsFor first (page self.old) world →
+            StandsFor first (page self.new) (world ++ called (call command result)
+            (upshot self.new.shown (nat_lt (D.fault_count self.old.disk) (D.fault_count self.new.disk))) ∷ []) }
+        ensures legal { (h : Held) → IsAt h (page self.old)
+            → LegalReply h command result (nat_lt (D.fault_count self.old.disk) (D.fault_count self.new.disk)) }
+
+        // At each moment of the call an image holds what some crash within it leaves of the opening, and after it what one then leaves.
+        ensures any_moment { (h : Held) → IsAt h (page self.old)
+            → EachMoment D.moment D.left_since self.old.disk self.new.disk (HoldsLeft h (calling command)) }
+        ensures images { (h : Held) → IsAt h (page self.new) → (c : List ℕ)
+            → IsImage (D.seen self.new.disk) (D.unsynced self.new.disk) c → HoldsLeft h idle c }
+
+        // What is kept is the fold of all that was acknowledged, and what is shown is the fold of as many changes as are shown.
+        ensures fold { self.new.whole.durable ≡ after self.new.base (flat self.new.acked) }
+        ensures published { self.new.published ≡ after self.new.base (take self.new.shown (flat self.new.acked)) }
+        ensures shown { self.new.shown ≡ shown_by result self.old.shown }
+        ensures numbered { IsNumbered result (page self.new) }
+        ensures judged { IsJudged self.old.whole.durable command result }
+        ensures refused { StaysIfRefused result self.old self.new }
+        ensures base { self.new.base ≡ self.old.base }
+        ensures setting { (page self.new).setting ≡ (page self.old).setting }
+        ensures moments { D.moment self.new.disk ≤ D.moment self.old.disk + 4 }
+        ensures same_size { length (D.seen self.new.disk) ≡ length (D.seen self.old.disk) }
+        ensures faults { D.fault_count self.new.disk ≡ D.fault_count self.old.disk + (if is_fault_reply result then 1 else 0) }
+    {
+        let reply = self.call(&command);
+        // looked at, so that what a Book keeps is known here
+        let _ = &self.core;
+        reply
+    }
+
+    /// What happens to a packet, by what is kept: the call that asks for it, made without its command and its reply, which are long to
+    /// move. It changes nothing, and memory is never refused for it. Own.
+    pub fn judge(&self, packet: &Packet) -> Verdict
+        ensures worlds { (first : Kept) (world : List Event) → StandsFor first (page self.now) world →
+            StandsFor first (page self.now) (world ++ called (judging packet.now result) (upshot self.now.shown false) ∷ []) }
+        ensures verdict { result ≡ verdict self.now.whole.durable packet.now }
+    {
+        self.core.durable().verdict(packet)
+    }
+
+    /// How many changes the history has.
+    pub fn log_len(&self) -> usize
+        ensures { result ≡ length (log_in (page self.now)) }
+    {
+        self.log.len()
+    }
+
+    /// How many of them were acknowledged: all, or all but the last one.
+    pub fn acked(&self) -> usize
+        ensures { result ≡ length (flat self.now.acked) }
+    {
+        self.acked
+    }
+
+    /// How many of them are shown to packet workers.
+    pub fn shown(&self) -> usize
+        ensures { result ≡ self.now.shown }
+    {
+        self.shower.len()
+    }
+
+    /// What is kept: what the opening gave, with all that was acknowledged since.
+    pub fn durable(&self) -> &Durable
+        ensures { result.now ≡ self.now.whole.durable }
+    {
+        self.core.durable()
+    }
+
+    /// The device.
+    pub fn disk(&self) -> &D
+        ensures { result.now ≡ self.now.disk }
+    {
+        &self.store.bank.journal.disk
+    }
+
+    /// The device as it stands. Workers see nothing any more.
+    pub fn into_disk(self) -> D
+        ensures { result ≡ self.disk }
+    {
+        let Book {
+            alloc: _,
+            store,
+            core: _,
+            durable: _,
+            log: _,
+            acked: _,
+            offered: _,
+            limit: _,
+            first_gate: _,
+            shower: _,
+        } = self;
+        store.into_disk()
+    }
+}

@@ -1,0 +1,24 @@
+//! One history over a device: what an opening gave, each change since, saved before it is answered, and shown to packet workers.
+//!
+//! The crate joins `pf_core`, which tells the one step that a command may get, `pf_store`, which saves a change, and `pf_view`, which shows
+//! it. It knows no text, no bytes of a change and no rule. The modules:
+//!
+//! - `opening`: [`Opening`], a device that was opened.
+//! - `book`: [`Book`], the history of an opening, which answers commands.
+//! - `showing`: what is shown of a history; `book` uses it.
+//!
+//! Read first `specs/Books.antt`: what a Book is to contracts. What it keeps to is in the words of `pf_core`'s worlds.
+//!
+//! What its users need of the devices and of the store is given out again: [`MemDisk`], [`FileDisk`], [`FuseDisk`], [`format`], [`peek`].
+#![tactic(auto)]
+
+mod book;
+mod opening;
+mod showing;
+
+pub use book::Book;
+pub use opening::Opening;
+pub use pf_core::Reply;
+pub use pf_disk::{Disk, FileDisk, FileFault, FuseDisk, MemDisk};
+pub use pf_store::{OpenFault, format, peek};
+pub use pf_view::{Gone, Naming, Seer, Token, ViewFault};

@@ -1,0 +1,83 @@
+//! A device that was opened.
+ghost use Rattle.std.specs.Prelude.{◌≡◌, ◌+◌, ◌^◌, ◌<◌, ◌≤◌, false, ℕ, List, length, IfOk, IfErr, if◌then◌else◌};
+ghost use Rattle.pf_disk.specs.Disk.{EachMoment, IsImage};
+ghost use Rattle.pf_core.specs.{Durable.Edits.Kept, Laws.Durable.IsWithin, Worlds.{last_epoch, raised}};
+ghost use Rattle.pf_store.specs.declared.store.fault.OpenFault.TheVariants.{BadSize, Memory};
+ghost use Rattle.pf_store.specs.{Banks.bank_end, Stores.{Holds, IsOfOpening}, StoreFaults.is_fault, Openings.{IsUnopened, gate_of}};
+
+use pf_core::Durable;
+use pf_disk::Disk;
+use pf_store::{OpenFault, Store};
+use std::alloc::Global;
+use std::marker::Model;
+use std::sync::Arc;
+
+/// A device that was opened, and what it held, in the next epoch. A `Book` is made of it; until then it takes no change. Contracts see it
+/// as an `Opened`. Own.
+#[derive(Drop)]
+pub struct Opening<D: Disk> {
+    pub(crate) durable: Arc<Durable>,
+    pub(crate) store: Store<D>,
+}
+
+impl<D: Disk> Model for Opening<D> {
+    ghost use Rattle.std.specs.Arc.{arc_value};
+    ghost use Rattle.pf_book.specs.Books.{Opened, opened_store, IsOpened};
+
+    ghost Value = { Opened D };
+
+    ghost view = { λ o. opened_store o.store (arc_value o.durable) };
+
+    ghost invariant = { λ o. IsOpened D.seen D.unsynced D.fault_count o.store (arc_value o.durable) };
+}
+
+impl<D: Disk> Opening<D> {
+    /// Opens a device, whatever a crash or a fault made of it, in eight moments of the device at most. What was read gets the next epoch,
+    /// which is on the device before this returns, so that no ticket of an earlier opening is ever valid again.
+    ///
+    /// `Err` hands the device back with the cause, as [`OpenFault`] tells them. It reads as before, but for `Fault` and `Memory`, after
+    /// which an image may hold what was read with the next epoch. Own.
+    pub fn open(alloc: Global, disk: D) -> Result<Opening<D>, (OpenFault, D)>
+        requires few { D.fault_count disk < 2 ^ 63 }
+
+        // What the device held, in the next epoch. Each image holds that then.
+        ensures opened { IfOk result (λ o. (d : Kept) × (held : Holds (D.seen disk) d) × (o.given ≡ raised d) × (d.epoch < last_epoch)
+            × (o.gate ≡ gate_of (D.seen disk) d held + 11)) }
+        ensures images { IfOk result (λ o. (c : List ℕ) → IsImage (D.seen o.disk) (D.unsynced o.disk) c → Holds c o.given) }
+        ensures within { IfOk result (λ o. IsWithin o.given) }
+        ensures end { IfOk result (λ o. o.end ≡ bank_end (length (D.seen o.disk))) }
+
+        // At each moment an image is one from the start, or holds what was read, its epoch perhaps one greater.
+        ensures any_moment { IfOk result (λ o. EachMoment D.moment D.left_since disk o.disk (IsOfOpening (D.seen disk) (D.unsynced disk))) }
+        ensures any_moment_err { IfErr result (λ e. EachMoment D.moment D.left_since disk e.1 (IsOfOpening (D.seen disk) (D.unsynced disk))) }
+
+        ensures refused { IfErr result (λ e. IsUnopened e.0 (D.seen disk)) }
+        ensures untouched { IfErr result (λ e. is_fault e.0 ≡ false → (e.0 ≡ Memory → ⊥) → D.seen e.1 ≡ D.seen disk) }
+        ensures unchanged_at_bad_size { IfErr result (λ e. e.0 ≡ BadSize → e.1 ≡ disk) }
+        ensures moments { IfOk result (λ o. D.moment o.disk ≤ D.moment disk + 8) }
+        ensures moments_err { IfErr result (λ e. D.moment e.1 ≤ D.moment disk + 8) }
+        ensures no_fault { IfOk result (λ o. D.fault_count o.disk ≡ D.fault_count disk) }
+        ensures fault { IfErr result (λ e. D.fault_count e.1 ≡ D.fault_count disk + (if is_fault e.0 then 1 else 0)) }
+    {
+        let (durable, store) = Store::open(alloc, disk)?;
+        match Arc::new(alloc, durable) {
+            Ok(durable) => Ok(Opening { durable, store }),
+            Err(_) => Err((OpenFault::Memory, store.into_disk())),
+        }
+    }
+
+    /// What the device holds.
+    pub fn durable(&self) -> &Durable
+        ensures { result.now ≡ self.now.given }
+    {
+        &self.durable
+    }
+
+    /// The device as it stands.
+    pub fn into_disk(self) -> D
+        ensures { result ≡ self.disk }
+    {
+        let Opening { durable: _, store } = self;
+        store.into_disk()
+    }
+}

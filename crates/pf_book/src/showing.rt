@@ -1,0 +1,51 @@
+//! What is shown of a history.
+ghost use Rattle.std.specs.Prelude.{◌≡◌, ◌≤◌, length, map, take, IfOk, MatchBool};
+ghost use Rattle.std.specs.Arc.{arc_value};
+ghost use Rattle.pf_core.specs.Durable.Edits.{after};
+
+use pf_core::{Change, Durable};
+use pf_view::{Naming, Shower};
+use std::alloc::{AllocError, Global};
+use std::sync::{Arc, Wait};
+
+// The same changes, shared.
+fn shared(alloc: Global, changes: &[Arc<Change>]) -> Result<Vec<Arc<Change>>, AllocError>
+    ensures { IfOk result (λ v. map arc_value v.items ≡ map arc_value changes.now) }
+{
+    let mut all = Vec::with_capacity(alloc, changes.len())?;
+    for change in changes {
+        all.push(Arc::try_clone(change)?)?;
+    }
+    Ok(all)
+}
+
+/// Offers what was acknowledged and not offered yet, with what all of it leaves, and says whether all that was acknowledged is offered
+/// then. It isn't where memory was refused.
+pub(crate) fn offer_rest<J: Naming, R: Wait + Drop>(
+    shower: &mut Shower<J, R>,
+    alloc: Global,
+    log: &[Arc<Change>],
+    offered: usize,
+    acked: usize,
+    durable: &Arc<Durable>,
+) -> bool
+    requires within { (offered ≤ acked) × (acked ≤ length log.now) }
+    requires offered { shower.old.offered ≡ take offered (map arc_value log.now) }
+    requires chain { arc_value durable.now ≡ after J.base (take acked (map arc_value log.now)) }
+    ensures offered { MatchBool result (shower.new.offered ≡ take acked (map arc_value log.now)) (shower.new.offered ≡ shower.old.offered) }
+    ensures shown { shower.new.shown ≡ shower.old.shown }
+{
+    if offered == acked {
+        return true;
+    }
+    let Ok(changes) = shared(alloc, &log[offered..acked]) else {
+        return false;
+    };
+    let Ok(durable) = Arc::try_clone(durable) else {
+        return false;
+    };
+    match shower.offer(changes, durable) {
+        Ok(()) => true,
+        Err(_) => false,
+    }
+}
