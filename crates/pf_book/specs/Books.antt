@@ -1,5 +1,5 @@
 -- What contracts see of an opened device and of a Book, and what an image of its device holds. Own.
-use Rattle.std.specs.Prelude.{◌≡◌, ◌⊎◌, ℕ, ◌+◌, ◌<◌, ◌≤◌, ◌^◌, Bool, true, false, nat_lt, List, [], ◌∷◌, ◌++◌, length, take, drop, map, ⊤, Result, Ok, Err}
+use Rattle.std.specs.Prelude.{◌≡◌, ◌⊎◌, ℕ, zero, suc, ◌+◌, ◌<◌, ◌≤◌, ◌^◌, Bool, true, false, nat_lt, List, [], ◌∷◌, ◌++◌, length, slice_get, take, drop, map, ⊤, Option, None, Result, Ok, Err}
 use mathlib.Core.List.{IsPrefix}
 use Rattle.pf_disk.specs.Disk.{IsImage}
 use Rattle.pf_rule.specs.Packets.{PlainPacket}
@@ -119,6 +119,11 @@ pub record IsBook {D : Type 0} (seen : D → List ℕ) (unsynced : D → ℕ →
 -- the changes since the opening
 abbrev pub log_in : Page → List Edit
 log_in b = flat (b.acked ++ b.pending)
+
+-- the one of this number, from 1 on
+abbrev pub change_in : List Edit → ℕ → Option Edit
+change_in log zero = None
+change_in log (suc n) = slice_get log n
 
 -- it has room for the change: the history isn't full, and the device isn't
 pub record HasRoom (b : Page) (e : Edit) : Type 0 where

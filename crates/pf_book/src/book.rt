@@ -1,12 +1,12 @@
 //! One history over a device.
-ghost use Rattle.std.specs.Prelude.{◌≡◌, ℕ, ◌+◌, ◌<◌, ◌≤◌, [], ◌∷◌, ◌++◌, List, All, Ok, false, IfOk, IfErr, IfSome, OnOk, OnErr, IsErrOf, MatchBool, MatchResult, length, take, slice_get, nat_lt, not, if◌then◌else◌};
+ghost use Rattle.std.specs.Prelude.{◌≡◌, ℕ, ◌+◌, ◌<◌, ◌≤◌, [], ◌∷◌, ◌++◌, List, All, Ok, false, IfOk, IfErr, IfSome, OnOk, OnErr, IsErrOf, MatchBool, MatchResult, length, option_map, take, slice_get, nat_lt, not, if◌then◌else◌};
 ghost use Rattle.std.specs.Arc.{arc_value};
 ghost use Rattle.pf_disk.specs.Disk.{EachMoment, IsImage};
 ghost use Rattle.pf_core.specs.declared.reply.Refusal.TheVariants as told;
 ghost use Rattle.pf_core.specs.{Calls.call, Commands.may_change, Durable.Edits.{Kept, applied, after, fits, verdict}, Pages.{IsAt, IsFolded, StandsFor, Leads}, Wholes.left_by, Worlds.{Held, idle, calling, begun, upshot, Event, called, opened, is_fault, flat, raised, last_epoch, down, state_after, IsWorld, LegalReply, shown_by}};
 ghost use Rattle.pf_store.specs.{Rooms.on_device, Stores.HoldsEither};
 ghost use Rattle.pf_view.specs.Known.{IsNewSeer};
-ghost use Rattle.pf_book.specs.Books.{page, HoldsLeft, IsMore, IsUnkept, IsMade, IsTold, Stays, StaysIfRefused, shows_all, log_in, is_fault_reply, is_fault_result, IsNumbered, IsJudged, judging};
+ghost use Rattle.pf_book.specs.Books.{page, HoldsLeft, IsMore, IsUnkept, IsMade, IsTold, Stays, StaysIfRefused, shows_all, change_in, log_in, is_fault_reply, is_fault_result, IsNumbered, IsJudged, judging};
 
 use crate::opening::Opening;
 use crate::showing::offer_rest;
@@ -309,42 +309,55 @@ impl<D: Disk + Drop, J: Naming, R: Wait + Drop> Book<D, J, R> {
         self.core.durable().verdict(packet)
     }
 
-    /// How many changes the history has.
+    /// How many changes the history has. Own.
     pub fn log_len(&self) -> usize
         ensures { result ≡ length (log_in (page self.now)) }
     {
         self.log.len()
     }
 
-    /// How many of them were acknowledged: all, or all but the last one.
+    /// The change of this number, from 1 on; none has a greater one than the history has changes. Own.
+    pub fn change_at(&self, number: usize) -> Option<&Change>
+        ensures { option_map (λ change. change.now) result ≡ change_in (log_in (page self.now)) number }
+    {
+        if number == 0 {
+            return None;
+        }
+        match self.log.get(number - 1) {
+            Some(change) => Some(&**change),
+            None => None,
+        }
+    }
+
+    /// How many of them were acknowledged: all, or all but the last one. Own.
     pub fn acked(&self) -> usize
         ensures { result ≡ length (flat self.now.acked) }
     {
         self.acked
     }
 
-    /// How many of them are shown to packet workers.
+    /// How many of them are shown to packet workers. Own.
     pub fn shown(&self) -> usize
         ensures { result ≡ self.now.shown }
     {
         self.shower.len()
     }
 
-    /// What is kept: what the opening gave, with all that was acknowledged since.
+    /// What is kept: what the opening gave, with all that was acknowledged since. Own.
     pub fn durable(&self) -> &Durable
         ensures { result.now ≡ self.now.whole.durable }
     {
         self.core.durable()
     }
 
-    /// The device.
+    /// The device. Own.
     pub fn disk(&self) -> &D
         ensures { result.now ≡ self.now.disk }
     {
         &self.store.bank.journal.disk
     }
 
-    /// The device as it stands. Workers see nothing any more.
+    /// The device as it stands. Workers see nothing any more. Own.
     pub fn into_disk(self) -> D
         ensures { result ≡ self.disk }
     {

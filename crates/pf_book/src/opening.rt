@@ -35,8 +35,8 @@ impl<D: Disk> Opening<D> {
     /// Opens a device, whatever a crash or a fault made of it, in eight moments of the device at most. What was read gets the next epoch,
     /// which is on the device before this returns, so that no ticket of an earlier opening is ever valid again.
     ///
-    /// `Err` hands the device back with the cause, as [`OpenFault`] tells them. It reads as before, but for `Fault` and `Memory`, after
-    /// which an image may hold what was read with the next epoch. Own.
+    /// `Err` hands the device back with the cause, as [`OpenFault`] tells them. It reads as before, and each image is one from before, but
+    /// for `Fault` and `Memory`, after which an image may hold what was read with the next epoch. Own.
     pub fn open(alloc: Global, disk: D) -> Result<Opening<D>, (OpenFault, D)>
         requires few { D.fault_count disk < 2 ^ 63 }
 
@@ -52,7 +52,8 @@ impl<D: Disk> Opening<D> {
         ensures any_moment_err { IfErr result (λ e. EachMoment D.moment D.left_since disk e.1 (IsOfOpening (D.seen disk) (D.unsynced disk))) }
 
         ensures refused { IfErr result (λ e. IsUnopened e.0 (D.seen disk)) }
-        ensures untouched { IfErr result (λ e. is_fault e.0 ≡ false → (e.0 ≡ Memory → ⊥) → D.seen e.1 ≡ D.seen disk) }
+        ensures untouched { IfErr result (λ e. is_fault e.0 ≡ false → (e.0 ≡ Memory → ⊥) → (D.seen e.1 ≡ D.seen disk)
+            × EachMoment D.moment D.left_since disk e.1 (IsImage (D.seen disk) (D.unsynced disk))) }
         ensures unchanged_at_bad_size { IfErr result (λ e. e.0 ≡ BadSize → e.1 ≡ disk) }
         ensures moments { IfOk result (λ o. D.moment o.disk ≤ D.moment disk + 8) }
         ensures moments_err { IfErr result (λ e. D.moment e.1 ≤ D.moment disk + 8) }
@@ -66,14 +67,14 @@ impl<D: Disk> Opening<D> {
         }
     }
 
-    /// What the device holds.
+    /// What the device holds. Own.
     pub fn durable(&self) -> &Durable
         ensures { result.now ≡ self.now.given }
     {
         &self.durable
     }
 
-    /// The device as it stands.
+    /// The device as it stands. Own.
     pub fn into_disk(self) -> D
         ensures { result ≡ self.disk }
     {

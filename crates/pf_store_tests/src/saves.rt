@@ -1,69 +1,145 @@
 // Openings and saves over devices in memory, by the rows of `stdin`.
-ghost use Rattle.std.specs.Prelude.{◌≡◌, length};
+ghost use Rattle.std.specs.Prelude.{◌≡◌, IfOk};
 
-use crate::book::Book;
+use crate::books::{HISTORY_LIMIT, closed_gate, replies, replies_over, reply};
 use crate::crashes::fill;
-use pf_core::Reply;
-use pf_disk::{Disk, Fill, FuseDisk, MemDisk};
-use pf_line::{parse_line, write_reply};
-use pf_store::{format, read_durable, write_durable};
+use crate::rows::{Segment, cut_bar, cut_word, lines_of, number, put_bytes, segments, tell_row};
+use pf_book::{Book, Disk, FuseDisk, MemDisk, Naming, OpenFault, Opening, format};
+use pf_disk::Fill;
+use pf_store::{read_durable, write_durable};
 use std::alloc::{AllocError, Global};
+use std::marker::Brand;
+use std::sync::Wait;
 
 /// Their replies tell all that is kept in the rows, but for the epoch.
-const QUESTIONS: [&str; 5] = [
-    "show rules -",
-    "show rules web",
-    "show tables -",
-    "show tables web",
-    "show states",
-];
+const QUESTIONS: &str =
+    "show rules - | show rules web | show tables - | show tables web | show states";
 
 /// The calls of an opening and of a save, and one more.
 const CALLS: u64 = 13;
 
-/// A device between two rows, and the last opening of it.
+/// A device between two rows, and what is known of the last opening of it.
 #[derive(Drop)]
-struct Bench {
+struct Bench<H: Wait + Drop + Copy> {
+    waits: H,
     alloc: Global,
     bytes: Vec<u8>,
-    book: Option<Book<MemDisk>>,
+    questions: Vec<String>,
     /// What was kept in that opening: at its start, and after each save.
     kept: Vec<String>,
 }
 
+/// What a device is opened as.
+#[derive(Drop)]
+struct Opened {
+    epoch: u32,
+    gate: usize,
+    kept: String,
+}
+
 /// Plays the rows of a text, and tells each with what it comes to.
-pub fn play(alloc: Global, told: &mut String, text: &str) -> Result<(), AllocError> {
+pub fn play<H: Wait + Drop + Copy>(
+    waits: H,
+    alloc: Global,
+    told: &mut String,
+    text: &str,
+) -> Result<(), AllocError> {
     let mut bench = Bench {
+        waits,
         alloc,
         bytes: Vec::new(alloc),
-        book: None,
+        questions: lines_of(alloc, QUESTIONS)?,
         kept: Vec::new(alloc),
     };
-    for row in text.split('\n') {
-        told.push_str(row)?;
-        if !row.is_empty() && !row.starts_with("//") && !row.starts_with("==") {
-            told.push_str(" -> ")?;
-            bench.play_row(told, row)?;
-        }
-        told.push('\n')?;
+    for segment in &segments(alloc, text)? {
+        bench.play_segment(told, segment)?;
     }
     Ok(())
 }
 
-impl Bench {
-    fn play_row(&mut self, told: &mut String, row: &str) -> Result<(), AllocError> {
-        let (word, rest) = row.split_once(' ').unwrap_or((row, ""));
+/// Makes a Book of an opening, and plays rows over it.
+fn play_over<J: Naming, H: Wait + Drop + Copy>(
+    bench: &mut Bench<H>,
+    opening: Opening<MemDisk>,
+    told: &mut String,
+    rows: &[String],
+) -> Result<(), AllocError>
+    requires { opening.given ≡ J.base }
+{
+    match Book::<MemDisk, J, H>::of(bench.waits, bench.alloc, opening, HISTORY_LIMIT, 1) {
+        Ok((mut book, _seers)) => bench.play_opened(told, &mut book, rows),
+        Err(_) => Err(AllocError),
+    }
+}
+
+impl<H: Wait + Drop + Copy> Bench<H> {
+    fn play_segment(&mut self, told: &mut String, segment: &Segment) -> Result<(), AllocError> {
+        if !segment.opens {
+            return self.play_unopened(told, &segment.rows);
+        }
+        told.push_str("open -> ")?;
+        match Opening::open(self.alloc, self.device()?) {
+            Ok(opening) => play_over::<Brand, _>(self, opening, told, &segment.rows),
+            Err((fault, _disk)) => {
+                write!(told, "{fault:?}\n")?;
+                self.play_unopened(told, &segment.rows)
+            }
+        }
+    }
+
+    fn play_unopened(&mut self, told: &mut String, rows: &[String]) -> Result<(), AllocError> {
+        for row in rows {
+            if tell_row(told, row)? {
+                self.play_device(told, row)?;
+            }
+            told.push('\n')?;
+        }
+        Ok(())
+    }
+
+    fn play_opened<J: Naming>(
+        &mut self,
+        told: &mut String,
+        book: &mut Book<MemDisk, J, H>,
+        rows: &[String],
+    ) -> Result<(), AllocError> {
+        self.begin(told, book)?;
+        for row in rows {
+            if tell_row(told, row)? {
+                self.play_row(told, book, row)?;
+            }
+            told.push('\n')?;
+        }
+        Ok(())
+    }
+
+    /// A row for which nothing has to be opened.
+    fn play_device(&mut self, told: &mut String, row: &str) -> Result<(), AllocError> {
+        let (word, rest) = cut_word(row);
         match word {
             "zeros" => self.make(told, number(rest)),
             "format" => self.format(told),
-            "open" => self.open(told),
             "bytes" => self.tell_bytes(told, rest),
-            "snapshot" => self.tell_snapshot(told),
             "with" => self.tell_changed(told, rest),
-            "crash" => self.tell_crash(told, rest),
-            "crashes" => self.tell_crashes(told),
             "faults" => self.tell_faults(told, rest),
-            _ => self.call(told, row),
+            "failing" => self.tell_failing(told, rest),
+            _ => Ok(()),
+        }
+    }
+
+    fn play_row<J: Naming>(
+        &mut self,
+        told: &mut String,
+        book: &mut Book<MemDisk, J, H>,
+        row: &str,
+    ) -> Result<(), AllocError> {
+        let (word, rest) = cut_word(row);
+        match word {
+            "bytes" | "with" | "faults" | "failing" => self.play_device(told, row),
+            "snapshot" => self.tell_snapshot(told, book),
+            "crash" => self.tell_crash(told, book.disk(), rest),
+            "crashes" => self.tell_crashes(told, book.disk()),
+            _ => self.call(told, book, row),
         }
     }
 
@@ -74,51 +150,63 @@ impl Bench {
     }
 
     fn format(&mut self, told: &mut String) -> Result<(), AllocError> {
-        let mut disk = MemDisk::of(self.alloc, self.bytes.to_vec(self.alloc)?)?;
+        let mut disk = self.device()?;
         let answer = format(self.alloc, &mut disk);
         self.bytes = disk.image(self.alloc, u64::MAX, Fill::Old)?;
         write!(told, "{answer:?}, {} calls", disk.calls())?;
         Ok(())
     }
 
-    fn open(&mut self, told: &mut String) -> Result<(), AllocError> {
-        let disk = MemDisk::of(self.alloc, self.bytes.to_vec(self.alloc)?)?;
-        match Book::open(self.alloc, disk) {
-            Ok(mut book) => {
-                let (epoch, gate) = (book.durable().epoch(), book.gate());
-                self.kept = Vec::new(self.alloc);
-                self.kept.push(kept(self.alloc, &mut book)?)?;
-                self.bytes = book.disk().image(self.alloc, u64::MAX, Fill::Old)?;
-                write!(
-                    told,
-                    "epoch {epoch}, gate {gate}, {} calls",
-                    book.disk().calls()
-                )?;
-                self.book = Some(book);
-            }
-            Err((fault, _disk)) => write!(told, "{fault:?}")?,
-        }
+    /// The device with its bytes, before its first call.
+    fn device(&self) -> Result<MemDisk, AllocError>
+        ensures { IfOk result (λ disk. ⟦<MemDisk as Disk>⟧.fault_count disk ≡ 0) }
+    {
+        MemDisk::of(self.alloc, self.bytes.to_vec(self.alloc)?)
+    }
+
+    /// Tells what was opened. What is kept then comes before all saves.
+    fn begin<J: Naming>(
+        &mut self,
+        told: &mut String,
+        book: &mut Book<MemDisk, J, H>,
+    ) -> Result<(), AllocError> {
+        self.kept = Vec::new(self.alloc);
+        self.keep(book)?;
+        let (epoch, gate) = (book.durable().epoch(), closed_gate(&self.bytes));
+        write!(
+            told,
+            "epoch {epoch}, gate {gate}, {} calls\n",
+            book.disk().calls()
+        )?;
+        Ok(())
+    }
+
+    /// Takes over what the Book's device holds now.
+    fn keep<J: Naming>(&mut self, book: &mut Book<MemDisk, J, H>) -> Result<(), AllocError> {
+        self.kept.push(replies(self.alloc, book, &self.questions)?)?;
+        self.bytes = book.disk().image(self.alloc, u64::MAX, Fill::Old)?;
         Ok(())
     }
 
     /// One line of a client.
-    fn call(&mut self, told: &mut String, line: &str) -> Result<(), AllocError> {
-        let Some(book) = &mut self.book else {
-            return Ok(());
-        };
+    fn call<J: Naming>(
+        &mut self,
+        told: &mut String,
+        book: &mut Book<MemDisk, J, H>,
+        line: &str,
+    ) -> Result<(), AllocError> {
         let text = reply(self.alloc, book, line)?;
         told.push_str(&text)?;
         if text.starts_with("applied") {
-            write!(told, ", gate {}", book.gate())?;
-            self.kept.push(kept(self.alloc, book)?)?;
-            self.bytes = book.disk().image(self.alloc, u64::MAX, Fill::Old)?;
+            self.keep(book)?;
+            write!(told, ", gate {}", closed_gate(&self.bytes))?;
         }
         Ok(())
     }
 
     /// The bytes between two places.
     fn tell_bytes(&self, told: &mut String, places: &str) -> Result<(), AllocError> {
-        let (start, end) = places.split_once(' ').unwrap_or(("", ""));
+        let (start, end) = cut_word(places);
         for byte in self.bytes.get(number(start)..number(end)).unwrap_or(&[]) {
             write!(told, "{byte:02x}")?;
         }
@@ -126,10 +214,11 @@ impl Bench {
     }
 
     /// How many bytes a snapshot of all that is kept has, and whether it is read back as that.
-    fn tell_snapshot(&self, told: &mut String) -> Result<(), AllocError> {
-        let Some(book) = &self.book else {
-            return Ok(());
-        };
+    fn tell_snapshot<J: Naming>(
+        &self,
+        told: &mut String,
+        book: &Book<MemDisk, J, H>,
+    ) -> Result<(), AllocError> {
         let Ok(bytes) = write_durable(self.alloc, book.durable()) else {
             return Err(AllocError);
         };
@@ -150,30 +239,30 @@ impl Bench {
         self.tell_opened(told, bytes)
     }
 
-    /// What the device is opened as after a crash in a call, with these bytes where it may leave any.
-    fn tell_crash(&self, told: &mut String, how: &str) -> Result<(), AllocError> {
-        let (call, changes) = how.split_once(' ').unwrap_or((how, ""));
-        let Some(book) = &self.book else {
-            return Ok(());
-        };
-        let (disk, moment) = (book.disk(), number(call) as u64);
+    /// What the device is opened as after a crash in a call, with these bytes where it may leave any, and the replies to lines there.
+    fn tell_crash(&self, told: &mut String, disk: &MemDisk, how: &str) -> Result<(), AllocError> {
+        let (crash, lines) = cut_bar(how);
+        let (call, changes) = cut_word(crash);
+        let moment = number(call) as u64;
         let mut bytes = disk.image(self.alloc, moment, Fill::New)?;
         put_bytes(&mut bytes, changes);
         if bytes.len() != disk.size() {
             return Ok(());
         }
         let image = disk.image(self.alloc, moment, Fill::Bytes(&bytes))?;
-        self.tell_opened(told, image)
+        self.tell_opened(told, image.to_vec(self.alloc)?)?;
+        if lines.is_empty() {
+            return Ok(());
+        }
+        told.push_str(": ")?;
+        self.tell_replies(told, image, lines)
     }
 
     /// After how many saves what a crash leaves was kept, by call and by fill.
-    fn tell_crashes(&self, told: &mut String) -> Result<(), AllocError> {
-        let Some(book) = &self.book else {
-            return Ok(());
-        };
-        for moment in 1..book.disk().calls().saturating_add(2) {
+    fn tell_crashes(&self, told: &mut String, disk: &MemDisk) -> Result<(), AllocError> {
+        for moment in 1..disk.calls().saturating_add(2) {
             write!(told, "\n  in call {moment}:")?;
-            self.tell_moment(told, book.disk(), moment)?;
+            self.tell_moment(told, disk, moment)?;
         }
         Ok(())
     }
@@ -195,15 +284,21 @@ impl Bench {
 
     /// An opening and twice the same line, on devices of which calls fail.
     fn tell_faults(&self, told: &mut String, line: &str) -> Result<(), AllocError> {
+        let lines = lines_of(self.alloc, &format!(in self.alloc; "{line} | {line}")?)?;
         for calls in 0..CALLS {
             write!(told, "\n  one behind {calls} calls fails: ")?;
-            let disk = MemDisk::of(self.alloc, self.bytes.to_vec(self.alloc)?)?;
-            self.tell_fault(told, FuseDisk::once(disk, calls), line)?;
+            self.tell_fault(told, FuseDisk::once(self.device()?, calls), &lines)?;
             write!(told, "\n  all behind {calls} calls fail: ")?;
-            let disk = MemDisk::of(self.alloc, self.bytes.to_vec(self.alloc)?)?;
-            self.tell_fault(told, FuseDisk::after(disk, calls), line)?;
+            self.tell_fault(told, FuseDisk::after(self.device()?, calls), &lines)?;
         }
         Ok(())
+    }
+
+    /// An opening and some lines, on a device of which all calls behind so many fail.
+    fn tell_failing(&self, told: &mut String, how: &str) -> Result<(), AllocError> {
+        let (calls, lines) = cut_bar(how);
+        let disk = FuseDisk::after(self.device()?, number(calls) as u64);
+        self.tell_fault(told, disk, &lines_of(self.alloc, lines)?)
     }
 
     /// What they come to, and what the device below is opened as then: with the bytes of its last sync, and with all that were written.
@@ -211,16 +306,17 @@ impl Bench {
         &self,
         told: &mut String,
         disk: FuseDisk<MemDisk>,
-        line: &str,
+        lines: &[String],
     ) -> Result<(), AllocError>
         requires { ⟦<FuseDisk<MemDisk> as Disk>⟧.fault_count disk ≡ 0 }
     {
-        let disk = match Book::open(self.alloc, disk) {
-            Ok(mut book) => {
-                told.push_str(&reply(self.alloc, &mut book, line)?)?;
-                told.push_str(", ")?;
-                told.push_str(&reply(self.alloc, &mut book, line)?)?;
-                book.into_disk()
+        let disk = match Opening::open(self.alloc, disk) {
+            Ok(opening) => {
+                let (text, disk) = replies_over::<_, Brand, _>(
+                    self.waits, self.alloc, opening, lines,
+                )?;
+                told.push_str(&text)?;
+                disk
             }
             Err((fault, disk)) => {
                 write!(told, "{fault:?}")?;
@@ -234,33 +330,54 @@ impl Bench {
         self.tell_opened(told, below.image(self.alloc, u64::MAX, Fill::New)?)
     }
 
+    /// The replies to lines over a device with these bytes.
+    fn tell_replies(
+        &self,
+        told: &mut String,
+        bytes: Vec<u8>,
+        lines: &str,
+    ) -> Result<(), AllocError> {
+        let Ok(opening) = Opening::open(self.alloc, MemDisk::of(self.alloc, bytes)?) else {
+            return Ok(());
+        };
+        let lines = lines_of(self.alloc, lines)?;
+        let (text, _disk) = replies_over::<_, Brand, _>(self.waits, self.alloc, opening, &lines)?;
+        told.push_str(&text)
+    }
+
+    /// Opens a device with these bytes.
+    fn opened(&self, bytes: Vec<u8>) -> Result<Result<Opened, OpenFault>, AllocError> {
+        let opening = match Opening::open(self.alloc, MemDisk::of(self.alloc, bytes)?) {
+            Ok(opening) => opening,
+            Err((fault, _disk)) => return Ok(Err(fault)),
+        };
+        let epoch = opening.durable().epoch();
+        let (kept, disk) = replies_over::<_, Brand, _>(
+            self.waits,
+            self.alloc,
+            opening,
+            &self.questions,
+        )?;
+        let gate = closed_gate(&disk.image(self.alloc, u64::MAX, Fill::New)?);
+        Ok(Ok(Opened { epoch, gate, kept }))
+    }
+
     /// What a device with these bytes is opened as.
     fn tell_opened(&self, told: &mut String, bytes: Vec<u8>) -> Result<(), AllocError> {
-        match Book::open(self.alloc, MemDisk::of(self.alloc, bytes)?) {
-            Ok(mut book) => {
-                let text = kept(self.alloc, &mut book)?;
-                let (epoch, gate) = (book.durable().epoch(), book.gate());
+        match self.opened(bytes)? {
+            Ok(Opened { epoch, gate, kept }) => {
                 write!(told, "epoch {epoch}, gate {gate}, saves ")?;
-                self.tell_saves(told, &text)
+                self.tell_saves(told, &kept)
             }
-            Err((fault, _disk)) => {
-                write!(told, "{fault:?}")?;
-                Ok(())
-            }
+            Err(fault) => write!(told, "{fault:?}"),
         }
     }
 
     /// After how many saves what a device with these bytes holds was kept.
     fn tell_place(&self, told: &mut String, bytes: Vec<u8>) -> Result<(), AllocError> {
-        match Book::open(self.alloc, MemDisk::of(self.alloc, bytes)?) {
-            Ok(mut book) => {
-                let text = kept(self.alloc, &mut book)?;
-                self.tell_saves(told, &text)
-            }
-            Err((fault, _disk)) => {
-                write!(told, "{fault:?}")?;
-                Ok(())
-            }
+        match self.opened(bytes)? {
+            Ok(opened) => self.tell_saves(told, &opened.kept),
+            Err(fault) => write!(told, "{fault:?}"),
         }
     }
 
@@ -271,61 +388,4 @@ impl Bench {
             None => write!(told, "?"),
         }
     }
-}
-
-/// A number in decimal digits.
-fn number(text: &str) -> usize {
-    text.parse::<usize>().unwrap_or(0)
-}
-
-/// Puts other bytes at some places, each as `51=a5`.
-fn put_bytes(bytes: &mut Vec<u8>, changes: &str) {
-    for change in changes.split(' ') {
-        let (place, byte) = change.split_once('=').unwrap_or(("", ""));
-        if let (Ok(place), Ok(byte)) = (place.parse::<usize>(), u8::from_str_radix(byte, 16)) {
-            if let Some(old) = bytes.get_mut(place) {
-                *old = byte;
-            }
-        }
-    }
-}
-
-/// The replies to all questions.
-fn kept<D: Disk + Drop>(alloc: Global, book: &mut Book<D>) -> Result<String, AllocError> {
-    let mut text = String::new(alloc);
-    for question in QUESTIONS {
-        text.push_str(&reply(alloc, book, question)?)?;
-        text.push('\n')?;
-    }
-    Ok(text)
-}
-
-/// The reply to a line, with bars between its lines.
-fn reply<D: Disk + Drop>(
-    alloc: Global,
-    book: &mut Book<D>,
-    line: &str,
-) -> Result<String, AllocError> {
-    let reply = match parse_line(alloc, line.as_bytes()) {
-        Ok(Some(command)) => book.run(&command),
-        Ok(None) => return Ok(String::new(alloc)),
-        Err(refusal) => Reply::Refused(refusal),
-    };
-    let mut bytes = Vec::new(alloc);
-    if write_reply(&mut bytes, &reply).is_err() {
-        return Err(AllocError);
-    }
-    let mut text = String::new(alloc);
-    for (place, line) in std::str::from_utf8(&bytes)
-        .unwrap_or("")
-        .trim_end()
-        .split('\n')
-        .enumerate()
-    {
-        if place > 0 {
-            text.push_str(" | ")?;
-        }
-        text.push_str(line)?;
-    }
-    Ok(text)
 }

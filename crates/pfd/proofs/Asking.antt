@@ -1,10 +1,10 @@
 -- What words ask.
 use Rattle.std.proofs.Common.{◌≡◌, ◌∙◌, ◌<◌, ap, ap₂, arith, lit<, refl, sym, ℕ, true, List, [], ◌∷◌, Option, Some, None, Result, Ok, Err, codes, slice_index, Bor}
 use Rattle.std.specs.{Prelude.{option_map, unwrap_or}, Str.Parse.ParsesUnsigned}
-use Rattle.clap.specs.Words.{ReadsOne, Text, is_simple, subcommand_of, takes}
+use Rattle.clap.specs.Words.{ReadsOne, Row, Text, is_simple, subcommand_of, takes}
 use Rattle.clap.proofs.OnLiterals.{clap_on_literals}
-use Rattle.pfd.specs.declared.program.words.{Task.Task, Task.TheVariants.{Run, Format, Show}, TheConstants.{MEMORY_SIZE, HISTORY_LIMIT}}
-use Rattle.pfd.specs.Words.{IsAsked, SaysNumber, program_words}
+use Rattle.pfd.specs.declared.program.words.{Task.Task, Task.TheVariants.{Run, RunOn, Format, Show}, TheConstants.{MEMORY_SIZE, HISTORY_LIMIT}}
+use Rattle.pfd.specs.Words.{IsAsked, MaySayNumber, SaysNumber, program_words}
 
 -- ---- `pfd run`
 
@@ -30,12 +30,21 @@ first_bytes word is = ap (λ (o : Option Text). slice_index (unwrap_or o []) 0) 
 apart : (m n : ℕ) → m < n → n ≡ m → ⊥
 apart m n less same = omega arith
 
+no_some : (text : Text) → None ≡ Some text → ⊥
+no_some text is = cc (is)
+
 pub is_run : (task : Task) → IsAsked (Some (codes "run", [])) task → task ≡ Run MEMORY_SIZE HISTORY_LIMIT
-is_run (Run size history) asked = ap₂ Run asked.0 asked.1
+is_run (Run size history) asked = ap₂ Run asked.1 asked.2
+is_run (RunOn path size history) asked = absurd (no_some path.now asked.0)
 is_run (Format path size) asked = absurd (apart 102 114 (lit< tt) (first_bytes (codes "format") asked.0))
 is_run (Show path) asked = absurd (apart 114 115 (lit< tt) (sym (first_bytes (codes "show") asked.0)))
 
 -- ---- options
+
+-- a subcommand with these options has some name
+pub named : (met : Option (Text × List Row)) (rows : List Row) → Some rows ≡ option_map (λ m. m.1) met → (name : Text) × (met ≡ Some (name, rows))
+named None rows is = absurd (cc (is))
+named (Some (name, others)) rows is = let e : others ≡ rows = cc (is) in (name, ap (λ (r : List Row). Some (name, r)) e)
 
 -- the path that a text is
 pub path_read : (o : Option (Bor Text)) (d : Bor Text) (v : Option Text) → d.now ≡ [] → option_map (λ s. s.now) o ≡ v
@@ -43,13 +52,18 @@ pub path_read : (o : Option (Bor Text)) (d : Bor Text) (v : Option Text) → d.n
 path_read None d v empty is = empty ∙ ap (λ (x : Option Text). unwrap_or x []) is
 path_read (Some s) d v empty is = ap (λ (x : Option Text). unwrap_or x []) is
 
--- the number that a text is read as
-pub number_read : {E : Type 0} (gives : Text → Result ℕ E → Type 0) → ((t : Text) (x : Result ℕ E) → gives t x → ParsesUnsigned 64 10 t x)
-    → (default : ℕ) (o : Option Text) (r : Option ℕ) → (o ≡ None → r ≡ None) → ((t : Text) → o ≡ Some t → ReadsOne gives t r)
-    → SaysNumber 0 18446744073709551615 default o (unwrap_or r default)
-number_read gives parses default None r none value = ap (λ (x : Option ℕ). unwrap_or x default) (none refl)
-number_read {E} gives parses default (Some t) r none value = go r (value t refl)
+-- the number, if any, that a text is read as
+pub number_if_read : {E : Type 0} (gives : Text → Result ℕ E → Type 0) → ((t : Text) (x : Result ℕ E) → gives t x → ParsesUnsigned 64 10 t x)
+    → (o : Option Text) (r : Option ℕ) → (o ≡ None → r ≡ None) → ((t : Text) → o ≡ Some t → ReadsOne gives t r)
+    → MaySayNumber 0 18446744073709551615 o r
+number_if_read gives parses None r none value = none refl
+number_if_read {E} gives parses (Some t) r none value = go r (value t refl)
   where
-    go : (x : Option ℕ) → ReadsOne gives t x → SaysNumber 0 18446744073709551615 default (Some t) (unwrap_or x default)
-    go (Some v) read = λ numeral least most. (parses t (Ok v) read).1
+    go : (x : Option ℕ) → ReadsOne gives t x → MaySayNumber 0 18446744073709551615 (Some t) x
+    go (Some v) read = λ numeral least most. ap Some ((parses t (Ok v) read).1)
     go None read = λ numeral least most. absurd (parses t (Err read.0) read.1 (numeral, omega arith))
+
+pub number_read : (default : ℕ) (o : Option Text) (r : Option ℕ) → MaySayNumber 0 18446744073709551615 o r
+    → SaysNumber 0 18446744073709551615 default o (unwrap_or r default)
+number_read default None r says = ap (λ (x : Option ℕ). unwrap_or x default) says
+number_read default (Some t) r says = λ numeral least most. ap (λ (x : Option ℕ). unwrap_or x default) (says numeral least most)

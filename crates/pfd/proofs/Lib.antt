@@ -1,9 +1,9 @@
 pub mod Cutting
 pub mod Answering
-pub mod Booking
 pub mod Calling
 pub mod Limits
 mod TakingOver
 pub mod Asking
 pub mod Showing
 pub mod Running
+pub mod Begun

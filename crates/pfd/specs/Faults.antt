@@ -5,7 +5,9 @@ use Rattle.pf_disk.specs.declared.file.FileFault.TheVariants as file
 use Rattle.pf_store.specs.declared.{bank.fault.FormatFault.FormatFault, store.fault.OpenFault.OpenFault}
 use Rattle.pf_store.specs.declared.bank.fault.FormatFault.TheVariants as formatting
 use Rattle.pf_store.specs.declared.store.fault.OpenFault.TheVariants as opening
-use Rattle.pfd.specs.declared.{line_engine.fault.EngineFault.EngineFault, program.fault.Fault.Fault, program.fault.Fault.TheVariants.{BadSize, NoBank, Corrupt, Device, Memory, EpochsExhausted, Full, Input, Output}}
+use Rattle.pf_view.specs.declared.opening.ViewFault.{ViewFault}
+use Rattle.pf_view.specs.declared.opening.ViewFault.TheVariants as views
+use Rattle.pfd.specs.declared.{line_engine.fault.EngineFault.EngineFault, program.fault.Fault.Fault, program.fault.Fault.TheVariants.{BadSize, NoBank, Corrupt, Device, Memory, EpochsExhausted, Full, Places, Input, Output}}
 use Rattle.pfd.specs.declared.line_engine.fault.EngineFault.TheVariants as session
 
 abbrev pub told_of_session : EngineFault → Fault
@@ -31,6 +33,10 @@ abbrev pub told_of_file : FileFault → Fault
 told_of_file file.WrongLength = Input
 told_of_file file.Fault = Device
 told_of_file file.Memory = Memory
+
+abbrev pub told_of_views : ViewFault → Fault
+told_of_views views.Memory = Memory
+told_of_views views.Places = Places
 
 -- what the program tells of a session
 abbrev pub ended : Result (Unit {0}) EngineFault → Result (Unit {0}) Fault

@@ -1,6 +1,4 @@
 pub mod LineEngine
-pub mod Pages
-pub mod Books
 pub mod Serving
 pub mod Words
 pub mod Faults
@@ -10,5 +8,8 @@ pub mod Laws
 -- what public clauses cite of the crates below
 pub use Rattle.pf_core.specs.Calls
 pub use Rattle.pf_core.specs.Durable.Edits
-pub use Rattle.pf_core.specs.Pages as WorldPages
+pub use Rattle.pf_core.specs.Pages
 pub use Rattle.pf_core.specs.Worlds
+pub use Rattle.pf_disk.specs.Disk
+pub use Rattle.pf_store.specs.Rooms
+pub use Rattle.pf_book.specs.Books

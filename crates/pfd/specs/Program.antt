@@ -1,61 +1,115 @@
 -- What the program does with its words. Own.
-use Rattle.std.specs.{Prelude.{◌≡◌, ℕ, List, [], ◌∷◌, Option, Result, Ok, Err, codes, ◌⊎◌}, Io.KnownBytes.Keeps}
+use Rattle.std.specs.{Prelude.{◌≡◌, ◌⊎◌, ℕ, ◌<◌, List, [], ◌∷◌, ◌++◌, Option, Result, Ok, Err, codes}, Io.KnownBytes.Keeps}
 use Rattle.std.specs.declared.{io.ErrorKind.ErrorKind, io.ErrorKind.TheVariants.OutOfMemory}
-use Rattle.pf_core.specs.{Durable.Edits.kept_nothing, Worlds.{in_memory, opened}}
-use Rattle.pf_store.specs.Banks.{IsSize}
-use Rattle.pfd.specs.Pages.{Page, StandsFor}
-use Rattle.pfd.specs.declared.{line_engine.fault.EngineFault.EngineFault, line_engine.fault.EngineFault.TheVariants.Memory, program.fault.Fault.Fault, program.fault.Fault.TheVariants.BadSize, program.words.Task.Task, program.words.Task.TheVariants.{Run, Format, Show}}
-use Rattle.pfd.specs.{Faults.ended, LineEngine.Sessions.IsSession, Serving.Serves}
+use Rattle.pf_core.specs.{Durable.Edits.{Kept, kept_nothing}, Pages.{IsAt, StandsFor}, Worlds.{Event, begun, down, last_epoch, opened, raised, state_after, IsWorld}}
+use Rattle.pf_store.specs.{Banks.IsSize, Openings.IsUnopened, Rooms.on_device, Stores.Holds}
+use Rattle.pf_store.specs.declared.store.fault.OpenFault.{OpenFault}
+use Rattle.pf_view.specs.declared.opening.ViewFault.{ViewFault}
+use Rattle.pf_book.specs.Books.{Ledger, Opened, page}
+use Rattle.pfd.specs.declared.{line_engine.fault.EngineFault.EngineFault, program.fault.Fault.Fault, program.fault.Fault.TheVariants.{BadSize, Device, Full, Input, Memory, Places}, program.words.Task.Task, program.words.Task.TheVariants.{Run, RunOn, Format, Show}}
+use Rattle.pfd.specs.declared.program.words.TheConstants.{MEMORY_SIZE}
+use Rattle.pfd.specs.{Faults.{ended, told_of_opening, told_of_views}, LineEngine.Sessions.IsSession, Serving.Serves}
 
 -- the program's name, whatever it is, and `run`
 abbrev pub IsRun : List (List ℕ) → Type 0
 IsRun words = (name : List ℕ) × (words ≡ name ∷ codes "run" ∷ [])
 
--- A session was served from a fresh book with room for so many changes.
-pub record Ran (history : ℕ) (result : Result (Unit {0}) EngineFault) (unread unread' held held' : Option (List ℕ)) : Type 0 where
-  pub old : Page
-  pub new : Page
-  pub fresh : StandsFor (kept_nothing 0) old (opened (in_memory history) ∷ [])
-  pub limit : old.limit ≡ history
-  pub session : IsSession Serves result unread unread' old new held held'
+-- of worlds that come to this and don't have the last epoch, the Book stands for those with this opening at their end
+abbrev pub Follows : {D : Type 0} → Opened D → ℕ → Ledger D → Type 0
+Follows opening history book = (first d : Kept) (world : List Event) → IsWorld first world → state_after (down first) world ≡ down d
+    → d.epoch < last_epoch → opening.given ≡ raised d
+    → StandsFor first (page book) (world ++ opened (on_device history opening.end opening.gate) ∷ [])
 
--- There was no memory to begin with: nothing was read or written.
-pub record Unbegun (result : Result (Unit {0}) EngineFault) (unread unread' held held' : Option (List ℕ)) : Type 0 where
-  pub memory : result ≡ Err Memory
-  pub unread_still : Keeps unread unread'
-  pub held_still : Keeps held held'
+-- A session was served over what was opened, by a Book with room for so many changes.
+pub record Began {D : Type 0} (faults : D → ℕ) (opening : Opened D) (history : ℕ)
+    (result : Result (Unit {0}) EngineFault) (unread unread' held held' : Option (List ℕ)) : Type 0 where
+  pub old : Ledger D
+  pub new : Ledger D
+  pub at : IsAt (begun (on_device history opening.end opening.gate) opening.given) (page old)
+  pub device : old.disk ≡ opening.disk
+  pub worlds : Follows opening history old
+  pub session : IsSession (Serves faults) result unread unread' old new held held'
 
-abbrev pub Runs : ℕ → Result (Unit {0}) EngineFault
+-- So it was, or the copies for workers couldn't be made, and nothing was read or written.
+abbrev pub ServesFrom : {D : Type 0} → (D → ℕ) → Opened D → ℕ → Result (Unit {0}) Fault
     → Option (List ℕ) → Option (List ℕ) → Option (List ℕ) → Option (List ℕ) → Type 0
-Runs history result unread unread' held held' =
-    Ran history result unread unread' held held' ⊎ Unbegun result unread unread' held held'
+ServesFrom faults opening history result unread unread' held held' =
+    ((session : Result (Unit {0}) EngineFault) × (result ≡ ended session) × Began faults opening history session unread unread' held held')
+    ⊎ ((fault : ViewFault) × (result ≡ Err (told_of_views fault)) × Keeps unread unread' × Keeps held held')
 
--- The same, with the fault that the program tells.
-abbrev pub RanAs : ℕ → Result (Unit {0}) Fault → Option (List ℕ) → Option (List ℕ) → Option (List ℕ) → Option (List ℕ) → Type 0
-RanAs history result unread unread' held held' =
-    (session : Result (Unit {0}) EngineFault) × (result ≡ ended session) × Runs history session unread unread' held held'
+-- A session was served over a disk in memory that was just formatted, by a Book with room for so many changes: it stands for the world in
+-- which the first opening begins.
+pub record Ran {M : Type 0} (faults : M → ℕ) (size history : ℕ)
+    (result : Result (Unit {0}) EngineFault) (unread unread' held held' : Option (List ℕ)) : Type 0 where
+  pub size_is : IsSize size
+  pub old : Ledger M
+  pub new : Ledger M
+  pub end : ℕ
+  pub gate : ℕ
+  pub fresh : StandsFor (kept_nothing 0) (page old) (opened (on_device history end gate) ∷ [])
+  pub session : IsSession (Serves faults) result unread unread' old new held held'
+
+-- Why there is no session over a disk in memory of so many bytes: it may not have so many; or it may, and memory is refused, the disk fails,
+-- it has no room for an opening, or there are no places for workers.
+abbrev pub Hinders : ℕ → Fault → Type 0
+Hinders size BadSize = ¬ IsSize size
+Hinders size Memory = IsSize size
+Hinders size Device = IsSize size
+Hinders size Full = IsSize size
+Hinders size Places = IsSize size
+Hinders size fault = ⊥
+
+-- why a file can't be had as a disk
+abbrev pub IsOfFile : Fault → Type 0
+IsOfFile Input = Unit {0}
+IsOfFile BadSize = Unit {0}
+IsOfFile Device = Unit {0}
+IsOfFile Memory = Unit {0}
+IsOfFile fault = ⊥
+
+-- It ran, or something kept it from beginning: then nothing was read or written.
+abbrev pub RanOver : {M : Type 0} → (M → ℕ) → ℕ → ℕ → Result (Unit {0}) Fault
+    → Option (List ℕ) → Option (List ℕ) → Option (List ℕ) → Option (List ℕ) → Type 0
+RanOver faults size history result unread unread' held held' =
+    ((session : Result (Unit {0}) EngineFault) × (result ≡ ended session) × Ran faults size history session unread unread' held held')
+    ⊎ ((fault : Fault) × (result ≡ Err fault) × Hinders size fault × Keeps unread unread' × Keeps held held')
+
+-- what the disk held, in the next epoch
+abbrev pub Opens : {D : Type 0} → List ℕ → Opened D → Type 0
+Opens seen opening = (d : Kept) × Holds seen d × (opening.given ≡ raised d)
+
+-- A session was served over what the disk held; or the disk couldn't be opened, for a cause that there is, and nothing was read or written.
+abbrev pub RanOn : {D : Type 0} → (D → List ℕ) → (D → ℕ) → D → ℕ → Result (Unit {0}) Fault
+    → Option (List ℕ) → Option (List ℕ) → Option (List ℕ) → Option (List ℕ) → Type 0
+RanOn {D = D} seen faults disk history result unread unread' held held' =
+    ((opening : Opened D) × Opens (seen disk) opening × ServesFrom faults opening history result unread unread' held held')
+    ⊎ ((fault : OpenFault) × (result ≡ Err (told_of_opening fault)) × IsUnopened fault (seen disk) × Keeps unread unread' × Keeps held held')
+
+-- So it was over some disk; or the file couldn't be had as one.
+abbrev pub RanOnFile : {F : Type 0} → (F → List ℕ) → (F → ℕ) → ℕ → Result (Unit {0}) Fault
+    → Option (List ℕ) → Option (List ℕ) → Option (List ℕ) → Option (List ℕ) → Type 0
+RanOnFile {F = F} seen faults history result unread unread' held held' =
+    ((disk : F) × RanOn seen faults disk history result unread unread' held held')
+    ⊎ ((fault : Fault) × (result ≡ Err fault) × IsOfFile fault × Keeps unread unread' × Keeps held held')
 
 abbrev pub status_of : {E : Type 0} → Result (Unit {0}) E → ℕ
 status_of (Ok u) = 0
 status_of (Err fault) = 1
 
--- The same, and the status says whether it came to the input's end.
-abbrev pub RanWith : ℕ → ℕ → Option (List ℕ) → Option (List ℕ) → Option (List ℕ) → Option (List ℕ) → Type 0
-RanWith history status unread unread' held held' =
-    (session : Result (Unit {0}) EngineFault) × (status ≡ status_of session) × Runs history session unread unread' held held'
+-- It ran, and the status says whether it came to the input's end; or it couldn't begin.
+abbrev pub RanWith : {M : Type 0} → (M → ℕ) → ℕ → ℕ → Option (List ℕ) → Option (List ℕ) → Option (List ℕ) → Option (List ℕ) → Type 0
+RanWith faults history status unread unread' held held' =
+    ((session : Result (Unit {0}) EngineFault) × (status ≡ status_of session) × Ran faults MEMORY_SIZE history session unread unread' held held')
+    ⊎ ((status ≡ 1) × Keeps unread unread' × Keeps held held')
 
--- Its disk may have so many bytes, and it ran; or it may not, and nothing was read or written.
-abbrev pub RanOver : ℕ → ℕ → Result (Unit {0}) Fault
+-- What was asked was done: lines are read in a session alone, and a disk that is formatted tells nothing. The functions count the faults of
+-- disks in memory, give what a disk on a file reads as, and count the faults of such disks.
+abbrev pub IsDone : {M F : Type 0} → (M → ℕ) → (F → List ℕ) → (F → ℕ) → Task → Result (Unit {0}) Fault
     → Option (List ℕ) → Option (List ℕ) → Option (List ℕ) → Option (List ℕ) → Type 0
-RanOver size history result unread unread' held held' =
-    (IsSize size × RanAs history result unread unread' held held')
-    ⊎ ((¬ IsSize size) × (result ≡ Err BadSize) × Keeps unread unread' × Keeps held held')
-
--- What was asked was done: lines are read in a session alone, and a disk that is formatted tells nothing.
-abbrev pub IsDone : Task → Result (Unit {0}) Fault → Option (List ℕ) → Option (List ℕ) → Option (List ℕ) → Option (List ℕ) → Type 0
-IsDone (Run size history) result unread unread' held held' = RanOver size history result unread unread' held held'
-IsDone (Format path size) result unread unread' held held' = Keeps unread unread' × Keeps held held'
-IsDone (Show path) result unread unread' held held' = Keeps unread unread'
+IsDone memory seen file (Run size history) result unread unread' held held' = RanOver memory size history result unread unread' held held'
+IsDone memory seen file (RunOn path size history) result unread unread' held held' = RanOnFile seen file history result unread unread' held held'
+IsDone memory seen file (Format path size) result unread unread' held held' = Keeps unread unread' × Keeps held held'
+IsDone memory seen file (Show path) result unread unread' held held' = Keeps unread unread'
 
 -- The status where the words couldn't be had: 1 for want of memory, else 2.
 abbrev pub status_without_words : ErrorKind → ℕ

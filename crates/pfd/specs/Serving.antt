@@ -1,15 +1,15 @@
 -- What serves lines: the calls that they come to, as events, and the replies.
-use Rattle.std.specs.Prelude.{◌≡◌, ℕ, false, List, [], ◌∷◌, ◌++◌, Option, Some, None, Result, Ok, Err, ◌⊎◌}
+use Rattle.std.specs.Prelude.{◌≡◌, ℕ, ◌+◌, if◌then◌else◌, List, [], ◌∷◌, ◌++◌, Option, Some, None, Result, Ok, Err, ◌⊎◌}
 use Rattle.pf_core.specs.declared.{command.Command.Command, reply.Refusal.Refusal, reply.Refusal.TheVariants.Memory, reply.Reply.Reply, reply.Reply.TheVariants.Refused}
-use Rattle.pf_core.specs.{Calls.call, Durable.Edits.Kept, Worlds.{upshot, Event, called}}
-use Rattle.pfd.specs.Pages.{Page, StandsFor}
+use Rattle.pf_core.specs.{Calls.call, Durable.Edits.Kept, Pages.StandsFor, Worlds.{Upshot, Event, called}}
+use Rattle.pf_book.specs.Books.{Ledger, page}
 use Rattle.pf_line.specs.{Lines.{line_at, Means, Speaks}, Reply.Replies.reply_text}
 
 -- What a line means, the event of the call that it comes to, and what is written for it: nothing for a silent line, the refusal of a
--- line that is refused, the reply to a command. In memory no device fails.
+-- line that is refused, the reply to a command.
 abbrev pub Says : Result (Option Command) Refusal → List Event → List ℕ → Type 0
 Says (Ok None) events text = (events ≡ []) × (text ≡ [])
-Says (Ok (Some c)) events text = (r : Reply) × (shown : ℕ) × (events ≡ called (call c r) (upshot shown false) ∷ []) × (text ≡ reply_text r)
+Says (Ok (Some c)) events text = (r : Reply) × (t : Upshot) × (events ≡ called (call c r) t ∷ []) × (text ≡ reply_text r)
 Says (Err e) events text = (events ≡ []) × (text ≡ reply_text (Refused e))
 
 -- in place of reading what a line means there was no memory: then there is no call
@@ -30,21 +30,29 @@ Served (line ∷ lines) events text =
     (first rest : List Event) × (reply replies : List ℕ) × IsTold line first reply × Served lines rest replies
     × (events ≡ first ++ rest) × (text ≡ reply ++ replies)
 
--- Of whatever world the Book stood for, it now stands for that with these events at its end; its history's limit stays.
-pub record Continues (old new : Page) (events : List Event) : Type 0 where
-  pub worlds : (first : Kept) (world : List Event) → StandsFor first old world → StandsFor first new (world ++ events)
-  pub limit : new.limit ≡ old.limit
+-- in how many of the calls the device failed
+abbrev pub failures : List Event → ℕ
+failures [] = 0
+failures (called c t ∷ events) = (if t.failed then 1 else 0) + failures events
+failures (e ∷ events) = failures events
 
--- These lines took the Book from the old page to the new one, and this is their text.
-pub record Serves (old new : Page) (lines : List (List ℕ)) (text : List ℕ) : Type 0 where
+-- Of whatever world the Book stood for, it now stands for that with these events at its end; what its opening keeps within stays, and the
+-- device failed in just the calls that say so.
+pub record Continues {D : Type 0} (faults : D → ℕ) (old new : Ledger D) (events : List Event) : Type 0 where
+  pub worlds : (first : Kept) (world : List Event) → StandsFor first (page old) world → StandsFor first (page new) (world ++ events)
+  pub setting : (page new).setting ≡ (page old).setting
+  pub failed : faults new.disk ≡ faults old.disk + failures events
+
+-- These lines took the Book from the old ledger to the new one, and this is their text.
+pub record Serves {D : Type 0} (faults : D → ℕ) (old new : Ledger D) (lines : List (List ℕ)) (text : List ℕ) : Type 0 where
   pub events : List Event
   pub served : Served lines events text
-  pub book : Continues old new events
+  pub book : Continues faults old new events
 
 abbrev pub text_of : Option Reply → List ℕ
 text_of None = []
 text_of (Some r) = reply_text r
 
 -- A line was told this, or nothing: the Book got the call that the line comes to, if any.
-abbrev pub Told : List ℕ → Option Reply → Page → Page → Type 0
-Told line told old new = (events : List Event) × IsTold line events (text_of told) × Continues old new events
+abbrev pub Told : {D : Type 0} → (D → ℕ) → List ℕ → Option Reply → Ledger D → Ledger D → Type 0
+Told faults line told old new = (events : List Event) × IsTold line events (text_of told) × Continues faults old new events

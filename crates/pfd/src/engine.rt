@@ -3,18 +3,25 @@ ghost use Rattle.std.specs.Prelude.{◌≡◌, ℕ, List, [], ◌∷◌};
 ghost use Rattle.pf_addr.specs.Writing.{Writes};
 ghost use Rattle.pf_core.specs.declared.reply.Reply.TheVariants.{Refused};
 ghost use Rattle.pf_line.specs.Reply.Replies.{reply_text};
+ghost use Rattle.pf_book.specs.Books.{page};
 ghost use Rattle.pfd.specs.{LineEngine.Sessions.IsSession, Serving.{Told, Serves}, Laws.Serving.{serves-none, serves-then, serves-seen}};
 
-use crate::book::Book;
 use crate::line_engine::{AnswerLine, EngineFault, serve};
+use pf_book::{Book, Naming};
 use pf_core::{Refusal, Reply};
+use pf_disk::Disk;
 use pf_line::{may_judge, parse_judge, parse_line, write_judged, write_reply};
 use std::alloc::Global;
 use std::io::{self, Read, Write};
+use std::sync::Wait;
 
 // What a line is told: nothing where it is silent. A want of memory to read it is its reply.
-fn reply_to(alloc: Global, line: &[u8], book: &mut Book) -> Option<Reply>
-    ensures { Told line.now result book.old book.new }
+fn reply_to<D: Disk + Drop, J: Naming, H: Wait + Drop>(
+    alloc: Global,
+    line: &[u8],
+    book: &mut Book<D, J, H>,
+) -> Option<Reply>
+    ensures { Told D.fault_count line.now result book.old book.new }
 {
     match parse_line(alloc, line) {
         Ok(None) => None,
@@ -24,8 +31,13 @@ fn reply_to(alloc: Global, line: &[u8], book: &mut Book) -> Option<Reply>
 }
 
 // Answers a line, whatever it is.
-fn answer<W: Write>(alloc: Global, line: &[u8], writer: &mut W, book: &mut Book) -> io::Result<()>
-    ensures { (text : List ℕ) × Serves book.old book.new (line.now ∷ []) text ×
+fn answer<D: Disk + Drop, J: Naming, H: Wait + Drop, W: Write>(
+    alloc: Global,
+    line: &[u8],
+    writer: &mut W,
+    book: &mut Book<D, J, H>,
+) -> io::Result<()>
+    ensures { (text : List ℕ) × Serves D.fault_count book.old book.new (line.now ∷ []) text ×
         Writes result (W.contents writer.old) (W.contents writer.new) text }
 {
     match reply_to(alloc, line, book) {
@@ -35,13 +47,13 @@ fn answer<W: Write>(alloc: Global, line: &[u8], writer: &mut W, book: &mut Book)
 }
 
 // The same, where it may be a judge, which is answered with no command and no reply being made.
-fn answer_judge<W: Write>(
+fn answer_judge<D: Disk + Drop, J: Naming, H: Wait + Drop, W: Write>(
     alloc: Global,
     line: &[u8],
     writer: &mut W,
-    book: &mut Book,
+    book: &mut Book<D, J, H>,
 ) -> io::Result<()>
-    ensures { (text : List ℕ) × Serves book.old book.new (line.now ∷ []) text ×
+    ensures { (text : List ℕ) × Serves D.fault_count book.old book.new (line.now ∷ []) text ×
         Writes result (W.contents writer.old) (W.contents writer.new) text }
 {
     match parse_judge(line) {
@@ -60,8 +72,8 @@ fn refuse<W: Write>(writer: &mut W, refusal: Refusal) -> io::Result<()>
     write_reply(writer, &Reply::Refused(refusal))
 }
 
-impl AnswerLine for Book {
-    ghost Serves = { Serves };
+impl<D: Disk + Drop, J: Naming, H: Wait + Drop> AnswerLine for Book<D, J, H> {
+    ghost Serves = { Serves D.fault_count };
 
     fn answer_line<W: Write>(
         &mut self,
@@ -76,31 +88,31 @@ impl AnswerLine for Book {
         }
     }
 
-    ghost serves_none = { serves-none };
+    ghost serves_none = { serves-none D.fault_count };
 
-    ghost serves_then = { serves-then };
+    ghost serves_then = { serves-then D.fault_count };
 
-    ghost serves_seen = { serves-seen };
+    ghost serves_seen = { serves-seen D.fault_count };
 }
 
 /// Answers the lines of a reader, each with at most one reply, until the reader is at its end.
 ///
 /// The writer is flushed before each read and at the end. A read that was interrupted is made again; there are fewer
 /// than 2^62 reads. The line buffer is taken before anything is read. Where memory is refused for a line or a command, that
-/// is its reply. The Book's history limit stays.
+/// is its reply. What the Book's opening keeps within stays.
 ///
 /// `Err(Read)`: a read failed, or there were too many; the whole lines before are answered. `Err(Write)`: a write or a
 /// flush failed; of the last reply some front may be out. `Err(Memory)`: the line buffer was refused, and nothing was
 /// read or written.
-pub fn serve_alone<R: Read, W: Write>(
+pub fn serve_alone<D: Disk + Drop, J: Naming, H: Wait + Drop, R: Read, W: Write>(
     alloc: Global,
     reader: &mut R,
     writer: &mut W,
-    book: &mut Book,
+    book: &mut Book<D, J, H>,
 ) -> Result<(), EngineFault>
-    ensures session { IsSession Serves result (R.remaining reader.old) (R.remaining reader.new)
+    ensures session { IsSession (Serves D.fault_count) result (R.remaining reader.old) (R.remaining reader.new)
         book.old book.new (W.contents writer.old) (W.contents writer.new) }
-    ensures limit { book.new.limit ≡ book.old.limit }
+    ensures setting { (page book.new).setting ≡ (page book.old).setting }
 {
     serve(alloc, reader, writer, book)
 }

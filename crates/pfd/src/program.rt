@@ -3,32 +3,79 @@
 //! - `words`: what the words ask.
 //! - `devices`: what is done with a disk, whatever it lies on; `files`: the same with a file.
 //! - `fault`: why the program ends with status 1, in one line each.
-ghost use Rattle.std.specs.{Prelude.{◌≡◌, ◌≤◌, ◌⊎◌, IfOk, Result, map, string_bytes}, Io.KnownBytes.Keeps, IoError.error_kind};
+ghost use Rattle.std.specs.{Prelude.{◌≡◌, ◌≤◌, ◌<◌, ◌^◌, ◌⊎◌, IfErr, IfOk, Result, map, string_bytes}, Io.KnownBytes.Keeps, IoError.error_kind};
 ghost use Rattle.clap.specs.Words.{kind_of, subcommand_of};
 ghost use Rattle.pfd.specs.declared.program.{fault.Fault.{Fault}, words.Task.{Task}};
-ghost use Rattle.pfd.specs.{Program.{IsDone, IsRun, RanOver, RanWith, status_of, status_without_words}, Words.{HasHistory, IsAsked, IsHistory, program_words}};
+ghost use Rattle.pf_core.specs.{Durable.Edits.kept_nothing, Worlds.raised};
+ghost use Rattle.pf_store.specs.Banks.{IsSize};
+ghost use Rattle.pfd.specs.{Program.{Hinders, IsDone, IsRun, RanOn, RanOver, RanWith, ServesFrom, status_of, status_without_words}, Words.{HasHistory, IsAsked, IsHistory, program_words}};
 
 mod devices;
 mod fault;
 mod files;
 mod words;
 
-use crate::book::Book;
 use crate::engine::serve_alone;
-use crate::program::files::{format_file, show_file};
+use crate::program::files::{format_file, open_file, show_file};
 use crate::program::words::{Task, read_words};
 use clap::Error;
 use clap::error::ErrorKind;
-pub use devices::{format_on, show_on};
+pub use devices::{format_on, open_fresh, show_on};
 pub use fault::Fault;
+use pf_book::{Book, MemDisk, Naming, Opening};
+use pf_disk::{Disk, FileDisk};
 use std::alloc::Global;
 use std::env;
 use std::fs::{File, Files};
 use std::io::{self, BufWriter, Read, Write};
+use std::marker::Brand;
+use std::sync::Wait;
 pub use words::{HISTORY_LIMIT, MEMORY_SIZE, MOST_HISTORY};
 
-// A session over a fresh book. The disk in memory is to have so many bytes.
-fn run<R: Read, W: Write>(
+// A fresh disk in memory of so many bytes, opened.
+fn open_memory(alloc: Global, size: usize) -> Result<Opening<MemDisk>, Fault>
+    ensures size { IfOk result (λ _. IsSize size) }
+    ensures given { IfOk result (λ o. o.given ≡ raised (kept_nothing 0)) }
+    ensures hindered { IfErr result (λ fault. Hinders size fault) }
+{
+    if !devices::is_size(size) {
+        return Err(Fault::BadSize);
+    }
+    let Ok(bytes) = Vec::from_elem(alloc, 0, size) else {
+        return Err(Fault::Memory);
+    };
+    let Ok(disk) = MemDisk::of(alloc, bytes) else {
+        return Err(Fault::Memory);
+    };
+    open_fresh(alloc, disk)
+}
+
+// A session over what was opened, by a Book whose history may have so many changes.
+fn serve_opening<J: Naming, D: Disk + Drop, H: Wait + Drop, R: Read, W: Write>(
+    waits: H,
+    alloc: Global,
+    opening: Opening<D>,
+    history: usize,
+    reader: &mut R,
+    writer: &mut W,
+) -> Result<(), Fault>
+    requires given { opening.given ≡ J.base }
+    requires history { IsHistory history }
+    ensures { ServesFrom D.fault_count opening history result (R.remaining reader.old) (R.remaining reader.new)
+        (W.contents writer.old) (W.contents writer.new) }
+{
+    match Book::<D, J, H>::of(waits, alloc, opening, history, 1) {
+        Ok((mut book, _seers)) => {
+            serve_alone(alloc, reader, writer, &mut book)?;
+            Ok(())
+        }
+        Err((fault, _disk)) => Err(Fault::from(fault)),
+    }
+}
+
+// A session over a fresh disk in memory of so many bytes.
+fn run<H: Wait + Drop, R: Read, W: Write>(
+    waits: H,
     alloc: Global,
     size: usize,
     history: usize,
@@ -36,20 +83,38 @@ fn run<R: Read, W: Write>(
     writer: &mut W,
 ) -> Result<(), Fault>
     requires { IsHistory history }
-    ensures { RanOver size history result (R.remaining reader.old) (R.remaining reader.new) (W.contents writer.old) (W.contents writer.new) }
+    ensures { RanOver ⟦<MemDisk as Disk>⟧.fault_count size history result (R.remaining reader.old) (R.remaining reader.new)
+        (W.contents writer.old) (W.contents writer.new) }
 {
-    if !devices::is_size(size) {
-        return Err(Fault::BadSize);
+    let opening = open_memory(alloc, size)?;
+    serve_opening::<Brand, _, _, _, _>(waits, alloc, opening, history, reader, writer)
+}
+
+// A session over a disk that is there, whatever it holds.
+fn run_on<D: Disk + Drop, H: Wait + Drop, R: Read, W: Write>(
+    waits: H,
+    alloc: Global,
+    disk: D,
+    history: usize,
+    reader: &mut R,
+    writer: &mut W,
+) -> Result<(), Fault>
+    requires few { D.fault_count disk < 2 ^ 63 }
+    requires history { IsHistory history }
+    ensures { RanOn D.seen D.fault_count disk history result (R.remaining reader.old) (R.remaining reader.new)
+        (W.contents writer.old) (W.contents writer.new) }
+{
+    match Opening::open(alloc, disk) {
+        Ok(opening) => {
+            serve_opening::<Brand, _, _, _, _>(waits, alloc, opening, history, reader, writer)
+        }
+        Err((fault, _disk)) => Err(Fault::from(fault)),
     }
-    let Ok(mut book) = Book::fresh(alloc, history) else {
-        return Err(Fault::Memory);
-    };
-    serve_alone(alloc, reader, writer, &mut book)?;
-    Ok(())
 }
 
 // Does what the words ask. Of what is done with a file only this much is known: what it holds no clause can say.
-fn perform<S: Files<File = File>, R: Read, W: Write>(
+fn perform<H: Wait + Drop, S: Files<File = File>, R: Read, W: Write>(
+    waits: H,
     alloc: Global,
     files: &S,
     task: Task<'_>,
@@ -57,10 +122,19 @@ fn perform<S: Files<File = File>, R: Read, W: Write>(
     writer: &mut W,
 ) -> Result<(), Fault>
     requires { HasHistory task }
-    ensures { IsDone task.entry result (R.remaining reader.old) (R.remaining reader.new) (W.contents writer.old) (W.contents writer.new) }
+    ensures { IsDone ⟦<MemDisk as Disk>⟧.fault_count ⟦<FileDisk as Disk>⟧.seen ⟦<FileDisk as Disk>⟧.fault_count task.entry result
+        (R.remaining reader.old) (R.remaining reader.new) (W.contents writer.old) (W.contents writer.new) }
 {
     match task {
-        Task::Run { size, history } => run(alloc, size, history, reader, writer),
+        Task::Run { size, history } => run(waits, alloc, size, history, reader, writer),
+        Task::RunOn {
+            path,
+            size,
+            history,
+        } => {
+            let disk = open_file(alloc, files, path, size)?;
+            run_on(waits, alloc, disk, history, reader, writer)
+        }
         Task::Format { path, size } => format_file(alloc, files, path, size),
         Task::Show { path } => show_file(alloc, files, path, writer),
     }
@@ -102,10 +176,11 @@ fn explain<W: Write, F: Write>(error: &Error, writer: &mut W, faults: &mut F) ->
 
 /// The program, with its words as `env::args` gives them, the program's own name first, and the files that it opens.
 ///
-/// `pfd run [--size N] [--history N]` serves the reader's lines to the writer from a fresh book, whose history may have so many changes,
-/// 65,536 where the words don't say. It is in memory for now, and its disk is to have so many bytes, 1,048,576 where they don't.
-/// `pfd format --disk FILE --size N` makes the file so many bytes long, and a disk that holds nothing. `pfd show --disk FILE` tells the
-/// writer what the disk holds that lies on the file, and doesn't write the file.
+/// `pfd run [--size N] [--history N]` serves the reader's lines to the writer from a fresh Book, whose history may have so many changes,
+/// 65,536 where the words don't say, over a fresh disk in memory of so many bytes, 1,048,576 where they don't. `pfd run --disk FILE` opens
+/// the disk that lies on the file in its place, whose length has to be the size if one is said. It waits by the handle. `pfd format --disk
+/// FILE --size N` makes the file so many bytes long, and a disk that holds nothing. `pfd show --disk FILE` tells the writer what the disk
+/// holds that lies on the file, and doesn't write the file.
 ///
 /// Status 0: the input ended, the disk was made or told, or help or the version was asked for, whose text goes to the writer. Status 1: one
 /// line on the faults says what failed, as [`Fault`] has it; what is wrong with the file is found before what is wrong with the disk.
@@ -114,7 +189,8 @@ fn explain<W: Write, F: Write>(error: &Error, writer: &mut W, faults: &mut F) ->
 ///
 /// Whatever the words are, it is what they ask, or nothing is read. What the texts are, what becomes of files, and which other words are
 /// help or the version and which are refused, is only tested.
-pub fn start<S: Files<File = File>, R: Read, W: Write, F: Write>(
+pub fn start<H: Wait + Drop, S: Files<File = File>, R: Read, W: Write, F: Write>(
+    waits: H,
     alloc: Global,
     files: &S,
     words: &[String],
@@ -124,16 +200,18 @@ pub fn start<S: Files<File = File>, R: Read, W: Write, F: Write>(
 ) -> u8
     ensures status { result ≤ 2 }
     ensures run { IsRun (map string_bytes words.now) →
-        RanWith HISTORY_LIMIT result (R.remaining reader.old) (R.remaining reader.new) (W.contents writer.old) (W.contents writer.new) }
+        RanWith ⟦<MemDisk as Disk>⟧.fault_count HISTORY_LIMIT result (R.remaining reader.old) (R.remaining reader.new)
+        (W.contents writer.old) (W.contents writer.new) }
     ensures others { ((task : Task) × (end : Result (Unit {0}) Fault) × IsAsked (subcommand_of program_words (map string_bytes words.now)) task
         × HasHistory task × (result ≡ status_of end)
-        × IsDone task end (R.remaining reader.old) (R.remaining reader.new) (W.contents writer.old) (W.contents writer.new)) ⊎
+        × IsDone ⟦<MemDisk as Disk>⟧.fault_count ⟦<FileDisk as Disk>⟧.seen ⟦<FileDisk as Disk>⟧.fault_count task end
+        (R.remaining reader.old) (R.remaining reader.new) (W.contents writer.old) (W.contents writer.new)) ⊎
         Keeps (R.remaining reader.old) (R.remaining reader.new) }
     ensures refused { result ≡ 2 → Keeps (R.remaining reader.old) (R.remaining reader.new) ×
         Keeps (W.contents writer.old) (W.contents writer.new) }
 {
     match read_words(alloc, words) {
-        Ok(task) => match perform(alloc, files, task, reader, writer) {
+        Ok(task) => match perform(waits, alloc, files, task, reader, writer) {
             Ok(()) => 0,
             Err(fault) => fail(fault, faults),
         },
@@ -157,7 +235,7 @@ pub fn without_words<F: Write>(error: &io::Error, faults: &mut F) -> u8
 
 // The same with the process's words, files and streams; an error where its words can't be had. Standard input is read as it is:
 // the engine's own buffer takes all that is there in one read.
-fn start_on<F: Write>(rt: &HostRuntime, faults: &mut F) -> io::Result<u8>
+fn start_on<H: Wait + Drop, F: Write>(waits: H, rt: &HostRuntime, faults: &mut F) -> io::Result<u8>
     ensures { IfOk result (λ status. status ≤ 2) }
 {
     let alloc = rt.alloc();
@@ -165,6 +243,7 @@ fn start_on<F: Write>(rt: &HostRuntime, faults: &mut F) -> io::Result<u8>
     let mut reader = rt.stdin();
     let mut writer = BufWriter::new(alloc, rt.stdout())?;
     Ok(start(
+        waits,
         alloc,
         rt,
         words.as_slice(),
@@ -175,12 +254,12 @@ fn start_on<F: Write>(rt: &HostRuntime, faults: &mut F) -> io::Result<u8>
 }
 
 /// The program over this process: its words, files, standard input, output and error. It gives the status to end with, as
-/// `start` and `without_words` say.
-pub fn run_process(rt: &HostRuntime) -> u8
+/// `start` and `without_words` say. It waits by a handle of its own, which is the process's too.
+pub fn run_process<H: Wait + Drop>(waits: H, rt: &HostRuntime) -> u8
     ensures { result ≤ 2 }
 {
     let mut faults = rt.stderr();
-    match start_on(rt, &mut faults) {
+    match start_on(waits, rt, &mut faults) {
         Ok(status) => status,
         Err(error) => without_words(&error, &mut faults),
     }

@@ -4,5 +4,5 @@
 use std::process::ExitCode;
 
 fn main(rt: HostRuntime) -> ExitCode {
-    ExitCode::from(pfd::run_process(&rt))
+    ExitCode::from(pfd::run_process(&rt, &rt))
 }

@@ -1,17 +1,25 @@
 //! Rows, played over Books.
-ghost use Rattle.std.specs.Prelude.{◌≡◌, ℕ, List, [], Option, Some, None, Ok};
+ghost use Rattle.std.specs.Prelude.{◌≡◌, ℕ, List, [], Option, Some, None, Ok, IfOk, IfSome};
+ghost use Rattle.pf_core.specs.{Durable.Edits.kept_nothing, Worlds.raised};
 ghost use Rattle.pfd.specs.{LineEngine.Sessions.IsSession, Serving.Serves};
 
 use crate::spelling::{choose, fill, push_line, reply_bytes};
 use crate::table::Table;
-use pfd::{Book, serve_alone};
+use pfd::{Book, Disk, FuseDisk, MemDisk, Naming, Opening, open_fresh, serve_alone};
 use std::alloc::{AllocError, Global};
+use std::sync::Wait;
 
 /// In how many ways a row is read at most.
 const MOST_WAYS: usize = 100_000;
 
 /// The most changes that a history may have.
 const MOST_HISTORY: usize = 1_048_576;
+
+/// How many calls of a disk are made at most until it is opened.
+const MOST_CALLS: u64 = 100;
+
+/// A disk in memory that may fail.
+type Device = FuseDisk<MemDisk>;
 
 /// What a table came to: how many rows were played, and a line for each reply that differs.
 #[derive(Drop)]
@@ -22,9 +30,15 @@ pub(crate) struct Tally {
 
 // What is written for an input, where that isn't what is wanted. There is nothing to tell only where a session over the
 // input came to its end and wrote just the wanted bytes.
-fn written_instead(alloc: Global, book: &mut Book, input: &[u8], wanted: &[u8]) -> Option<Vec<u8>>
+fn written_instead<J: Naming, H: Wait + Drop>(
+    alloc: Global,
+    book: &mut Book<Device, J, H>,
+    input: &[u8],
+    wanted: &[u8],
+) -> Option<Vec<u8>>
     ensures { result ≡ None → (unread : Option (List ℕ)) ×
-        IsSession Serves (Ok tt) (Some input.now) unread book.old book.new (Some []) (Some wanted.now) }
+        IsSession (Serves ⟦<FuseDisk<MemDisk> as Disk>⟧.fault_count) (Ok tt) (Some input.now) unread
+        book.old book.new (Some []) (Some wanted.now) }
 {
     let mut reader = input;
     let mut written = Vec::new(alloc);
@@ -35,10 +49,10 @@ fn written_instead(alloc: Global, book: &mut Book, input: &[u8], wanted: &[u8]) 
 }
 
 // Plays a line, and tells where the reply differs.
-fn play_line(
+fn play_line<J: Naming, H: Wait + Drop>(
     alloc: Global,
     table: &Table,
-    book: &mut Book,
+    book: &mut Book<Device, J, H>,
     line: &str,
     reply: &str,
     differing: &mut String,
@@ -57,10 +71,10 @@ fn play_line(
 }
 
 // Plays rows in turn, with the fields in their places.
-fn play_rows(
+fn play_rows<J: Naming, H: Wait + Drop>(
     alloc: Global,
     table: &Table,
-    book: &mut Book,
+    book: &mut Book<Device, J, H>,
     rows: &[&str],
     fields: &[String],
     differing: &mut String,
@@ -74,9 +88,44 @@ fn play_rows(
     Ok(())
 }
 
+// A fresh disk of a table, opened, of whose calls so many pass.
+fn opened(alloc: Global, table: &Table, calls: u64) -> Result<Option<Opening<Device>>, AllocError>
+    ensures { IfOk result (λ opening. IfSome opening (λ o. o.given ≡ raised (kept_nothing 0))) }
+{
+    let bytes = Vec::from_elem(alloc, 0, table.size)?;
+    let disk = FuseDisk::after(MemDisk::of(alloc, bytes)?, calls);
+    Ok(open_fresh(alloc, disk).ok())
+}
+
+// The same, where as many calls pass as an opening makes and the table says.
+fn opening_of(alloc: Global, table: &Table) -> Result<Opening<Device>, AllocError>
+    ensures { IfOk result (λ o. o.given ≡ raised (kept_nothing 0)) }
+{
+    let Some(more) = table.fails else {
+        return opened(alloc, table, u64::MAX)?.ok_or(AllocError);
+    };
+    for calls in 0..MOST_CALLS {
+        if opened(alloc, table, calls)?.is_some() {
+            return opened(alloc, table, calls.saturating_add(more))?.ok_or(AllocError);
+        }
+    }
+    Err(AllocError)
+}
+
 // A Book of a table, after what comes before its rows.
-fn begun(alloc: Global, table: &Table, differing: &mut String) -> Result<Book, AllocError> {
-    let mut book = Book::fresh(alloc, table.history.clamp(1, MOST_HISTORY))?;
+fn begun<J: Naming, H: Wait + Drop>(
+    waits: H,
+    alloc: Global,
+    table: &Table,
+    differing: &mut String,
+) -> Result<Book<Device, J, H>, AllocError>
+    requires { J.base ≡ raised (kept_nothing 0) }
+{
+    let opening = opening_of(alloc, table)?;
+    let history = table.history.clamp(1, MOST_HISTORY);
+    let Ok((mut book, _seers)) = Book::<Device, J, H>::of(waits, alloc, opening, history, 1) else {
+        return Err(AllocError);
+    };
     play_rows(
         alloc,
         table,
@@ -102,19 +151,22 @@ fn fields_of(alloc: Global, row: &str, way: usize) -> Result<Option<Vec<String>>
 }
 
 // Plays a row in each way, and counts them.
-fn play_row(
+fn play_row<J: Naming, H: Wait + Drop + Copy>(
+    waits: H,
     alloc: Global,
     table: &Table,
-    book: &mut Book,
+    book: &mut Book<Device, J, H>,
     row: &str,
     tally: &mut Tally,
-) -> Result<(), AllocError> {
+) -> Result<(), AllocError>
+    requires { J.base ≡ raised (kept_nothing 0) }
+{
     for way in 0..MOST_WAYS {
         let Some(fields) = fields_of(alloc, row, way)? else {
             break;
         };
         if !table.in_turn {
-            *book = begun(alloc, table, &mut tally.differing)?;
+            *book = begun(waits, alloc, table, &mut tally.differing)?;
         }
         let shapes = table.shapes.as_slice();
         play_rows(
@@ -131,14 +183,20 @@ fn play_row(
 }
 
 /// Plays all rows of a table.
-pub(crate) fn play(alloc: Global, table: &Table) -> Result<Tally, AllocError> {
+pub(crate) fn play<J: Naming, H: Wait + Drop + Copy>(
+    waits: H,
+    alloc: Global,
+    table: &Table,
+) -> Result<Tally, AllocError>
+    requires { J.base ≡ raised (kept_nothing 0) }
+{
     let mut tally = Tally {
         rows: 0,
         differing: String::new(alloc),
     };
-    let mut book = begun(alloc, table, &mut tally.differing)?;
+    let mut book = begun::<J, H>(waits, alloc, table, &mut tally.differing)?;
     for row in &table.rows {
-        play_row(alloc, table, &mut book, row, &mut tally)?;
+        play_row(waits, alloc, table, &mut book, row, &mut tally)?;
     }
     Ok(tally)
 }

@@ -3,6 +3,9 @@
 use pfd::HISTORY_LIMIT;
 use std::alloc::{AllocError, Global};
 
+/// How many bytes the disk of a Book has where the heading says no other number.
+const DISK_SIZE: usize = 8_192;
+
 /// A table, and how its rows are played. `stdin` says in its head what its settings are.
 #[derive(Drop)]
 pub(crate) struct Table<'a> {
@@ -10,6 +13,10 @@ pub(crate) struct Table<'a> {
     pub(crate) name: &'a str,
     /// How many changes the history of a Book may have, the session's limit where the heading names no other number.
     pub(crate) history: usize,
+    /// How many bytes the disk of a Book has.
+    pub(crate) size: usize,
+    /// Behind how many calls more than the opening's every call of the disk fails, if it does.
+    pub(crate) fails: Option<u64>,
     /// All rows are played on one Book, and not each on its own.
     pub(crate) in_turn: bool,
     /// A row's line is a whole input, which no newline ends but its own.
@@ -26,6 +33,8 @@ impl<'a> Table<'a> {
         Table {
             name,
             history: HISTORY_LIMIT,
+            size: DISK_SIZE,
+            fails: None,
             in_turn: false,
             as_input: false,
             before: Vec::new(alloc),
@@ -42,6 +51,10 @@ impl<'a> Table<'a> {
             self.as_input = true;
         } else if let Some(number) = setting.strip_prefix("history ") {
             self.history = number.parse::<usize>().unwrap_or(HISTORY_LIMIT);
+        } else if let Some(number) = setting.strip_prefix("size ") {
+            self.size = number.parse::<usize>().unwrap_or(DISK_SIZE);
+        } else if let Some(number) = setting.strip_prefix("fails ") {
+            self.fails = number.parse::<u64>().ok();
         } else if let Some(row) = setting.strip_prefix("before ") {
             self.before.push(row)?;
         } else if let Some(row) = setting.strip_prefix("as ") {

@@ -7,9 +7,13 @@ mod addresses;
 #[cfg(test)]
 mod anchors;
 #[cfg(test)]
+mod books;
+#[cfg(test)]
 mod disks;
 #[cfg(test)]
 mod peers;
+#[cfg(test)]
+mod seers;
 #[cfg(test)]
 mod sessions;
 #[cfg(test)]

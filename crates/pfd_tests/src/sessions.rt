@@ -1,10 +1,15 @@
 //! Sessions over readers and writers that fail, or do little at a time.
+ghost use Rattle.std.specs.Prelude.{◌≡◌};
+
+use crate::books::opened;
 use crate::streams::{Script, Tight};
 use pfd::EngineFault::{Read, Write};
-use pfd::{Book, EngineFault, HISTORY_LIMIT, serve_alone};
+use pfd::{Book, EngineFault, HISTORY_LIMIT, MemDisk, Naming, Opening, serve_alone};
 use std::alloc::Global;
 use std::cell::Cell;
+use std::marker::Brand;
 use std::process::Abort;
+use std::sync::Wait;
 use std::test::*;
 
 /// What reads give; the writer's room, interruptions and flushes; how the session ends; how many bytes of the replies
@@ -39,10 +44,10 @@ const CASES: &[Case] = &[
 ];
 
 // How the session of a case ends, and what is written. A flag says that replies wait to be flushed.
-fn end_of(
+fn end_of<J: Naming, H: Wait + Drop>(
     alloc: Global,
     case: &Case,
-    book: &mut Book,
+    book: &mut Book<MemDisk, J, H>,
     written: &mut Vec<u8>,
     waiting: &Cell<bool>,
 ) -> Result<(), EngineFault> {
@@ -60,7 +65,12 @@ fn end_of(
 }
 
 // It borrows the Book, so that it has not to let go of it wherever it may fail.
-fn check_on(rt: &impl Abort, alloc: Global, case: &Case, book: &mut Book) {
+fn check_on<J: Naming, H: Wait + Drop>(
+    rt: &impl Abort,
+    alloc: Global,
+    case: &Case,
+    book: &mut Book<MemDisk, J, H>,
+) {
     let (_, room, _, _, end, length) = *case;
     let waiting = &Cell::new(false);
     let mut written = Vec::new(alloc);
@@ -71,16 +81,27 @@ fn check_on(rt: &impl Abort, alloc: Global, case: &Case, book: &mut Book) {
     assert!(rt; !waiting.get() || end.is_err());
 }
 
-fn check(rt: &impl Abort, alloc: Global, case: &Case) -> Result<(), Fail> {
-    let mut book = Book::fresh(alloc, HISTORY_LIMIT)?;
-    check_on(rt, alloc, case, &mut book);
+fn check<J: Naming, H: Wait + Drop, A: Abort>(
+    waits: H,
+    rt: &A,
+    opening: Opening<MemDisk>,
+    alloc: Global,
+    case: &Case,
+) -> Result<(), Fail>
+    requires { opening.given ≡ J.base }
+{
+    match Book::<MemDisk, J, H>::of(waits, alloc, opening, HISTORY_LIMIT, 1) {
+        Ok((mut book, _seers)) => check_on(rt, alloc, case, &mut book),
+        Err(_) => return Err(Fail::from("a Book")),
+    }
     Ok(())
 }
 
 #[test]
 fn readers_and_writers_that_fail(rt: HostRuntime) -> Result<(), Fail> {
     for case in CASES {
-        check(&rt, rt.alloc(), case)?;
+        let opening = opened(rt.alloc())?;
+        check::<Brand, _, _>(&rt, &rt, opening, rt.alloc(), case)?;
     }
     Ok(())
 }
@@ -93,8 +114,11 @@ fn many_reads(rt: HostRuntime) -> Result<(), Fail> {
         reads.push_str("#|\n|")?;
     }
     reads.push_str("begin filter -")?;
-    check(
+    let opening = opened(rt.alloc())?;
+    check::<Brand, _, _>(
         &rt,
+        &rt,
+        opening,
         rt.alloc(),
         &(reads.as_str(), 100, 0, 99_999, Ok(()), 7),
     )

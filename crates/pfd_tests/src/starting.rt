@@ -6,6 +6,7 @@ use std::cell::Cell;
 use std::fs::{File, Files};
 use std::io::{self, ErrorKind};
 use std::process::Abort;
+use std::sync::Wait;
 use std::test::*;
 
 /// Words, what a read gives, the writer's room and flushes.
@@ -20,7 +21,8 @@ fn words_of(alloc: Global, line: &str) -> Result<Vec<String>, Fail> {
 }
 
 // Starts with such words: the status, and what is written and what the faults are told.
-fn status_of<S: Files<File = File>>(
+fn status_of<H: Wait + Drop, S: Files<File = File>>(
+    waits: H,
     alloc: Global,
     files: &S,
     (line, read, room, flushes): Case,
@@ -39,6 +41,7 @@ fn status_of<S: Files<File = File>>(
         waiting,
     };
     Ok(start(
+        waits,
         alloc,
         files,
         words.as_slice(),
@@ -60,7 +63,8 @@ fn is_so(
     status == wanted && is_written && told.starts_with(faults.as_bytes()) && is_whole
 }
 
-fn check<R: Abort + Files<File = File>>(
+fn check<H: Wait + Drop, R: Abort + Files<File = File>>(
+    waits: H,
     rt: &R,
     alloc: Global,
     case: Case,
@@ -68,7 +72,7 @@ fn check<R: Abort + Files<File = File>>(
 ) -> Result<(), Fail> {
     let mut written = Vec::new(alloc);
     let mut told = Vec::new(alloc);
-    let status = status_of(alloc, rt, case, &mut written, &mut told)?;
+    let status = status_of(waits, alloc, rt, case, &mut written, &mut told)?;
     let got = (status, written.as_slice(), told.as_slice());
     assert!(rt; is_so(got, wanted), "at {}", case.0);
     Ok(())
@@ -141,7 +145,7 @@ const STARTS: &[(Case, (u8, &str, &str))] = &[
 #[test]
 fn starts_as_its_words_say(rt: HostRuntime) -> Result<(), Fail> {
     for (case, wanted) in STARTS {
-        check(&rt, rt.alloc(), *case, *wanted)?;
+        check(&rt, &rt, rt.alloc(), *case, *wanted)?;
     }
     Ok(())
 }
@@ -190,12 +194,22 @@ const REFUSED: &[(&str, u8, &str)] = &[
         2,
         "error: invalid value '0' for '--history <N>'",
     ),
-    (
-        "pfd run --disk none",
-        2,
-        "error: unexpected argument '--disk' found",
-    ),
     // Files, before disks.
+    (
+        "pfd run --disk",
+        2,
+        "error: a value is required for '--disk <FILE>'",
+    ),
+    (
+        "pfd run --disk no/such/file --history 0",
+        2,
+        "error: invalid value '0' for '--history <N>'",
+    ),
+    ("pfd run --disk no/such/file", 1, "pfd: input\n"),
+    ("pfd run --disk no/such/file --size 255", 1, "pfd: input\n"),
+    ("pfd run --disk /", 1, "pfd: input\n"),
+    ("pfd run --disk /dev/null", 1, "pfd: bad size\n"),
+    ("pfd run --disk /dev/null --size 300", 1, "pfd: bad size\n"),
     (
         "pfd show",
         2,
@@ -245,10 +259,63 @@ fn refuses_before_it_reads(rt: HostRuntime) -> Result<(), Fail> {
     for (line, status, faults) in REFUSED {
         check(
             &rt,
+            &rt,
             rt.alloc(),
             (*line, "!", 9_999, 9),
             (*status, "", *faults),
         )?;
+    }
+    Ok(())
+}
+
+/// One after the other on one file: what each holds of what was answered before it.
+const KEPT: &[(Case, (u8, &str, &str))] = &[
+    (
+        ("pfd format --disk kept --size 300", "!", 99, 9),
+        (0, "", ""),
+    ),
+    (("pfd show --disk kept", "!", 99, 9), (0, "epoch 0\n", "")),
+    (
+        (
+            "pfd run --disk kept",
+            "begin filter -\ntset - t 10/8\ntset - u 10/8",
+            99,
+            9,
+        ),
+        (0, "ok 1.1\napplied 1\nerr full\n", ""),
+    ),
+    (
+        (
+            "pfd run --disk kept --size 300",
+            "commit filter - 1.1\nbegin filter -\ntest - t 10.1.2.3\ntest - u 10.1.2.3",
+            99,
+            9,
+        ),
+        (0, "busy 0\nok 2.1\nmatch 10.0.0.0/8\nnomatch\n", ""),
+    ),
+    (
+        ("pfd run --disk kept --size 302", "!", 99, 9),
+        (1, "", "pfd: bad size\n"),
+    ),
+    // What was answered before a reader fails is kept too.
+    (
+        ("pfd run --disk kept", "tkill - t\n|!", 99, 9),
+        (1, "applied 1\n", "pfd: input\n"),
+    ),
+    (
+        ("pfd show --disk kept", "!", 99, 9),
+        (
+            0,
+            "epoch 3\nsum d41d8cd98f00b204e9800998ecf8427e\nrulesets 0\ntables 0\nstates 0\n",
+            "",
+        ),
+    ),
+];
+
+#[test]
+fn keeps_what_it_answered(rt: HostRuntime) -> Result<(), Fail> {
+    for (case, wanted) in KEPT {
+        check(&rt, &rt, rt.alloc(), *case, *wanted)?;
     }
     Ok(())
 }
@@ -267,5 +334,5 @@ fn says_why_it_has_no_words(rt: HostRuntime) {
 // parser refuses them, says so on standard error, and nothing is read.
 #[test]
 fn takes_the_words_of_its_process(rt: HostRuntime) {
-    assert!(rt; run_process(&rt) == 2);
+    assert!(rt; run_process(&rt, &rt) == 2);
 }

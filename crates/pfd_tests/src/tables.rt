@@ -1,4 +1,7 @@
 //! Commands on tables that no line can carry: lists without entries, and lists longer than a line.
+ghost use Rattle.std.specs.Prelude.{◌≡◌};
+
+use crate::books::opened;
 use pf_addr::path::TableName;
 use pf_addr::{Addr, Net};
 use pf_anchor::Path;
@@ -6,9 +9,11 @@ use pf_core::{Command, EntryList, TableEdit, Transaction};
 use pf_line::write_reply;
 use pf_table::{Entry, TABLE_LIMIT};
 use pf_ticket::{RulesetName, RulesetNames, Ticket};
-use pfd::{Book, HISTORY_LIMIT};
+use pfd::{Book, HISTORY_LIMIT, MemDisk, Naming, Opening};
 use std::alloc::Global;
+use std::marker::Brand;
 use std::process::Abort;
+use std::sync::Wait;
 use std::test::*;
 
 /// What is done with some entries, at the main ruleset's table `banned`.
@@ -104,7 +109,11 @@ fn command_of(alloc: Global, deed: Deed, count: usize) -> Result<Command, Fail> 
 }
 
 /// What a command is answered.
-fn answer(alloc: Global, book: &mut Book, command: Command) -> Result<Vec<u8>, Fail> {
+fn answer<J: Naming, H: Wait + Drop>(
+    alloc: Global,
+    book: &mut Book<MemDisk, J, H>,
+    command: Command,
+) -> Result<Vec<u8>, Fail> {
     let reply = book.run(command);
     let mut text = Vec::new(alloc);
     write_reply(&mut text, &reply)?;
@@ -112,7 +121,12 @@ fn answer(alloc: Global, book: &mut Book, command: Command) -> Result<Vec<u8>, F
 }
 
 // It borrows the Book, so that it has not to let go of it wherever it may fail.
-fn play_on(rt: &impl Abort, alloc: Global, book: &mut Book, rows: &[Row]) -> Result<(), Fail> {
+fn play_on<J: Naming, H: Wait + Drop>(
+    rt: &impl Abort,
+    alloc: Global,
+    book: &mut Book<MemDisk, J, H>,
+    rows: &[Row],
+) -> Result<(), Fail> {
     for (deed, count, reply) in rows {
         let command = command_of(alloc, *deed, *count)?;
         let text = answer(alloc, book, command)?;
@@ -121,22 +135,32 @@ fn play_on(rt: &impl Abort, alloc: Global, book: &mut Book, rows: &[Row]) -> Res
     Ok(())
 }
 
-fn play(rt: &impl Abort, alloc: Global, rows: &[Row]) -> Result<(), Fail> {
-    let mut book = Book::fresh(alloc, HISTORY_LIMIT)?;
-    play_on(rt, alloc, &mut book, rows)
+fn play<J: Naming, H: Wait + Drop, A: Abort>(
+    waits: H,
+    rt: &A,
+    opening: Opening<MemDisk>,
+    alloc: Global,
+    rows: &[Row],
+) -> Result<(), Fail>
+    requires { opening.given ≡ J.base }
+{
+    match Book::<MemDisk, J, H>::of(waits, alloc, opening, HISTORY_LIMIT, 1) {
+        Ok((mut book, _seers)) => play_on(rt, alloc, &mut book, rows),
+        Err(_) => Err(Fail::from("a Book")),
+    }
 }
 
 #[test]
 fn lists_without_entries_are_taken(rt: HostRuntime) -> Result<(), Fail> {
-    play(&rt, rt.alloc(), WITHOUT_ENTRIES)
+    play::<Brand, _, _>(&rt, &rt, opened(rt.alloc())?, rt.alloc(), WITHOUT_ENTRIES)
 }
 
 #[test]
 fn tables_have_so_many_entries(rt: HostRuntime) -> Result<(), Fail> {
-    play(&rt, rt.alloc(), FULL)
+    play::<Brand, _, _>(&rt, &rt, opened(rt.alloc())?, rt.alloc(), FULL)
 }
 
 #[test]
 fn so_many_entries_are_offered(rt: HostRuntime) -> Result<(), Fail> {
-    play(&rt, rt.alloc(), OFFERED)
+    play::<Brand, _, _>(&rt, &rt, opened(rt.alloc())?, rt.alloc(), OFFERED)
 }

@@ -1,21 +1,32 @@
 -- Lines that were served one list after another, and what is looked at of a line.
-use Rattle.std.proofs.{Common.{◌≡◌, ℕ, List, [], ◌∷◌, ◌++◌, length, Option, Result, inl, inr, refl, sym, ap, ◌∙◌, subst, append_assoc, arith}, lemmas.List.{append-nil, length-take, take_all}, lemmas.Bool.cases_lt}
+use Rattle.std.proofs.{Common.{◌≡◌, ℕ, ◌+◌, List, [], ◌∷◌, ◌++◌, cond, length, Option, Result, inl, inr, refl, sym, ap, ◌∙◌, subst, append_assoc, arith}, lemmas.List.{append-nil, length-take, take_all}, lemmas.Bool.cases_lt}
 use Rattle.pf_core.specs.declared.{reply.Refusal.Refusal, reply.Reply.Reply}
-use Rattle.pf_core.specs.{Worlds.Event}
-use Rattle.pfd.specs.Pages.{Page, StandsFor}
+use Rattle.pf_core.specs.{Pages.StandsFor, Worlds.{Event, called, entered, learned, crashed, opened, refused_opening}}
+use Rattle.pf_book.specs.Books.{Ledger, page}
 use Rattle.pf_line.specs.{Grammar.Spoken, Lines.{line_at, long_line, Means, Speaks, speaks}}
-use Rattle.pfd.specs.{LineEngine.Lines.seen, Serving.{IsTold, Served, Continues, Serves, Told, text_of}}
+use Rattle.pfd.specs.{LineEngine.Lines.seen, Serving.{IsTold, Served, failures, Continues, Serves, Told, text_of}}
 
-pub continues-still : (page : Page) → Continues page page []
-continues-still page = record {
-  worlds = λ first world stands. subst (λ (w : List Event). StandsFor first page w) (sym (append-nil world)) stands;
-  limit = refl;
+failures-append : (xs ys : List Event) → failures (xs ++ ys) ≡ failures xs + failures ys
+failures-append [] ys = omega arith
+failures-append (called c t ∷ xs) ys = omega (arith, failures-append xs ys)
+failures-append (entered worker n ∷ xs) ys = failures-append xs ys
+failures-append (learned worker n ∷ xs) ys = failures-append xs ys
+failures-append (crashed doing n ∷ xs) ys = failures-append xs ys
+failures-append (opened setting ∷ xs) ys = failures-append xs ys
+failures-append (refused_opening rose ∷ xs) ys = failures-append xs ys
+
+pub continues-still : {D : Type 0} (faults : D → ℕ) (book : Ledger D) → Continues faults book book []
+continues-still faults book = record {
+  worlds = λ first world stands. subst (λ (w : List Event). StandsFor first (page book) w) (sym (append-nil world)) stands;
+  setting = refl;
+  failed = omega arith;
 }
 
-continues-then : (a b c : Page) (x y : List Event) → Continues a b x → Continues b c y → Continues a c (x ++ y)
-continues-then a b c x y p q = record {
-  worlds = λ first world stands. subst (λ (w : List Event). StandsFor first c w) (append_assoc world x y) (q.worlds first (world ++ x) (p.worlds first world stands));
-  limit = q.limit ∙ p.limit;
+continues-then : {D : Type 0} (faults : D → ℕ) (a b c : Ledger D) (x y : List Event) → Continues faults a b x → Continues faults b c y → Continues faults a c (x ++ y)
+continues-then faults a b c x y p q = record {
+  worlds = λ first world stands. subst (λ (w : List Event). StandsFor first (page c) w) (append_assoc world x y) (q.worlds first (world ++ x) (p.worlds first world stands));
+  setting = q.setting ∙ p.setting;
+  failed = omega (arith, p.failed, q.failed, failures-append x y);
 }
 
 served-then : (xs ys : List (List ℕ)) (cs ds : List Event) (s t : List ℕ) → Served xs cs s → Served ys ds t → Served (xs ++ ys) (cs ++ ds) (s ++ t)
@@ -51,25 +62,26 @@ seen-told : (line : List ℕ) (events : List Event) (text : List ℕ) → IsTold
 seen-told line events text (inl (meant, means, says)) = inl (meant, subst (λ (said : Result (Option Spoken) Refusal). Means said meant) (seen-says line) means, says)
 seen-told line events text (inr none) = inr (record { speaks = seen-speaks line none.speaks; no_call = none.no_call; told = none.told })
 
-pub serves-none : (page : Page) → Serves page page [] []
-serves-none page = record { events = []; served = (refl, refl); book = continues-still page }
+module _ {D : Type 0} (faults : D → ℕ) where
+  pub serves-none : (book : Ledger D) → Serves faults book book [] []
+  serves-none book = record { events = []; served = (refl, refl); book = continues-still faults book }
 
--- one line and what it was told
-pub serves-one : (line : List ℕ) (told : Option Reply) (old new : Page) → Told line told old new → Serves old new (line ∷ []) (text_of told)
-serves-one line told old new (events, says, book) = record {
-  events = events;
-  served = (events, [], text_of told, [], says, (refl, refl), sym (append-nil events), sym (append-nil (text_of told)));
-  book = book;
-}
+  -- one line and what it was told
+  pub serves-one : (line : List ℕ) (told : Option Reply) (old new : Ledger D) → Told faults line told old new → Serves faults old new (line ∷ []) (text_of told)
+  serves-one line told old new (events, says, book) = record {
+    events = events;
+    served = (events, [], text_of told, [], says, (refl, refl), sym (append-nil events), sym (append-nil (text_of told)));
+    book = book;
+  }
 
-pub serves-then : (old mid new : Page) (lines others : List (List ℕ)) (text more : List ℕ) → Serves old mid lines text → Serves mid new others more → Serves old new (lines ++ others) (text ++ more)
-serves-then old mid new lines others text more p q = record {
-  events = p.events ++ q.events;
-  served = served-then lines others p.events q.events text more p.served q.served;
-  book = continues-then old mid new p.events q.events p.book q.book;
-}
+  pub serves-then : (old mid new : Ledger D) (lines others : List (List ℕ)) (text more : List ℕ) → Serves faults old mid lines text → Serves faults mid new others more → Serves faults old new (lines ++ others) (text ++ more)
+  serves-then old mid new lines others text more p q = record {
+    events = p.events ++ q.events;
+    served = served-then lines others p.events q.events text more p.served q.served;
+    book = continues-then faults old mid new p.events q.events p.book q.book;
+  }
 
-pub serves-seen : (old new : Page) (line text : List ℕ) → Serves old new (seen line ∷ []) text → Serves old new (line ∷ []) text
-serves-seen old new line text p =
-    let (first, rest, reply, replies, says, more, c, t) = p.served in
-    record { events = p.events; served = (first, rest, reply, replies, seen-told line first reply says, more, c, t); book = p.book }
+  pub serves-seen : (old new : Ledger D) (line text : List ℕ) → Serves faults old new (seen line ∷ []) text → Serves faults old new (line ∷ []) text
+  serves-seen old new line text p =
+      let (first, rest, reply, replies, says, more, c, t) = p.served in
+      record { events = p.events; served = (first, rest, reply, replies, seen-told line first reply says, more, c, t); book = p.book }

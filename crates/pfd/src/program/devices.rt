@@ -1,15 +1,17 @@
 //! What the program does with a disk, whatever it lies on.
-ghost use Rattle.std.specs.Prelude.{◌≡◌, ◌≤◌, ◌<◌, ◌^◌, ◌↔◌, ◌+◌, if◌then◌else◌, ℕ, List, length, IsErrOf, IsTrue, OnOk};
+ghost use Rattle.std.specs.Prelude.{◌≡◌, ◌≤◌, ◌<◌, ◌^◌, ◌↔◌, ◌+◌, if◌then◌else◌, ℕ, List, length, IfErr, IfOk, IsErrOf, IsTrue, OnOk};
 ghost use Rattle.pf_addr.specs.Writing.{Continues, Writes};
 ghost use Rattle.pf_disk.specs.Disk.{IsImage};
 ghost use Rattle.pf_anchor.specs.declared.limits.TheConstants.{RULESET_LIMIT, TABLE_COUNT_LIMIT};
-ghost use Rattle.pf_core.specs.Durable.Edits.{kept_nothing};
+ghost use Rattle.pf_core.specs.{Durable.Edits.{kept_nothing}, Worlds.raised};
 ghost use Rattle.pf_store.specs.{Banks.IsSize, Stores.Holds};
+ghost use Rattle.pfd.specs.Program.{Hinders};
 ghost use Rattle.pfd.specs.Showing.{IsShown, is_device_fault, number_line, shown_text, sum_line};
 
 use crate::program::fault::Fault;
 use pf_addr::{write_more, write_more_number};
 use pf_anchor::Config;
+use pf_book::Opening;
 use pf_core::{Answer, Durable, Reply};
 use pf_disk::Disk;
 use pf_line::write_reply;
@@ -37,6 +39,23 @@ pub fn format_on<D: Disk>(alloc: Global, disk: &mut D) -> Result<(), Fault>
 {
     format(alloc, disk)?;
     Ok(())
+}
+
+/// Makes a disk hold nothing, whatever it held, and opens it. `Err` says what kept it from that, and the disk is dropped. Own.
+pub fn open_fresh<D: Disk + Drop>(alloc: Global, mut disk: D) -> Result<Opening<D>, Fault>
+    requires few { D.fault_count disk < 2 ^ 63 }
+    ensures size { IfOk result (λ _. IsSize (length (D.seen disk))) }
+    ensures given { IfOk result (λ o. o.given ≡ raised (kept_nothing 0)) }
+    ensures hindered { IfErr result (λ fault. Hinders (length (D.seen disk)) fault) }
+{
+    if !is_size(disk.size()) {
+        return Err(Fault::BadSize);
+    }
+    format(alloc, &mut disk)?;
+    match Opening::open(alloc, disk) {
+        Ok(opening) => Ok(opening),
+        Err((fault, _disk)) => Err(Fault::from(fault)),
+    }
 }
 
 /// Tells what a disk holds, as it reads, in five lines: `epoch E`, `sum S` in 32 hexadecimal digits, `rulesets N`, `tables N`, `states N`.

@@ -1,8 +1,9 @@
 //! Why the program ends with status 1.
 ghost use Rattle.std.specs.Prelude.{◌≡◌};
-ghost use Rattle.pfd.specs.Faults.{told_of_session, told_of_opening, told_of_formatting, told_of_file};
+ghost use Rattle.pfd.specs.Faults.{told_of_session, told_of_opening, told_of_formatting, told_of_file, told_of_views};
 
 use crate::line_engine::EngineFault;
+use pf_book::ViewFault;
 use pf_disk::FileFault;
 use pf_store::OpenFault;
 use pf_store::bank::FormatFault;
@@ -79,6 +80,17 @@ impl From<FormatFault> for Fault {
             FormatFault::BadSize => Fault::BadSize,
             FormatFault::Memory => Fault::Memory,
             FormatFault::Fault => Fault::Device,
+        }
+    }
+}
+
+impl From<ViewFault> for Fault {
+    ghost from_gives = { λ fault told. told ≡ told_of_views fault };
+
+    fn from(fault: ViewFault) -> Fault {
+        match fault {
+            ViewFault::Memory => Fault::Memory,
+            ViewFault::Places => Fault::Places,
         }
     }
 }

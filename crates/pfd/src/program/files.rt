@@ -1,7 +1,10 @@
 //! Disks that lie on files. What a file holds no clause can say, so this is only tested.
+ghost use Rattle.std.specs.Prelude.{◌≡◌, IfErr, IfOk};
+ghost use Rattle.pfd.specs.Program.{IsOfFile};
+
 use crate::program::devices::{format_on, is_size, show_on};
 use crate::program::fault::Fault;
-use pf_disk::FileDisk;
+use pf_disk::{Disk, FileDisk};
 use std::alloc::Global;
 use std::fs::{File, Files, OpenOptions, TryLockError};
 use std::io::Write;
@@ -14,7 +17,7 @@ pub(crate) fn format_file<S: Files<File = File>>(
     path: &str,
     size: usize,
 ) -> Result<(), Fault> {
-    let file = open_to_write(files, path)?;
+    let file = open_to_write(files, path, true)?;
     if !is_size(size) {
         return Err(Fault::BadSize);
     }
@@ -25,6 +28,25 @@ pub(crate) fn format_file<S: Files<File = File>>(
     format_on(alloc, &mut disk)
 }
 
+/// The disk that lies on a file, which is locked until the disk is dropped. The file has to have so many bytes where a number is there.
+pub(crate) fn open_file<S: Files<File = File>>(
+    alloc: Global,
+    files: &S,
+    path: &str,
+    size: Option<usize>,
+) -> Result<FileDisk, Fault>
+    ensures faults { IfOk result (λ disk. ⟦<FileDisk as Disk>⟧.fault_count disk ≡ 0) }
+    ensures cause { IfErr result IsOfFile }
+{
+    let file = open_to_write(files, path, false)?;
+    let found = length_of(&file)?;
+    if !is_size(found) || size.unwrap_or(found) != found {
+        return Err(Fault::BadSize);
+    }
+    let disk = FileDisk::of(alloc, file, found)?;
+    Ok(disk)
+}
+
 /// Tells what the disk holds that lies on a file. The file is open for reading alone.
 pub(crate) fn show_file<S: Files<File = File>, W: Write>(
     alloc: Global,
@@ -32,7 +54,10 @@ pub(crate) fn show_file<S: Files<File = File>, W: Write>(
     path: &str,
     writer: &mut W,
 ) -> Result<(), Fault> {
-    let (file, size) = open_to_read(files, path)?;
+    let Ok(file) = File::open(files, path) else {
+        return Err(Fault::Input);
+    };
+    let size = length_of(&file)?;
     if !is_size(size) {
         return Err(Fault::BadSize);
     }
@@ -40,12 +65,18 @@ pub(crate) fn show_file<S: Files<File = File>, W: Write>(
     show_on(alloc, &mut disk, writer)
 }
 
-// The file, made where it is missing, and locked until it is closed. It may be another's disk: then it isn't opened.
-fn open_to_write<S: Files<File = File>>(files: &S, path: &str) -> Result<File, Fault> {
+// The file, made where it is missing and may be made, and locked until it is closed. It may be another's disk: then it isn't opened.
+fn open_to_write<S: Files<File = File>>(
+    files: &S,
+    path: &str,
+    may_make: bool,
+) -> Result<File, Fault>
+    ensures { IfErr result (λ fault. fault ≡ Fault.Input) }
+{
     let opened = OpenOptions::new()
         .read(true)
         .write(true)
-        .create(true)
+        .create(may_make)
         .open(files, path);
     let Ok(file) = opened else {
         return Err(Fault::Input);
@@ -57,14 +88,13 @@ fn open_to_write<S: Files<File = File>>(files: &S, path: &str) -> Result<File, F
     }
 }
 
-// The file, and how many bytes it has.
-fn open_to_read<S: Files<File = File>>(files: &S, path: &str) -> Result<(File, usize), Fault> {
-    let Ok(file) = File::open(files, path) else {
-        return Err(Fault::Input);
-    };
+// How many bytes a file has.
+fn length_of(file: &File) -> Result<usize, Fault>
+    ensures { IfErr result (λ fault. fault ≡ Fault.Input) }
+{
     match file.metadata() {
         // a folder can be opened, and not read
-        Ok(metadata) if !metadata.is_dir() => Ok((file, metadata.len() as usize)),
+        Ok(metadata) if !metadata.is_dir() => Ok(metadata.len() as usize),
         _ => Err(Fault::Input),
     }
 }

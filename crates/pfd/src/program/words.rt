@@ -1,9 +1,9 @@
 //! The program's words.
-ghost use Rattle.std.specs.Prelude.{◌≡◌, ◌≤◌, IfErr, IfOk, [], codes, false, map, string_bytes, unwrap_or};
+ghost use Rattle.std.specs.Prelude.{◌≡◌, ◌≤◌, IfErr, IfOk, List, ℕ, Some, [], codes, false, map, option_map, string_bytes, unwrap_or};
 ghost use Rattle.clap.specs.Words.{app_of, found_of, kind_of, one_of, first_of, rows_of, rule_of, subcommand_of, subcommand_rows_of};
 ghost use Rattle.clap.specs.declared.builder.command.Command.TheViews.{out-Command};
 ghost use Rattle.pfd.specs.Program.{IsRun};
-ghost use Rattle.pfd.specs.Words.{HasHistory, IsAsked, SaysNumber, disk_rule, history_rule, size_rule, run_words, format_words, show_words, program_words};
+ghost use Rattle.pfd.specs.Words.{HasHistory, IsAsked, MaySayNumber, SaysNumber, disk_rule, history_rule, size_rule, run_words, format_words, show_words, program_words};
 
 use clap::error::ErrorKind;
 use clap::{Arg, ArgMatches, Command, Error, value_parser};
@@ -25,11 +25,25 @@ const VERSION: &str = "0.1.0";
 #[derive(Clone, Copy, Debug, PartialEq, Eq)]
 pub(crate) enum Task<'a> {
     /// A session over a memory disk of so many bytes, whose history may have so many changes.
-    Run { size: usize, history: usize },
+    Run {
+        size: usize,
+        history: usize,
+    },
+    /// The same over the disk that lies on a file, which has to have so many bytes where a number is there.
+    RunOn {
+        path: &'a str,
+        size: Option<usize>,
+        history: usize,
+    },
     /// The file is made so many bytes long and formatted.
-    Format { path: &'a str, size: usize },
+    Format {
+        path: &'a str,
+        size: usize,
+    },
     /// It is told what the file holds.
-    Show { path: &'a str },
+    Show {
+        path: &'a str,
+    },
 }
 
 fn disk<'a>(alloc: Global) -> Arg<'a>
@@ -39,7 +53,6 @@ fn disk<'a>(alloc: Global) -> Arg<'a>
     Arg::new(alloc, "disk")
         .long("disk")
         .value_name("FILE")
-        .required(true)
         .help("The file that is the disk")
 }
 
@@ -68,9 +81,11 @@ fn run_words<'a>(alloc: Global) -> Result<Command<'a>, AllocError>
     ensures app { IfOk result (λ c. app_of c ≡ run_words) }
     ensures local { IfOk result (λ c. (out-Command c).has_globals ≡ false) }
 {
-    let size = size(alloc).help("How many bytes its disk in memory has [default: 1048576]");
+    let disk = disk(alloc).help("The file that is its disk; without one it lies in memory");
+    let size = size(alloc).help("How many bytes the disk has [default in memory: 1048576]");
     Command::new(alloc, "run")
         .about("Answers the lines of standard input on standard output")
+        .arg(disk)?
         .arg(size)?
         .arg(history(alloc))
 }
@@ -84,7 +99,7 @@ fn format_words<'a>(alloc: Global) -> Result<Command<'a>, AllocError>
     );
     Command::new(alloc, "format")
         .about("Makes a file a disk that holds nothing")
-        .arg(disk(alloc))?
+        .arg(disk(alloc).required(true))?
         .arg(size)
 }
 
@@ -94,7 +109,7 @@ fn show_words<'a>(alloc: Global) -> Result<Command<'a>, AllocError>
 {
     Command::new(alloc, "show")
         .about("Tells what a disk holds")
-        .arg(disk(alloc))
+        .arg(disk(alloc).required(true))
 }
 
 fn program_words<'a>(alloc: Global) -> Result<Command<'a>, AllocError>
@@ -135,10 +150,7 @@ fn task_of<'a>(matches: &ArgMatches<'a>) -> Task<'a>
         Some(("show", found)) => Task::Show {
             path: path_in(found),
         },
-        Some((_, found)) => Task::Run {
-            size: number_in(found, "size", MEMORY_SIZE),
-            history: number_in(found, "history", HISTORY_LIMIT).clamp(1, MOST_HISTORY),
-        },
+        Some((_, found)) => session_in(found),
         None => Task::Run {
             size: MEMORY_SIZE,
             history: HISTORY_LIMIT,
@@ -146,15 +158,47 @@ fn task_of<'a>(matches: &ArgMatches<'a>) -> Task<'a>
     }
 }
 
+// A session over the file that is named, else over memory.
+fn session_in<'a>(found: &ArgMatches<'a>) -> Task<'a>
+    ensures asked { (name : List ℕ) → IsAsked (Some (name, rows_of (found_of found.now))) result }
+    ensures history { HasHistory result }
+{
+    let history = number_in(found, "history", HISTORY_LIMIT).clamp(1, MOST_HISTORY);
+    match disk_in(found) {
+        Some(path) => Task::RunOn {
+            path,
+            size: number_if_any(found, "size"),
+            history,
+        },
+        None => Task::Run {
+            size: number_in(found, "size", MEMORY_SIZE),
+            history,
+        },
+    }
+}
+
+fn disk_in<'a>(found: &ArgMatches<'a>) -> Option<&'a str>
+    ensures { option_map (λ s. s.now) result ≡ first_of (codes "disk") (rows_of (found_of found.now)) }
+{
+    found.get_str("disk")
+}
+
 fn path_in<'a>(found: &ArgMatches<'a>) -> &'a str
     ensures { result.now ≡ unwrap_or (first_of (codes "disk") (rows_of (found_of found.now))) [] }
 {
-    found.get_str("disk").unwrap_or("")
+    disk_in(found).unwrap_or("")
+}
+
+// The number of an option, where it is there.
+fn number_if_any(found: &ArgMatches<'_>, option: &str) -> Option<usize>
+    ensures { MaySayNumber 0 18446744073709551615 (one_of option.now (rows_of (found_of found.now))) result }
+{
+    found.get_one::<usize>(option)
 }
 
 // The number of an option, or this one where it isn't there.
 fn number_in(found: &ArgMatches<'_>, option: &str, default: usize) -> usize
     ensures { SaysNumber 0 18446744073709551615 default (one_of option.now (rows_of (found_of found.now))) result }
 {
-    found.get_one::<usize>(option).unwrap_or(default)
+    number_if_any(found, option).unwrap_or(default)
 }

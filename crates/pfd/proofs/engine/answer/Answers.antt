@@ -6,7 +6,7 @@ use Rattle.pfd.specs.Laws.Serving.{serves-one}
 use Rattle.pfd.proofs.engine.answer.Goals as goal
 
 pub returns-in-Some : goal.returns-in-Some
-returns-in-Some g c = (reply_text c.in-Some.reply, serves-one c.args.line.now (Some c.in-Some.reply) c.args.book.now c.reply_to.new.book c.in-Some.ensures, c.write_reply.ensures.text)
+returns-in-Some g c = (reply_text c.in-Some.reply, serves-one g.D.Disk.fault_count c.args.line.now (Some c.in-Some.reply) c.args.book.now c.reply_to.new.book c.in-Some.ensures, c.write_reply.ensures.text)
 
 pub returns-in-None : goal.returns-in-None
-returns-in-None g c = ([], serves-one c.args.line.now None c.args.book.now c.reply_to.new.book c.in-None.ensures, appends_none (g.W.Write.contents c.args.writer.now))
+returns-in-None g c = ([], serves-one g.D.Disk.fault_count c.args.line.now None c.args.book.now c.reply_to.new.book c.in-None.ensures, appends_none (g.W.Write.contents c.args.writer.now))

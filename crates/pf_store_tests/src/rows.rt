@@ -1,0 +1,83 @@
+// How rows are spelled. The head of `stdin` says what each of them means.
+
+use std::alloc::{AllocError, Global};
+
+/// Rows that are played in turn, over what an opening gives where they open a device.
+#[derive(Drop)]
+pub struct Segment {
+    pub opens: bool,
+    pub rows: Vec<String>,
+}
+
+impl Segment {
+    fn new(alloc: Global, opens: bool) -> Segment {
+        Segment {
+            opens,
+            rows: Vec::new(alloc),
+        }
+    }
+}
+
+/// The rows of a text, cut before each that makes, formats or opens a device. The row of an opening is left out.
+pub fn segments(alloc: Global, text: &str) -> Result<Vec<Segment>, AllocError> {
+    let mut segments = Vec::new(alloc);
+    let mut segment = Segment::new(alloc, false);
+    for row in text.split('\n') {
+        let opens = row == "open";
+        if opens || row == "format" || row.starts_with("zeros ") {
+            segments.push(segment)?;
+            segment = Segment::new(alloc, opens);
+        }
+        if !opens {
+            segment.rows.push(String::from_str(alloc, row)?)?;
+        }
+    }
+    segments.push(segment)?;
+    Ok(segments)
+}
+
+/// Tells a row, and says whether it comes to something, as no comment, heading and empty row does.
+pub fn tell_row(told: &mut String, row: &str) -> Result<bool, AllocError> {
+    told.push_str(row)?;
+    let is_played = !row.is_empty() && !row.starts_with("//") && !row.starts_with("==");
+    if is_played {
+        told.push_str(" -> ")?;
+    }
+    Ok(is_played)
+}
+
+/// The word of a row, and what is behind it.
+pub fn cut_word(row: &str) -> (&str, &str) {
+    row.split_once(' ').unwrap_or((row, ""))
+}
+
+/// What stands before the first bar, and what is behind it.
+pub fn cut_bar(text: &str) -> (&str, &str) {
+    text.split_once(" | ").unwrap_or((text, ""))
+}
+
+/// The lines of a text with bars between them.
+pub fn lines_of(alloc: Global, text: &str) -> Result<Vec<String>, AllocError> {
+    let mut lines = Vec::new(alloc);
+    for line in text.split(" | ") {
+        lines.push(String::from_str(alloc, line)?)?;
+    }
+    Ok(lines)
+}
+
+/// A number in decimal digits.
+pub fn number(text: &str) -> usize {
+    text.parse::<usize>().unwrap_or(0)
+}
+
+/// Puts other bytes at some places, each as `51=a5`.
+pub fn put_bytes(bytes: &mut Vec<u8>, changes: &str) {
+    for change in changes.split(' ') {
+        let (place, byte) = change.split_once('=').unwrap_or(("", ""));
+        if let (Ok(place), Ok(byte)) = (place.parse::<usize>(), u8::from_str_radix(byte, 16)) {
+            if let Some(old) = bytes.get_mut(place) {
+                *old = byte;
+            }
+        }
+    }
+}
