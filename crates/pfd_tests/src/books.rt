@@ -4,7 +4,7 @@ use std::alloc::Global;
 use std::test::*;
 
 /// How many bytes a disk has: room for two changes of a whole table.
-const DISK_SIZE: usize = 1 << 22;
+const DISK_SIZE: usize = 1 << 23;
 
 /// A fresh disk in memory, opened.
 pub(crate) fn opened(alloc: Global) -> Result<Opening<MemDisk>, Fail> {
