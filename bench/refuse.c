@@ -1,17 +1,24 @@
-/* Loaded before the C library's own, it refuses the growth of memory whose number REFUSE names, and says so on standard error. */
+/* Loaded before the C library's own, it refuses the growth of memory whose number REFUSE names, or each from the one on that REFUSE_FROM
+   names, and says so on standard error. */
 #include <stdlib.h>
 #include <unistd.h>
 
 extern void *__libc_malloc(size_t);
 extern void *__libc_realloc(void *, size_t);
 
+static long number_in(const char *name) {
+    const char *number = getenv(name);
+    return number ? atol(number) : 0;
+}
+
 static int is_refused(void) {
-    static long left = -1;
-    if (left < 0) {
-        const char *number = getenv("REFUSE");
-        left = number ? atol(number) : 0;
+    static long asked, one = -1, from;
+    if (one < 0) {
+        one = number_in("REFUSE");
+        from = number_in("REFUSE_FROM");
     }
-    if (left == 0 || --left > 0)
+    asked++;
+    if (asked != one && (from == 0 || asked < from))
         return 0;
     return write(2, "refused\n", 8) == 8;
 }
