@@ -1,5 +1,5 @@
 -- What the receipt of a reply says, and what a call is answered under the lock. Own.
-use Rattle.std.specs.{Prelude.{◌≡◌, ℕ, ◌≤◌, List, [], ◌∷◌, ◌++◌, length, ⊤, IfSome}, Option.{Option, None, Some, ForSome}}
+use Rattle.std.specs.{Prelude.{◌≡◌, ℕ, ◌≤◌, List, [], ◌∷◌, ◌++◌, length, ⊤, Option, None, Some, IfSome}, Option.ForSome}
 use mathlib.Core.List.{IsPrefix}
 use Rattle.pf_core.specs.declared.{command.Command.Command, reply.Reply.Reply, reply.Reply.TheVariants.{Answer, Applied, Stored, Refused}}
 use Rattle.pf_core.specs.{Calls.call, Durable.Edits.{Kept, Edit}, Pages.{Page, StandsFor}, Worlds.{Setting, Held, Upshot, Event, up, down, called, flat, log_of, group_in, heard, state_after, IsWorld}}

@@ -1,5 +1,5 @@
 //! What the definitions of receipts come to, whoever made them.
-ghost use Rattle.std.specs.{Prelude.{◌≡◌, ◌<◌, ℕ, length}, Option.{Option, Some}};
+ghost use Rattle.std.specs.Prelude.{◌≡◌, ◌<◌, ℕ, length, Option, Some};
 ghost use mathlib.Core.List.{IsPrefix};
 ghost use Rattle.pf_core.specs.declared.{command.Command.Command, reply.Outcome.Outcome, reply.Reply.Reply, reply.Reply.TheVariants.{Applied, Stored}};
 ghost use Rattle.pf_core.specs.{Durable.Edits.{Kept, Edit}, Worlds.Setting};

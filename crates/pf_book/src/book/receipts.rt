@@ -1,6 +1,6 @@
 //! Replies with their receipts, and receipts confirmed.
-ghost use Rattle.std.specs.Prelude.{◌≡◌, ◌≤◌, length, IsTrue, nat_lt};
-ghost use Rattle.std.specs.{Arc.arc_value, Option.{ForSome, option_copied, option_map}, Prelude.◌↔◌};
+ghost use Rattle.std.specs.Prelude.{◌≡◌, ◌≤◌, ◌↔◌, length, IsTrue, nat_lt};
+ghost use Rattle.std.specs.{Arc.arc_value, Option.{ForSome, option_copied, option_map}};
 ghost use mathlib.Core.List.{IsPrefix};
 ghost use Rattle.pf_core.specs.{Calls.call, Pages.{IsAt, Leads}, Worlds.{Held, flat, upshot}};
 ghost use Rattle.pf_book.specs.{Books.{page, log_in}, Receipts.{token_of, Confirms, EndsIn, Follows, IsGiven, ShownFits}};
