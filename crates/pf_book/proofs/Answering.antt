@@ -2,11 +2,11 @@
 use Rattle.std.proofs.Common.{◌≡◌, inl, inr, ℕ, ◌+◌, ◌<◌, ◌≤◌, Bool, List, [], ◌∷◌, ◌++◌, length, Option, None, Some, Result, Ok, Err, refl, sym, ap, ◌∙◌, subst, arith, append_assoc, append-nil, length-append}
 use Rattle.std.specs.{Prelude.IfSome, Option.ForSome}
 use mathlib.Core.List.{IsPrefix}
-use Rattle.pf_core.specs.declared.{command.Command.Command, reply.Outcome.Outcome, reply.Refusal.Refusal, reply.Reply.Reply, reply.Reply.TheVariants.{Answer, Applied, Stored, Refused}, step.Step.Step, step.Step.TheVariants.{Done, Wants, OfHistory}}
+use Rattle.pf_core.specs.declared.{command.Command.Command, command.HistoryCommand.HistoryCommand, command.HistoryCommand.TheVariants.{Log, Publish}, reply.Outcome.Outcome, reply.Refusal.Refusal, reply.Reply.Reply, reply.Reply.TheVariants.{Answer, Applied, Stored, Refused}, step.Step.Step, step.Step.TheVariants.{Done, Wants, OfHistory}}
 use Rattle.pf_core.specs.{Calls.call, Durable.Edits.{Kept, Edit}, Pages.{Page, IsAt, Leads}, Worlds.{Setting, Held, up, down, Upshot, Event, called, flat, log_of, step_in, or_refused, due_at, due, group_in, heard, room_for, State, StandsIn, LegalReply, LegalCall, IsLegal, state_after}}
 use Rattle.pf_core.proofs.{Fronts.flat-append, LongerWorlds.{flat-push, stands-on, in-two}}
 use Rattle.pf_view.proofs.Fronts.{prefix_trans}
-use Rattle.pf_book.specs.{Books.log_in, Receipts.{Slip, token_of, IsAdded, IsGiven, Follows, IsReached, IsLast, IsChangeOf, IsAnswered}}
+use Rattle.pf_book.specs.{Books.{log_in, IsMore, IsTold}, Receipts.{Slip, token_of, IsAdded, IsGiven, Follows, IsReached, IsLast, IsChangeOf, IsAnswered}}
 
 -- ---- lists
 
@@ -32,6 +32,22 @@ log-added change old new added =
     let one : List (List Edit) = (added.edit ∷ []) ∷ [] in
     ap (λ (gs : List (List Edit)). flat (new.acked ++ gs)) added.none_after ∙ ap flat (append-nil new.acked) ∙ ap flat added.acked ∙ flat-push old.acked added.edit
     ∙ ap (λ (gs : List (List Edit)). flat gs ++ added.edit ∷ []) (sym (append-nil old.acked)) ∙ ap (λ (gs : List (List Edit)). flat (old.acked ++ gs) ++ added.edit ∷ []) (sym added.none_before)
+
+-- a change that was kept is one
+pub added-by : (old kept new : Page) (e : Edit) (change : Option Edit) → IsMore old kept e → new.acked ≡ kept.acked → new.pending ≡ kept.pending → old.pending ≡ [] → change ≡ Some e → IsAdded change old new
+added-by old kept new e change more acked pending free is = record {
+  edit = e;
+  is = is;
+  acked = acked ∙ more.acked;
+  none_before = free;
+  none_after = pending ∙ more.pending ∙ free;
+}
+
+-- what is told of the history gives none
+pub told-given : (x : HistoryCommand) (r : Reply) (b new p q : Page) → IsTold x r b new → IsGiven r None p q
+told-given Log r b new p q told = subst (λ (y : Reply). IsGiven y None p q) (sym told.1) refl
+told-given Publish r b new p q (inl told) = subst (λ (y : Reply). IsGiven y None p q) (sym told.0) refl
+told-given Publish r b new p q (inr told) = subst (λ (y : Reply). IsGiven y None p q) (sym told.0) refl
 
 -- ---- one call under the lock
 

@@ -72,7 +72,9 @@ struct Shares {
 
 // Shares a change.
 fn share(alloc: Global, change: Change) -> Result<Shares, AllocError>
-    ensures { IfOk result (λ s. (arc_value s.change ≡ change) × (arc_value s.noted ≡ change) × (arc_value s.given ≡ change)) }
+    ensures change { IfOk result (λ s. arc_value s.change ≡ change) }
+    ensures noted { IfOk result (λ s. arc_value s.noted ≡ change) }
+    ensures given { IfOk result (λ s. arc_value s.given ≡ change) }
 {
     let change = Arc::new(alloc, change)?;
     let noted = Arc::try_clone(&change)?;
