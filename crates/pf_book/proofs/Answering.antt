@@ -3,10 +3,10 @@ use Rattle.std.proofs.Common.{◌≡◌, inl, inr, ℕ, ◌+◌, ◌<◌, ◌≤
 use Rattle.std.specs.{Prelude.IfSome, Option.ForSome}
 use mathlib.Core.List.{IsPrefix}
 use Rattle.pf_core.specs.declared.{command.Command.Command, command.HistoryCommand.HistoryCommand, command.HistoryCommand.TheVariants.{Log, Publish}, reply.Outcome.Outcome, reply.Refusal.Refusal, reply.Reply.Reply, reply.Reply.TheVariants.{Answer, Applied, Stored, Refused}, step.Step.Step, step.Step.TheVariants.{Done, Wants, OfHistory}}
-use Rattle.pf_core.specs.{Calls.call, Durable.Edits.{Kept, Edit}, Pages.{Page, IsAt, Leads}, Worlds.{Setting, Held, up, down, Upshot, Event, called, flat, log_of, step_in, or_refused, due_at, due, group_in, heard, room_for, State, StandsIn, LegalReply, LegalCall, IsLegal, state_after}}
+use Rattle.pf_core.specs.{Calls.call, Durable.Edits.{Kept, Edit}, Pages.{Page, IsAt, Leads}, Worlds.{Setting, Held, up, down, Upshot, Event, called, flat, log_of, step_in, or_refused, due_at, due, group_in, heard, room_for, shown_by, State, StandsIn, LegalReply, LegalCall, IsLegal, state_after}}
 use Rattle.pf_core.proofs.{Fronts.flat-append, LongerWorlds.{flat-push, stands-on, in-two}}
 use Rattle.pf_view.proofs.Fronts.{prefix_trans}
-use Rattle.pf_book.specs.{Books.{log_in, IsMore, IsTold}, Receipts.{Slip, token_of, IsAdded, IsGiven, Follows, IsReached, IsLast, IsChangeOf, IsAnswered}}
+use Rattle.pf_book.specs.{Books.{log_in, IsMore, IsTold}, Receipts.{Slip, EndsIn, ShownFits, token_of, IsAdded, IsGiven, Follows, IsReached, IsLast, IsChangeOf, IsAnswered}}
 
 -- ---- lists
 
@@ -48,6 +48,26 @@ pub told-given : (x : HistoryCommand) (r : Reply) (b new p q : Page) → IsTold 
 told-given Log r b new p q told = subst (λ (y : Reply). IsGiven y None p q) (sym told.1) refl
 told-given Publish r b new p q (inl told) = subst (λ (y : Reply). IsGiven y None p q) (sym told.0) refl
 told-given Publish r b new p q (inr told) = subst (λ (y : Reply). IsGiven y None p q) (sym told.0) refl
+
+-- a change that was kept is the last of the history, all of which is acknowledged then
+added-last : (change : Option Edit) (old new : Page) → IsAdded change old new → ForSome change (λ e. EndsIn (log_in new) e × (length (log_in new) ≤ length (flat new.acked)))
+added-last change old new added = λ e some.
+    let same : added.edit ≡ e = cc (added.is, some) in
+    let all : log_in new ≡ flat new.acked = ap (λ (gs : List (List Edit)). flat (new.acked ++ gs)) added.none_after ∙ ap flat (append-nil new.acked) in
+    ((log_in old, subst (λ (x : Edit). log_in new ≡ log_in old ++ x ∷ []) same (log-added change old new added)), omega (arith, ap length all))
+
+pub given-last : (r : Reply) (change : Option Edit) (old new : Page) → IsGiven r change old new → ForSome change (λ e. EndsIn (log_in new) e × (length (log_in new) ≤ length (flat new.acked)))
+given-last (Answer a) change old new given = λ e some. absurd (cc (given, some))
+given-last (Applied n o) change old new given = added-last change old new given
+given-last (Stored n o) change old new given = added-last change old new given
+given-last (Refused why) change old new given = λ e some. absurd (cc (given, some))
+
+-- after `Applied` as many are shown as its number says
+pub shown-fits : (r : Reply) (before shown : ℕ) → shown ≡ shown_by r before → ShownFits r shown
+shown-fits (Answer a) before shown is = tt
+shown-fits (Applied n o) before shown is = is
+shown-fits (Stored n o) before shown is = tt
+shown-fits (Refused e) before shown is = tt
 
 -- ---- one call under the lock
 

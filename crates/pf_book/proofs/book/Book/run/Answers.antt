@@ -10,8 +10,8 @@ use Rattle.pf_book.proofs.book.Book.run.Goals as goal
 pub returns-clause-worlds : goal.returns-clause-worlds
 returns-clause-worlds g c = λ first world stands.
     let old = c.args.self.now in
-    let new = c.call.new.self in
-    stands-on first (page old) (page new) world (call c.args.command c.call.result.0) (upshot new.shown (nat_lt (g.D.Disk.fault_count old.disk) (g.D.Disk.fault_count new.disk))) stands (c.call.ensures.leads stands.held stands.at)
+    let new = c.call-reply.new.self in
+    stands-on first (page old) (page new) world (call c.args.command c.call-reply.result.0) (upshot new.shown (nat_lt (g.D.Disk.fault_count old.disk) (g.D.Disk.fault_count new.disk))) stands (c.call-reply.ensures.leads stands.held stands.at)
 
 pub returns-clause-images : goal.returns-clause-images
 returns-clause-images g c =
@@ -19,4 +19,4 @@ returns-clause-images g c =
     (λ h at image is. front-left h _ idle image at (c.self.invariant.images image is))
 
 pub returns-clause-shown : goal.returns-clause-shown
-returns-clause-shown g c = (c.call.ensures.leads (own (page c.args.self.now)) (own-at (page c.args.self.now))).legal.shown
+returns-clause-shown g c = (c.call-reply.ensures.leads (own (page c.args.self.now)) (own-at (page c.args.self.now))).legal.shown
