@@ -3,7 +3,7 @@ use Rattle.std.specs.{Prelude.{◌≡◌, ℕ, ◌≤◌, List, [], ◌∷◌, �
 use mathlib.Core.List.{IsPrefix}
 use Rattle.pf_core.specs.declared.{command.Command.Command, reply.Reply.Reply, reply.Reply.TheVariants.{Answer, Applied, Stored, Refused}}
 use Rattle.pf_core.specs.{Calls.call, Durable.Edits.{Kept, Edit}, Pages.{Page, StandsFor}, Worlds.{Setting, Held, Upshot, Event, up, down, called, flat, log_of, group_in, heard, state_after, IsWorld}}
-use Rattle.pf_book.specs.{Books.{change_in, log_in}, Pasts.Past}
+use Rattle.pf_book.specs.{Books.{change_in}, Pasts.Past}
 
 -- ---- receipts
 

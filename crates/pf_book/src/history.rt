@@ -61,8 +61,9 @@ impl NewHistory {
         let pen = new_pen(&head, &seen);
         let mut offer: Step = seen.plain::<Nothing, Pen, Starting>(&pen);
         let mut none = seen.no_pen();
-        let found = head
-            .compare_exchange::<Starting, Nothing>(0, 1, &mut seen, &mut offer, &mut none);
+        let found = head.compare_exchange::<Starting, Nothing>(
+            0, 1, &mut seen, &mut offer, &mut none,
+        );
         // a new word is 0
         if found != 0 {
             return NewHistory {

@@ -45,7 +45,9 @@ impl Gain<Entry, u64> for Nothing {
 }
 
 pub(crate) type Head = Word<Entry, u64, OnePen>;
+
 pub(crate) type SeenEntries = Seen<Entry, u64, OnePen>;
+
 pub(crate) type Step = Offer<Entry, u64, OnePen, Nothing>;
 
 // What is added: a change, and the pen that may add the next one.

@@ -1,7 +1,7 @@
 use Rattle.std.proofs.Common.{◌≡◌, [], ◌∷◌, length, map, refl, sym, ap, ◌∙◌}
 use Rattle.std.specs.Arc.{arc_value}
 use Rattle.pf_ticket.specs.Tickets.{fresh}
-use Rattle.pf_core.specs.{Durable.Edits.Kept, Pages.IsAt, Wholes.Whole, Worlds.{Setting, begun, opened, down}}
+use Rattle.pf_core.specs.{Durable.Edits.Kept, Wholes.Whole, Worlds.{Setting, begun, opened, down}}
 use Rattle.pf_core.specs.Worlds.{raised as raised'}
 use Rattle.pf_core.proofs.LongerWorlds.{stands-by, stands-opened}
 use Rattle.pf_store.specs.Rooms.{on_device}

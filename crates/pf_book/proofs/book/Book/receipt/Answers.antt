@@ -1,4 +1,4 @@
-use Rattle.std.proofs.{Common.{◌≡◌, ◌≤◌, ℕ, List, length, map, sym, ap, ◌∙◌, subst, arith}, lemmas.Grind.common_steps}
+use Rattle.std.proofs.{Common.{◌≡◌, ◌≤◌, List, length, map, sym, ap, ◌∙◌, subst, arith}, lemmas.Grind.common_steps}
 use Rattle.std.specs.Arc.{arc_value}
 use Rattle.pf_core.specs.{Durable.Edits.Edit, Worlds.flat}
 use Rattle.pf_book.specs.{Books.{Ledger, page, log_in}, Pasts.Past, Receipts.EndsIn}
