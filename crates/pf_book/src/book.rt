@@ -1,4 +1,4 @@
-//! One history over a device.
+//! One history over a device. Its replies with receipts stand in `receipts`.
 ghost use Rattle.std.specs.Prelude.{◌≡◌, ℕ, ◌+◌, ◌<◌, ◌≤◌, [], ◌∷◌, ◌++◌, List, All, Ok, false, IfOk, IfErr, IfSome, OnOk, OnErr, IsErrOf, MatchBool, MatchResult, length, take, slice_get, nat_lt, not, if◌then◌else◌};
 ghost use Rattle.std.specs.{Arc.arc_value, Option.option_map};
 ghost use Rattle.pf_disk.specs.Disk.{EachMoment, IsImage};

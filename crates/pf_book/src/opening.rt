@@ -13,9 +13,8 @@ use std::alloc::Global;
 use std::marker::Model;
 use std::sync::Arc;
 
-/// A device that was opened, and what it held, in the next epoch. A `Book` is made of it; until then it takes no change. Its
-/// history is a new one. Contracts see it
-/// as an `Opened`. Own.
+/// A device that was opened, and what it held, in the next epoch, with a new history. A `Book` is made of it; until then it takes no
+/// change. Contracts see it as an `Opened`. Own.
 #[derive(Drop)]
 pub struct Opening<D: Disk> {
     pub(crate) durable: Arc<Durable>,
