@@ -9,7 +9,7 @@ use Rattle.pf_store.specs.{Lengths.payload_length, Rooms.{group_length, gate_aft
 use Rattle.pf_store.specs.declared.groups.change.Recorded.TheVariants as recorded
 use Rattle.pf_store.specs.declared.store.keeping.Store.{Store}
 use Rattle.pf_view.specs.Known.{Stage}
-use Rattle.pf_book.specs.Books.{singles, page_of, HoldsFront, IsOpened, IsBook, shows_all}
+use Rattle.pf_book.specs.{Books.{singles, page_of, HoldsFront, IsOpened, IsBook, shows_all}, Pasts.{Past, no_past, with_change}}
 use Rattle.pf_book.proofs.Parts.{flat-singles, all-acked, taken-more, taken-still, left-one, singles-more, prefix_is, prefix_short}
 
 -- ---- pages
@@ -95,20 +95,22 @@ module _ {D : Type 0} (seen : D → List ℕ) (unsynced : D → ℕ → Bool) (f
       (0, subst (λ (k : Kept). Holds c k) (folded.durable ∙ ap (λ (gs : List (List Edit)). after base (flat gs)) (sym (append-nil (singles (take acked log))))) holds)
 
   -- a change was kept
-  pub more-book : (store store' : Store D) (base : Kept) (whole whole' : Whole) (d d' : Kept) (log log' : List Edit) (e : Edit) (acked acked' offered first : ℕ) (setting setting' : Setting) (stage : Stage)
-      → IsBook seen unsynced faults store (page_of base whole log acked setting stage.shown) d log acked offered first stage
-      → singles (drop acked log) ≡ [] → acked' ≡ acked + 1 → log' ≡ log ++ e ∷ [] → whole'.durable ≡ applied whole.durable e → d' ≡ whole'.durable
+  pub more-book : (store store' : Store D) (base : Kept) (whole whole' : Whole) (d d' : Kept) (log log' : List Edit) (e : Edit) (acked acked' offered first : ℕ) (setting setting' : Setting) (stage : Stage) (past past' : Past)
+      → IsBook seen unsynced faults store (page_of base whole log acked setting stage.shown) d log acked offered first stage past
+      → singles (drop acked log) ≡ [] → acked' ≡ acked + 1 → log' ≡ log ++ e ∷ [] → past' ≡ with_change past e true → whole'.durable ≡ applied whole.durable e → d' ≡ whole'.durable
       → store.halted ≡ false → store'.halted ≡ false → Stands seen unsynced store' whole'.durable → faults store'.bank.journal.disk < 2 ^ 63
       → store'.bank.journal.gate ≡ store.bank.journal.gate + 5 + payload_length (recorded.Made e)
       → ((c : List ℕ) → IsImage (seen store'.bank.journal.disk) (unsynced store'.bank.journal.disk) c → Holds c whole'.durable)
-      → IsBook seen unsynced faults store' (page_of base whole' log' acked' setting' stage.shown) d' log' acked' offered first stage
-  more-book store store' base whole whole' d d' log log' e acked acked' offered first setting setting' stage i none counted logged left latest was on stands few gate images =
+      → IsBook seen unsynced faults store' (page_of base whole' log' acked' setting' stage.shown) d' log' acked' offered first stage past'
+  more-book store store' base whole whole' d d' log log' e acked acked' offered first setting setting' stage past past' i none counted logged noted left latest was on stands few gate images =
       let all : acked ≡ length log = all-acked log acked i.low none in
       let page : Page = page_of base whole' (log ++ e ∷ []) (acked + 1) setting' stage.shown in
       let folded : IsFolded page = folded-more base whole whole' log e acked setting setting' stage.shown all left i.folded in
       let long : length (log ++ e ∷ []) ≡ length log + 1 = length-append log (e ∷ []) in
       rw (counted, logged) (record {
         folded = folded;
+        log_is = ap (λ (p : Past). p.front) noted ∙ ap (λ (l : List Edit). l ++ e ∷ []) i.log_is;
+        acked_is = ap (λ (p : Past). p.acked) noted ∙ ap (λ (n : ℕ). n + 1) i.acked_is;
         low = omega (arith, all, long);
         high = omega (arith, all, long);
         halted = on ∙ sym (grind (arith, nat_tests, all, long));
@@ -124,18 +126,20 @@ module _ {D : Type 0} (seen : D → List ℕ) (unsynced : D → ℕ → Bool) (f
       })
 
   -- the device failed while one was
-  pub fault-book : (store store' : Store D) (base : Kept) (whole : Whole) (d : Kept) (log log' : List Edit) (e : Edit) (acked offered first : ℕ) (setting setting' : Setting) (stage : Stage)
-      → IsBook seen unsynced faults store (page_of base whole log acked setting stage.shown) d log acked offered first stage
-      → singles (drop acked log) ≡ [] → log' ≡ log ++ e ∷ [] → store'.halted ≡ true
+  pub fault-book : (store store' : Store D) (base : Kept) (whole : Whole) (d : Kept) (log log' : List Edit) (e : Edit) (acked offered first : ℕ) (setting setting' : Setting) (stage : Stage) (past past' : Past)
+      → IsBook seen unsynced faults store (page_of base whole log acked setting stage.shown) d log acked offered first stage past
+      → singles (drop acked log) ≡ [] → log' ≡ log ++ e ∷ [] → past' ≡ with_change past e false → store'.halted ≡ true
       → ((c : List ℕ) → IsImage (seen store'.bank.journal.disk) (unsynced store'.bank.journal.disk) c → HoldsEither whole.durable (applied whole.durable e) c)
-      → IsBook seen unsynced faults store' (page_of base whole log' acked setting' stage.shown) d log' acked offered first stage
-  fault-book store store' base whole d log log' e acked offered first setting setting' stage i none logged off images =
+      → IsBook seen unsynced faults store' (page_of base whole log' acked setting' stage.shown) d log' acked offered first stage past'
+  fault-book store store' base whole d log log' e acked offered first setting setting' stage past past' i none logged noted off images =
       let all : acked ≡ length log = all-acked log acked i.low none in
       let long : length (log ++ e ∷ []) ≡ length log + 1 = length-append log (e ∷ []) in
       let folded : IsFolded (page_of base whole (log ++ e ∷ []) acked setting' stage.shown) = folded-pending base whole log e acked setting setting' stage.shown i.low i.folded in
       let out : store'.halted ≡ false → ⊥ = λ h. cc (h, off) in
       rw logged (record {
         folded = folded;
+        log_is = ap (λ (p : Past). p.front) noted ∙ ap (λ (l : List Edit). l ++ e ∷ []) i.log_is;
+        acked_is = omega (arith, ap (λ (p : Past). p.acked) noted, i.acked_is);
         low = omega (arith, i.low, long);
         high = omega (arith, all, long);
         halted = off ∙ sym (grind (arith, nat_tests, all, long));
@@ -164,12 +168,14 @@ module _ {D : Type 0} (seen : D → List ℕ) (unsynced : D → ℕ → Bool) (f
           (1, subst (λ (k : Kept). Holds c k) is next)
 
   -- more is offered, and perhaps shown
-  pub shown-book : (store : Store D) (base : Kept) (whole : Whole) (d : Kept) (log : List Edit) (acked offered first : ℕ) (setting : Setting) (stage stage' : Stage)
-      → IsBook seen unsynced faults store (page_of base whole log acked setting stage.shown) d log acked offered first stage
+  pub shown-book : (store : Store D) (base : Kept) (whole : Whole) (d : Kept) (log : List Edit) (acked offered first : ℕ) (setting : Setting) (stage stage' : Stage) (past : Past)
+      → IsBook seen unsynced faults store (page_of base whole log acked setting stage.shown) d log acked offered first stage past
       → stage'.offered ≡ take acked log → IsPrefix stage'.shown stage'.offered
-      → IsBook seen unsynced faults store (page_of base whole log acked setting stage'.shown) d log acked acked first stage'
-  shown-book store base whole d log acked offered first setting stage stage' i is front = record {
+      → IsBook seen unsynced faults store (page_of base whole log acked setting stage'.shown) d log acked acked first stage' past
+  shown-book store base whole d log acked offered first setting stage stage' past i is front = record {
     folded = folded-shown base whole log acked setting setting stage.shown stage'.shown (subst (λ (l : List Edit). IsPrefix stage'.shown l) is front) i.folded;
+    log_is = i.log_is;
+    acked_is = i.acked_is;
     low = i.low;
     high = i.high;
     halted = i.halted;
@@ -184,11 +190,13 @@ module _ {D : Type 0} (seen : D → List ℕ) (unsynced : D → ℕ → Bool) (f
   }
 
   -- other tickets
-  pub other-tickets : (store : Store D) (base : Kept) (whole whole' : Whole) (d : Kept) (log : List Edit) (acked offered first : ℕ) (setting : Setting) (stage : Stage)
-      → IsBook seen unsynced faults store (page_of base whole log acked setting stage.shown) d log acked offered first stage → whole'.durable ≡ whole.durable
-      → IsBook seen unsynced faults store (page_of base whole' log acked setting stage.shown) d log acked offered first stage
-  other-tickets store base whole whole' d log acked offered first setting stage i same = record {
+  pub other-tickets : (store : Store D) (base : Kept) (whole whole' : Whole) (d : Kept) (log : List Edit) (acked offered first : ℕ) (setting : Setting) (stage : Stage) (past : Past)
+      → IsBook seen unsynced faults store (page_of base whole log acked setting stage.shown) d log acked offered first stage past → whole'.durable ≡ whole.durable
+      → IsBook seen unsynced faults store (page_of base whole' log acked setting stage.shown) d log acked offered first stage past
+  other-tickets store base whole whole' d log acked offered first setting stage past i same = record {
     folded = record { durable = same ∙ i.folded.durable; within = i.folded.within; published = i.folded.published };
+    log_is = i.log_is;
+    acked_is = i.acked_is;
     low = i.low;
     high = i.high;
     halted = i.halted;
@@ -203,11 +211,13 @@ module _ {D : Type 0} (seen : D → List ℕ) (unsynced : D → ℕ → Bool) (f
   }
 
   -- a new Book
-  pub new-book : (store : Store D) (base : Kept) (whole : Whole) (d : Kept) (first : ℕ) (setting : Setting) (stage : Stage)
-      → IsOpened seen unsynced faults store d → d ≡ base → whole.durable ≡ d → store.bank.journal.gate ≡ first → stage.shown ≡ [] → stage.offered ≡ []
-      → IsBook seen unsynced faults store (page_of base whole [] 0 setting stage.shown) d [] 0 0 first stage
-  new-book store base whole d first setting stage o same kept gate shown offered = record {
+  pub new-book : (store : Store D) (base : Kept) (whole : Whole) (d : Kept) (first : ℕ) (setting : Setting) (stage : Stage) (past : Past)
+      → IsOpened seen unsynced faults store d → past ≡ no_past → d ≡ base → whole.durable ≡ d → store.bank.journal.gate ≡ first → stage.shown ≡ [] → stage.offered ≡ []
+      → IsBook seen unsynced faults store (page_of base whole [] 0 setting stage.shown) d [] 0 0 first stage past
+  new-book store base whole d first setting stage past o empty same kept gate shown offered = record {
     folded = record { durable = kept ∙ same; within = omega (arith, ap length shown); published = ap (after base) shown ∙ sym (ap (λ (n : ℕ). after base (take n [])) (ap length shown)) };
+    log_is = ap (λ (p : Past). p.front) empty;
+    acked_is = ap (λ (p : Past). p.acked) empty;
     low = omega arith;
     high = omega arith;
     halted = o.goes_on;

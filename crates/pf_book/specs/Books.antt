@@ -1,27 +1,40 @@
 -- What contracts see of an opened device and of a Book, and what an image of its device holds. Own.
 use Rattle.std.specs.Prelude.{◌≡◌, ◌⊎◌, ℕ, zero, suc, ◌+◌, ◌<◌, ◌≤◌, ◌^◌, Bool, true, false, nat_lt, List, [], ◌∷◌, ◌++◌, length, slice_get, take, drop, map, ⊤, Option, None, Result, Ok, Err}
 use mathlib.Core.List.{IsPrefix}
+use Rattle.logbook.specs.Pages.{Book}
 use Rattle.pf_disk.specs.Disk.{IsImage}
 use Rattle.pf_rule.specs.Packets.{PlainPacket}
 use Rattle.pf_ticket.specs.{Mentions.{after as moved_by, switches}}
 use Rattle.pf_core.specs.declared.{command.Command.Command, command.Command.TheVariants.{Ask}, command.HistoryCommand.HistoryCommand, command.HistoryCommand.TheVariants.{Log, Publish}, command.Question.TheVariants.Judge, durable.verdict.Verdict.Verdict, reply.Outcome.Outcome, reply.Refusal.Refusal, reply.Refusal.TheVariants.{HistoryFull, Full, Fault, Memory}, reply.Reply.Reply, reply.Reply.TheVariants.{Answer, Applied, Stored, Refused}}
 use Rattle.pf_core.specs.declared.reply.Answer.TheVariants as answer
-use Rattle.pf_core.specs.{Calls.{Call, call}, Durable.Edits.{Kept, Edit, after, voided_by, verdict}, Laws.{Durable.IsWithin, Openings.Leaves}, Pages.{Page, IsFolded}, Wholes.Whole, Worlds.{Setting, Held, Doing, flat, is_fault}}
+use Rattle.pf_core.specs.{Calls.{Call, call}, Durable.Edits.{Kept, Edit, after, voided_by, verdict}, Laws.{Durable.IsWithin, Openings.Leaves}, Pages.{Page, IsFolded}, Wholes.Whole, Worlds.{Setting, Held, Doing, flat, is_fault, last_epoch, raised}}
 use Rattle.pf_store.specs.{Rooms.{gate_after, on_device}, Stores.Holds, StoreKept.Stands}
 use Rattle.pf_store.specs.declared.store.keeping.Store.{Store}
 use Rattle.pf_view.specs.Known.{Stage}
+use Rattle.pf_book.specs.Pasts.{Past}
 
 -- ---- an opened device
 
--- the device, what it held, in the next epoch, where its bank ends, and where its closed gate stands
+-- the device, what it held, in the next epoch, where its bank ends, where its closed gate stands, and which history is its own
 pub record Opened (D : Type 0) : Type 0 where
   pub disk : D
   pub given : Kept
   pub end : ℕ
   pub gate : ℕ
+  pub history : Book
 
-abbrev pub opened_store : {D : Type 0} → Store D → Kept → Opened D
-opened_store store d = record { disk = store.bank.journal.disk; given = d; end = store.bank.journal.end; gate = store.bank.journal.gate }
+abbrev pub opened_store : {D : Type 0} → Store D → Kept → Book → Opened D
+opened_store store d history = record { disk = store.bank.journal.disk; given = d; end = store.bank.journal.end; gate = store.bank.journal.gate; history = history }
+
+-- The opening, with so many changes as its history may have, is named by these: what it gave, its history, and what it keeps within.
+abbrev pub IsNamed : {D : Type 0} → Kept → Book → Setting → Opened D → ℕ → Type 0
+IsNamed base history setting o limit = (o.given ≡ base) × (o.history ≡ history) × (on_device limit o.end o.gate ≡ setting)
+
+-- what is kept is what an epoch less was, in its next epoch
+pub record IsRaised (d : Kept) : Type 0 where
+  pub before : Kept
+  pub raises : d ≡ raised before
+  pub low : before.epoch < last_epoch
 
 -- what its type keeps
 pub record IsOpened {D : Type 0} (seen : D → List ℕ) (unsynced : D → ℕ → Bool) (faults : D → ℕ) (store : Store D) (d : Kept) : Type 0 where
@@ -30,6 +43,7 @@ pub record IsOpened {D : Type 0} (seen : D → List ℕ) (unsynced : D → ℕ �
   pub few : faults store.bank.journal.disk < 2 ^ 63
   pub images : (c : List ℕ) → IsImage (seen store.bank.journal.disk) (unsynced store.bank.journal.disk) c → Holds c d
   pub within : IsWithin d
+  pub epoch : IsRaised d
 
 -- ---- a Book
 
@@ -100,8 +114,10 @@ HoldsLeft h doing image = (d : Kept) × Holds image d × Leaves h doing d
 
 -- what a Book's type keeps
 pub record IsBook {D : Type 0} (seen : D → List ℕ) (unsynced : D → ℕ → Bool) (faults : D → ℕ)
-    (store : Store D) (b : Page) (d : Kept) (log : List Edit) (acked offered first_gate : ℕ) (stage : Stage) : Type 0 where
+    (store : Store D) (b : Page) (d : Kept) (log : List Edit) (acked offered first_gate : ℕ) (stage : Stage) (past : Past) : Type 0 where
   pub folded : IsFolded b
+  pub log_is : past.front ≡ log
+  pub acked_is : past.acked ≡ acked
   pub low : acked ≤ length log
   pub high : length log ≤ acked + 1
   pub halted : store.halted ≡ nat_lt acked (length log)

@@ -1,4 +1,7 @@
+pub mod Pasts
+pub mod Rules
 pub mod Books
+pub mod Receipts
 -- what public clauses cite of the crates below
 pub use Rattle.pf_disk.specs.Disk
 pub use Rattle.pf_core.specs.Calls

@@ -1,13 +1,17 @@
-//! One history over a device.
-ghost use Rattle.std.specs.Prelude.{◌≡◌, ℕ, ◌+◌, ◌<◌, ◌≤◌, [], ◌∷◌, ◌++◌, List, All, Ok, false, IfOk, IfErr, IfSome, OnOk, OnErr, IsErrOf, MatchBool, MatchResult, length, option_map, take, slice_get, nat_lt, not, if◌then◌else◌};
-ghost use Rattle.std.specs.Arc.{arc_value};
+//! One history over a device. Its replies with receipts stand in `receipts`.
+ghost use Rattle.std.specs.Prelude.{◌≡◌, ℕ, ◌+◌, ◌<◌, ◌≤◌, [], ◌∷◌, ◌++◌, List, All, Ok, false, IfOk, IfErr, IfSome, OnOk, OnErr, IsErrOf, MatchBool, MatchResult, length, take, slice_get, nat_lt, not, if◌then◌else◌};
+ghost use Rattle.std.specs.{Arc.arc_value, Option.option_map};
 ghost use Rattle.pf_disk.specs.Disk.{EachMoment, IsImage};
 ghost use Rattle.pf_core.specs.declared.reply.Refusal.TheVariants as told;
 ghost use Rattle.pf_core.specs.{Calls.call, Commands.may_change, Durable.Edits.{Kept, applied, after, fits, verdict}, Pages.{IsAt, IsFolded, StandsFor, Leads}, Wholes.left_by, Worlds.{Held, idle, calling, begun, upshot, Event, called, opened, is_fault, flat, raised, last_epoch, down, state_after, IsWorld, LegalReply, shown_by}};
 ghost use Rattle.pf_store.specs.{Rooms.on_device, Stores.HoldsEither};
 ghost use Rattle.pf_view.specs.Known.{IsNewSeer};
-ghost use Rattle.pf_book.specs.Books.{page, HoldsLeft, IsMore, IsUnkept, IsMade, IsTold, Stays, StaysIfRefused, shows_all, change_in, log_in, is_fault_reply, is_fault_result, IsNumbered, IsJudged, judging};
+ghost use Rattle.pf_book.specs.Receipts.{IsGiven, IsReached};
+ghost use Rattle.pf_book.specs.Books.{page, HoldsLeft, IsMore, IsUnkept, IsMade, IsTold, Stays, StaysIfRefused, shows_all, change_in, log_in, is_fault_reply, is_fault_result, IsNumbered, IsJudged, IsNamed, judging};
 
+mod receipts;
+
+use crate::history::{Chapter, Tip};
 use crate::opening::Opening;
 use crate::showing::offer_rest;
 use pf_core::{
@@ -17,8 +21,8 @@ use pf_core::{
 use pf_disk::Disk;
 use pf_rule::Packet;
 use pf_store::{SaveFault, Store};
-use pf_view::{Naming, Seer, Shower, ViewFault, views};
-use std::alloc::Global;
+use pf_view::{Seer, Shower, ViewFault, views};
+use std::alloc::{AllocError, Global};
 use std::marker::Model;
 use std::sync::{Arc, Wait};
 
@@ -26,7 +30,7 @@ use std::sync::{Arc, Wait};
 /// handle `R`, by which it waits for workers that are judging. Contracts see it as a `Ledger`, whose groups are
 /// single changes. Own.
 #[derive(Drop)]
-pub struct Book<D: Disk + Drop, J: Naming, R: Wait + Drop> {
+pub struct Book<D: Disk + Drop, J: Chapter, R: Wait + Drop> {
     alloc: Global,
     store: Store<D>,
     core: Core,
@@ -39,9 +43,10 @@ pub struct Book<D: Disk + Drop, J: Naming, R: Wait + Drop> {
     // where the closed gate stood after the opening
     first_gate: usize,
     shower: Shower<J, R>,
+    tip: Tip<J>,
 }
 
-impl<D: Disk + Drop, J: Naming, R: Wait + Drop> Model for Book<D, J, R> {
+impl<D: Disk + Drop, J: Chapter, R: Wait + Drop> Model for Book<D, J, R> {
     ghost use Rattle.std.specs.Prelude.{map};
     ghost use Rattle.std.specs.Arc.{arc_value};
     ghost use Rattle.pf_store.specs.Rooms.{on_device};
@@ -54,7 +59,31 @@ impl<D: Disk + Drop, J: Naming, R: Wait + Drop> Model for Book<D, J, R> {
 
     ghost invariant = { λ b. IsBook D.seen D.unsynced D.fault_count b.store
         (page_of J.base b.core (map arc_value b.log.items) b.acked (on_device b.limit b.store.bank.journal.end b.first_gate) b.shower.shown)
-        (arc_value b.durable) (map arc_value b.log.items) b.acked b.offered b.first_gate b.shower };
+        (arc_value b.durable) (map arc_value b.log.items) b.acked b.offered b.first_gate b.shower b.tip };
+}
+
+// A change for the log, for the history, and for a receipt.
+#[derive(Drop)]
+struct Shares {
+    change: Arc<Change>,
+    noted: Arc<Change>,
+    given: Arc<Change>,
+}
+
+// Shares a change.
+fn share(alloc: Global, change: Change) -> Result<Shares, AllocError>
+    ensures change { IfOk result (λ s. arc_value s.change ≡ change) }
+    ensures noted { IfOk result (λ s. arc_value s.noted ≡ change) }
+    ensures given { IfOk result (λ s. arc_value s.given ≡ change) }
+{
+    let change = Arc::new(alloc, change)?;
+    let noted = Arc::try_clone(&change)?;
+    let given = Arc::try_clone(&change)?;
+    Ok(Shares {
+        change,
+        noted,
+        given,
+    })
 }
 
 // Whether it may change something, so that it is refused once the device has failed.
@@ -67,11 +96,12 @@ fn may_change(command: &Command) -> bool
     }
 }
 
-impl<D: Disk + Drop, J: Naming, R: Wait + Drop> Book<D, J, R> {
+impl<D: Disk + Drop, J: Chapter, R: Wait + Drop> Book<D, J, R> {
     /// The history of an opening, which has no change yet and will have at most so many, and so many workers' ways into what is shown.
+    /// `J` names the opening.
     ///
-    /// `Err` hands the device back: `Memory` was refused, or a worker's place wasn't given (`Places`). The device holds what the opening
-    /// gave. Own.
+    /// `Err` hands the device back: `Memory` was refused, or a worker's place, or the history's first one, wasn't given (`Places`), which
+    /// no run is known to meet. The device holds what the opening gave. Own.
     pub fn of(
         rt: R,
         alloc: Global,
@@ -79,7 +109,7 @@ impl<D: Disk + Drop, J: Naming, R: Wait + Drop> Book<D, J, R> {
         history_limit: usize,
         seers: usize,
     ) -> Result<(Book<D, J, R>, Vec<Seer<J>>), (ViewFault, D)>
-        requires name { opening.given ≡ J.base }
+        requires name { IsNamed J.base J.history J.setting opening history_limit }
         requires low { 1 ≤ history_limit }
         requires high { history_limit ≤ 1_048_576 }
         requires seers { (0 < seers) × (seers ≤ 64) }
@@ -92,8 +122,16 @@ impl<D: Disk + Drop, J: Naming, R: Wait + Drop> Book<D, J, R> {
         ensures worlds { IfOk result (λ r. (first d : Kept) (world : List Event) → IsWorld first world → state_after (down first) world ≡ down d
             → d.epoch < last_epoch → opening.given ≡ raised d
             → StandsFor first (page r.0) (world ++ opened (on_device history_limit opening.end opening.gate) ∷ [])) }
+        ensures reached { IfOk result (λ r. IsReached J.base J.setting (page r.0)) }
     {
-        let Opening { durable, store } = opening;
+        let Opening {
+            durable,
+            store,
+            history,
+        } = opening;
+        let Some(tip) = history.named::<J>() else {
+            return Err((ViewFault::Places, store.into_disk()));
+        };
         let Ok(shared) = Arc::try_clone(&durable) else {
             return Err((ViewFault::Memory, store.into_disk()));
         };
@@ -111,6 +149,7 @@ impl<D: Disk + Drop, J: Naming, R: Wait + Drop> Book<D, J, R> {
                     limit: history_limit,
                     first_gate,
                     shower,
+                    tip,
                 };
                 Ok((book, all))
             }
@@ -118,12 +157,13 @@ impl<D: Disk + Drop, J: Naming, R: Wait + Drop> Book<D, J, R> {
         }
     }
 
-    // Keeps a change of the core's, which leaves this. It isn't shown yet.
-    fn keep(&mut self, change: Change, next: Next) -> Result<(), Refusal>
+    // Keeps a change of the core's, which leaves this, and shares it for a receipt. It isn't shown yet.
+    fn keep(&mut self, change: Change, next: Next) -> Result<Arc<Change>, Refusal>
         requires made { next ≡ left_by self.old.whole.durable change }
         requires fits { fits self.old.whole.durable change ≡ Ok tt }
         requires free { self.old.pending ≡ [] }
         ensures ok { OnOk result (IsMore (page self.old) (page self.new) change) }
+        ensures given { IfOk result (λ given. arc_value given ≡ change) }
         ensures err { IfErr result (λ e. IsUnkept e (page self.old) (page self.new) change) }
         ensures any_moment { EachMoment D.moment D.left_since self.old.disk self.new.disk
             (HoldsEither self.old.whole.durable (applied self.old.whole.durable change)) }
@@ -136,9 +176,14 @@ impl<D: Disk + Drop, J: Naming, R: Wait + Drop> Book<D, J, R> {
             return Err(Refusal::HistoryFull);
         }
         let after = next.durable()?;
-        let Ok(change) = Arc::new(self.alloc, change) else {
+        let Ok(shares) = share(self.alloc, change) else {
             return Err(Refusal::Memory);
         };
+        let Shares {
+            change,
+            noted,
+            given,
+        } = shares;
         self.log.reserve(1)?;
         match self
             .store
@@ -146,15 +191,17 @@ impl<D: Disk + Drop, J: Naming, R: Wait + Drop> Book<D, J, R> {
         {
             Ok(()) => {
                 self.log.push_reserved(change);
+                self.tip.add(noted, true);
                 self.acked += 1;
                 self.core.accept(next);
                 self.durable = after;
-                Ok(())
+                Ok(given)
             }
             Err(SaveFault::Memory) => Err(Refusal::Memory),
             Err(SaveFault::Full) => Err(Refusal::Full),
             Err(SaveFault::Fault) => {
                 self.log.push_reserved(change);
+                self.tip.add(noted, false);
                 Err(Refusal::Fault)
             }
             Err(SaveFault::Halted) => Err(Refusal::Halted),
@@ -183,29 +230,30 @@ impl<D: Disk + Drop, J: Naming, R: Wait + Drop> Book<D, J, R> {
         }
     }
 
-    // Keeps a change that the core wants, and shows it.
-    fn make(&mut self, change: Change, next: Next, outcome: Outcome) -> Reply
+    // Keeps a change that the core wants, and shows it. Where it is kept it is shared for a receipt.
+    fn make(&mut self, change: Change, next: Next, outcome: Outcome) -> (Reply, Option<Arc<Change>>)
         requires made { next ≡ left_by self.old.whole.durable change }
         requires fits { fits self.old.whole.durable change ≡ Ok tt }
         requires free { self.old.pending ≡ [] }
-        ensures made { IsMade result outcome change (page self.old) (page self.new) }
+        ensures made { IsMade result.0 outcome change (page self.old) (page self.new) }
+        ensures given { IsGiven result.0 (option_map arc_value result.1) (page self.old) (page self.new) }
         ensures any_moment { EachMoment D.moment D.left_since self.old.disk self.new.disk
             (HoldsEither self.old.whole.durable (applied self.old.whole.durable change)) }
-        ensures still { (e : Refusal) → result ≡ Reply.Refused e → is_fault e ≡ false → self.new.disk ≡ self.old.disk }
+        ensures still { (e : Refusal) → result.0 ≡ Reply.Refused e → is_fault e ≡ false → self.new.disk ≡ self.old.disk }
         ensures moments { D.moment self.new.disk ≤ D.moment self.old.disk + 4 }
         ensures same_size { length (D.seen self.new.disk) ≡ length (D.seen self.old.disk) }
-        ensures faults { D.fault_count self.new.disk ≡ D.fault_count self.old.disk + (if is_fault_reply result then 1 else 0) }
+        ensures faults { D.fault_count self.new.disk ≡ D.fault_count self.old.disk + (if is_fault_reply result.0 then 1 else 0) }
     {
         match self.keep(change, next) {
-            Ok(()) => {
+            Ok(given) => {
                 let seq = self.acked as u64;
                 if self.show_all() {
-                    Reply::Applied { seq, outcome }
+                    (Reply::Applied { seq, outcome }, Some(given))
                 } else {
-                    Reply::Stored { seq, outcome }
+                    (Reply::Stored { seq, outcome }, Some(given))
                 }
             }
-            Err(refusal) => Reply::Refused(refusal),
+            Err(refusal) => (Reply::Refused(refusal), None),
         }
     }
 
@@ -231,28 +279,29 @@ impl<D: Disk + Drop, J: Naming, R: Wait + Drop> Book<D, J, R> {
         }
     }
 
-    // One call, wherever the opening has come to.
-    fn call(&mut self, command: &Command) -> Reply
-        ensures leads { (h : Held) → IsAt h (page self.old) → Leads h (page self.new) (call command.now result)
+    // One call, wherever the opening has come to, with the change that it made, if it was kept.
+    fn call(&mut self, command: &Command) -> (Reply, Option<Arc<Change>>)
+        ensures leads { (h : Held) → IsAt h (page self.old) → Leads h (page self.new) (call command.now result.0)
             (upshot self.new.shown (nat_lt (D.fault_count self.old.disk) (D.fault_count self.new.disk))) }
         ensures any_moment { (h : Held) → IsAt h (page self.old) → EachMoment D.moment D.left_since self.old.disk self.new.disk (HoldsLeft h (calling command.now)) }
-        ensures numbered { IsNumbered result (page self.new) }
-        ensures judged { IsJudged self.old.whole.durable command.now result }
+        ensures given { IsGiven result.0 (option_map arc_value result.1) (page self.old) (page self.new) }
+        ensures numbered { IsNumbered result.0 (page self.new) }
+        ensures judged { IsJudged self.old.whole.durable command.now result.0 }
         ensures moments { D.moment self.new.disk ≤ D.moment self.old.disk + 4 }
         ensures same_size { length (D.seen self.new.disk) ≡ length (D.seen self.old.disk) }
-        ensures faults { D.fault_count self.new.disk ≡ D.fault_count self.old.disk + (if is_fault_reply result then 1 else 0) }
+        ensures faults { D.fault_count self.new.disk ≡ D.fault_count self.old.disk + (if is_fault_reply result.0 then 1 else 0) }
         ensures base { self.new.base ≡ self.old.base }
         ensures setting { (page self.new).setting ≡ (page self.old).setting }
-        ensures refused { StaysIfRefused result self.old self.new }
+        ensures refused { StaysIfRefused result.0 self.old self.new }
     {
         if self.acked < self.log.len() && may_change(command) {
-            return Reply::Refused(Refusal::Halted);
+            return (Reply::Refused(Refusal::Halted), None);
         }
         match self.core.step_ready(command) {
-            Ok(ReadyStep::Done(answer)) => Reply::Answer(answer),
+            Ok(ReadyStep::Done(answer)) => (Reply::Answer(answer), None),
             Ok(ReadyStep::Wants(change, next, outcome)) => self.make(change, next, outcome),
-            Ok(ReadyStep::OfHistory(command)) => self.tell(command),
-            Err(refusal) => Reply::Refused(refusal),
+            Ok(ReadyStep::OfHistory(command)) => (self.tell(command), None),
+            Err(refusal) => (Reply::Refused(refusal), None),
         }
     }
 
@@ -293,7 +342,7 @@ impl<D: Disk + Drop, J: Naming, R: Wait + Drop> Book<D, J, R> {
         ensures same_size { length (D.seen self.new.disk) ≡ length (D.seen self.old.disk) }
         ensures faults { D.fault_count self.new.disk ≡ D.fault_count self.old.disk + (if is_fault_reply result then 1 else 0) }
     {
-        let reply = self.call(&command);
+        let (reply, _) = self.call(&command);
         // looked at, so that what a Book keeps is known here
         let _ = &self.core;
         reply
@@ -372,6 +421,7 @@ impl<D: Disk + Drop, J: Naming, R: Wait + Drop> Book<D, J, R> {
             limit: _,
             first_gate: _,
             shower: _,
+            tip: _,
         } = self;
         store.into_disk()
     }

@@ -6,19 +6,32 @@
 //! - `opening`: [`Opening`], a device that was opened.
 //! - `book`: [`Book`], the history of an opening, which answers commands.
 //! - `showing`: what is shown of a history; `book` uses it.
+//! - `history`: [`Chapter`], the name of an opening, and its history as proofs know it; `rule`: who may add to that.
+//! - `receipt`: [`Receipt`], what a caller is given with a reply.
+//! - `shared`: [`Shared`], a Book under a lock.
+//! - `laws`: what receipts come to.
 //!
-//! Read first `specs/Books.antt`: what a Book is to contracts. What it keeps to is in the words of `pf_core`'s worlds.
+//! Read first `specs/Books.antt`: what a Book is to contracts, then `specs/Receipts.antt`. What a Book keeps to is in the words of `pf_core`'s
+//! worlds.
 //!
 //! What its users need of the devices and of the store is given out again: [`MemDisk`], [`FileDisk`], [`FuseDisk`], [`format`], [`peek`].
 #![tactic(auto)]
 
 mod book;
+mod history;
+pub mod laws;
 mod opening;
+mod receipt;
+mod rule;
+mod shared;
 mod showing;
 
 pub use book::Book;
+pub use history::Chapter;
 pub use opening::Opening;
 pub use pf_core::Reply;
 pub use pf_disk::{Disk, FileDisk, FileFault, FuseDisk, MemDisk};
 pub use pf_store::{OpenFault, format, peek};
 pub use pf_view::{Gone, Naming, Seer, Token, ViewFault};
+pub use receipt::Receipt;
+pub use shared::Shared;

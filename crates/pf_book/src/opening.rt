@@ -5,6 +5,7 @@ ghost use Rattle.pf_core.specs.{Durable.Edits.Kept, Laws.Durable.IsWithin, World
 ghost use Rattle.pf_store.specs.declared.store.fault.OpenFault.TheVariants.{BadSize, Memory};
 ghost use Rattle.pf_store.specs.{Banks.bank_end, Stores.{Holds, IsOfOpening}, StoreFaults.is_fault, Openings.{IsUnopened, gate_of}};
 
+use crate::history::NewHistory;
 use pf_core::Durable;
 use pf_disk::Disk;
 use pf_store::{OpenFault, Store};
@@ -12,12 +13,13 @@ use std::alloc::Global;
 use std::marker::Model;
 use std::sync::Arc;
 
-/// A device that was opened, and what it held, in the next epoch. A `Book` is made of it; until then it takes no change. Contracts see it
-/// as an `Opened`. Own.
+/// A device that was opened, and what it held, in the next epoch, with a new history. A `Book` is made of it; until then it takes no
+/// change. Contracts see it as an `Opened`. Own.
 #[derive(Drop)]
 pub struct Opening<D: Disk> {
     pub(crate) durable: Arc<Durable>,
     pub(crate) store: Store<D>,
+    pub(crate) history: NewHistory,
 }
 
 impl<D: Disk> Model for Opening<D> {
@@ -26,7 +28,7 @@ impl<D: Disk> Model for Opening<D> {
 
     ghost Value = { Opened D };
 
-    ghost view = { λ o. opened_store o.store (arc_value o.durable) };
+    ghost view = { λ o. opened_store o.store (arc_value o.durable) o.history };
 
     ghost invariant = { λ o. IsOpened D.seen D.unsynced D.fault_count o.store (arc_value o.durable) };
 }
@@ -62,7 +64,11 @@ impl<D: Disk> Opening<D> {
     {
         let (durable, store) = Store::open(alloc, disk)?;
         match Arc::new(alloc, durable) {
-            Ok(durable) => Ok(Opening { durable, store }),
+            Ok(durable) => Ok(Opening {
+                durable,
+                store,
+                history: NewHistory::open(),
+            }),
             Err(_) => Err((OpenFault::Memory, store.into_disk())),
         }
     }
@@ -78,7 +84,11 @@ impl<D: Disk> Opening<D> {
     pub fn into_disk(self) -> D
         ensures { result ≡ self.disk }
     {
-        let Opening { durable: _, store } = self;
+        let Opening {
+            durable: _,
+            store,
+            history: _,
+        } = self;
         store.into_disk()
     }
 }

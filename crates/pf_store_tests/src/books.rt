@@ -1,7 +1,8 @@
 // Lines over Books, and what is read of a Book's device.
-ghost use Rattle.std.specs.Prelude.{◌≡◌};
+ghost use Rattle.pf_book.specs.Books.{IsNamed};
+ghost use Rattle.pf_store_tests.specs.declared.books.TheConstants.{HISTORY_LIMIT};
 
-use pf_book::{Book, Disk, Naming, Opening, Reply};
+use pf_book::{Book, Chapter, Disk, Opening, Reply};
 use pf_disk::OPEN_GATE;
 use pf_line::{parse_line, write_reply};
 use std::alloc::{AllocError, Global};
@@ -20,13 +21,13 @@ const SNAPSHOT: usize = 24;
 const RECORD_HEAD: usize = 5;
 
 /// Makes a Book of an opening, and hands its device back with what the Book replies to lines.
-pub fn replies_over<D: Disk + Drop, J: Naming, H: Wait + Drop>(
+pub fn replies_over<D: Disk + Drop, J: Chapter, H: Wait + Drop>(
     waits: H,
     alloc: Global,
     opening: Opening<D>,
     lines: &[String],
 ) -> Result<(String, D), AllocError>
-    requires { opening.given ≡ J.base }
+    requires { IsNamed J.base J.history J.setting opening HISTORY_LIMIT }
 {
     match Book::<D, J, H>::of(waits, alloc, opening, HISTORY_LIMIT, 1) {
         Ok((mut book, _seers)) => {
@@ -38,7 +39,7 @@ pub fn replies_over<D: Disk + Drop, J: Naming, H: Wait + Drop>(
 }
 
 /// The replies to lines in turn, with commas between them.
-pub fn replies<D: Disk + Drop, J: Naming, H: Wait + Drop>(
+pub fn replies<D: Disk + Drop, J: Chapter, H: Wait + Drop>(
     alloc: Global,
     book: &mut Book<D, J, H>,
     lines: &[String],
@@ -54,7 +55,7 @@ pub fn replies<D: Disk + Drop, J: Naming, H: Wait + Drop>(
 }
 
 /// The reply to a line, with bars between its lines.
-pub fn reply<D: Disk + Drop, J: Naming, H: Wait + Drop>(
+pub fn reply<D: Disk + Drop, J: Chapter, H: Wait + Drop>(
     alloc: Global,
     book: &mut Book<D, J, H>,
     line: &str,

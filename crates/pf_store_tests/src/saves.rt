@@ -1,10 +1,12 @@
 // Openings and saves over devices in memory, by the rows of `stdin`.
 ghost use Rattle.std.specs.Prelude.{◌≡◌, IfOk};
+ghost use Rattle.pf_book.specs.Books.{IsNamed};
+ghost use Rattle.pf_store_tests.specs.declared.books.TheConstants.{HISTORY_LIMIT};
 
 use crate::books::{HISTORY_LIMIT, closed_gate, replies, replies_over, reply};
 use crate::crashes::fill;
 use crate::rows::{Segment, cut_bar, cut_word, lines_of, number, put_bytes, segments, tell_row};
-use pf_book::{Book, Disk, FuseDisk, MemDisk, Naming, OpenFault, Opening, format};
+use pf_book::{Book, Chapter, Disk, FuseDisk, MemDisk, OpenFault, Opening, format};
 use pf_disk::Fill;
 use pf_store::{read_durable, write_durable};
 use std::alloc::{AllocError, Global};
@@ -58,13 +60,13 @@ pub fn play<H: Wait + Drop + Copy>(
 }
 
 /// Makes a Book of an opening, and plays rows over it.
-fn play_over<J: Naming, H: Wait + Drop + Copy>(
+fn play_over<J: Chapter, H: Wait + Drop + Copy>(
     bench: &mut Bench<H>,
     opening: Opening<MemDisk>,
     told: &mut String,
     rows: &[String],
 ) -> Result<(), AllocError>
-    requires { opening.given ≡ J.base }
+    requires { IsNamed J.base J.history J.setting opening HISTORY_LIMIT }
 {
     match Book::<MemDisk, J, H>::of(bench.waits, bench.alloc, opening, HISTORY_LIMIT, 1) {
         Ok((mut book, _seers)) => bench.play_opened(told, &mut book, rows),
@@ -97,7 +99,7 @@ impl<H: Wait + Drop + Copy> Bench<H> {
         Ok(())
     }
 
-    fn play_opened<J: Naming>(
+    fn play_opened<J: Chapter>(
         &mut self,
         told: &mut String,
         book: &mut Book<MemDisk, J, H>,
@@ -127,7 +129,7 @@ impl<H: Wait + Drop + Copy> Bench<H> {
         }
     }
 
-    fn play_row<J: Naming>(
+    fn play_row<J: Chapter>(
         &mut self,
         told: &mut String,
         book: &mut Book<MemDisk, J, H>,
@@ -165,7 +167,7 @@ impl<H: Wait + Drop + Copy> Bench<H> {
     }
 
     /// Tells what was opened. What is kept then comes before all saves.
-    fn begin<J: Naming>(
+    fn begin<J: Chapter>(
         &mut self,
         told: &mut String,
         book: &mut Book<MemDisk, J, H>,
@@ -182,14 +184,14 @@ impl<H: Wait + Drop + Copy> Bench<H> {
     }
 
     /// Takes over what the Book's device holds now.
-    fn keep<J: Naming>(&mut self, book: &mut Book<MemDisk, J, H>) -> Result<(), AllocError> {
+    fn keep<J: Chapter>(&mut self, book: &mut Book<MemDisk, J, H>) -> Result<(), AllocError> {
         self.kept.push(replies(self.alloc, book, &self.questions)?)?;
         self.bytes = book.disk().image(self.alloc, u64::MAX, Fill::Old)?;
         Ok(())
     }
 
     /// One line of a client.
-    fn call<J: Naming>(
+    fn call<J: Chapter>(
         &mut self,
         told: &mut String,
         book: &mut Book<MemDisk, J, H>,
@@ -214,7 +216,7 @@ impl<H: Wait + Drop + Copy> Bench<H> {
     }
 
     /// How many bytes a snapshot of all that is kept has, and whether it is read back as that.
-    fn tell_snapshot<J: Naming>(
+    fn tell_snapshot<J: Chapter>(
         &self,
         told: &mut String,
         book: &Book<MemDisk, J, H>,

@@ -7,7 +7,7 @@ ghost use Rattle.pf_book.specs.Books.{page};
 ghost use Rattle.pfd.specs.{LineEngine.Sessions.IsSession, Serving.{Told, Serves}, Laws.Serving.{serves-none, serves-then, serves-seen}};
 
 use crate::line_engine::{AnswerLine, EngineFault, serve};
-use pf_book::{Book, Naming};
+use pf_book::{Book, Chapter};
 use pf_core::{Refusal, Reply};
 use pf_disk::Disk;
 use pf_line::{may_judge, parse_judge, parse_line, write_judged, write_reply};
@@ -16,7 +16,7 @@ use std::io::{self, Read, Write};
 use std::sync::Wait;
 
 // What a line is told: nothing where it is silent. A want of memory to read it is its reply.
-fn reply_to<D: Disk + Drop, J: Naming, H: Wait + Drop>(
+fn reply_to<D: Disk + Drop, J: Chapter, H: Wait + Drop>(
     alloc: Global,
     line: &[u8],
     book: &mut Book<D, J, H>,
@@ -31,7 +31,7 @@ fn reply_to<D: Disk + Drop, J: Naming, H: Wait + Drop>(
 }
 
 // Answers a line, whatever it is.
-fn answer<D: Disk + Drop, J: Naming, H: Wait + Drop, W: Write>(
+fn answer<D: Disk + Drop, J: Chapter, H: Wait + Drop, W: Write>(
     alloc: Global,
     line: &[u8],
     writer: &mut W,
@@ -47,7 +47,7 @@ fn answer<D: Disk + Drop, J: Naming, H: Wait + Drop, W: Write>(
 }
 
 // The same, where it may be a judge, which is answered with no command and no reply being made.
-fn answer_judge<D: Disk + Drop, J: Naming, H: Wait + Drop, W: Write>(
+fn answer_judge<D: Disk + Drop, J: Chapter, H: Wait + Drop, W: Write>(
     alloc: Global,
     line: &[u8],
     writer: &mut W,
@@ -72,7 +72,7 @@ fn refuse<W: Write>(writer: &mut W, refusal: Refusal) -> io::Result<()>
     write_reply(writer, &Reply::Refused(refusal))
 }
 
-impl<D: Disk + Drop, J: Naming, H: Wait + Drop> AnswerLine for Book<D, J, H> {
+impl<D: Disk + Drop, J: Chapter, H: Wait + Drop> AnswerLine for Book<D, J, H> {
     ghost Serves = { Serves D.fault_count };
 
     fn answer_line<W: Write>(
@@ -104,7 +104,7 @@ impl<D: Disk + Drop, J: Naming, H: Wait + Drop> AnswerLine for Book<D, J, H> {
 /// `Err(Read)`: a read failed, or there were too many; the whole lines before are answered. `Err(Write)`: a write or a
 /// flush failed; of the last reply some front may be out. `Err(Memory)`: the line buffer was refused, and nothing was
 /// read or written.
-pub fn serve_alone<D: Disk + Drop, J: Naming, H: Wait + Drop, R: Read, W: Write>(
+pub fn serve_alone<D: Disk + Drop, J: Chapter, H: Wait + Drop, R: Read, W: Write>(
     alloc: Global,
     reader: &mut R,
     writer: &mut W,

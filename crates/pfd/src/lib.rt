@@ -22,7 +22,7 @@ mod program;
 
 pub use engine::serve_alone;
 pub use line_engine::EngineFault;
-pub use pf_book::{Book, Disk, FuseDisk, MemDisk, Naming, Opening, Seer, ViewFault, format};
+pub use pf_book::{Book, Chapter, Disk, FuseDisk, MemDisk, Opening, Seer, ViewFault, format};
 pub use program::{
     Fault, HISTORY_LIMIT, MEMORY_SIZE, MOST_HISTORY, format_on, open_fresh, run_process, show_on,
     start, without_words,

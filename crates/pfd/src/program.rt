@@ -8,6 +8,7 @@ ghost use Rattle.clap.specs.Words.{kind_of, subcommand_of};
 ghost use Rattle.pfd.specs.declared.program.{fault.Fault.{Fault}, words.Task.{Task}};
 ghost use Rattle.pf_core.specs.{Durable.Edits.kept_nothing, Worlds.raised};
 ghost use Rattle.pf_store.specs.Banks.{IsSize};
+ghost use Rattle.pf_book.specs.Books.{IsNamed};
 ghost use Rattle.pfd.specs.{Program.{Hinders, IsDone, IsRun, RanOn, RanOver, RanWith, ServesFrom, status_of, status_without_words}, Words.{HasHistory, IsAsked, IsHistory, program_words}};
 
 mod devices;
@@ -22,7 +23,7 @@ use clap::Error;
 use clap::error::ErrorKind;
 pub use devices::{format_on, open_fresh, show_on};
 pub use fault::Fault;
-use pf_book::{Book, MemDisk, Naming, Opening};
+use pf_book::{Book, Chapter, MemDisk, Opening};
 use pf_disk::{Disk, FileDisk};
 use std::alloc::Global;
 use std::env;
@@ -51,7 +52,7 @@ fn open_memory(alloc: Global, size: usize) -> Result<Opening<MemDisk>, Fault>
 }
 
 // A session over what was opened, by a Book whose history may have so many changes.
-fn serve_opening<J: Naming, D: Disk + Drop, H: Wait + Drop, R: Read, W: Write>(
+fn serve_opening<J: Chapter, D: Disk + Drop, H: Wait + Drop, R: Read, W: Write>(
     waits: H,
     alloc: Global,
     opening: Opening<D>,
@@ -59,7 +60,7 @@ fn serve_opening<J: Naming, D: Disk + Drop, H: Wait + Drop, R: Read, W: Write>(
     reader: &mut R,
     writer: &mut W,
 ) -> Result<(), Fault>
-    requires given { opening.given ≡ J.base }
+    requires name { IsNamed J.base J.history J.setting opening history }
     requires history { IsHistory history }
     ensures { ServesFrom D.fault_count opening history result (R.remaining reader.old) (R.remaining reader.new)
         (W.contents writer.old) (W.contents writer.new) }

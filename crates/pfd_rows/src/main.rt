@@ -9,7 +9,6 @@ mod table;
 use crate::playing::play;
 use crate::table::Table;
 use std::io::{self, BufWriter, Write};
-use std::marker::Brand;
 
 fn main(rt: HostRuntime) -> io::Result<()> {
     let alloc = rt.alloc();
@@ -18,7 +17,7 @@ fn main(rt: HostRuntime) -> io::Result<()> {
     // What stands before the first table says how rows are written.
     for table in text.as_str().split("\n== ").skip(1) {
         let table = Table::read(alloc, table)?;
-        let tally = play::<Brand, _>(&rt, alloc, &table)?;
+        let tally = play(&rt, alloc, &table)?;
         writeln!(out, "{}: {} rows", table.name, tally.rows)?;
         out.write_all(tally.differing.as_bytes())?;
     }

@@ -1,12 +1,13 @@
 //! Rows, played over Books.
-ghost use Rattle.std.specs.Prelude.{◌≡◌, ℕ, List, [], Option, Some, None, Ok, IfOk, IfSome};
-ghost use Rattle.pf_core.specs.{Durable.Edits.kept_nothing, Worlds.raised};
+ghost use Rattle.std.specs.Prelude.{◌≡◌, ◌≤◌, ℕ, List, [], Option, Some, None, Ok};
+ghost use Rattle.pf_book.specs.Books.{IsNamed};
 ghost use Rattle.pfd.specs.{LineEngine.Sessions.IsSession, Serving.Serves};
 
 use crate::spelling::{choose, fill, push_line, reply_bytes};
 use crate::table::Table;
-use pfd::{Book, Disk, FuseDisk, MemDisk, Naming, Opening, open_fresh, serve_alone};
+use pfd::{Book, Chapter, Disk, FuseDisk, MemDisk, Opening, open_fresh, serve_alone};
 use std::alloc::{AllocError, Global};
+use std::marker::Brand;
 use std::sync::Wait;
 
 /// In how many ways a row is read at most.
@@ -30,7 +31,7 @@ pub(crate) struct Tally {
 
 // What is written for an input, where that isn't what is wanted. There is nothing to tell only where a session over the
 // input came to its end and wrote just the wanted bytes.
-fn written_instead<J: Naming, H: Wait + Drop>(
+fn written_instead<J: Chapter, H: Wait + Drop>(
     alloc: Global,
     book: &mut Book<Device, J, H>,
     input: &[u8],
@@ -49,7 +50,7 @@ fn written_instead<J: Naming, H: Wait + Drop>(
 }
 
 // Plays a line, and tells where the reply differs.
-fn play_line<J: Naming, H: Wait + Drop>(
+fn play_line<J: Chapter, H: Wait + Drop>(
     alloc: Global,
     table: &Table,
     book: &mut Book<Device, J, H>,
@@ -71,7 +72,7 @@ fn play_line<J: Naming, H: Wait + Drop>(
 }
 
 // Plays rows in turn, with the fields in their places.
-fn play_rows<J: Naming, H: Wait + Drop>(
+fn play_rows<J: Chapter, H: Wait + Drop>(
     alloc: Global,
     table: &Table,
     book: &mut Book<Device, J, H>,
@@ -90,7 +91,6 @@ fn play_rows<J: Naming, H: Wait + Drop>(
 
 // A fresh disk of a table, opened, of whose calls so many pass.
 fn opened(alloc: Global, table: &Table, calls: u64) -> Result<Option<Opening<Device>>, AllocError>
-    ensures { IfOk result (λ opening. IfSome opening (λ o. o.given ≡ raised (kept_nothing 0))) }
 {
     let bytes = Vec::from_elem(alloc, 0, table.size)?;
     let disk = FuseDisk::after(MemDisk::of(alloc, bytes)?, calls);
@@ -99,7 +99,6 @@ fn opened(alloc: Global, table: &Table, calls: u64) -> Result<Option<Opening<Dev
 
 // The same, where as many calls pass as an opening makes and the table says.
 fn opening_of(alloc: Global, table: &Table) -> Result<Opening<Device>, AllocError>
-    ensures { IfOk result (λ o. o.given ≡ raised (kept_nothing 0)) }
 {
     let Some(more) = table.fails else {
         return opened(alloc, table, u64::MAX)?.ok_or(AllocError);
@@ -112,17 +111,25 @@ fn opening_of(alloc: Global, table: &Table) -> Result<Opening<Device>, AllocErro
     Err(AllocError)
 }
 
+// The most changes that the history of a table's Book may have.
+fn history_of(table: &Table) -> usize
+    ensures { (1 ≤ result) × (result ≤ 1_048_576) }
+{
+    table.history.clamp(1, MOST_HISTORY)
+}
+
 // A Book of a table, after what comes before its rows.
-fn begun<J: Naming, H: Wait + Drop>(
+fn begun<J: Chapter, H: Wait + Drop>(
     waits: H,
     alloc: Global,
     table: &Table,
+    opening: Opening<Device>,
+    history: usize,
     differing: &mut String,
 ) -> Result<Book<Device, J, H>, AllocError>
-    requires { J.base ≡ raised (kept_nothing 0) }
+    requires name { IsNamed J.base J.history J.setting opening history }
+    requires history { (1 ≤ history) × (history ≤ 1_048_576) }
 {
-    let opening = opening_of(alloc, table)?;
-    let history = table.history.clamp(1, MOST_HISTORY);
     let Ok((mut book, _seers)) = Book::<Device, J, H>::of(waits, alloc, opening, history, 1) else {
         return Err(AllocError);
     };
@@ -150,53 +157,121 @@ fn fields_of(alloc: Global, row: &str, way: usize) -> Result<Option<Vec<String>>
     Ok(Some(fields))
 }
 
-// Plays a row in each way, and counts them.
-fn play_row<J: Naming, H: Wait + Drop + Copy>(
-    waits: H,
+// Plays a row with these fields.
+fn play_fields<J: Chapter, H: Wait + Drop>(
+    alloc: Global,
+    table: &Table,
+    book: &mut Book<Device, J, H>,
+    fields: &[String],
+    tally: &mut Tally,
+) -> Result<(), AllocError> {
+    let shapes = table.shapes.as_slice();
+    play_rows(alloc, table, book, shapes, fields, &mut tally.differing)?;
+    tally.rows = tally.rows.saturating_add(1);
+    Ok(())
+}
+
+// Plays a row in each way over one Book, and counts them.
+fn play_row<J: Chapter, H: Wait + Drop>(
     alloc: Global,
     table: &Table,
     book: &mut Book<Device, J, H>,
     row: &str,
     tally: &mut Tally,
-) -> Result<(), AllocError>
-    requires { J.base ≡ raised (kept_nothing 0) }
-{
+) -> Result<(), AllocError> {
     for way in 0..MOST_WAYS {
         let Some(fields) = fields_of(alloc, row, way)? else {
             break;
         };
-        if !table.in_turn {
-            *book = begun(waits, alloc, table, &mut tally.differing)?;
-        }
-        let shapes = table.shapes.as_slice();
-        play_rows(
-            alloc,
-            table,
-            book,
-            shapes,
-            fields.as_slice(),
-            &mut tally.differing,
-        )?;
-        tally.rows = tally.rows.saturating_add(1);
+        play_fields(alloc, table, book, fields.as_slice(), tally)?;
+    }
+    Ok(())
+}
+
+// Plays all rows of a table over one Book.
+fn play_in_turn<J: Chapter, H: Wait + Drop>(
+    waits: H,
+    alloc: Global,
+    table: &Table,
+    opening: Opening<Device>,
+    history: usize,
+    tally: &mut Tally,
+) -> Result<(), AllocError>
+    requires name { IsNamed J.base J.history J.setting opening history }
+    requires history { (1 ≤ history) × (history ≤ 1_048_576) }
+{
+    let mut book = begun::<J, H>(waits, alloc, table, opening, history, &mut tally.differing)?;
+    for row in &table.rows {
+        play_row(alloc, table, &mut book, row, tally)?;
+    }
+    Ok(())
+}
+
+// Plays a row with these fields over a Book of its own.
+fn play_once<J: Chapter, H: Wait + Drop>(
+    waits: H,
+    alloc: Global,
+    table: &Table,
+    opening: Opening<Device>,
+    history: usize,
+    fields: &[String],
+    tally: &mut Tally,
+) -> Result<(), AllocError>
+    requires name { IsNamed J.base J.history J.setting opening history }
+    requires history { (1 ≤ history) × (history ≤ 1_048_576) }
+{
+    let mut book = begun::<J, H>(waits, alloc, table, opening, history, &mut tally.differing)?;
+    play_fields(alloc, table, &mut book, fields, tally)
+}
+
+// Plays a row in each way, each over a Book of its own, and counts them.
+fn play_apart<H: Wait + Drop + Copy>(
+    waits: H,
+    alloc: Global,
+    table: &Table,
+    row: &str,
+    tally: &mut Tally,
+) -> Result<(), AllocError> {
+    let history = history_of(table);
+    for way in 0..MOST_WAYS {
+        let Some(fields) = fields_of(alloc, row, way)? else {
+            break;
+        };
+        let opening = opening_of(alloc, table)?;
+        play_once::<Brand, _>(waits, alloc, table, opening, history, fields.as_slice(), tally)?;
+    }
+    Ok(())
+}
+
+// Plays all rows of a table, each over a Book of its own.
+fn play_each_apart<H: Wait + Drop + Copy>(
+    waits: H,
+    alloc: Global,
+    table: &Table,
+    tally: &mut Tally,
+) -> Result<(), AllocError> {
+    for row in &table.rows {
+        play_apart(waits, alloc, table, row, tally)?;
     }
     Ok(())
 }
 
 /// Plays all rows of a table.
-pub(crate) fn play<J: Naming, H: Wait + Drop + Copy>(
+pub(crate) fn play<H: Wait + Drop + Copy>(
     waits: H,
     alloc: Global,
     table: &Table,
-) -> Result<Tally, AllocError>
-    requires { J.base ≡ raised (kept_nothing 0) }
-{
+) -> Result<Tally, AllocError> {
     let mut tally = Tally {
         rows: 0,
         differing: String::new(alloc),
     };
-    let mut book = begun::<J, H>(waits, alloc, table, &mut tally.differing)?;
-    for row in &table.rows {
-        play_row(waits, alloc, table, &mut book, row, &mut tally)?;
+    if table.in_turn {
+        let opening = opening_of(alloc, table)?;
+        let history = history_of(table);
+        play_in_turn::<Brand, _>(waits, alloc, table, opening, history, &mut tally)?;
+    } else {
+        play_each_apart(waits, alloc, table, &mut tally)?;
     }
     Ok(tally)
 }

@@ -17,6 +17,8 @@ mod seers;
 #[cfg(test)]
 mod sessions;
 #[cfg(test)]
+mod sharing;
+#[cfg(test)]
 mod starting;
 #[cfg(test)]
 mod streams;

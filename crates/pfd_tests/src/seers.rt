@@ -1,10 +1,10 @@
 //! A seer beside its Book: it is told nothing, and sees what is shown until the Book is dropped.
-ghost use Rattle.std.specs.Prelude.{◌≡◌};
+ghost use Rattle.pf_book.specs.Books.{IsNamed};
 
 use crate::books::opened;
 use pf_line::write_judged;
 use pf_rule::Packet;
-use pfd::{Book, MemDisk, Naming, Opening, Seer, serve_alone};
+use pfd::{Book, Chapter, MemDisk, Opening, Seer, serve_alone};
 use std::alloc::Global;
 use std::marker::Brand;
 use std::process::Abort;
@@ -14,7 +14,7 @@ use std::test::*;
 const BLOCKING: &str = "begin filter -\nadd - 1.1 block in all\ncommit filter - 1.1\n";
 
 /// What it says of a packet, as a line that asks is answered; nothing where it sees nothing any more.
-fn told<J: Naming>(alloc: Global, seer: &mut Seer<J>, packet: &Packet) -> Result<Vec<u8>, Fail> {
+fn told<J: Chapter>(alloc: Global, seer: &mut Seer<J>, packet: &Packet) -> Result<Vec<u8>, Fail> {
     let mut text = Vec::new(alloc);
     if let Ok(verdict) = seer.judge(packet) {
         write_judged(&mut text, &verdict)?;
@@ -23,7 +23,7 @@ fn told<J: Naming>(alloc: Global, seer: &mut Seer<J>, packet: &Packet) -> Result
 }
 
 // It borrows the Book, so that it has not to let go of it wherever it may fail.
-fn see_changes<J: Naming, H: Wait + Drop>(
+fn see_changes<J: Chapter, H: Wait + Drop>(
     rt: &impl Abort,
     alloc: Global,
     book: &mut Book<MemDisk, J, H>,
@@ -42,13 +42,13 @@ fn see_changes<J: Naming, H: Wait + Drop>(
     Ok(())
 }
 
-fn see<J: Naming, H: Wait + Drop, A: Abort>(
+fn see<J: Chapter, H: Wait + Drop, A: Abort>(
     waits: H,
     rt: &A,
     alloc: Global,
     opening: Opening<MemDisk>,
 ) -> Result<(), Fail>
-    requires { opening.given ≡ J.base }
+    requires { IsNamed J.base J.history J.setting opening 10 }
 {
     let packet = Packet::parse(alloc, "in em0 tcp 10.0.0.1 1234 10.0.0.2 80")?;
     let Ok((mut book, mut seers)) = Book::<MemDisk, J, H>::of(waits, alloc, opening, 10, 1) else {

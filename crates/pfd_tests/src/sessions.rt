@@ -1,10 +1,11 @@
 //! Sessions over readers and writers that fail, or do little at a time.
-ghost use Rattle.std.specs.Prelude.{◌≡◌};
+ghost use Rattle.pfd.specs.declared.program.words.TheConstants.{HISTORY_LIMIT};
+ghost use Rattle.pf_book.specs.Books.{IsNamed};
 
 use crate::books::opened;
 use crate::streams::{Script, Tight};
 use pfd::EngineFault::{Read, Write};
-use pfd::{Book, EngineFault, HISTORY_LIMIT, MemDisk, Naming, Opening, serve_alone};
+use pfd::{Book, Chapter, EngineFault, HISTORY_LIMIT, MemDisk, Opening, serve_alone};
 use std::alloc::Global;
 use std::cell::Cell;
 use std::marker::Brand;
@@ -44,7 +45,7 @@ const CASES: &[Case] = &[
 ];
 
 // How the session of a case ends, and what is written. A flag says that replies wait to be flushed.
-fn end_of<J: Naming, H: Wait + Drop>(
+fn end_of<J: Chapter, H: Wait + Drop>(
     alloc: Global,
     case: &Case,
     book: &mut Book<MemDisk, J, H>,
@@ -65,7 +66,7 @@ fn end_of<J: Naming, H: Wait + Drop>(
 }
 
 // It borrows the Book, so that it has not to let go of it wherever it may fail.
-fn check_on<J: Naming, H: Wait + Drop>(
+fn check_on<J: Chapter, H: Wait + Drop>(
     rt: &impl Abort,
     alloc: Global,
     case: &Case,
@@ -81,14 +82,14 @@ fn check_on<J: Naming, H: Wait + Drop>(
     assert!(rt; !waiting.get() || end.is_err());
 }
 
-fn check<J: Naming, H: Wait + Drop, A: Abort>(
+fn check<J: Chapter, H: Wait + Drop, A: Abort>(
     waits: H,
     rt: &A,
     opening: Opening<MemDisk>,
     alloc: Global,
     case: &Case,
 ) -> Result<(), Fail>
-    requires { opening.given ≡ J.base }
+    requires { IsNamed J.base J.history J.setting opening HISTORY_LIMIT }
 {
     match Book::<MemDisk, J, H>::of(waits, alloc, opening, HISTORY_LIMIT, 1) {
         Ok((mut book, _seers)) => check_on(rt, alloc, case, &mut book),

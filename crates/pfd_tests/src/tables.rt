@@ -1,5 +1,6 @@
 //! Commands on tables that no line can carry: lists without entries, and lists longer than a line.
-ghost use Rattle.std.specs.Prelude.{◌≡◌};
+ghost use Rattle.pfd.specs.declared.program.words.TheConstants.{HISTORY_LIMIT};
+ghost use Rattle.pf_book.specs.Books.{IsNamed};
 
 use crate::books::opened;
 use pf_addr::path::TableName;
@@ -9,7 +10,7 @@ use pf_core::{Command, EntryList, TableEdit, Transaction};
 use pf_line::write_reply;
 use pf_table::{Entry, TABLE_LIMIT};
 use pf_ticket::{RulesetName, RulesetNames, Ticket};
-use pfd::{Book, HISTORY_LIMIT, MemDisk, Naming, Opening};
+use pfd::{Book, Chapter, HISTORY_LIMIT, MemDisk, Opening};
 use std::alloc::Global;
 use std::marker::Brand;
 use std::process::Abort;
@@ -109,7 +110,7 @@ fn command_of(alloc: Global, deed: Deed, count: usize) -> Result<Command, Fail> 
 }
 
 /// What a command is answered.
-fn answer<J: Naming, H: Wait + Drop>(
+fn answer<J: Chapter, H: Wait + Drop>(
     alloc: Global,
     book: &mut Book<MemDisk, J, H>,
     command: Command,
@@ -121,7 +122,7 @@ fn answer<J: Naming, H: Wait + Drop>(
 }
 
 // It borrows the Book, so that it has not to let go of it wherever it may fail.
-fn play_on<J: Naming, H: Wait + Drop>(
+fn play_on<J: Chapter, H: Wait + Drop>(
     rt: &impl Abort,
     alloc: Global,
     book: &mut Book<MemDisk, J, H>,
@@ -135,14 +136,14 @@ fn play_on<J: Naming, H: Wait + Drop>(
     Ok(())
 }
 
-fn play<J: Naming, H: Wait + Drop, A: Abort>(
+fn play<J: Chapter, H: Wait + Drop, A: Abort>(
     waits: H,
     rt: &A,
     opening: Opening<MemDisk>,
     alloc: Global,
     rows: &[Row],
 ) -> Result<(), Fail>
-    requires { opening.given ≡ J.base }
+    requires { IsNamed J.base J.history J.setting opening HISTORY_LIMIT }
 {
     match Book::<MemDisk, J, H>::of(waits, alloc, opening, HISTORY_LIMIT, 1) {
         Ok((mut book, _seers)) => play_on(rt, alloc, &mut book, rows),

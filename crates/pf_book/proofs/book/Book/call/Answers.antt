@@ -1,10 +1,11 @@
 use Rattle.std.proofs.{Common.{◌≡◌, ℕ, List, length, map, Ok, sym, ap, ◌∙◌, subst, arith}, lemmas.Grind.common_steps}
-use Rattle.std.specs.{Arc.arc_value, Prelude.nat_lt}
+use Rattle.std.specs.{Arc.arc_value, Option.option_map, Prelude.nat_lt}
 use Rattle.pf_disk.specs.Disk.{EachMoment}
 use Rattle.pf_core.specs.declared.reply.{Reply.TheVariants.{Answer}}
 use Rattle.pf_core.specs.{Calls.call, Durable.Edits.{Edit, fits}, Laws.Wanted.wants_what_fits, Pages.{Page, IsAt, Leads}, Wholes.Whole, Worlds.{Held, calling, upshot}}
 use Rattle.pf_store.specs.Rooms.{on_device}
-use Rattle.pf_book.specs.Books.{Ledger, page, page_of, HoldsLeft, IsMade, IsTold, is_fault_reply}
+use Rattle.pf_book.specs.{Books.{Ledger, page, page_of, HoldsLeft, IsMade, IsTold, is_fault_reply}, Receipts.IsGiven}
+use Rattle.pf_book.proofs.Answering.{told-given}
 use Rattle.pf_book.proofs.Calling.{with_core, IsFree, unchanging, none-behind, no-fault, not-more, fault-flag, answer-leads, history-leads, made-leads, made-stays, made-moment, still-left, err-not-fault}
 use Rattle.pf_book.proofs.book.Book.call.Goals.{else-self-len-via-then-self-len+else-may_change, else-self-len-via-else-self-len}
 use Rattle.pf_book.proofs.book.Book.call.Goals as goal
@@ -62,10 +63,10 @@ returns-in-Ok-Wants-clause-leads g c =
     let change = c.in-Ok-Wants.change in
     let outcome = c.in-Ok-Wants.outcome in
     let new = c.make.new.self in
-    let made : IsMade c.make.result outcome change b (page new) = subst (λ (w : Whole). IsMade c.make.result outcome change (with_core b w) (page new)) e.left c.make.ensures.made in
-    subst (λ (l : Ledger g.row.D.Denot). (h : Held) → IsAt h (page l) → Leads h (page new) (call k c.make.result) (upshot new.shown (nat_lt (g.D.Disk.fault_count l.disk) (g.D.Disk.fault_count new.disk)))) c.self.view_is
-    (λ h at. made-leads h b k change outcome at c.self.invariant.folded free e.reply c.make.result (page new) (nat_lt (g.D.Disk.fault_count disk) (g.D.Disk.fault_count new.disk)) made
-    (fault-flag (g.D.Disk.fault_count disk) (g.D.Disk.fault_count new.disk) (is_fault_reply c.make.result) c.make.ensures.faults))
+    let made : IsMade c.make.result.0 outcome change b (page new) = subst (λ (w : Whole). IsMade c.make.result.0 outcome change (with_core b w) (page new)) e.left c.make.ensures.made in
+    subst (λ (l : Ledger g.row.D.Denot). (h : Held) → IsAt h (page l) → Leads h (page new) (call k c.make.result.0) (upshot new.shown (nat_lt (g.D.Disk.fault_count l.disk) (g.D.Disk.fault_count new.disk)))) c.self.view_is
+    (λ h at. made-leads h b k change outcome at c.self.invariant.folded free e.reply c.make.result.0 (page new) (nat_lt (g.D.Disk.fault_count disk) (g.D.Disk.fault_count new.disk)) made
+    (fault-flag (g.D.Disk.fault_count disk) (g.D.Disk.fault_count new.disk) (is_fault_reply c.make.result.0) c.make.ensures.faults))
 
 pub returns-in-Ok-Wants-clause-any_moment : goal.returns-in-Ok-Wants-clause-any_moment
 returns-in-Ok-Wants-clause-any_moment g c =
@@ -83,10 +84,10 @@ returns-in-Ok-Wants-clause-any_moment g c =
     let change = c.in-Ok-Wants.change in
     let outcome = c.in-Ok-Wants.outcome in
     let new = c.make.new.self in
-    let made : IsMade c.make.result outcome change b (page new) = subst (λ (w : Whole). IsMade c.make.result outcome change (with_core b w) (page new)) e.left c.make.ensures.made in
+    let made : IsMade c.make.result.0 outcome change b (page new) = subst (λ (w : Whole). IsMade c.make.result.0 outcome change (with_core b w) (page new)) e.left c.make.ensures.made in
     subst (λ (l : Ledger g.row.D.Denot). (h : Held) → IsAt h (page l) → EachMoment g.D.Disk.moment g.D.Disk.left_since l.disk new.disk (HoldsLeft h (calling k))) c.self.view_is
     (λ h at. made-moment g.D.Disk.seen g.D.Disk.unsynced g.D.Disk.moment g.D.Disk.left_since h b (page new) k change outcome at c.self.invariant.folded free e.reply disk new.disk (g.met.D.Disk.only_now disk) c.self.invariant.images
-    (rw e.left at c.make.ensures.any_moment) c.make.result made c.make.ensures.still)
+    (rw e.left at c.make.ensures.any_moment) c.make.result.0 made c.make.ensures.still)
 
 pub returns-in-Ok-Wants-clause-refused : goal.returns-in-Ok-Wants-clause-refused
 returns-in-Ok-Wants-clause-refused g c =
@@ -97,9 +98,9 @@ returns-in-Ok-Wants-clause-refused g c =
     let change = c.in-Ok-Wants.change in
     let outcome = c.in-Ok-Wants.outcome in
     let new = c.make.new.self in
-    let made : IsMade c.make.result outcome change b (page new) = subst (λ (w : Whole). IsMade c.make.result outcome change (with_core b w) (page new)) e.left c.make.ensures.made in
-    let made' : IsMade c.make.result outcome change (page c.args.self.now) (page new) = subst (λ (l : Ledger g.row.D.Denot). IsMade c.make.result outcome change (page l) (page new)) c.self.view_is made in
-    made-stays c.args.self.now new c.make.result outcome change made' (λ why is quiet. c.make.ensures.still why is quiet ∙ ap (λ (l : Ledger g.row.D.Denot). l.disk) c.self.view_is)
+    let made : IsMade c.make.result.0 outcome change b (page new) = subst (λ (w : Whole). IsMade c.make.result.0 outcome change (with_core b w) (page new)) e.left c.make.ensures.made in
+    let made' : IsMade c.make.result.0 outcome change (page c.args.self.now) (page new) = subst (λ (l : Ledger g.row.D.Denot). IsMade c.make.result.0 outcome change (page l) (page new)) c.self.view_is made in
+    made-stays c.args.self.now new c.make.result.0 outcome change made' (λ why is quiet. c.make.ensures.still why is quiet ∙ ap (λ (l : Ledger g.row.D.Denot). l.disk) c.self.view_is)
 
 pub returns-in-Ok-OfHistory-clause-leads : goal.returns-in-Ok-OfHistory-clause-leads
 returns-in-Ok-OfHistory-clause-leads g c =
@@ -149,3 +150,16 @@ returns-in-Err-clause-refused g c =
       same = λ is. (ap (with_core b) c.in-Err.ensures.left ∙ ap page c.self.view_is, ap (λ (l : Ledger g.row.D.Denot). l.disk) c.self.view_is);
       pending = λ is. absurd (cc (is, quiet));
     }
+
+pub returns-in-Ok-Wants-clause-given : goal.returns-in-Ok-Wants-clause-given
+returns-in-Ok-Wants-clause-given g c =
+    let s = c.self.inside in
+    let log : List Edit = map arc_value s.log.items in
+    let b : Page = page_of g.J.Naming.base s.core log s.acked (on_device s.limit s.store.bank.journal.end s.first_gate) s.shower.shown in
+    let e = rw c.in-Ok-Wants.field-0-is at c.in-Ok-Wants.ensures in
+    let new = c.make.new.self in
+    subst (λ (l : Ledger g.row.D.Denot). IsGiven c.make.result.0 (option_map arc_value c.make.result.1) (page l) (page new)) c.self.view_is
+    (subst (λ (w : Whole). IsGiven c.make.result.0 (option_map arc_value c.make.result.1) (with_core b w) (page new)) e.left c.make.ensures.given)
+
+pub returns-in-Ok-OfHistory-clause-given : goal.returns-in-Ok-OfHistory-clause-given
+returns-in-Ok-OfHistory-clause-given g c = told-given c.in-Ok-OfHistory.command c.tell.result _ _ (page c.args.self.now) (page c.tell.new.self) c.tell.ensures.told

@@ -6,7 +6,7 @@ use Rattle.pf_core.specs.{Durable.Edits.{Kept, Edit, applied, after}, Nexts.Read
 use Rattle.pf_store.specs.{Lengths.payload_length, Rooms.{gate_after, group_fits, on_device}, Stores.{Holds, HoldsEither, FindsRoom}, StoreKept.Stands}
 use Rattle.pf_store.specs.declared.groups.change.Recorded.TheVariants as recorded
 use Rattle.pf_store.specs.declared.store.keeping.Store.{Store}
-use Rattle.pf_book.specs.Books.{Ledger, page, page_of, singles, IsMore, IsPending, HasRoom}
+use Rattle.pf_book.specs.{Books.{Ledger, page, page_of, singles, IsMore, IsPending, HasRoom}, Pasts.with_change}
 use Rattle.pf_book.proofs.{Calling.still-either, Finding.{device-fits, device-full}, Keeping.{acked-is, acked-more, goes-on, pending-page, more-book, fault-book}, Parts.{all-acked, left-none}}
 use Rattle.pf_book.proofs.book.Book.keep.Goals as goal
 
@@ -96,17 +96,17 @@ invariant_of-self-in-Ok-save g c =
     let before : c.durable-2.result.now ≡ s.core.durable = c.durable-2.ensures in
     let left : c.args.next.durable ≡ applied s.core.durable e = ap (λ (r : Ready). r.durable) c.requires.made ∙ ap (λ (l : Ledger g.row.D.Denot). applied l.whole.durable e) (sym c.self.view_is) in
     let next : c.deref-2.result.now ≡ applied s.core.durable e = c.deref-2.ensures ∙ c.in_ok-after.ensures ∙ left in
-    let change : c.deref.result.now ≡ e = c.deref.ensures ∙ c.in-Ok.ensures.ok in
+    let change : c.deref.result.now ≡ e = c.deref.ensures ∙ c.in-Ok.ensures.change in
     let was : Stands g.D.Disk.seen g.D.Disk.unsynced s.store c.durable-2.result.now = subst (λ (k : Kept). Stands g.D.Disk.seen g.D.Disk.unsynced s.store k) (sym before) (i.stands going) in
     let log' : List Edit = map arc_value c.push_reserved.new.self.items in
-    let logged : log' ≡ log ++ e ∷ [] = grind (arith, common_steps, c.push_reserved.ensures.items, c.reserve.ensures.items, c.in-Ok.ensures.ok) in
+    let logged : log' ≡ log ++ e ∷ [] = grind (arith, common_steps, c.push_reserved.ensures.items, c.reserve.ensures.items, c.in-Ok.ensures.change) in
     let setting' : Setting = on_device s.limit c.save.new.self.bank.journal.end s.first_gate in
     let d = c.in-Ok-save.ensures in
     let whole : c.accept.new.self.durable ≡ applied s.core.durable e = ap (λ (w : Whole). w.durable) c.accept.ensures ∙ left in
     let kept : c.deref-2.result.now ≡ c.accept.new.self.durable = next ∙ sym whole in
     let low : g.D.Disk.fault_count disk < 2 ^ 63 = i.few going in
-    more-book g.D.Disk.seen g.D.Disk.unsynced g.D.Disk.fault_count s.store c.save.new.self g.J.Naming.base s.core c.accept.new.self (arc_value s.durable) (arc_value c.in_ok-after.after) log log' e s.acked (s.acked + 1) s.offered s.first_gate setting setting' s.shower
-    i none refl logged whole (c.in_ok-after.ensures ∙ left ∙ sym whole) going d.goes_on
+    more-book g.D.Disk.seen g.D.Disk.unsynced g.D.Disk.fault_count s.store c.save.new.self g.J.Naming.base s.core c.accept.new.self (arc_value s.durable) (arc_value c.in_ok-after.after) log log' e s.acked (s.acked + 1) s.offered s.first_gate setting setting' s.shower s.tip c.add.new.self
+    i none refl logged (c.add.ensures ∙ ap (λ (x : Edit). with_change s.tip x true) c.in-Ok.ensures.noted) whole (c.in_ok-after.ensures ∙ left ∙ sym whole) going d.goes_on
     (subst (λ (k : Kept). Stands g.D.Disk.seen g.D.Disk.unsynced c.save.new.self k) kept (d.stands was))
     (omega (arith, low, d.faults))
     (d.gate ∙ ap (λ (x : Edit). s.store.bank.journal.gate + 5 + payload_length (recorded.Made x)) change)
@@ -127,12 +127,12 @@ returns-in-Ok-save-clause-ok g c =
     let before : c.durable-2.result.now ≡ s.core.durable = c.durable-2.ensures in
     let left : c.args.next.durable ≡ applied s.core.durable e = ap (λ (r : Ready). r.durable) c.requires.made ∙ ap (λ (l : Ledger g.row.D.Denot). applied l.whole.durable e) (sym c.self.view_is) in
     let next : c.deref-2.result.now ≡ applied s.core.durable e = c.deref-2.ensures ∙ c.in_ok-after.ensures ∙ left in
-    let change : c.deref.result.now ≡ e = c.deref.ensures ∙ c.in-Ok.ensures.ok in
+    let change : c.deref.result.now ≡ e = c.deref.ensures ∙ c.in-Ok.ensures.change in
     let was : Stands g.D.Disk.seen g.D.Disk.unsynced s.store c.durable-2.result.now = subst (λ (k : Kept). Stands g.D.Disk.seen g.D.Disk.unsynced s.store k) (sym before) (i.stands going) in
     let counted : c.len.result ≡ length log = grind (arith, common_steps, c.len.ensures) in
     let few : length (flat (singles (take s.acked log))) < s.limit = subst (λ (n : ℕ). n < s.limit) (counted ∙ ap length (sym (acked-is log s.acked all))) c.if-len-self.false in
     let log' : List Edit = map arc_value c.push_reserved.new.self.items in
-    let logged : log' ≡ log ++ e ∷ [] = grind (arith, common_steps, c.push_reserved.ensures.items, c.reserve.ensures.items, c.in-Ok.ensures.ok) in
+    let logged : log' ≡ log ++ e ∷ [] = grind (arith, common_steps, c.push_reserved.ensures.items, c.reserve.ensures.items, c.in-Ok.ensures.change) in
     let d = c.in-Ok-save.ensures in
     let there : FindsRoom s.store.bank.journal.end s.store.bank.journal.gate s.core.durable (applied s.core.durable e) e =
     subst (λ (x : Edit). FindsRoom s.store.bank.journal.end s.store.bank.journal.gate s.core.durable (applied s.core.durable e) x) change
@@ -164,7 +164,7 @@ returns-in-Ok-save-clause-any_moment g c =
     let before : c.durable-2.result.now ≡ s.core.durable = c.durable-2.ensures in
     let left : c.args.next.durable ≡ applied s.core.durable e = ap (λ (r : Ready). r.durable) c.requires.made ∙ ap (λ (l : Ledger g.row.D.Denot). applied l.whole.durable e) (sym c.self.view_is) in
     let next : c.deref-2.result.now ≡ applied s.core.durable e = c.deref-2.ensures ∙ c.in_ok-after.ensures ∙ left in
-    let change : c.deref.result.now ≡ e = c.deref.ensures ∙ c.in-Ok.ensures.ok in
+    let change : c.deref.result.now ≡ e = c.deref.ensures ∙ c.in-Ok.ensures.change in
     let was : Stands g.D.Disk.seen g.D.Disk.unsynced s.store c.durable-2.result.now = subst (λ (k : Kept). Stands g.D.Disk.seen g.D.Disk.unsynced s.store k) (sym before) (i.stands going) in
     let run : EachMoment g.D.Disk.moment g.D.Disk.left_since disk c.save.new.self.bank.journal.disk (HoldsEither s.core.durable (applied s.core.durable e)) =
     subst (λ (k : Kept). EachMoment g.D.Disk.moment g.D.Disk.left_since disk c.save.new.self.bank.journal.disk (HoldsEither s.core.durable k)) next
@@ -203,7 +203,7 @@ returns-in-Err-Full-clause-err g c =
     let before : c.durable-2.result.now ≡ s.core.durable = c.durable-2.ensures in
     let left : c.args.next.durable ≡ applied s.core.durable e = ap (λ (r : Ready). r.durable) c.requires.made ∙ ap (λ (l : Ledger g.row.D.Denot). applied l.whole.durable e) (sym c.self.view_is) in
     let next : c.deref-2.result.now ≡ applied s.core.durable e = c.deref-2.ensures ∙ c.in_ok-after.ensures ∙ left in
-    let change : c.deref.result.now ≡ e = c.deref.ensures ∙ c.in-Ok.ensures.ok in
+    let change : c.deref.result.now ≡ e = c.deref.ensures ∙ c.in-Ok.ensures.change in
     let was : Stands g.D.Disk.seen g.D.Disk.unsynced s.store c.durable-2.result.now = subst (λ (k : Kept). Stands g.D.Disk.seen g.D.Disk.unsynced s.store k) (sym before) (i.stands going) in
     let counted : c.len.result ≡ length log = grind (arith, common_steps, c.len.ensures) in
     let few : length (flat (singles (take s.acked log))) < s.limit = subst (λ (n : ℕ). n < s.limit) (counted ∙ ap length (sym (acked-is log s.acked all))) c.if-len-self.false in
@@ -253,16 +253,17 @@ invariant_of-self-in-Err-Fault g c =
     let before : c.durable-2.result.now ≡ s.core.durable = c.durable-2.ensures in
     let left : c.args.next.durable ≡ applied s.core.durable e = ap (λ (r : Ready). r.durable) c.requires.made ∙ ap (λ (l : Ledger g.row.D.Denot). applied l.whole.durable e) (sym c.self.view_is) in
     let next : c.deref-2.result.now ≡ applied s.core.durable e = c.deref-2.ensures ∙ c.in_ok-after.ensures ∙ left in
-    let change : c.deref.result.now ≡ e = c.deref.ensures ∙ c.in-Ok.ensures.ok in
+    let change : c.deref.result.now ≡ e = c.deref.ensures ∙ c.in-Ok.ensures.change in
     let was : Stands g.D.Disk.seen g.D.Disk.unsynced s.store c.durable-2.result.now = subst (λ (k : Kept). Stands g.D.Disk.seen g.D.Disk.unsynced s.store k) (sym before) (i.stands going) in
     let run : EachMoment g.D.Disk.moment g.D.Disk.left_since disk c.save.new.self.bank.journal.disk (HoldsEither s.core.durable (applied s.core.durable e)) =
     subst (λ (k : Kept). EachMoment g.D.Disk.moment g.D.Disk.left_since disk c.save.new.self.bank.journal.disk (HoldsEither s.core.durable k)) next
     (subst (λ (k : Kept). EachMoment g.D.Disk.moment g.D.Disk.left_since disk c.save.new.self.bank.journal.disk (HoldsEither k c.deref-2.result.now)) before (c.save.ensures.any_moment going was)) in
     let log' : List Edit = map arc_value c.push_reserved-in-Err-Fault.new.self.items in
-    let logged : log' ≡ log ++ e ∷ [] = grind (arith, common_steps, c.push_reserved-in-Err-Fault.ensures.items, c.reserve.ensures.items, c.in-Ok.ensures.ok) in
+    let logged : log' ≡ log ++ e ∷ [] = grind (arith, common_steps, c.push_reserved-in-Err-Fault.ensures.items, c.reserve.ensures.items, c.in-Ok.ensures.change) in
     let setting' : Setting = on_device s.limit c.save.new.self.bank.journal.end s.first_gate in
     let f = rw c.in-Err-Fault.field-0-is at c.in-Err-Fault.ensures in
-    fault-book g.D.Disk.seen g.D.Disk.unsynced g.D.Disk.fault_count s.store c.save.new.self g.J.Naming.base s.core (arc_value s.durable) log log' e s.acked s.offered s.first_gate setting setting' s.shower i none logged (f.halts refl)
+    fault-book g.D.Disk.seen g.D.Disk.unsynced g.D.Disk.fault_count s.store c.save.new.self g.J.Naming.base s.core (arc_value s.durable) log log' e s.acked s.offered s.first_gate setting setting' s.shower s.tip c.add-in-Err-Fault.new.self i none logged
+    (c.add-in-Err-Fault.ensures ∙ ap (λ (x : Edit). with_change s.tip x false) c.in-Ok.ensures.noted) (f.halts refl)
     (λ image is. run.each image (g.met.D.Disk.counts_now c.save.new.self.bank.journal.disk (g.D.Disk.moment disk) image run.later is))
 
 pub returns-in-Err-Fault-clause-err : goal.returns-in-Err-Fault-clause-err
@@ -280,12 +281,12 @@ returns-in-Err-Fault-clause-err g c =
     let before : c.durable-2.result.now ≡ s.core.durable = c.durable-2.ensures in
     let left : c.args.next.durable ≡ applied s.core.durable e = ap (λ (r : Ready). r.durable) c.requires.made ∙ ap (λ (l : Ledger g.row.D.Denot). applied l.whole.durable e) (sym c.self.view_is) in
     let next : c.deref-2.result.now ≡ applied s.core.durable e = c.deref-2.ensures ∙ c.in_ok-after.ensures ∙ left in
-    let change : c.deref.result.now ≡ e = c.deref.ensures ∙ c.in-Ok.ensures.ok in
+    let change : c.deref.result.now ≡ e = c.deref.ensures ∙ c.in-Ok.ensures.change in
     let was : Stands g.D.Disk.seen g.D.Disk.unsynced s.store c.durable-2.result.now = subst (λ (k : Kept). Stands g.D.Disk.seen g.D.Disk.unsynced s.store k) (sym before) (i.stands going) in
     let counted : c.len.result ≡ length log = grind (arith, common_steps, c.len.ensures) in
     let few : length (flat (singles (take s.acked log))) < s.limit = subst (λ (n : ℕ). n < s.limit) (counted ∙ ap length (sym (acked-is log s.acked all))) c.if-len-self.false in
     let log' : List Edit = map arc_value c.push_reserved-in-Err-Fault.new.self.items in
-    let logged : log' ≡ log ++ e ∷ [] = grind (arith, common_steps, c.push_reserved-in-Err-Fault.ensures.items, c.reserve.ensures.items, c.in-Ok.ensures.ok) in
+    let logged : log' ≡ log ++ e ∷ [] = grind (arith, common_steps, c.push_reserved-in-Err-Fault.ensures.items, c.reserve.ensures.items, c.in-Ok.ensures.change) in
     let setting' : Setting = on_device s.limit c.save.new.self.bank.journal.end s.first_gate in
     let f = rw c.in-Err-Fault.field-0-is at c.in-Err-Fault.ensures in
     let there : FindsRoom s.store.bank.journal.end s.store.bank.journal.gate s.core.durable (applied s.core.durable e) e =
@@ -311,7 +312,7 @@ returns-in-Err-Fault-clause-any_moment g c =
     let before : c.durable-2.result.now ≡ s.core.durable = c.durable-2.ensures in
     let left : c.args.next.durable ≡ applied s.core.durable e = ap (λ (r : Ready). r.durable) c.requires.made ∙ ap (λ (l : Ledger g.row.D.Denot). applied l.whole.durable e) (sym c.self.view_is) in
     let next : c.deref-2.result.now ≡ applied s.core.durable e = c.deref-2.ensures ∙ c.in_ok-after.ensures ∙ left in
-    let change : c.deref.result.now ≡ e = c.deref.ensures ∙ c.in-Ok.ensures.ok in
+    let change : c.deref.result.now ≡ e = c.deref.ensures ∙ c.in-Ok.ensures.change in
     let was : Stands g.D.Disk.seen g.D.Disk.unsynced s.store c.durable-2.result.now = subst (λ (k : Kept). Stands g.D.Disk.seen g.D.Disk.unsynced s.store k) (sym before) (i.stands going) in
     let run : EachMoment g.D.Disk.moment g.D.Disk.left_since disk c.save.new.self.bank.journal.disk (HoldsEither s.core.durable (applied s.core.durable e)) =
     subst (λ (k : Kept). EachMoment g.D.Disk.moment g.D.Disk.left_since disk c.save.new.self.bank.journal.disk (HoldsEither s.core.durable k)) next

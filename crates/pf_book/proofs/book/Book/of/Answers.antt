@@ -1,9 +1,9 @@
-use Rattle.std.proofs.Common.{◌≡◌, length, map, refl, sym, ap, ◌∙◌}
+use Rattle.std.proofs.Common.{◌≡◌, [], ◌∷◌, length, map, refl, sym, ap, ◌∙◌}
 use Rattle.std.specs.Arc.{arc_value}
 use Rattle.pf_ticket.specs.Tickets.{fresh}
-use Rattle.pf_core.specs.{Durable.Edits.Kept, Wholes.Whole, Worlds.{begun, opened, down}}
+use Rattle.pf_core.specs.{Durable.Edits.Kept, Wholes.Whole, Worlds.{Setting, begun, opened, down}}
 use Rattle.pf_core.specs.Worlds.{raised as raised'}
-use Rattle.pf_core.proofs.LongerWorlds.{stands-by}
+use Rattle.pf_core.proofs.LongerWorlds.{stands-by, stands-opened}
 use Rattle.pf_store.specs.Rooms.{on_device}
 use Rattle.pf_book.specs.Books.{Opened, singles}
 use Rattle.pf_book.proofs.book.Book.of.Goals as goal
@@ -13,10 +13,32 @@ returns-in-Ok-views-clause-worlds g c = λ first d world legal comes low raised.
     let o = c.args.opening in
     let given : arc_value c.in-Ok.shared ≡ o.given = c.in-Ok.ensures ∙ ap (λ (x : Opened g.row.D.Denot). x.given) c.opening.view_is in
     stands-by first _ world (opened (on_device c.args.history_limit o.end o.gate)) (down d) (begun (on_device c.args.history_limit o.end o.gate) (raised' d)) legal comes low refl (record {
-      base = sym c.requires.name ∙ raised;
+      base = sym c.requires.name.0 ∙ raised;
       tickets = ap (λ (w : Whole). w.tickets) c.new.ensures ∙ ap (λ (k : Kept). fresh k.epoch) (given ∙ raised);
       acked = refl;
       pending = ap (λ xs. singles (map arc_value xs)) c.new-in-Ok-views.ensures.items;
       shown = ap length c.in-Ok-views.ensures.shower.0;
       setting = ap (λ (x : Opened g.row.D.Denot). on_device c.args.history_limit x.end x.gate) c.opening.view_is;
     })
+
+pub returns-in-Ok-views-clause-reached : goal.returns-in-Ok-views-clause-reached
+returns-in-Ok-views-clause-reached g c =
+    let o = c.args.opening in
+    let epoch = c.opening.invariant.epoch in
+    let setting : Setting = on_device c.args.history_limit o.end o.gate in
+    let given : arc_value c.in-Ok.shared ≡ o.given = c.in-Ok.ensures ∙ ap (λ (x : Opened g.row.D.Denot). x.given) c.opening.view_is in
+    let raises : o.given ≡ raised' epoch.before = ap (λ (x : Opened g.row.D.Denot). x.given) (sym c.opening.view_is) ∙ epoch.raises in
+    record {
+      base_is = refl;
+      setting_is = ap (λ (x : Opened g.row.D.Denot). on_device c.args.history_limit x.end x.gate) c.opening.view_is ∙ c.requires.name.2;
+      first = epoch.before;
+      world = opened setting ∷ [];
+      stands = stands-opened epoch.before _ setting epoch.low (record {
+        base = sym c.requires.name.0 ∙ raises;
+        tickets = ap (λ (w : Whole). w.tickets) c.new.ensures ∙ ap (λ (k : Kept). fresh k.epoch) (given ∙ raises);
+        acked = refl;
+        pending = ap (λ xs. singles (map arc_value xs)) c.new-in-Ok-views.ensures.items;
+        shown = ap length c.in-Ok-views.ensures.shower.0;
+        setting = ap (λ (x : Opened g.row.D.Denot). on_device c.args.history_limit x.end x.gate) c.opening.view_is;
+      });
+    }

@@ -11,7 +11,7 @@ pub returns-clause-worlds : goal.returns-clause-worlds
 returns-clause-worlds g c = λ first world stands.
     let old = c.args.self.now in
     let new = c.call-reply.new.self in
-    stands-on first (page old) (page new) world (call c.args.command c.call-reply.result) (upshot new.shown (nat_lt (g.D.Disk.fault_count old.disk) (g.D.Disk.fault_count new.disk))) stands (c.call-reply.ensures.leads stands.held stands.at)
+    stands-on first (page old) (page new) world (call c.args.command c.call-reply.result.0) (upshot new.shown (nat_lt (g.D.Disk.fault_count old.disk) (g.D.Disk.fault_count new.disk))) stands (c.call-reply.ensures.leads stands.held stands.at)
 
 pub returns-clause-images : goal.returns-clause-images
 returns-clause-images g c =

@@ -25,7 +25,7 @@ invariant_of-self-2 g c =
     let still : IsPrefix c.offer_rest.new.shower.shown c.offer_rest.new.shower.offered = subst (λ (l : List Edit). IsPrefix l c.offer_rest.new.shower.offered) (sym c.offer_rest.ensures.shown) before in
     let shown : IsPrefix c.show.new.self.shown c.offer_rest.new.shower.offered = shown_either c.show.result c.offer_rest.new.shower.shown c.show.new.self.shown c.offer_rest.new.shower.offered c.show.ensures.ok c.show.ensures.err still in
     shown-book g.D.Disk.seen g.D.Disk.unsynced g.D.Disk.fault_count s.store g.J.Naming.base s.core (arc_value s.durable) log s.acked s.offered s.first_gate
-    (on_device s.limit s.store.bank.journal.end s.first_gate) s.shower c.show.new.self i (c.show.ensures.offered ∙ offered) (subst (λ (l : List Edit). IsPrefix c.show.new.self.shown l) (sym c.show.ensures.offered) shown)
+    (on_device s.limit s.store.bank.journal.end s.first_gate) s.shower c.show.new.self s.tip i (c.show.ensures.offered ∙ offered) (subst (λ (l : List Edit). IsPrefix c.show.new.self.shown l) (sym c.show.ensures.offered) shown)
 
 pub returns-clause-page : goal.returns-clause-page
 returns-clause-page g c =

@@ -13,6 +13,7 @@ invariant_of-result g c =
       few = subst (λ (n : ℕ). n < 2 ^ 63) (sym e.no_fault) c.requires.few;
       images = λ i image. subst (λ (k : Kept). Holds i k) (sym same) (e.images i image);
       within = subst IsWithin (sym same) e.within;
+      epoch = record { before = e.opened.0; raises = same ∙ e.opened.2; low = e.opened.3 };
     }
 
 pub returns-in-Ok-clause-opened : goal.returns-in-Ok-clause-opened

@@ -1,5 +1,10 @@
+use Rattle.pf_store.specs.Rooms.{on_device}
+use Rattle.pf_store_tests.specs.declared.books.TheConstants.{HISTORY_LIMIT}
 use Rattle.pf_store_tests.proofs.saves.Bench.tell_fault.Given as goal
 
--- the opening is named by what it gave
-abbrev pub ghosts-replies_over : goal.ghosts-replies_over
-ghosts-replies_over g a = record { base = a.opening.given }
+-- the opening is named by what it gave, its history, and what it keeps within
+abbrev pub ghosts-replies_over-J-Naming : goal.ghosts-replies_over-J-Naming
+ghosts-replies_over-J-Naming g a = record { base = a.opening.given }
+
+abbrev pub ghosts-replies_over-J-Chapter : goal.ghosts-replies_over-J-Chapter
+ghosts-replies_over-J-Chapter g a = record { history = a.opening.history; setting = on_device HISTORY_LIMIT a.opening.end a.opening.gate }

@@ -1,0 +1,198 @@
+-- What a call comes to under the lock.
+use Rattle.std.proofs.Common.{◌≡◌, inl, inr, ℕ, ◌+◌, ◌<◌, ◌≤◌, Bool, List, [], ◌∷◌, ◌++◌, length, Option, None, Some, Result, Ok, Err, refl, sym, ap, ◌∙◌, subst, arith, append_assoc, append-nil, length-append}
+use Rattle.std.specs.{Option.ForSome}
+use mathlib.Core.List.{IsPrefix}
+use Rattle.pf_core.specs.declared.{command.Command.Command, command.HistoryCommand.HistoryCommand, command.HistoryCommand.TheVariants.{Log, Publish}, reply.Outcome.Outcome, reply.Refusal.Refusal, reply.Reply.Reply, reply.Reply.TheVariants.{Answer, Applied, Stored, Refused}, step.Step.Step, step.Step.TheVariants.{Done, Wants, OfHistory}}
+use Rattle.pf_core.specs.{Calls.call, Durable.Edits.{Kept, Edit}, Pages.{Page, IsAt, Leads}, Worlds.{Setting, Held, down, Upshot, called, flat, log_of, step_in, or_refused, due_at, due, group_in, heard, room_for, shown_by, State, StandsIn, LegalReply, LegalCall, IsLegal}}
+use Rattle.pf_core.proofs.{Fronts.flat-append, LongerWorlds.{flat-push, stands-on, in-two}}
+use Rattle.pf_book.specs.{Books.{log_in, IsMore, IsTold}, Receipts.{Slip, EndsIn, ShownFits, token_of, IsAdded, IsGiven, Follows, IsReached, IsLast, IsChangeOf, IsAnswered}}
+
+-- ---- lists
+
+same-rest : (gs xs ys : List (List Edit)) → gs ++ xs ≡ gs ++ ys → xs ≡ ys
+same-rest [] xs ys is = is
+same-rest (g ∷ gs) xs ys is = same-rest gs xs ys (cc (is))
+
+-- a list begins with its front
+pub begins-more : (xs ys zs : List Edit) → IsPrefix xs ys → IsPrefix xs (ys ++ zs)
+begins-more xs ys zs p = (p.0 ++ zs, sym (append_assoc xs p.0 zs) ∙ ap (λ (l : List Edit). l ++ zs) p.1)
+
+shorter : (xs ys : List Edit) → IsPrefix xs ys → length xs ≤ length ys
+shorter xs ys p = omega (arith, ap length p.1, length-append xs p.0)
+
+-- ---- what a world's history is
+
+pub log-at : (h : Held) (b : Page) → IsAt h b → log_in b ≡ log_of h
+log-at h b at = ap (λ (gs : List (List Edit)). flat (gs ++ b.pending)) at.acked ∙ ap (λ (gs : List (List Edit)). flat (h.acked ++ gs)) at.pending
+
+-- a change behind all others
+pub log-added : (change : Option Edit) (old new : Page) → (added : IsAdded change old new) → log_in new ≡ log_in old ++ added.edit ∷ []
+log-added change old new added =
+    let one : List (List Edit) = (added.edit ∷ []) ∷ [] in
+    ap (λ (gs : List (List Edit)). flat (new.acked ++ gs)) added.none_after ∙ ap flat (append-nil new.acked) ∙ ap flat added.acked ∙ flat-push old.acked added.edit
+    ∙ ap (λ (gs : List (List Edit)). flat gs ++ added.edit ∷ []) (sym (append-nil old.acked)) ∙ ap (λ (gs : List (List Edit)). flat (old.acked ++ gs) ++ added.edit ∷ []) (sym added.none_before)
+
+-- a change that was kept is one
+pub added-by : (old kept new : Page) (e : Edit) (change : Option Edit) → IsMore old kept e → new.acked ≡ kept.acked → new.pending ≡ kept.pending → old.pending ≡ [] → change ≡ Some e → IsAdded change old new
+added-by old kept new e change more acked pending free is = record {
+  edit = e;
+  is = is;
+  acked = acked ∙ more.acked;
+  none_before = free;
+  none_after = pending ∙ more.pending ∙ free;
+}
+
+-- what is told of the history gives none
+pub told-given : (x : HistoryCommand) (r : Reply) (b new p q : Page) → IsTold x r b new → IsGiven r None p q
+told-given Log r b new p q told = subst (λ (y : Reply). IsGiven y None p q) (sym told.1) refl
+told-given Publish r b new p q (inl told) = subst (λ (y : Reply). IsGiven y None p q) (sym told.0) refl
+told-given Publish r b new p q (inr told) = subst (λ (y : Reply). IsGiven y None p q) (sym told.0) refl
+
+-- a change that was kept is the last of the history, all of which is acknowledged then
+added-last : (change : Option Edit) (old new : Page) → IsAdded change old new → ForSome change (λ e. EndsIn (log_in new) e × (length (log_in new) ≤ length (flat new.acked)))
+added-last change old new added = λ e some.
+    let same : added.edit ≡ e = cc (added.is, some) in
+    let all : log_in new ≡ flat new.acked = ap (λ (gs : List (List Edit)). flat (new.acked ++ gs)) added.none_after ∙ ap flat (append-nil new.acked) in
+    ((log_in old, subst (λ (x : Edit). log_in new ≡ log_in old ++ x ∷ []) same (log-added change old new added)), omega (arith, ap length all))
+
+pub given-last : (r : Reply) (change : Option Edit) (old new : Page) → IsGiven r change old new → ForSome change (λ e. EndsIn (log_in new) e × (length (log_in new) ≤ length (flat new.acked)))
+given-last (Answer a) change old new given = λ e some. absurd (cc (given, some))
+given-last (Applied n o) change old new given = added-last change old new given
+given-last (Stored n o) change old new given = added-last change old new given
+given-last (Refused why) change old new given = λ e some. absurd (cc (given, some))
+
+-- after `Applied` as many are shown as its number says
+pub shown-fits : (r : Reply) (before shown : ℕ) → shown ≡ shown_by r before → ShownFits r shown
+shown-fits (Answer a) before shown is = tt
+shown-fits (Applied n o) before shown is = is
+shown-fits (Stored n o) before shown is = tt
+shown-fits (Refused e) before shown is = tt
+
+-- ---- one call under the lock
+
+last-is : (h : Held) (c : Command) (slip : Slip) (old new : Page) → IsAt h old → new.acked ≡ h.acked ++ group_in h c → slip.front ≡ log_in new → IsAdded slip.change old new → IsLast h c slip
+last-is h c slip old new at grown front added = record {
+  edit = added.edit;
+  is = added.is;
+  due = same-rest h.acked (group_in h c) ((added.edit ∷ []) ∷ []) (sym grown ∙ added.acked ∙ ap (λ (gs : List (List Edit)). gs ++ (added.edit ∷ []) ∷ []) at.acked);
+  last = front ∙ log-added slip.change old new added ∙ ap (λ (l : List Edit). l ++ added.edit ∷ []) (log-at h old at);
+}
+
+change-is : (h : Held) (c : Command) (r : Reply) (t : Upshot) (slip : Slip) (old new : Page) → IsAt h old → IsAt (heard h (call c r) t) new → slip.front ≡ log_in new → IsGiven r slip.change old new → IsChangeOf r h c slip
+change-is h c (Answer a) t slip old new at after front given = given
+change-is h c (Applied n o) t slip old new at after front given = last-is h c slip old new at after.acked front given
+change-is h c (Stored n o) t slip old new at after front given = last-is h c slip old new at after.acked front given
+change-is h c (Refused e) t slip old new at after front given = given
+
+module _ (base : Kept) (setting : Setting) (old new : Page) (c : Command) (r : Reply) (t : Upshot) (reached : IsReached base setting old) (leads : (h : Held) → IsAt h old → Leads h new (call c r) t) where
+  -- what a call leads to is reached too
+  pub reached-on : new.base ≡ old.base → new.setting ≡ old.setting → IsReached base setting new
+  reached-on same_base same_setting = record {
+    base_is = same_base ∙ reached.base_is;
+    setting_is = same_setting ∙ reached.setting_is;
+    first = reached.first;
+    world = reached.world ++ called (call c r) t ∷ [];
+    stands = stands-on reached.first old new reached.world (call c r) t reached.stands (leads reached.stands.held reached.stands.at);
+  }
+
+  pub answered : (slip : Slip) (last : Option Slip) → slip.front ≡ log_in new → IsGiven r slip.change old new → slip.token ≡ token_of r → Follows last (log_in old) (length (flat old.acked)) → IsAnswered base setting c r slip last
+  answered slip last front given token follows =
+      let h : Held = reached.stands.held in
+      let at : IsAt h old = reached.stands.at in
+      let on : Leads h new (call c r) t = leads h at in
+      record {
+        first = reached.first;
+        world = reached.world;
+        before = h;
+        came = t;
+        comes = reached.stands.comes;
+        base_is = sym at.base ∙ reached.base_is;
+        setting_is = sym at.setting ∙ reached.setting_is;
+        legal = (stands-on reached.first old new reached.world (call c r) t reached.stands on).legal;
+        front = front ∙ log-at (heard h (call c r) t) new on.at;
+        change = change-is h c r t slip old new at on.at front given;
+        token = token;
+        follows = subst (λ (gs : List (List Edit)). Follows last (log_of h) (length (flat gs))) at.acked (subst (λ (l : List Edit). Follows last l (length (flat old.acked))) (log-at h old at) follows);
+      }
+
+-- ---- what receipts come to
+
+-- a reply that makes no change leaves the history as it was, but for a change that wasn't acknowledged
+still-begins : (h : Held) (gs : List (List Edit)) (xs : List Edit) → IsPrefix xs (log_of h) → IsPrefix xs (flat ((h.acked ++ []) ++ (h.pending ++ gs)))
+still-begins h gs xs p =
+    let is : flat ((h.acked ++ []) ++ (h.pending ++ gs)) ≡ log_of h ++ flat gs =
+    ap (λ (l : List (List Edit)). flat (l ++ (h.pending ++ gs))) (append-nil h.acked) ∙ ap flat (sym (append_assoc h.acked h.pending gs)) ∙ flat-append (h.acked ++ h.pending) gs in
+    subst (λ (l : List Edit). IsPrefix xs l) (sym is) (begins-more xs (log_of h) (flat gs) p)
+
+last-begins : (h : Held) (c : Command) (slip : Slip) (xs : List Edit) → IsLast h c slip → IsPrefix xs (log_of h) → IsPrefix xs slip.front
+last-begins h c slip xs last p = subst (λ (l : List Edit). IsPrefix xs l) (sym last.last) (begins-more xs (log_of h) (last.edit ∷ []) p)
+
+pub front-begins : (h : Held) (c : Command) (r : Reply) (t : Upshot) (slip : Slip) (xs : List Edit) → slip.front ≡ log_of (heard h (call c r) t) → IsChangeOf r h c slip → IsPrefix xs (log_of h) → IsPrefix xs slip.front
+front-begins h c (Answer a) t slip xs front change p = subst (λ (l : List Edit). IsPrefix xs l) (sym front) (still-begins h _ xs p)
+front-begins h c (Applied n o) t slip xs front change p = last-begins h c slip xs change p
+front-begins h c (Stored n o) t slip xs front change p = last-begins h c slip xs change p
+front-begins h c (Refused e) t slip xs front change p = subst (λ (l : List Edit). IsPrefix xs l) (sym front) (still-begins h _ xs p)
+
+last-longer : (h : Held) (c : Command) (slip : Slip) (xs : List Edit) → IsLast h c slip → IsPrefix xs (log_of h) → length xs < length slip.front
+last-longer h c slip xs last p = omega (arith, shorter xs (log_of h) p, ap length last.last, length-append (log_of h) (last.edit ∷ []))
+
+pub change-longer : (h : Held) (c : Command) (r : Reply) (slip : Slip) (e : Edit) (xs : List Edit) → IsChangeOf r h c slip → slip.change ≡ Some e → IsPrefix xs (log_of h) → length xs < length slip.front
+change-longer h c (Answer a) slip e xs change is p = absurd (cc (change, is))
+change-longer h c (Applied n o) slip e xs change is p = last-longer h c slip xs change p
+change-longer h c (Stored n o) slip e xs change is p = last-longer h c slip xs change p
+change-longer h c (Refused x) slip e xs change is p = absurd (cc (change, is))
+
+-- ---- numbers
+
+room-number : (room : Result (Unit {0}) Refusal) (n m : ℕ) (o p : Outcome) → Applied n o ≡ or_refused room (Applied m p) → n ≡ m
+room-number (Ok u) n m o p is = cc (is)
+room-number (Err e) n m o p is = absurd (cc (is))
+
+applied-number : (h : Held) (step : Result Step Refusal) (n : ℕ) (o : Outcome) → Applied n o ≡ due_at h step → n ≡ length (log_of h) + 1
+applied-number h (Ok (Done a)) n o is = absurd (cc (is))
+applied-number h (Ok (Wants e p)) n o is = room-number (room_for h (e ∷ [])) n (length (log_of h) + 1) o p is
+applied-number h (Ok (OfHistory c)) n o is = absurd (cc (is))
+applied-number h (Err e) n o is = absurd (cc (is))
+
+room-unstored : (room : Result (Unit {0}) Refusal) (n m : ℕ) (o p : Outcome) → Stored n o ≡ or_refused room (Applied m p) → ⊥
+room-unstored (Ok u) n m o p is = absurd (cc (is))
+room-unstored (Err e) n m o p is = absurd (cc (is))
+
+never-stored : (h : Held) (step : Result Step Refusal) (n : ℕ) (o : Outcome) → Stored n o ≡ due_at h step → ⊥
+never-stored h (Ok (Done a)) n o is = absurd (cc (is))
+never-stored h (Ok (Wants e p)) n o is = room-unstored (room_for h (e ∷ [])) n (length (log_of h) + 1) o p is
+never-stored h (Ok (OfHistory c)) n o is = absurd (cc (is))
+never-stored h (Err e) n o is = absurd (cc (is))
+
+no-stand-in : (h : Held) (c : Command) (failed : Bool) (told : Reply) (n : ℕ) (o : Outcome) → StandsIn h c failed told (Applied n o) → ⊥
+no-stand-in h c failed (Answer a) n o stands = stands
+no-stand-in h c failed (Applied m p) n o stands = stands
+no-stand-in h c failed (Stored m p) n o stands = stands
+no-stand-in h c failed (Refused e) n o stands = stands
+
+stored-for : (h : Held) (c : Command) (failed : Bool) (told : Reply) (n : ℕ) (o : Outcome) → told ≡ due h c → StandsIn h c failed told (Stored n o) → n ≡ length (log_of h) + 1
+stored-for h c failed (Answer a) n o is stands = absurd stands
+stored-for h c failed (Applied m p) n o is stands = stands.0 ∙ applied-number h (step_in h c) m p is
+stored-for h c failed (Stored m p) n o is stands = absurd stands
+stored-for h c failed (Refused e) n o is stands = absurd stands
+
+legal-applied : (h : Held) (c : Command) (n : ℕ) (o : Outcome) (failed : Bool) → LegalReply h c (Applied n o) failed → n ≡ length (log_of h) + 1
+legal-applied h c n o failed (inl is) = applied-number h (step_in h c) n o is
+legal-applied h c n o failed (inr stands) = absurd (no-stand-in h c failed (due h c) n o stands)
+
+legal-stored : (h : Held) (c : Command) (n : ℕ) (o : Outcome) (failed : Bool) → LegalReply h c (Stored n o) failed → n ≡ length (log_of h) + 1
+legal-stored h c n o failed (inl is) = absurd (never-stored h (step_in h c) n o is)
+legal-stored h c n o failed (inr stands) = stored-for h c failed (due h c) n o refl stands
+
+last-number : (h : Held) (c : Command) (slip : Slip) (n : ℕ) → IsLast h c slip → n ≡ length (log_of h) + 1 → n ≡ length slip.front
+last-number h c slip n last is = omega (arith, is, ap length last.last, length-append (log_of h) (last.edit ∷ []))
+
+module _ (base : Kept) (setting : Setting) (c : Command) (slip : Slip) (last : Option Slip) where
+  call-legal : (r : Reply) → (a : IsAnswered base setting c r slip last) → LegalCall a.before (call c r) a.came
+  call-legal r a = subst (λ (st : State). IsLegal st (called (call c r) a.came)) a.comes (in-two (down a.first) a.world (called (call c r) a.came) [] a.legal).here
+
+  pub applied-is : (n : ℕ) (o : Outcome) → IsAnswered base setting c (Applied n o) slip last → n ≡ length slip.front
+  applied-is n o a = last-number a.before c slip n a.change (legal-applied a.before c n o a.came.failed (call-legal (Applied n o) a).reply)
+
+  pub stored-is : (n : ℕ) (o : Outcome) → IsAnswered base setting c (Stored n o) slip last → n ≡ length slip.front
+  stored-is n o a = last-number a.before c slip n a.change (legal-stored a.before c n o a.came.failed (call-legal (Stored n o) a).reply)

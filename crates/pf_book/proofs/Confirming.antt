@@ -1,0 +1,39 @@
+-- What a receipt says of a Book.
+use Rattle.std.proofs.Common.{◌≡◌, ℕ, zero, suc, ◌+◌, ◌≤◌, List, [], ◌∷◌, ◌++◌, length, take, drop, Option, None, Some, refl, sym, ap, ◌∙◌, subst, arith, length-append}
+use Rattle.std.specs.{Prelude.{IfSome, slice_get}, Option.ForSome}
+use mathlib.Core.List.{IsPrefix}
+use Rattle.pf_core.specs.{Durable.Edits.Edit, Worlds.flat}
+use Rattle.pf_book.specs.{Books.{singles, change_in}, Pasts.{Past, Begins}, Receipts.{EndsIn, IsReceipt}}
+use Rattle.pf_book.proofs.{Fronts.{prefix_length, prefix_get}, Parts.{whole-log, counted-acked}}
+
+-- the history begins with what a receipt saw
+pub begins-log : (past tip : Past) (log : List Edit) (acked : ℕ) → Begins past tip → tip.front ≡ log → IsPrefix past.front (flat (singles (take acked log) ++ singles (drop acked log)))
+begins-log past tip log acked begins is = subst (λ (l : List Edit). IsPrefix past.front l) (is ∙ sym (whole-log log acked)) begins.0
+
+-- and its change is acknowledged
+pub acked-too : (past tip : Past) (seq : ℕ) (change : Option Edit) (log : List Edit) (acked : ℕ) → Begins past tip → tip.acked ≡ acked → acked ≤ length log → IsReceipt past seq change →
+    ForSome change (λ e. length past.front ≤ length (flat (singles (take acked log))))
+acked-too past tip seq change log acked begins is low receipt = λ e some.
+    let here : seq ≤ past.acked = receipt.acked e some in
+    omega (arith, here, receipt.seq_is, begins.1, is, counted-acked log acked low)
+
+get-last : (xs : List Edit) (e : Edit) (n : ℕ) → n ≡ length xs → slice_get (xs ++ e ∷ []) n ≡ Some e
+get-last [] e zero is = refl
+get-last [] e (suc n) is = absurd (omega (arith, is))
+get-last (x ∷ xs) e zero is = absurd (omega (arith, is))
+get-last (x ∷ xs) e (suc n) is = get-last xs e n (omega (arith, is))
+
+in-log : (log : List Edit) (number n : ℕ) → number ≡ n + 1 → change_in log number ≡ slice_get log n
+in-log log zero n is = absurd (omega (arith, is))
+in-log log (suc m) n is = let same : m ≡ n = omega (arith, is) in ap (slice_get log) same
+
+stands-last : (log front : List Edit) (e : Edit) → IsPrefix front log → EndsIn front e → change_in log (length front) ≡ Some e
+stands-last log front e begins ends =
+    let long : length front ≡ length ends.0 + 1 = ap length ends.1 ∙ length-append ends.0 (e ∷ []) in
+    let there : slice_get front (length ends.0) ≡ Some e = ap (λ (l : List Edit). slice_get l (length ends.0)) ends.1 ∙ get-last ends.0 e (length ends.0) refl in
+    in-log log (length front) (length ends.0) long ∙ prefix_get front log (length ends.0) e begins there
+
+-- so the history has as many changes as the receipt says, and its change under its number
+pub confirmed : (log front : List Edit) (change : Option Edit) → IsPrefix front log → ForSome change (λ e. EndsIn front e) → (length front ≤ length log) × IfSome change (λ e. change_in log (length front) ≡ Some e)
+confirmed log front None begins ends = (prefix_length front log begins, tt)
+confirmed log front (Some e) begins ends = (prefix_length front log begins, stands-last log front e begins (ends e refl))

@@ -1,0 +1,23 @@
+use Rattle.std.proofs.Common.{◌≤◌, List, length, map, subst}
+use Rattle.std.specs.{Arc.arc_value, Option.{ForSome, option_map}}
+use mathlib.Core.List.{IsPrefix}
+use Rattle.pf_core.specs.{Durable.Edits.Edit, Worlds.flat}
+use Rattle.pf_book.specs.{Books.{Ledger, page, log_in}, Receipts.Slip}
+use Rattle.pf_book.proofs.Confirming.{begins-log, acked-too}
+use Rattle.pf_book.proofs.book.Book.begins_with.Goals as goal
+
+pub returns-clause-begins : goal.returns-clause-begins
+returns-clause-begins g c =
+    let s = c.self.inside in
+    let log : List Edit = map arc_value s.log.items in
+    subst (λ (r : Slip). IsPrefix r.front (log_in (page c.args.self.now))) c.receipt.view_is
+    (subst (λ (l : Ledger g.row.D.Denot). IsPrefix c.receipt.inside.front.front (log_in (page l))) c.self.view_is (begins-log c.receipt.inside.front s.tip log s.acked c.contains.ensures.begins c.self.invariant.log_is))
+
+pub returns-clause-acked : goal.returns-clause-acked
+returns-clause-acked g c =
+    let s = c.self.inside in
+    let r = c.receipt.inside in
+    let log : List Edit = map arc_value s.log.items in
+    subst (λ (x : Slip). ForSome x.change (λ e. length x.front ≤ length (flat c.args.self.now.acked))) c.receipt.view_is
+    (subst (λ (l : Ledger g.row.D.Denot). ForSome (option_map arc_value r.change) (λ e. length r.front.front ≤ length (flat l.acked))) c.self.view_is
+    (acked-too r.front s.tip r.seq (option_map arc_value r.change) log s.acked c.contains.ensures.begins c.self.invariant.acked_is c.self.invariant.low c.receipt.invariant))

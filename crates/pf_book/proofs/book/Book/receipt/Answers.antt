@@ -1,0 +1,31 @@
+use Rattle.std.proofs.{Common.{◌≡◌, ◌≤◌, List, length, map, sym, ap, ◌∙◌, subst, arith}, lemmas.Grind.common_steps}
+use Rattle.std.specs.Arc.{arc_value}
+use Rattle.pf_core.specs.{Durable.Edits.Edit, Worlds.flat}
+use Rattle.pf_book.specs.{Books.{Ledger, page, log_in}, Pasts.Past, Receipts.EndsIn}
+use Rattle.pf_book.proofs.Parts.{whole-log, counted-acked}
+use Rattle.pf_book.proofs.book.Book.receipt.Goals as goal
+
+pub invariant_of-result : goal.invariant_of-result
+invariant_of-result g c =
+    let s = c.self.inside in
+    let i = c.self.invariant in
+    let log : List Edit = map arc_value s.log.items in
+    let whole : log_in (page c.args.self.now) ≡ log = ap (λ (l : Ledger g.row.D.Denot). log_in (page l)) (sym c.self.view_is) ∙ whole-log log s.acked in
+    let front : c.front.result.front ≡ log = ap (λ (p : Past). p.front) c.front.ensures ∙ i.log_is in
+    let acked : c.front.result.acked ≡ s.acked = ap (λ (p : Past). p.acked) c.front.ensures ∙ i.acked_is in
+    let counted : c.len.result ≡ length log = grind (arith, common_steps, c.len.ensures) in
+    let all : s.acked ≡ length (flat c.args.self.now.acked) = counted-acked log s.acked i.low ∙ ap (λ (l : Ledger g.row.D.Denot). length (flat l.acked)) c.self.view_is in
+    record {
+      seq_is = counted ∙ ap length (sym front);
+      last = λ e some. subst (λ (l : List Edit). EndsIn l e) (whole ∙ sym front) (c.requires.last e some).0;
+      acked = λ e some.
+          let no_more : length (log_in (page c.args.self.now)) ≤ length (flat c.args.self.now.acked) = (c.requires.last e some).1 in
+          omega (arith, no_more, counted, ap length whole, acked, all);
+    }
+
+pub returns-clause-front : goal.returns-clause-front
+returns-clause-front g c =
+    let s = c.self.inside in
+    let log : List Edit = map arc_value s.log.items in
+    let whole : log_in (page c.args.self.now) ≡ log = ap (λ (l : Ledger g.row.D.Denot). log_in (page l)) (sym c.self.view_is) ∙ whole-log log s.acked in
+    ap (λ (p : Past). p.front) c.front.ensures ∙ c.self.invariant.log_is ∙ sym whole

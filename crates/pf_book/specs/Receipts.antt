@@ -1,0 +1,107 @@
+-- What the receipt of a reply says, and what a call is answered under the lock. Own.
+use Rattle.std.specs.{Prelude.{◌≡◌, ℕ, ◌≤◌, List, [], ◌∷◌, ◌++◌, length, ⊤, Option, None, Some, IfSome}, Option.ForSome}
+use mathlib.Core.List.{IsPrefix}
+use Rattle.pf_core.specs.declared.{command.Command.Command, reply.Reply.Reply, reply.Reply.TheVariants.{Answer, Applied, Stored, Refused}}
+use Rattle.pf_core.specs.{Calls.call, Durable.Edits.{Kept, Edit}, Pages.{Page, StandsFor}, Worlds.{Setting, Held, Upshot, Event, up, down, called, flat, log_of, group_in, heard, state_after, IsWorld}}
+use Rattle.pf_book.specs.{Books.{change_in}, Pasts.Past}
+
+-- ---- receipts
+
+-- A receipt: the changes that the history had at the reply, with those before it; the change that the call made, if it was kept; and how many
+-- changes were shown then, after `Applied`.
+pub record Slip : Type 0 where
+  pub front : List Edit
+  pub change : Option Edit
+  pub token : Option ℕ
+
+-- the change is the last of the front
+abbrev pub EndsIn : List Edit → Edit → Type 0
+EndsIn front e = (rest : List Edit) × (front ≡ rest ++ e ∷ [])
+
+-- what a receipt's type keeps, whose front is this
+pub record IsReceipt (past : Past) (seq : ℕ) (change : Option Edit) : Type 0 where
+  pub seq_is : seq ≡ length past.front
+  pub last : ForSome change (λ e. EndsIn past.front e)
+  pub acked : ForSome change (λ e. seq ≤ past.acked)
+
+-- The history has as many changes as the receipt says, and the receipt's change, where it has one, under its number.
+abbrev pub Confirms : List Edit → Slip → Type 0
+Confirms log slip = (length slip.front ≤ length log) × IfSome slip.change (λ e. change_in log (length slip.front) ≡ Some e)
+
+-- ---- replies with receipts
+
+-- after `Applied` a token of as many changes as the change's number
+abbrev pub token_of : Reply → Option ℕ
+token_of (Answer a) = None
+token_of (Applied seq outcome) = Some seq
+token_of (Stored seq outcome) = None
+token_of (Refused e) = None
+
+-- the change was kept and acknowledged behind all others
+pub record IsAdded (change : Option Edit) (old new : Page) : Type 0 where
+  pub edit : Edit
+  pub is : change ≡ Some edit
+  pub acked : new.acked ≡ old.acked ++ (edit ∷ []) ∷ []
+  pub none_before : old.pending ≡ []
+  pub none_after : new.pending ≡ []
+
+-- the change that a call gives for its receipt
+abbrev pub IsGiven : Reply → Option Edit → Page → Page → Type 0
+IsGiven (Answer a) change old new = change ≡ None
+IsGiven (Applied seq outcome) change old new = IsAdded change old new
+IsGiven (Stored seq outcome) change old new = IsAdded change old new
+IsGiven (Refused e) change old new = change ≡ None
+
+-- so many are shown after `Applied`
+abbrev pub ShownFits : Reply → ℕ → Type 0
+ShownFits (Answer a) shown = ⊤
+ShownFits (Applied seq outcome) shown = shown ≡ seq
+ShownFits (Stored seq outcome) shown = ⊤
+ShownFits (Refused e) shown = ⊤
+
+-- The front of a receipt that is handed in begins the history, and the receipt's change, where it has one, is acknowledged.
+abbrev pub Follows : Option Slip → List Edit → ℕ → Type 0
+Follows last log acked = ForSome last (λ l. IsPrefix l.front log × ForSome l.change (λ e. length l.front ≤ acked))
+
+-- ---- under the lock
+
+-- some world is stood for, in an opening that gave this and keeps within that
+pub record IsReached (base : Kept) (setting : Setting) (b : Page) : Type 0 where
+  pub base_is : b.base ≡ base
+  pub setting_is : b.setting ≡ setting
+  pub first : Kept
+  pub world : List Event
+  pub stands : StandsFor first b world
+
+-- The receipt's change is the one that the command was due, by what was acknowledged before, and the last of its front.
+pub record IsLast (h : Held) (c : Command) (slip : Slip) : Type 0 where
+  pub edit : Edit
+  pub is : slip.change ≡ Some edit
+  pub due : group_in h c ≡ (edit ∷ []) ∷ []
+  pub last : slip.front ≡ log_of h ++ edit ∷ []
+
+-- after `Applied` and `Stored` a receipt has a change, and else none
+abbrev pub IsChangeOf : Reply → Held → Command → Slip → Type 0
+IsChangeOf (Answer a) h c slip = slip.change ≡ None
+IsChangeOf (Applied seq outcome) h c slip = IsLast h c slip
+IsChangeOf (Stored seq outcome) h c slip = IsLast h c slip
+IsChangeOf (Refused e) h c slip = slip.change ≡ None
+
+-- What a call under the lock is answered, with its receipt, where the caller may have handed in a receipt: there is a world whose last event is
+-- this call.
+pub record IsAnswered (base : Kept) (setting : Setting) (c : Command) (r : Reply) (slip : Slip) (last : Option Slip) : Type 0 where
+  pub first : Kept
+  pub world : List Event
+  -- the opening, as it had come when the call began
+  pub before : Held
+  pub came : Upshot
+  pub comes : state_after (down first) world ≡ up before
+  pub base_is : before.base ≡ base
+  pub setting_is : before.setting ≡ setting
+  pub legal : IsWorld first (world ++ called (call c r) came ∷ [])
+  -- the receipt's front is the history after it
+  pub front : slip.front ≡ log_of (heard before (call c r) came)
+  pub change : IsChangeOf r before c slip
+  pub token : slip.token ≡ token_of r
+  -- and the front of the receipt that was handed in begins the history before it
+  pub follows : Follows last (log_of before) (length (flat before.acked))

@@ -1,0 +1,58 @@
+//! What a caller is given with a reply.
+ghost use Rattle.std.specs.Prelude.{◌≡◌, length};
+ghost use Rattle.std.specs.{Arc.arc_value, Option.{ForSome, option_copied, option_map}};
+ghost use Rattle.pf_book.specs.Receipts.{EndsIn};
+
+use crate::history::{Chapter, Front};
+use pf_core::Change;
+use pf_view::Token;
+use std::marker::Model;
+use std::sync::Arc;
+
+/// Stands for the history as it was at a reply: each later history of the opening begins with it. Contracts see it as a `Slip`. Own.
+#[derive(Drop)]
+pub struct Receipt<J: Chapter> {
+    pub(crate) front: Front<J>,
+    pub(crate) seq: usize,
+    pub(crate) change: Option<Arc<Change>>,
+    pub(crate) token: Option<Token<J>>,
+}
+
+impl<J: Chapter> Model for Receipt<J> {
+    ghost use Rattle.std.specs.{Arc.arc_value, Option.option_map};
+    ghost use Rattle.pf_book.specs.Receipts.{Slip, IsReceipt};
+
+    ghost Value = { Slip };
+
+    ghost view = { λ r. record { front = r.front.front; change = option_map arc_value r.change; token = r.token } };
+
+    ghost invariant = { λ r. IsReceipt r.front r.seq (option_map arc_value r.change) };
+}
+
+impl<J: Chapter> Receipt<J> {
+    /// The number of the reply's change, from 1 on; where the reply has none, how many changes the history had at the reply. One that wasn't
+    /// acknowledged, since the device failed, counts. Own.
+    pub fn seq(&self) -> usize
+        ensures seq { result ≡ length self.now.front }
+        ensures last { ForSome self.now.change (λ e. EndsIn self.now.front e) }
+    {
+        self.seq
+    }
+
+    /// The change that the call made: there is one exactly after `Applied` and `Stored`. Own.
+    pub fn change(&self) -> Option<&Change>
+        ensures { option_map (λ change. change.now) result ≡ self.now.change }
+    {
+        match &self.change {
+            Some(change) => Some(&**change),
+            None => None,
+        }
+    }
+
+    /// What a worker may learn, so that it judges by the reply's change: there is one exactly after `Applied`. Own.
+    pub fn token(&self) -> Option<&Token<J>>
+        ensures { option_copied result ≡ self.now.token }
+    {
+        self.token.as_ref()
+    }
+}

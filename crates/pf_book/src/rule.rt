@@ -1,0 +1,143 @@
+//! The rule of a history: who may add to it, and the steps that do. All of it exists in proofs alone, and takes no memory.
+ghost use Rattle.std.specs.Prelude.{◌≡◌};
+ghost use Rattle.logbook.specs.Pages.{may_write};
+ghost use Rattle.pf_book.specs.Rules.{head_of};
+
+use logbook::{Gain, Offer, Pen, Plain, Play, Rule, Seen, Word};
+use pf_core::Change;
+use std::sync::Arc;
+
+/// A change, whether it was acknowledged, and the key of the pen that may add the next one. No value of it is made.
+pub struct Entry {
+    pub change: Change,
+    pub acked: bool,
+    pub next: u64,
+}
+
+/// The rule: who has the pen that the last entry names has seen all entries, and alone may add one.
+pub struct OnePen;
+
+impl Rule<Entry, u64> for OnePen {
+    ghost use Rattle.std.specs.Prelude.{[]};
+    ghost use base.Fml.{ftrue};
+    ghost use Rattle.pf_book.specs.Rules.{IsKept};
+
+    ghost holds = { λ cells log. IsKept cells log };
+
+    ghost first = { [] };
+
+    ghost hinted = { λ n log. Unit {0} };
+
+    ghost shows = { λ log. [] };
+
+    ghost keeps = { λ names log. ftrue };
+
+    ghost moves = { λ ask before after answer. Unit {0} };
+}
+
+/// Who takes a step trades nothing for it.
+pub struct Nothing;
+
+impl Gain<Entry, u64> for Nothing {
+    ghost use base.Fml.{ftrue};
+
+    ghost after = { λ names about answer. ftrue };
+}
+
+pub(crate) type Head = Word<Entry, u64, OnePen>;
+
+pub(crate) type SeenEntries = Seen<Entry, u64, OnePen>;
+
+pub(crate) type Step = Offer<Entry, u64, OnePen, Nothing>;
+
+// What is added: a change, and the pen that may add the next one.
+pub(crate) struct Asked {
+    pub(crate) change: Arc<Change>,
+    pub(crate) acked: bool,
+    pub(crate) pen: Pen,
+}
+
+/// A new pen comes.
+pub struct Coming;
+
+impl Play<Entry, u64> for Coming {
+    ghost use Rattle.pf_book.specs.Rules.{Comes};
+
+    ghost then = { Comes };
+}
+
+impl Plain<(), Entry, u64> for Coming {
+    ghost use Rattle.std.specs.Prelude.{None, false, []};
+    ghost use Rattle.pf_core.specs.Durable.Edits.{commits};
+
+    ghost ask = { λ a. record { change = commits []; acked = false; next = 0 } };
+
+    ghost state = { λ a. None };
+}
+
+/// The first entry is put, which is no change.
+pub struct Starting;
+
+impl Play<Entry, u64> for Starting {
+    ghost use Rattle.pf_book.specs.Rules.{Starts};
+
+    ghost then = { Starts };
+}
+
+impl Plain<Pen, Entry, u64> for Starting {
+    ghost use Rattle.std.specs.Prelude.{None, false, []};
+    ghost use Rattle.pf_core.specs.Durable.Edits.{commits};
+
+    ghost ask = { λ p. record { change = commits []; acked = false; next = p.nib.key } };
+
+    ghost state = { λ p. None };
+}
+
+/// An entry is added.
+pub struct Adding;
+
+impl Play<Entry, u64> for Adding {
+    ghost use Rattle.pf_book.specs.Rules.{Adds};
+
+    ghost then = { Adds };
+}
+
+impl Plain<Asked, Entry, u64> for Adding {
+    ghost use Rattle.std.specs.Prelude.{None};
+    ghost use Rattle.std.specs.Arc.{arc_value};
+
+    ghost ask = { λ a. record { change = arc_value a.change; acked = a.acked; next = a.pen.nib.key } };
+
+    ghost state = { λ a. None };
+}
+
+/// Who has the pen looks whether anyone saw more.
+pub struct Staying;
+
+impl Play<Entry, u64> for Staying {
+    ghost use Rattle.pf_book.specs.Rules.{Stays};
+
+    ghost then = { Stays };
+}
+
+impl Plain<(), Entry, u64> for Staying {
+    ghost use Rattle.std.specs.Prelude.{None, false, []};
+    ghost use Rattle.pf_core.specs.Durable.Edits.{commits};
+
+    ghost ask = { λ a. record { change = commits []; acked = false; next = 0 } };
+
+    ghost state = { λ a. None };
+}
+
+/// A pen for a later entry.
+pub(crate) fn new_pen(head: &Head, seen: &SeenEntries) -> Pen
+    requires { head.now ≡ head_of seen.now.book }
+    ensures { (result.book ≡ seen.now.book) × (result.nib.right ≡ may_write) }
+{
+    let mut seen = seen.again();
+    let mut offer: Step = seen.plain::<Nothing, (), Coming>(&());
+    let mut pen = seen.no_pen();
+    head.compare_exchange::<Coming, Nothing>(0, 0, &mut seen, &mut offer, &mut pen);
+    drop(Head::tracked(0, &mut pen));
+    pen
+}

@@ -1,0 +1,78 @@
+//! A Book that threads share.
+ghost use Rattle.std.specs.Option.{option_copied};
+ghost use Rattle.pf_book.specs.{Books.page, Receipts.{IsReached, IsAnswered}};
+
+use crate::book::Book;
+use crate::history::Chapter;
+use crate::receipt::Receipt;
+use pf_core::{Command, Reply};
+use pf_disk::Disk;
+use std::marker::Model;
+use std::sync::{Mutex, Wait};
+
+// What lies under the lock: a Book that stands for some world of this opening.
+#[derive(Drop)]
+struct Desk<D: Disk + Drop, J: Chapter, R: Wait + Drop> {
+    book: Book<D, J, R>,
+}
+
+impl<D: Disk + Drop, J: Chapter, R: Wait + Drop> Model for Desk<D, J, R> {
+    ghost use Rattle.pf_book.specs.{Books.{Ledger, page}, Receipts.IsReached};
+
+    ghost Value = { Ledger D };
+
+    ghost view = { λ d. d.book };
+
+    ghost invariant = { λ d. IsReached J.base J.setting (page d.book) };
+}
+
+impl<D: Disk + Drop, J: Chapter, R: Wait + Drop> Desk<D, J, R> {
+    // One call.
+    fn run(&mut self, command: &Command, last: Option<&Receipt<J>>) -> (Reply, Receipt<J>)
+        ensures { IsAnswered J.base J.setting command.now result.0 result.1 (option_copied last.entry) }
+    {
+        self.book.answer(command, last)
+    }
+}
+
+/// A Book under a lock, which any thread may call. Own.
+#[derive(Drop)]
+pub struct Shared<D: Disk + Drop, J: Chapter, R: Wait + Drop> {
+    desk: Mutex<Desk<D, J, R>>,
+}
+
+impl<D: Disk + Drop, J: Chapter, R: Wait + Drop> Shared<D, J, R> {
+    /// Shares a Book that stands for some world of its opening, as a new one does. It takes no memory. Own.
+    pub fn new(book: Book<D, J, R>) -> Shared<D, J, R>
+        requires { IsReached J.base J.setting (page book) }
+    {
+        Shared {
+            desk: Mutex::new(Desk { book }),
+        }
+    }
+
+    /// One call, as `Book::run` answers it, with a receipt. It waits for the lock, and under it for workers that are judging.
+    ///
+    /// The reply is legal in a world of this opening whose last event is this call. The receipt's front is the history after it, and begins
+    /// with that of a receipt that is handed in; that receipt's change, where it has one, is acknowledged there. Each reply has a receipt,
+    /// also `Memory`: what a receipt needs was made before the device was written, or takes no memory. Own.
+    pub fn run<W: Wait>(
+        &self,
+        rt: &W,
+        command: Command,
+        last: Option<&Receipt<J>>,
+    ) -> (Reply, Receipt<J>)
+        ensures { IsAnswered J.base J.setting command result.0 result.1 (option_copied last.entry) }
+    {
+        self.desk.lock(rt).run(&command, last)
+    }
+
+    /// The Book, once all callers have ended. It confirms each receipt of this opening. Own.
+    pub fn close(self) -> Book<D, J, R>
+        ensures { IsReached J.base J.setting (page result) }
+    {
+        let Shared { desk } = self;
+        let Desk { book } = desk.into_inner();
+        book
+    }
+}
