@@ -90,16 +90,14 @@ fn play_rows<J: Chapter, H: Wait + Drop>(
 }
 
 // A fresh disk of a table, opened, of whose calls so many pass.
-fn opened(alloc: Global, table: &Table, calls: u64) -> Result<Option<Opening<Device>>, AllocError>
-{
+fn opened(alloc: Global, table: &Table, calls: u64) -> Result<Option<Opening<Device>>, AllocError> {
     let bytes = Vec::from_elem(alloc, 0, table.size)?;
     let disk = FuseDisk::after(MemDisk::of(alloc, bytes)?, calls);
     Ok(open_fresh(alloc, disk).ok())
 }
 
 // The same, where as many calls pass as an opening makes and the table says.
-fn opening_of(alloc: Global, table: &Table) -> Result<Opening<Device>, AllocError>
-{
+fn opening_of(alloc: Global, table: &Table) -> Result<Opening<Device>, AllocError> {
     let Some(more) = table.fails else {
         return opened(alloc, table, u64::MAX)?.ok_or(AllocError);
     };
@@ -238,7 +236,15 @@ fn play_apart<H: Wait + Drop + Copy>(
             break;
         };
         let opening = opening_of(alloc, table)?;
-        play_once::<Brand, _>(waits, alloc, table, opening, history, fields.as_slice(), tally)?;
+        play_once::<Brand, _>(
+            waits,
+            alloc,
+            table,
+            opening,
+            history,
+            fields.as_slice(),
+            tally,
+        )?;
     }
     Ok(())
 }

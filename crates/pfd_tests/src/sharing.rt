@@ -48,11 +48,7 @@ fn judge_ten<J: Chapter>(mut seer: Seer<J>, packet: &Packet) -> (Seer<J>, u32) {
 }
 
 // Two callers, and then one beside a worker.
-fn share<
-    J: Chapter + Send + Sync,
-    H: Wait + Drop + Send + Sync,
-    W: Threads + Wait + Abort + Sync,
->(
+fn share<J: Chapter + Send + Sync, H: Wait + Drop + Send + Sync, W: Threads + Wait + Abort + Sync>(
     waits: H,
     rt: &W,
     alloc: Global,
@@ -67,8 +63,18 @@ fn share<
     let lock = &shared;
     let (a, b) = join(
         rt,
-        move || call_twice(rt, alloc, lock, ("tset a t 10.0.0.0/8", "tset a u 10.0.0.0/8")),
-        move || call_twice(rt, alloc, lock, ("tset b t 10.0.0.0/8", "tset b u 10.0.0.0/8")),
+        move || call_twice(
+            rt,
+            alloc,
+            lock,
+            ("tset a t 10.0.0.0/8", "tset a u 10.0.0.0/8"),
+        ),
+        move || call_twice(
+            rt,
+            alloc,
+            lock,
+            ("tset b t 10.0.0.0/8", "tset b u 10.0.0.0/8"),
+        ),
     );
     let (a, b) = (a?, b?);
     let packet = Packet::parse(alloc, "in em0 tcp 10.0.0.1 1234 10.0.0.2 80")?;
