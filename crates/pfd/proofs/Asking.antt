@@ -3,7 +3,7 @@ use Rattle.std.proofs.Common.{◌≡◌, ◌∙◌, ◌<◌, ap, ap₂, arith, l
 use Rattle.std.specs.{Prelude.{option_map, unwrap_or}, Str.Parse.ParsesUnsigned}
 use Rattle.clap.specs.Words.{ReadsOne, Row, Text, is_simple, subcommand_of, takes}
 use Rattle.clap.proofs.OnLiterals.{clap_on_literals}
-use Rattle.pfd.specs.declared.program.words.{Task.Task, Task.TheVariants.{Run, RunOn, Format, Show}, TheConstants.{MEMORY_SIZE, HISTORY_LIMIT}}
+use Rattle.pfd.specs.declared.program.words.{Task.Task, Task.TheVariants.{Run, RunOn, Format, Show, Serve, Connect}, TheConstants.{MEMORY_SIZE, HISTORY_LIMIT}}
 use Rattle.pfd.specs.Words.{IsAsked, MaySayNumber, SaysNumber, program_words}
 
 -- ---- `pfd run`
@@ -38,6 +38,8 @@ is_run (Run size history) asked = ap₂ Run asked.1 asked.2
 is_run (RunOn path size history) asked = absurd (no_some path.now asked.0)
 is_run (Format path size) asked = absurd (apart 102 114 (lit< tt) (first_bytes (codes "format") asked.0))
 is_run (Show path) asked = absurd (apart 114 115 (lit< tt) (sym (first_bytes (codes "show") asked.0)))
+is_run (Serve service) asked = absurd (apart 114 115 (lit< tt) (sym (first_bytes (codes "serve") asked.0)))
+is_run (Connect address) asked = absurd (apart 99 114 (lit< tt) (first_bytes (codes "connect") asked.0))
 
 -- ---- options
 

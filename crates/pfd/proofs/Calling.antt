@@ -1,5 +1,5 @@
 -- What one line comes to.
-use Rattle.std.proofs.{Common.{◌≡◌, ◌+◌, Bool, true, cond, sym, append-nil, arith, ℕ, false, List, [], ◌∷◌, ◌++◌, Option, Some, None, Ok, Err, inl, inr, refl}, lemmas.Bool.Decides.nat_tests}
+use Rattle.std.proofs.{Common.{◌≡◌, ◌+◌, Bool, true, cond, arith, ℕ, false, List, [], ◌∷◌, ◌++◌, Some, None, Ok, Err, inl, inr, refl}, lemmas.Bool.Decides.nat_tests}
 use Rattle.std.specs.Prelude.{nat_lt}
 use Rattle.pf_rule.specs.Packets.{PlainPacket}
 use Rattle.pf_core.specs.declared.reply.Answer.TheVariants as answer
@@ -7,7 +7,6 @@ use Rattle.pf_core.specs.declared.{command.Command.Command, command.Command.TheV
 use Rattle.pf_core.specs.{Calls.call, Durable.Edits.Kept, Pages.StandsFor, Worlds.{Upshot, upshot, Event, called}}
 use Rattle.pf_book.specs.Books.{Ledger, page, judging}
 use Rattle.pf_line.specs.{Lines.{Parses, line_at, Refused as IsRefusal}, Reply.Replies.reply_text}
-use Rattle.std.specs.Io.KnownBytes.{Appends}
 use Rattle.pfd.specs.{Serving.{Continues, Serves, Told}, Laws.Serving.{continues-still, serves-one}}
 
 -- the device failed in a call where its count rose
@@ -39,8 +38,3 @@ module _ {D : Type 0} (faults : D → ℕ) where
 
   pub serves-refusal : (line : List ℕ) (e : Refusal) (book : Ledger D) → Parses (Err e) (line_at line) → IsRefusal line e → Serves faults book book (line ∷ []) (reply_text (Refused e))
   serves-refusal line e book parses refused = serves-one faults line (Some (Refused e)) book book (told-refusal line e book parses refused)
-
--- nothing is written where nothing is told
-pub appends_none : (o : Option (List ℕ)) → Appends o o []
-appends_none None = tt
-appends_none (Some bytes) = sym (append-nil bytes)

@@ -1,9 +1,15 @@
 pub mod Cutting
 pub mod Answering
+pub mod Moving
+pub mod Telling
+pub mod Sitting
+pub mod Streaming
+pub mod Learning
 pub mod Calling
 pub mod Limits
 mod TakingOver
 pub mod Asking
+pub mod Flushing
 pub mod Showing
 pub mod Running
 pub mod Begun

@@ -1,16 +1,9 @@
 -- What is told of a disk.
-use Rattle.std.proofs.Common.{◌≡◌, ℕ, List, length, ◌++◌, arith, codes, refl, subst, Option, Result, Ok, Err}
-use Rattle.std.proofs.lemmas.List.{take_all}
-use Rattle.std.specs.Io.KnownBytes.{Appends, Keeps}
+use Rattle.std.proofs.Common.{◌≡◌, ℕ, List, length, ◌++◌, codes, refl, subst, Option, Result}
 use Rattle.std.specs.declared.io.Error.{Error}
-use Rattle.pf_addr.specs.Writing.{Appends-kept, Writes}
+use Rattle.pf_addr.specs.Writing.{Writes}
 use Rattle.pf_core.specs.Durable.Edits.{Kept, main_sum}
 use Rattle.pfd.specs.Showing.{number_line, shown_text, sum_line}
-
--- a flush behind a text leaves it
-pub flushed : (r : Result (Unit {0}) Error) (old mid new : Option (List ℕ)) (text : List ℕ) → Appends old mid text → Keeps mid new → Writes r old new text
-flushed (Ok u) old mid new text a k = Appends-kept old mid new text a k
-flushed (Err e) old mid new text a k = (length text, rw (take_all (length text) text (omega arith)) (Appends-kept old mid new text a k))
 
 -- lines with what is kept are its text
 pub told : (d : Kept) (epoch rulesets tables states : ℕ) (sum : List ℕ) → epoch ≡ d.epoch → sum ≡ main_sum d → rulesets ≡ length d.config.rulesets

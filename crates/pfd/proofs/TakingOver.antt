@@ -9,7 +9,7 @@ use Rattle.pf_line.specs.{Laws.Exports.{Message, Step as StateStep, message_text
 use Rattle.pf_line.proofs.{ExportedLines.exports_are_read, Lines.one_meaning, TakenOver.takes_over as states_taken}
 use Rattle.std.specs.Prelude.{nat_lt}
 use Rattle.pf_book.specs.Books.{Ledger, page}
-use Rattle.pfd.specs.{Serving.{Says, IsTold, Served, Serves}, Laws.Takeover.{held_in, IsReadyFor, IsWant, WasRefused, TakesOver, FreshTakesOver}}
+use Rattle.pfd.specs.{Serving.{NoCall, CallsBook, IsTold, Served, Serves}, Telling.Says, Laws.Takeover.{held_in, IsReadyFor, IsWant, WasRefused, TakesOver, FreshTakesOver}}
 
 -- ---- steps in two parts
 
@@ -181,7 +181,7 @@ one-line m ms h d events text is free told fits room (first, rest, reply, replie
   of : IsTold (message_text m) first reply → Told h d (m ∷ ms) events text
   of (inl (meant, means, says)) =
       let same = one_meaning (line_at (message_text m)) meant (Ok (Some c)) means told.means in
-      let (r, t, first_is, reply_is) = subst (λ (x : Result (Option Command) Refusal). Says x first reply) same says in
+      let (r, t, first_is, reply_is) = subst (λ (x : Result (Option Command) Refusal). Says NoCall CallsBook x first reply) same says in
       by_reply r t first_is reply_is
   of (inr none) = inr (refused-first reply replies text Memory tt text_is none.told)
 

@@ -1,8 +1,10 @@
 pub mod LineEngine
+pub mod Telling
 pub mod Serving
 pub mod Words
 pub mod Faults
 pub mod Program
+pub mod Server
 pub mod Showing
 pub mod Laws
 -- what public clauses cite of the crates below
@@ -13,3 +15,4 @@ pub use Rattle.pf_core.specs.Worlds
 pub use Rattle.pf_disk.specs.Disk
 pub use Rattle.pf_store.specs.Rooms
 pub use Rattle.pf_book.specs.Books
+pub use Rattle.pf_book.specs.Receipts

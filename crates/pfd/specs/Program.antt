@@ -1,12 +1,13 @@
 -- What the program does with its words. Own.
 use Rattle.std.specs.{Prelude.{◌≡◌, ◌⊎◌, ℕ, ◌<◌, List, [], ◌∷◌, ◌++◌, Option, Result, Ok, Err, codes}, Io.KnownBytes.Keeps}
 use Rattle.std.specs.declared.{io.ErrorKind.ErrorKind, io.ErrorKind.TheVariants.OutOfMemory}
+use Rattle.pf_addr.specs.Writing.{WritesFront}
 use Rattle.pf_core.specs.{Durable.Edits.{Kept, kept_nothing}, Pages.{IsAt, StandsFor}, Worlds.{Event, begun, down, last_epoch, opened, raised, state_after, IsWorld}}
 use Rattle.pf_store.specs.{Banks.IsSize, Openings.IsUnopened, Rooms.on_device, Stores.Holds}
 use Rattle.pf_store.specs.declared.store.fault.OpenFault.{OpenFault}
 use Rattle.pf_view.specs.declared.opening.ViewFault.{ViewFault}
 use Rattle.pf_book.specs.Books.{Ledger, Opened, page}
-use Rattle.pfd.specs.declared.{line_engine.fault.EngineFault.EngineFault, program.fault.Fault.Fault, program.fault.Fault.TheVariants.{BadSize, Device, Full, Input, Memory, Places}, program.words.Task.Task, program.words.Task.TheVariants.{Run, RunOn, Format, Show}}
+use Rattle.pfd.specs.declared.{line_engine.fault.EngineFault.EngineFault, program.fault.Fault.Fault, program.fault.Fault.TheVariants.{BadSize, Device, Full, Input, Memory, Places}, program.words.Task.Task, program.words.Task.TheVariants.{Run, RunOn, Format, Show, Serve, Connect}}
 use Rattle.pfd.specs.declared.program.words.TheConstants.{MEMORY_SIZE}
 use Rattle.pfd.specs.{Faults.{ended, told_of_opening, told_of_views}, LineEngine.Sessions.IsSession, Serving.Serves}
 
@@ -102,7 +103,12 @@ RanWith faults history status unread unread' held held' =
     ((session : Result (Unit {0}) EngineFault) × (status ≡ status_of session) × Ran faults MEMORY_SIZE history session unread unread' held held')
     ⊎ ((status ≡ 1) × Keeps unread unread' × Keeps held held')
 
--- What was asked was done: lines are read in a session alone, and a disk that is formatted tells nothing. The functions count the faults of
+-- what is written once connections can be made to the address
+abbrev pub listening_text : List ℕ → List ℕ
+listening_text address = codes "listening " ++ (address ++ 10 ∷ [])
+
+-- What was asked was done: lines are read in a session alone and to be sent to a server, a disk that is formatted tells nothing, and a server
+-- where it listens. The functions count the faults of
 -- disks in memory, give what a disk on a file reads as, and count the faults of such disks.
 abbrev pub IsDone : {M F : Type 0} → (M → ℕ) → (F → List ℕ) → (F → ℕ) → Task → Result (Unit {0}) Fault
     → Option (List ℕ) → Option (List ℕ) → Option (List ℕ) → Option (List ℕ) → Type 0
@@ -110,6 +116,9 @@ IsDone memory seen file (Run size history) result unread unread' held held' = Ra
 IsDone memory seen file (RunOn path size history) result unread unread' held held' = RanOnFile seen file history result unread unread' held held'
 IsDone memory seen file (Format path size) result unread unread' held held' = Keeps unread unread' × Keeps held held'
 IsDone memory seen file (Show path) result unread unread' held held' = Keeps unread unread'
+IsDone memory seen file (Serve service) result unread unread' held held' =
+    Keeps unread unread' × ((bound : List ℕ) × WritesFront held held' (listening_text bound))
+IsDone memory seen file (Connect address) result unread unread' held held' = Unit {0}
 
 -- The status where the words couldn't be had: 1 for want of memory, else 2.
 abbrev pub status_without_words : ErrorKind → ℕ

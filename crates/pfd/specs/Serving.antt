@@ -1,27 +1,22 @@
 -- What serves lines: the calls that they come to, as events, and the replies.
-use Rattle.std.specs.Prelude.{◌≡◌, ℕ, ◌+◌, if◌then◌else◌, List, [], ◌∷◌, ◌++◌, Option, Some, None, Result, Ok, Err, ◌⊎◌}
-use Rattle.pf_core.specs.declared.{command.Command.Command, reply.Refusal.Refusal, reply.Refusal.TheVariants.Memory, reply.Reply.Reply, reply.Reply.TheVariants.Refused}
+use Rattle.std.specs.Prelude.{◌≡◌, ℕ, ◌+◌, if◌then◌else◌, List, [], ◌∷◌, ◌++◌, Option, Some, None}
+use Rattle.pf_core.specs.declared.{command.Command.Command, reply.Reply.Reply}
 use Rattle.pf_core.specs.{Calls.call, Durable.Edits.Kept, Pages.StandsFor, Worlds.{Upshot, Event, called}}
 use Rattle.pf_book.specs.Books.{Ledger, page}
-use Rattle.pf_line.specs.{Lines.{line_at, Means, Speaks}, Reply.Replies.reply_text}
+use Rattle.pf_line.specs.Reply.Replies.{reply_text}
+use Rattle.pfd.specs.Telling.{IsToldBy}
 
--- What a line means, the event of the call that it comes to, and what is written for it: nothing for a silent line, the refusal of a
--- line that is refused, the reply to a command.
-abbrev pub Says : Result (Option Command) Refusal → List Event → List ℕ → Type 0
-Says (Ok None) events text = (events ≡ []) × (text ≡ [])
-Says (Ok (Some c)) events text = (r : Reply) × (t : Upshot) × (events ≡ called (call c r) t ∷ []) × (text ≡ reply_text r)
-Says (Err e) events text = (events ≡ []) × (text ≡ reply_text (Refused e))
+-- no call
+abbrev pub NoCall : List Event → Type 0
+NoCall events = events ≡ []
 
--- in place of reading what a line means there was no memory: then there is no call
-pub record HasNoMemory (line : List ℕ) (events : List Event) (text : List ℕ) : Type 0 where
-  pub speaks : Speaks line
-  pub no_call : events ≡ []
-  pub told : text ≡ reply_text (Refused Memory)
+-- a command's call, and the text of its reply
+abbrev pub CallsBook : Command → List Event → List ℕ → Type 0
+CallsBook c events text = (r : Reply) × (t : Upshot) × (events ≡ called (call c r) t ∷ []) × (text ≡ reply_text r)
 
--- A line is told what it means; one that is neither bad nor silent may be told that memory was refused.
+-- what a line is told, and the events of its call, if it comes to one
 abbrev pub IsTold : List ℕ → List Event → List ℕ → Type 0
-IsTold line events text =
-    ((meant : Result (Option Command) Refusal) × Means (line_at line) meant × Says meant events text) ⊎ HasNoMemory line events text
+IsTold line events text = IsToldBy NoCall CallsBook line events text
 
 -- These events and this text are those of the lines, one after the other.
 abbrev pub Served : List (List ℕ) → List Event → List ℕ → Type 0

@@ -2,7 +2,7 @@
 use Rattle.std.specs.{Prelude.{◌≡◌, ◌≤◌, ℕ, true, List, [], Option, Some, None, codes, option_and_then, option_map, pos, unwrap_or}, Str.Parse.{IsNumeral, digits_value, without_leading_plus}}
 use Rattle.clap.specs.{Simple.on_top, Words.{App, Row, Rule, Text, new_app, new_rule, one_of, first_of, with_rule, with_subcommand}}
 use Rattle.clap.specs.declared.builder.value_parser.ValueParser.TheVariants.{Signed}
-use Rattle.pfd.specs.declared.program.words.{Task.Task, Task.TheVariants.{Run, RunOn, Format, Show}, TheConstants.{MEMORY_SIZE, HISTORY_LIMIT, MOST_HISTORY}}
+use Rattle.pfd.specs.declared.program.words.{Service.Service, Task.Task, Task.TheVariants.{Run, RunOn, Format, Show, Serve, Connect}, TheConstants.{MEMORY_SIZE, HISTORY_LIMIT, MOST_HISTORY, WORKERS, MOST_WORKERS}}
 
 -- ---- what there is
 
@@ -20,7 +20,16 @@ history_rule = number_rule (codes "history") 1 1048576
 abbrev pub disk_rule : Rule
 disk_rule = record (new_rule (codes "disk")) { long = Some (codes "disk"); value_names = 1 }
 
--- `run`, `format` and `show` with their options
+abbrev pub listen_rule : Rule
+listen_rule = record (new_rule (codes "listen")) { long = Some (codes "listen"); value_names = 1 }
+
+abbrev pub workers_rule : Rule
+workers_rule = number_rule (codes "workers") 1 64
+
+abbrev pub sessions_rule : Rule
+sessions_rule = number_rule (codes "sessions") 0 4294967295
+
+-- the subcommands with their options
 abbrev pub run_words : App
 run_words = with_rule (with_rule (with_rule (new_app (codes "run")) disk_rule) size_rule) history_rule
 
@@ -30,12 +39,24 @@ format_words = with_rule (with_rule (new_app (codes "format")) (record disk_rule
 abbrev pub show_words : App
 show_words = with_rule (new_app (codes "show")) (record disk_rule { required = true })
 
--- one of the three has to be there; help and the version may be asked for
+abbrev pub place_words : App
+place_words = with_rule (with_rule (new_app (codes "serve")) (record listen_rule { required = true })) (record disk_rule { required = true })
+
+abbrev pub server_words : App
+server_words = with_rule (with_rule place_words (record size_rule { required = true })) workers_rule
+
+abbrev pub serve_words : App
+serve_words = with_rule (with_rule server_words history_rule) sessions_rule
+
+abbrev pub connect_words : App
+connect_words = with_rule (new_app (codes "connect")) (record (new_rule (codes "address")) { value_names = 1; required = true })
+
+-- one of the five has to be there; help and the version may be asked for
 abbrev pub program_words : App
 program_words =
-    with_subcommand (with_subcommand (with_subcommand
+    with_subcommand (with_subcommand (with_subcommand (with_subcommand (with_subcommand
     (on_top (λ s. record s { has_version = true; subcommand_required = true }) (new_app (codes "pfd")))
-    run_words.top) format_words.top) show_words.top
+    run_words.top) format_words.top) show_words.top) serve_words.top) connect_words.top
 
 -- ---- what they ask
 
@@ -70,8 +91,27 @@ MaySaySize met n = MaySayNumber 0 4294967295 (digits_in (codes "size") met) n
 abbrev pub SaysHistory : Option (Text × List Row) → ℕ → Type 0
 SaysHistory met n = SaysNumber 1 MOST_HISTORY HISTORY_LIMIT (digits_in (codes "history") met) n
 
+-- the text of an option that has to be there
+abbrev pub SaysText : Text → Option (Text × List Row) → Text → Type 0
+SaysText id met text = text ≡ unwrap_or (text_in id met) []
+
 abbrev pub SaysPath : Option (Text × List Row) → Text → Type 0
-SaysPath met path = path ≡ unwrap_or (text_in (codes "disk") met) []
+SaysPath met path = SaysText (codes "disk") met path
+
+abbrev pub SaysWorkers : Option (Text × List Row) → ℕ → Type 0
+SaysWorkers met n = SaysNumber 1 MOST_WORKERS WORKERS (digits_in (codes "workers") met) n
+
+abbrev pub SaysSessions : Option (Text × List Row) → ℕ → Type 0
+SaysSessions met n = SaysNumber 0 4294967295 0 (digits_in (codes "sessions") met) n
+
+-- what is asked of a server
+pub record AsksService (met : Option (Text × List Row)) (service : Service) : Type 0 where
+  pub address : SaysText (codes "listen") met service.address.now
+  pub path : SaysPath met service.path.now
+  pub size : SaysSize met 0 service.size
+  pub workers : SaysWorkers met service.workers
+  pub history : SaysHistory met service.history
+  pub sessions : SaysSessions met service.sessions
 
 -- It is what the subcommand asks that was met, with its options. A session is over memory where no file is named.
 abbrev pub IsAsked : Option (Text × List Row) → Task → Type 0
@@ -79,15 +119,29 @@ IsAsked met (Run size history) = (text_in (codes "disk") met ≡ None) × SaysSi
 IsAsked met (RunOn path size history) = (text_in (codes "disk") met ≡ Some path.now) × MaySaySize met size × SaysHistory met history
 IsAsked met (Format path size) = (option_map (λ m. m.0) met ≡ Some (codes "format")) × SaysPath met path.now × SaysSize met 0 size
 IsAsked met (Show path) = (option_map (λ m. m.0) met ≡ Some (codes "show")) × SaysPath met path.now
+IsAsked met (Serve service) = (option_map (λ m. m.0) met ≡ Some (codes "serve")) × AsksService met service
+IsAsked met (Connect address) = (option_map (λ m. m.0) met ≡ Some (codes "connect")) × SaysText (codes "address") met address.now
 
 -- a history may have so many changes
 pub record IsHistory (limit : ℕ) : Type 0 where
   pub least : 1 ≤ limit
   pub most : limit ≤ MOST_HISTORY
 
--- a session's history may
+-- there may be so many workers
+pub record IsWorkers (n : ℕ) : Type 0 where
+  pub least : 1 ≤ n
+  pub most : n ≤ MOST_WORKERS
+
+-- a server's history may have so many changes, and there may be so many workers
+pub record CanServe (service : Service) : Type 0 where
+  pub history : IsHistory service.history
+  pub workers : IsWorkers service.workers
+
+-- a session's history may, and a server's workers
 abbrev pub HasHistory : Task → Type 0
 HasHistory (Run size history) = IsHistory history
 HasHistory (RunOn path size history) = IsHistory history
 HasHistory (Format path size) = Unit {0}
 HasHistory (Show path) = Unit {0}
+HasHistory (Serve service) = CanServe service
+HasHistory (Connect address) = Unit {0}

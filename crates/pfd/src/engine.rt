@@ -65,8 +65,8 @@ fn answer_judge<D: Disk + Drop, J: Chapter, H: Wait + Drop, W: Write>(
     }
 }
 
-// Kept apart, since a function pays for the size of a reply wherever it goes.
-fn refuse<W: Write>(writer: &mut W, refusal: Refusal) -> io::Result<()>
+/// Writes the reply of a refusal. Kept apart, since a function pays for the size of a reply wherever it goes.
+pub(crate) fn refuse<W: Write>(writer: &mut W, refusal: Refusal) -> io::Result<()>
     ensures { Writes result (W.contents writer.old) (W.contents writer.new) (reply_text (Refused refusal)) }
 {
     write_reply(writer, &Reply::Refused(refusal))

@@ -1,8 +1,9 @@
-//! Laws of a Book. Each function does nothing; its contract is the law.
-ghost use Rattle.std.specs.Prelude.{◌≡◌};
-ghost use Rattle.pfd.specs.declared.{line_engine.answer_line.TheConstants.LOOKED_AT, program.words.TheConstants.{HISTORY_LIMIT, MEMORY_SIZE, MOST_HISTORY}};
-ghost use Rattle.pfd.specs.Laws.Takeover.{TakesOver, FreshTakesOver};
+//! Laws of a Book and of sessions. Each function does nothing; its contract is the law.
+ghost use Rattle.std.specs.Prelude.{◌≡◌, ℕ};
+ghost use Rattle.pfd.specs.declared.{line_engine.answer_line.TheConstants.LOOKED_AT, program.words.TheConstants.{HISTORY_LIMIT, MEMORY_SIZE, MOST_HISTORY, MOST_WORKERS, WORKERS}};
+ghost use Rattle.pfd.specs.Laws.{Sittings.{LearnsNoLess, LearnsApplied}, Takeover.{TakesOver, FreshTakesOver}};
 
+use crate::server::Gate;
 use pf_disk::Disk;
 
 /// A Book without states that is given the lines of a peer's export, one by one, holds the states that were exported, unless a line
@@ -14,11 +15,20 @@ pub fn takes_over<D: Disk>()
     ensures fresh { FreshTakesOver D.fault_count }
 {}
 
-/// Where the words don't say, the history of a session may have 65,536 changes, of 1,048,576 at most, and its disk has 1,048,576 bytes.
-/// 4,097 bytes of a line are looked at.
+/// Where the words don't say, the history of a session may have 65,536 changes, of 1,048,576 at most, and its disk has 1,048,576 bytes; a
+/// server has 4 workers, of 64 at most. 4,097 bytes of a line are looked at.
 pub fn the_limits_of_sessions()
     ensures history { HISTORY_LIMIT ≡ 65536 }
     ensures most { MOST_HISTORY ≡ 1048576 }
     ensures size { MEMORY_SIZE ≡ 1048576 }
+    ensures workers { WORKERS ≡ 4 }
+    ensures most_workers { MOST_WORKERS ≡ 64 }
     ensures line { LOOKED_AT ≡ 4097 }
+{}
+
+/// The seer of a session over a shared Book has learnt of no fewer changes behind a line than before it, and behind a change that the session
+/// was told is applied of no fewer than its number: with what `Seer::judge` promises the session is judged by that change from then on.
+pub fn sessions_learn<G: Gate>()
+    ensures kept { (gate : G) (session : ℕ) → LearnsNoLess (G.passed gate session) }
+    ensures applied { LearnsApplied }
 {}

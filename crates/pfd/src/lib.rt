@@ -3,27 +3,34 @@
 //! `program` reads the program's words and ends with a status; `engine` answers the lines of a reader, each as `pf_line` reads it, by a
 //! `Book` of `pf_book`, which is given out again: one history over a device.
 //!
-//! The crate knows no text of a command or a reply, which are `pf_line`'s, and doesn't judge, compare, change or keep rules, tables and
-//! states itself: each command goes to a Book. What is the crate's own: that a session's bytes are the replies to its lines in order, and
-//! the program's words, texts of faults and statuses.
+//! `server` answers the lines of many readers at once, and peers' streams, by one Book that they share: each session judges packets by a way
+//! of its own into what is published, and waits for the Book with its other commands alone. It also has the connections of TCP.
+//!
+//! The crate knows no text of a command or a reply, which are `pf_line`'s, but `err gone`, and doesn't judge, compare, change or keep rules,
+//! tables and states itself: each command goes to a Book. What is the crate's own: that a session's bytes are the replies to its lines in
+//! order, and the program's words, texts of faults and statuses.
 //!
 //! Read `specs/Serving.antt` first: which calls lines come to. Then `specs/LineEngine/Sessions.antt` (what a session read and wrote,
 //! however it ended) and `specs/Program.antt`. `serve_alone` carries the promises; `laws` has what follows of a peer's export that a Book
 //! is given.
 //!
 //! `line_engine` knows bytes, lines and streams, and no command, reply or Book: whatever answers lines can stand under it. `engine` alone
-//! joins it with a `Book`, and `program` uses `engine`. No module uses `program`.
+//! joins it with a `Book`, `server` with a `Shared`, and `program` uses both. No module uses `program`, but for its faults.
 #![tactic(auto)]
 
 mod engine;
 pub mod laws;
 pub mod line_engine;
 mod program;
+mod server;
 
 pub use engine::serve_alone;
 pub use line_engine::EngineFault;
-pub use pf_book::{Book, Chapter, Disk, FuseDisk, MemDisk, Opening, Seer, ViewFault, format};
-pub use program::{
-    Fault, HISTORY_LIMIT, MEMORY_SIZE, MOST_HISTORY, format_on, open_fresh, run_process, show_on,
-    start, without_words,
+pub use pf_book::{
+    Book, Chapter, Disk, FuseDisk, MemDisk, Opening, Receipt, Seer, Shared, ViewFault, format,
 };
+pub use program::{
+    Fault, HISTORY_LIMIT, MEMORY_SIZE, MOST_HISTORY, MOST_WORKERS, WORKERS, format_on, open_fresh,
+    run_process, show_on, start, without_words,
+};
+pub use server::{Gate, OpenGate, serve, serve_listener, serve_peer};

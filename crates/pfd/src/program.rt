@@ -2,6 +2,7 @@
 //!
 //! - `words`: what the words ask.
 //! - `devices`: what is done with a disk, whatever it lies on; `files`: the same with a file.
+//! - `serving`: a server over the disk on a file.
 //! - `fault`: why the program ends with status 1, in one line each.
 ghost use Rattle.std.specs.{Prelude.{◌≡◌, ◌≤◌, ◌<◌, ◌^◌, ◌⊎◌, IfErr, IfOk, Result, map, string_bytes}, Io.KnownBytes.Keeps, IoError.error_kind};
 ghost use Rattle.clap.specs.Words.{kind_of, subcommand_of};
@@ -14,11 +15,14 @@ ghost use Rattle.pfd.specs.{Program.{Hinders, IsDone, IsRun, RanOn, RanOver, Ran
 mod devices;
 mod fault;
 mod files;
+mod serving;
 mod words;
 
 use crate::engine::serve_alone;
 use crate::program::files::{format_file, open_file, show_file};
+use crate::program::serving::serve_file;
 use crate::program::words::{Task, read_words};
+use crate::server::connect;
 use clap::Error;
 use clap::error::ErrorKind;
 pub use devices::{format_on, open_fresh, show_on};
@@ -30,8 +34,10 @@ use std::env;
 use std::fs::{File, Files};
 use std::io::{self, BufWriter, Read, Write};
 use std::marker::Brand;
+use std::net::{Net, TcpListener, TcpStream};
 use std::sync::Wait;
-pub use words::{HISTORY_LIMIT, MEMORY_SIZE, MOST_HISTORY};
+use std::thread::Threads;
+pub use words::{HISTORY_LIMIT, MEMORY_SIZE, MOST_HISTORY, MOST_WORKERS, WORKERS};
 
 // A fresh disk in memory of so many bytes, opened.
 fn open_memory(alloc: Global, size: usize) -> Result<Opening<MemDisk>, Fault>
@@ -114,8 +120,13 @@ fn run_on<D: Disk + Drop, H: Wait + Drop, R: Read, W: Write>(
 }
 
 // Does what the words ask. Of what is done with a file only this much is known: what it holds no clause can say.
-fn perform<H: Wait + Drop, S: Files<File = File>, R: Read, W: Write>(
-    waits: H,
+fn perform<
+    N: Wait + Threads + Net<Listener = TcpListener, Stream = TcpStream> + Sync,
+    S: Files<File = File>,
+    R: Read,
+    W: Write + Send,
+>(
+    machine: &N,
     alloc: Global,
     files: &S,
     task: Task<'_>,
@@ -127,17 +138,19 @@ fn perform<H: Wait + Drop, S: Files<File = File>, R: Read, W: Write>(
         (R.remaining reader.old) (R.remaining reader.new) (W.contents writer.old) (W.contents writer.new) }
 {
     match task {
-        Task::Run { size, history } => run(waits, alloc, size, history, reader, writer),
+        Task::Run { size, history } => run(machine, alloc, size, history, reader, writer),
         Task::RunOn {
             path,
             size,
             history,
         } => {
             let disk = open_file(alloc, files, path, size)?;
-            run_on(waits, alloc, disk, history, reader, writer)
+            run_on(machine, alloc, disk, history, reader, writer)
         }
         Task::Format { path, size } => format_file(alloc, files, path, size),
         Task::Show { path } => show_file(alloc, files, path, writer),
+        Task::Serve(service) => serve_file(machine, alloc, files, &service, writer),
+        Task::Connect { address } => connect(machine, alloc, address, reader, writer),
     }
 }
 
@@ -179,9 +192,14 @@ fn explain<W: Write, F: Write>(error: &Error, writer: &mut W, faults: &mut F) ->
 ///
 /// `pfd run [--size N] [--history N]` serves the reader's lines to the writer from a fresh Book, whose history may have so many changes,
 /// 65,536 where the words don't say, over a fresh disk in memory of so many bytes, 1,048,576 where they don't. `pfd run --disk FILE` opens
-/// the disk that lies on the file in its place, whose length has to be the size if one is said. It waits by the handle. `pfd format --disk
+/// the disk that lies on the file in its place, whose length has to be the size if one is said. It waits by the machine's handle. `pfd format --disk
 /// FILE --size N` makes the file so many bytes long, and a disk that holds nothing. `pfd show --disk FILE` tells the writer what the disk
 /// holds that lies on the file, and doesn't write the file.
+///
+/// `pfd serve --listen ADDR --disk FILE --size N [--workers N] [--history N] [--sessions N]` opens the disk that lies on the file, whose
+/// length has to be the size, listens on the address, and tells the writer `listening ADDR`, with the address that it got, once it can be
+/// connected to. It serves so many connections at once, 4 where the words don't say, each as `serve_listener` has it, and ends once so many
+/// have ended, or never. `pfd connect ADDR` sends what the reader gives to such a server, and tells the writer what it answers.
 ///
 /// Status 0: the input ended, the disk was made or told, or help or the version was asked for, whose text goes to the writer. Status 1: one
 /// line on the faults says what failed, as [`Fault`] has it; what is wrong with the file is found before what is wrong with the disk.
@@ -190,8 +208,14 @@ fn explain<W: Write, F: Write>(error: &Error, writer: &mut W, faults: &mut F) ->
 ///
 /// Whatever the words are, it is what they ask, or nothing is read. What the texts are, what becomes of files, and which other words are
 /// help or the version and which are refused, is only tested.
-pub fn start<H: Wait + Drop, S: Files<File = File>, R: Read, W: Write, F: Write>(
-    waits: H,
+pub fn start<
+    N: Wait + Threads + Net<Listener = TcpListener, Stream = TcpStream> + Sync,
+    S: Files<File = File>,
+    R: Read,
+    W: Write + Send,
+    F: Write,
+>(
+    machine: &N,
     alloc: Global,
     files: &S,
     words: &[String],
@@ -212,7 +236,7 @@ pub fn start<H: Wait + Drop, S: Files<File = File>, R: Read, W: Write, F: Write>
         Keeps (W.contents writer.old) (W.contents writer.new) }
 {
     match read_words(alloc, words) {
-        Ok(task) => match perform(waits, alloc, files, task, reader, writer) {
+        Ok(task) => match perform(machine, alloc, files, task, reader, writer) {
             Ok(()) => 0,
             Err(fault) => fail(fault, faults),
         },
@@ -236,7 +260,11 @@ pub fn without_words<F: Write>(error: &io::Error, faults: &mut F) -> u8
 
 // The same with the process's words, files and streams; an error where its words can't be had. Standard input is read as it is:
 // the engine's own buffer takes all that is there in one read.
-fn start_on<H: Wait + Drop, F: Write>(waits: H, rt: &HostRuntime, faults: &mut F) -> io::Result<u8>
+fn start_on<N: Wait + Threads + Net<Listener = TcpListener, Stream = TcpStream> + Sync, F: Write>(
+    machine: &N,
+    rt: &HostRuntime,
+    faults: &mut F,
+) -> io::Result<u8>
     ensures { IfOk result (λ status. status ≤ 2) }
 {
     let alloc = rt.alloc();
@@ -244,7 +272,7 @@ fn start_on<H: Wait + Drop, F: Write>(waits: H, rt: &HostRuntime, faults: &mut F
     let mut reader = rt.stdin();
     let mut writer = BufWriter::new(alloc, rt.stdout())?;
     Ok(start(
-        waits,
+        machine,
         alloc,
         rt,
         words.as_slice(),
@@ -256,11 +284,14 @@ fn start_on<H: Wait + Drop, F: Write>(waits: H, rt: &HostRuntime, faults: &mut F
 
 /// The program over this process: its words, files, standard input, output and error. It gives the status to end with, as
 /// `start` and `without_words` say. It waits by a handle of its own, which is the process's too.
-pub fn run_process<H: Wait + Drop>(waits: H, rt: &HostRuntime) -> u8
+pub fn run_process<N: Wait + Threads + Net<Listener = TcpListener, Stream = TcpStream> + Sync>(
+    machine: &N,
+    rt: &HostRuntime,
+) -> u8
     ensures { result ≤ 2 }
 {
     let mut faults = rt.stderr();
-    match start_on(waits, rt, &mut faults) {
+    match start_on(machine, rt, &mut faults) {
         Ok(status) => status,
         Err(error) => without_words(&error, &mut faults),
     }

@@ -15,6 +15,8 @@ mod peers;
 #[cfg(test)]
 mod seers;
 #[cfg(test)]
+mod servers;
+#[cfg(test)]
 mod sessions;
 #[cfg(test)]
 mod sharing;

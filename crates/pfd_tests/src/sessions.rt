@@ -7,10 +7,10 @@ use crate::streams::{Script, Tight};
 use pfd::EngineFault::{Read, Write};
 use pfd::{Book, Chapter, EngineFault, HISTORY_LIMIT, MemDisk, Opening, serve_alone};
 use std::alloc::Global;
-use std::cell::Cell;
 use std::marker::Brand;
 use std::process::Abort;
 use std::sync::Wait;
+use std::sync::atomic::{AtomicBool, Ordering};
 use std::test::*;
 
 /// What reads give; the writer's room, interruptions and flushes; how the session ends; how many bytes of the replies
@@ -50,7 +50,7 @@ fn end_of<J: Chapter, H: Wait + Drop>(
     case: &Case,
     book: &mut Book<MemDisk, J, H>,
     written: &mut Vec<u8>,
-    waiting: &Cell<bool>,
+    waiting: &AtomicBool,
 ) -> Result<(), EngineFault> {
     let (reads, room, interruptions, flushes, _, _) = *case;
     let pieces = reads.split('|');
@@ -73,13 +73,13 @@ fn check_on<J: Chapter, H: Wait + Drop>(
     book: &mut Book<MemDisk, J, H>,
 ) {
     let (_, room, _, _, end, length) = *case;
-    let waiting = &Cell::new(false);
+    let waiting = &AtomicBool::new(false);
     let mut written = Vec::new(alloc);
     let got = end_of(alloc, case, book, &mut written, waiting);
     assert!(rt; got == end, "with room for {room}");
     assert!(rt; written.len() == length, "with room for {room}");
     assert!(rt; REPLIES.as_bytes().starts_with(written.as_slice()));
-    assert!(rt; !waiting.get() || end.is_err());
+    assert!(rt; !waiting.load(Ordering::SeqCst) || end.is_err());
 }
 
 fn check<J: Chapter, H: Wait + Drop, A: Abort>(

@@ -3,10 +3,9 @@ ghost use Rattle.pfd.specs.declared.program.words.TheConstants.{HISTORY_LIMIT};
 ghost use Rattle.pf_book.specs.Books.{IsNamed};
 
 use crate::books::opened;
-use pf_book::{Receipt, Shared};
 use pf_line::{parse_line, write_judged, write_reply};
 use pf_rule::Packet;
-use pfd::{Book, Chapter, HISTORY_LIMIT, MemDisk, Opening, Seer};
+use pfd::{Book, Chapter, HISTORY_LIMIT, MemDisk, Opening, Receipt, Seer, Shared};
 use std::alloc::Global;
 use std::io::{self, ErrorKind};
 use std::marker::Brand;

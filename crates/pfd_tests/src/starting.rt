@@ -2,12 +2,14 @@
 use crate::streams::{Script, Tight};
 use pfd::{run_process, start, without_words};
 use std::alloc::Global;
-use std::cell::Cell;
 use std::fs::{File, Files};
 use std::io::{self, ErrorKind};
+use std::net::{Net, TcpListener, TcpStream};
 use std::process::Abort;
 use std::sync::Wait;
+use std::sync::atomic::AtomicBool;
 use std::test::*;
+use std::thread::Threads;
 
 /// Words, what a read gives, the writer's room and flushes.
 type Case<'a> = (&'a str, &'a str, usize, u32);
@@ -21,8 +23,11 @@ fn words_of(alloc: Global, line: &str) -> Result<Vec<String>, Fail> {
 }
 
 // Starts with such words: the status, and what is written and what the faults are told.
-fn status_of<H: Wait + Drop, S: Files<File = File>>(
-    waits: H,
+fn status_of<
+    N: Wait + Threads + Net<Listener = TcpListener, Stream = TcpStream> + Sync,
+    S: Files<File = File>,
+>(
+    machine: &N,
     alloc: Global,
     files: &S,
     (line, read, room, flushes): Case,
@@ -30,7 +35,7 @@ fn status_of<H: Wait + Drop, S: Files<File = File>>(
     told: &mut Vec<u8>,
 ) -> Result<u8, Fail> {
     let words = words_of(alloc, line)?;
-    let waiting = &Cell::new(false);
+    let waiting = &AtomicBool::new(false);
     let pieces = read.split('|');
     let mut reader = Script { pieces, waiting };
     let mut writer = Tight {
@@ -41,7 +46,7 @@ fn status_of<H: Wait + Drop, S: Files<File = File>>(
         waiting,
     };
     Ok(start(
-        waits,
+        machine,
         alloc,
         files,
         words.as_slice(),
@@ -63,16 +68,17 @@ fn is_so(
     status == wanted && is_written && told.starts_with(faults.as_bytes()) && is_whole
 }
 
-fn check<H: Wait + Drop, R: Abort + Files<File = File>>(
-    waits: H,
-    rt: &R,
-    alloc: Global,
-    case: Case,
-    wanted: (u8, &str, &str),
-) -> Result<(), Fail> {
+fn check<
+    R: Abort
+        + Files<File = File>
+        + Wait
+        + Threads
+        + Net<Listener = TcpListener, Stream = TcpStream>
+        + Sync,
+>(rt: &R, alloc: Global, case: Case, wanted: (u8, &str, &str)) -> Result<(), Fail> {
     let mut written = Vec::new(alloc);
     let mut told = Vec::new(alloc);
-    let status = status_of(waits, alloc, rt, case, &mut written, &mut told)?;
+    let status = status_of(rt, alloc, rt, case, &mut written, &mut told)?;
     let got = (status, written.as_slice(), told.as_slice());
     assert!(rt; is_so(got, wanted), "at {}", case.0);
     Ok(())
@@ -145,7 +151,7 @@ const STARTS: &[(Case, (u8, &str, &str))] = &[
 #[test]
 fn starts_as_its_words_say(rt: HostRuntime) -> Result<(), Fail> {
     for (case, wanted) in STARTS {
-        check(&rt, &rt, rt.alloc(), *case, *wanted)?;
+        check(&rt, rt.alloc(), *case, *wanted)?;
     }
     Ok(())
 }
@@ -251,6 +257,60 @@ const REFUSED: &[(&str, u8, &str)] = &[
         1,
         "pfd: bad size\n",
     ),
+    // A server: words, then its file, its disk and its address.
+    (
+        "pfd serve --disk none --size 300",
+        2,
+        "error: the following required arguments were not provided:\n  --listen <ADDR>",
+    ),
+    (
+        "pfd serve --listen 127.0.0.1:0 --disk none",
+        2,
+        "error: the following required arguments were not provided:\n  --size <N>",
+    ),
+    (
+        "pfd serve --listen 127.0.0.1:0 --disk none --size 300 --workers 0",
+        2,
+        "error: invalid value '0' for '--workers <N>': 0 is not in 1..=64",
+    ),
+    (
+        "pfd serve --listen 127.0.0.1:0 --disk none --size 300 --workers 65",
+        2,
+        "error: invalid value '65' for '--workers <N>': 65 is not in 1..=64",
+    ),
+    (
+        "pfd serve --listen 127.0.0.1:0 --disk none --size 300 --sessions 4294967296",
+        2,
+        "error: invalid value '4294967296' for '--sessions <N>': 4294967296 is not in 0..=4294967295",
+    ),
+    (
+        "pfd serve --listen 127.0.0.1:0 --disk none --size 300 --history 0",
+        2,
+        "error: invalid value '0' for '--history <N>'",
+    ),
+    (
+        "pfd serve --listen 192.0.2.1:1 --disk no/such/file --size 300",
+        1,
+        "pfd: input\n",
+    ),
+    (
+        "pfd serve --listen 192.0.2.1:1 --disk /dev/null --size 300",
+        1,
+        "pfd: bad size\n",
+    ),
+    // A client.
+    (
+        "pfd connect",
+        2,
+        "error: the following required arguments were not provided:\n  <ADDR>",
+    ),
+    (
+        "pfd connect 127.0.0.1:1 127.0.0.1:1",
+        2,
+        "error: unexpected argument '127.0.0.1:1' found",
+    ),
+    ("pfd connect nowhere", 1, "pfd: input\n"),
+    ("pfd connect 127.0.0.1:1", 1, "pfd: input\n"),
 ];
 
 // The reader fails at its first read, which would be told as the input's fault.
@@ -258,7 +318,6 @@ const REFUSED: &[(&str, u8, &str)] = &[
 fn refuses_before_it_reads(rt: HostRuntime) -> Result<(), Fail> {
     for (line, status, faults) in REFUSED {
         check(
-            &rt,
             &rt,
             rt.alloc(),
             (*line, "!", 9_999, 9),
@@ -310,12 +369,41 @@ const KEPT: &[(Case, (u8, &str, &str))] = &[
             "",
         ),
     ),
+    // A server on it finds its file's length before its address, and opens its disk before that.
+    (
+        (
+            "pfd serve --listen 192.0.2.1:1 --disk kept --size 302",
+            "!",
+            99,
+            9,
+        ),
+        (1, "", "pfd: bad size\n"),
+    ),
+    (
+        (
+            "pfd serve --listen 192.0.2.1:1 --disk kept --size 300",
+            "!",
+            99,
+            9,
+        ),
+        (1, "", "pfd: input\n"),
+    ),
+    // It listens before it tells that it does.
+    (
+        (
+            "pfd serve --listen 127.0.0.1:0 --disk kept --size 300",
+            "!",
+            20,
+            9,
+        ),
+        (1, "listening 127.0.0.1:", "pfd: output\n"),
+    ),
 ];
 
 #[test]
 fn keeps_what_it_answered(rt: HostRuntime) -> Result<(), Fail> {
     for (case, wanted) in KEPT {
-        check(&rt, &rt, rt.alloc(), *case, *wanted)?;
+        check(&rt, rt.alloc(), *case, *wanted)?;
     }
     Ok(())
 }

@@ -1,20 +1,20 @@
 //! Readers and writers that do what they are told.
-use std::cell::Cell;
 use std::io::{self, ErrorKind, Read, Write};
 use std::str::Split;
+use std::sync::atomic::{AtomicBool, Ordering};
 
 /// A reader whose reads each give the next piece, and then are at the end. A piece `~` is an interruption, and `!` a
 /// fault. It fails where replies wait to be flushed.
 #[derive(Drop)]
 pub(crate) struct Script<'a> {
     pub(crate) pieces: Split<'a, char>,
-    pub(crate) waiting: &'a Cell<bool>,
+    pub(crate) waiting: &'a AtomicBool,
 }
 
 impl Read for Script<'_> {
     fn read(&mut self, buf: &mut [u8]) -> io::Result<usize> {
         let mut piece = self.pieces.next().unwrap_or("").as_bytes();
-        if self.waiting.get() || piece == b"!".as_slice() {
+        if self.waiting.load(Ordering::SeqCst) || piece == b"!".as_slice() {
             return Err(io::Error::from(ErrorKind::Other));
         }
         if piece == b"~".as_slice() {
@@ -31,7 +31,7 @@ pub(crate) struct Tight<'a> {
     pub(crate) room: usize,
     pub(crate) interruptions: u32,
     pub(crate) flushes: u32,
-    pub(crate) waiting: &'a Cell<bool>,
+    pub(crate) waiting: &'a AtomicBool,
 }
 
 impl Write for Tight<'_> {
@@ -46,7 +46,7 @@ impl Write for Tight<'_> {
         let n = buf.len().min(self.room);
         self.text.extend_from_slice(&buf[..n])?;
         self.room -= n;
-        self.waiting.set(true);
+        self.waiting.store(true, Ordering::SeqCst);
         Ok(n)
     }
 
@@ -55,7 +55,7 @@ impl Write for Tight<'_> {
             return Err(io::Error::from(ErrorKind::Other));
         }
         self.flushes -= 1;
-        self.waiting.set(false);
+        self.waiting.store(false, Ordering::SeqCst);
         Ok(())
     }
 }

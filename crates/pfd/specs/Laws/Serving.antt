@@ -1,10 +1,9 @@
--- Lines that were served one list after another, and what is looked at of a line.
-use Rattle.std.proofs.{Common.{◌≡◌, ℕ, ◌+◌, List, [], ◌∷◌, ◌++◌, cond, length, Option, Result, inl, inr, refl, sym, ap, ◌∙◌, subst, append_assoc, arith}, lemmas.List.{append-nil, length-take, take_all}, lemmas.Bool.cases_lt}
-use Rattle.pf_core.specs.declared.{reply.Refusal.Refusal, reply.Reply.Reply}
+-- Lines that were served one list after another.
+use Rattle.std.proofs.{Common.{◌≡◌, ℕ, ◌+◌, List, [], ◌∷◌, ◌++◌, Option, refl, sym, ap, ◌∙◌, subst, append_assoc, arith}, lemmas.List.append-nil}
+use Rattle.pf_core.specs.declared.reply.Reply.{Reply}
 use Rattle.pf_core.specs.{Pages.StandsFor, Worlds.{Event, called, entered, learned, crashed, opened, refused_opening}}
 use Rattle.pf_book.specs.Books.{Ledger, page}
-use Rattle.pf_line.specs.{Grammar.Spoken, Lines.{line_at, long_line, Means, Speaks, speaks}}
-use Rattle.pfd.specs.{LineEngine.Lines.seen, Serving.{IsTold, Served, failures, Continues, Serves, Told, text_of}}
+use Rattle.pfd.specs.{Laws.Seeing.seen-told, LineEngine.Lines.seen, Serving.{NoCall, CallsBook, Served, failures, Continues, Serves, Told, text_of}}
 
 failures-append : (xs ys : List Event) → failures (xs ++ ys) ≡ failures xs + failures ys
 failures-append [] ys = omega arith
@@ -45,23 +44,6 @@ served-then (x ∷ xs) ys cs ds s t (first, rest, reply, replies, says, more, ev
   ap (λ (l : List ℕ). l ++ t) text ∙ append_assoc reply replies t,
 )
 
--- of a line that is too long as much is looked at as shows that
-seen-says : (line : List ℕ) → line_at (seen line) ≡ line_at line
-seen-says line = elim (cases_lt 4097 (length line)) [
-  | inl h ↦ long_line (seen line) (omega (arith, length-take 4097 line)) ∙ sym (long_line line (omega arith))
-  | inr h ↦ ap line_at (take_all 4097 line h)
-]
-
-seen-speaks : (line : List ℕ) → Speaks (seen line) → Speaks line
-seen-speaks line is = elim (cases_lt 4097 (length line)) [
-  | inl h ↦ absurd ((speaks (seen line) is).1 (long_line (seen line) (omega (arith, length-take 4097 line))))
-  | inr h ↦ subst Speaks (take_all 4097 line h) is
-]
-
-seen-told : (line : List ℕ) (events : List Event) (text : List ℕ) → IsTold (seen line) events text → IsTold line events text
-seen-told line events text (inl (meant, means, says)) = inl (meant, subst (λ (said : Result (Option Spoken) Refusal). Means said meant) (seen-says line) means, says)
-seen-told line events text (inr none) = inr (record { speaks = seen-speaks line none.speaks; no_call = none.no_call; told = none.told })
-
 module _ {D : Type 0} (faults : D → ℕ) where
   pub serves-none : (book : Ledger D) → Serves faults book book [] []
   serves-none book = record { events = []; served = (refl, refl); book = continues-still faults book }
@@ -84,4 +66,4 @@ module _ {D : Type 0} (faults : D → ℕ) where
   pub serves-seen : (old new : Ledger D) (line text : List ℕ) → Serves faults old new (seen line ∷ []) text → Serves faults old new (line ∷ []) text
   serves-seen old new line text p =
       let (first, rest, reply, replies, says, more, c, t) = p.served in
-      record { events = p.events; served = (first, rest, reply, replies, seen-told line first reply says, more, c, t); book = p.book }
+      record { events = p.events; served = (first, rest, reply, replies, seen-told NoCall CallsBook line first reply says, more, c, t); book = p.book }

@@ -3,8 +3,8 @@ use Rattle.std.specs.Prelude.{◌≡◌, ℕ, List, Option, Result, Ok, Err}
 use Rattle.pfd.specs.{LineEngine.Lines.{IsCut, seen}, LineEngine.Sessions.{Answered, CutOff}}
 
 -- the lines were answered, or a failed write cut them off
-abbrev pub Answers : {S A E : Type 0} → (S → S → List (List ℕ) → List ℕ → Type 0)
-    → Result A E → List (List ℕ) → S → S → Option (List ℕ) → Option (List ℕ) → Type 0
+abbrev pub Answers : {S L A E : Type 0} → (S → S → List L → List ℕ → Type 0)
+    → Result A E → List L → S → S → Option (List ℕ) → Option (List ℕ) → Type 0
 Answers Serves (Ok x) lines old new held held' = Answered Serves lines old new held held'
 Answers Serves (Err e) lines old new held held' = CutOff Serves lines old new held held'
 

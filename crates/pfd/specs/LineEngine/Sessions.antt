@@ -6,20 +6,20 @@ use Rattle.pfd.specs.declared.line_engine.fault.EngineFault.{EngineFault}
 use Rattle.pfd.specs.declared.line_engine.fault.EngineFault.TheVariants as fault
 use Rattle.pfd.specs.LineEngine.Lines.{IsCut, last_line}
 
--- These lines were answered, and every reply was written.
-pub record Answered {S : Type 0} (Serves : S → S → List (List ℕ) → List ℕ → Type 0)
-    (lines : List (List ℕ)) (old new : S) (held held' : Option (List ℕ)) : Type 0 where
+-- These lines, or whatever else is answered one by one, were answered, and every reply was written.
+pub record Answered {S L : Type 0} (Serves : S → S → List L → List ℕ → Type 0)
+    (lines : List L) (old new : S) (held held' : Option (List ℕ)) : Type 0 where
   pub text : List ℕ
   pub served : Serves old new lines text
   pub written : Appends held held' text
 
 -- Some of these lines, from the front on, were answered, and then a write failed: every reply was written but that to
 -- the last one, and some front of it was.
-pub record CutOff {S : Type 0} (Serves : S → S → List (List ℕ) → List ℕ → Type 0)
-    (lines : List (List ℕ)) (old new : S) (held held' : Option (List ℕ)) : Type 0 where
-  pub earlier : List (List ℕ)
-  pub last : List (List ℕ)
-  pub others : List (List ℕ)
+pub record CutOff {S L : Type 0} (Serves : S → S → List L → List ℕ → Type 0)
+    (lines : List L) (old new : S) (held held' : Option (List ℕ)) : Type 0 where
+  pub earlier : List L
+  pub last : List L
+  pub others : List L
   pub lines_are : lines ≡ earlier ++ (last ++ others)
   pub one : length last ≤ 1
   pub before : S

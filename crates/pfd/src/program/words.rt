@@ -3,7 +3,7 @@ ghost use Rattle.std.specs.Prelude.{◌≡◌, ◌≤◌, IfErr, IfOk, List, ℕ
 ghost use Rattle.clap.specs.Words.{app_of, found_of, kind_of, one_of, first_of, rows_of, rule_of, subcommand_of, subcommand_rows_of};
 ghost use Rattle.clap.specs.declared.builder.command.Command.TheViews.{out-Command};
 ghost use Rattle.pfd.specs.Program.{IsRun};
-ghost use Rattle.pfd.specs.Words.{HasHistory, IsAsked, MaySayNumber, SaysNumber, disk_rule, history_rule, size_rule, run_words, format_words, show_words, program_words};
+ghost use Rattle.pfd.specs.Words.{HasHistory, IsAsked, MaySayNumber, SaysNumber, disk_rule, history_rule, size_rule, listen_rule, workers_rule, sessions_rule, run_words, format_words, show_words, place_words, server_words, serve_words, connect_words, program_words};
 
 use clap::error::ErrorKind;
 use clap::{Arg, ArgMatches, Command, Error, value_parser};
@@ -18,8 +18,29 @@ pub const HISTORY_LIMIT: usize = 65_536;
 /// How many changes a history may have at most.
 pub const MOST_HISTORY: usize = 1_048_576;
 
+/// How many workers a server has where the words don't say. Definitions cite it.
+pub const WORKERS: usize = 4;
+
+/// How many workers a server may have at most.
+pub const MOST_WORKERS: usize = 64;
+
+// The greatest number of connections after which a server can be told to end.
+const MOST_SESSIONS: usize = 4_294_967_295;
+
 /// The program's version, which `pfd --version` tells behind its name.
 const VERSION: &str = "0.1.0";
+
+/// A server: the address that it listens on; the file that its disk lies on, which has to have so many bytes; how many connections it serves
+/// at once; how many changes its history may have; and after how many connections it ends, or never where that is 0.
+#[derive(Clone, Copy, Debug, PartialEq, Eq)]
+pub(crate) struct Service<'a> {
+    pub(crate) address: &'a str,
+    pub(crate) path: &'a str,
+    pub(crate) size: usize,
+    pub(crate) workers: usize,
+    pub(crate) history: usize,
+    pub(crate) sessions: u32,
+}
 
 /// What the words ask.
 #[derive(Clone, Copy, Debug, PartialEq, Eq)]
@@ -43,6 +64,12 @@ pub(crate) enum Task<'a> {
     /// It is told what the file holds.
     Show {
         path: &'a str,
+    },
+    /// Connections are served over the disk that lies on a file.
+    Serve(Service<'a>),
+    /// What is read goes to the server at the address, and what that answers is written.
+    Connect {
+        address: &'a str,
     },
 }
 
@@ -75,6 +102,40 @@ fn history<'a>(alloc: Global) -> Arg<'a>
         .value_name("N")
         .value_parser(value_parser!(u32).range(1..=1_048_576))
         .help("How many changes the session may have [default: 65536]")
+}
+
+fn listen<'a>(alloc: Global) -> Arg<'a>
+    ensures rule { rule_of result ≡ listen_rule }
+    ensures local { result.global ≡ false }
+{
+    Arg::new(alloc, "listen")
+        .long("listen")
+        .value_name("ADDR")
+        .help(
+            "The address and port to listen on, as 127.0.0.1:7070 or [::1]:7070; port 0 takes a free one",
+        )
+}
+
+fn workers<'a>(alloc: Global) -> Arg<'a>
+    ensures rule { rule_of result ≡ workers_rule }
+    ensures local { result.global ≡ false }
+{
+    Arg::new(alloc, "workers")
+        .long("workers")
+        .value_name("N")
+        .value_parser(value_parser!(u32).range(1..=64))
+        .help("How many connections are served at once [default: 4]")
+}
+
+fn sessions<'a>(alloc: Global) -> Arg<'a>
+    ensures rule { rule_of result ≡ sessions_rule }
+    ensures local { result.global ≡ false }
+{
+    Arg::new(alloc, "sessions")
+        .long("sessions")
+        .value_name("N")
+        .value_parser(value_parser!(u32))
+        .help("Ends once so many connections have ended; 0 never [default: 0]")
 }
 
 fn run_words<'a>(alloc: Global) -> Result<Command<'a>, AllocError>
@@ -112,6 +173,50 @@ fn show_words<'a>(alloc: Global) -> Result<Command<'a>, AllocError>
         .arg(disk(alloc).required(true))
 }
 
+// A server's words, two by two.
+
+fn place_words<'a>(alloc: Global) -> Result<Command<'a>, AllocError>
+    ensures app { IfOk result (λ c. app_of c ≡ place_words) }
+    ensures local { IfOk result (λ c. (out-Command c).has_globals ≡ false) }
+{
+    Command::new(alloc, "serve")
+        .about("Answers the lines of TCP connections over the disk on a file")
+        .arg(listen(alloc).required(true))?
+        .arg(disk(alloc).required(true))
+}
+
+fn server_words<'a>(alloc: Global) -> Result<Command<'a>, AllocError>
+    ensures app { IfOk result (λ c. app_of c ≡ server_words) }
+    ensures local { IfOk result (λ c. (out-Command c).has_globals ≡ false) }
+{
+    let size = size(alloc)
+        .required(true)
+        .help("How many bytes the file has");
+    place_words(alloc)?.arg(size)?.arg(workers(alloc))
+}
+
+fn serve_words<'a>(alloc: Global) -> Result<Command<'a>, AllocError>
+    ensures app { IfOk result (λ c. app_of c ≡ serve_words) }
+    ensures local { IfOk result (λ c. (out-Command c).has_globals ≡ false) }
+{
+    server_words(alloc)?
+        .arg(history(alloc))?
+        .arg(sessions(alloc))
+}
+
+fn connect_words<'a>(alloc: Global) -> Result<Command<'a>, AllocError>
+    ensures app { IfOk result (λ c. app_of c ≡ connect_words) }
+    ensures local { IfOk result (λ c. (out-Command c).has_globals ≡ false) }
+{
+    let address = Arg::new(alloc, "address")
+        .value_name("ADDR")
+        .required(true)
+        .help("The server's address and port, as serve tells it");
+    Command::new(alloc, "connect")
+        .about("Sends standard input to a server, and its replies to standard output")
+        .arg(address)
+}
+
 fn program_words<'a>(alloc: Global) -> Result<Command<'a>, AllocError>
     ensures { IfOk result (λ c. app_of c ≡ program_words) }
 {
@@ -121,7 +226,9 @@ fn program_words<'a>(alloc: Global) -> Result<Command<'a>, AllocError>
         .subcommand_required(true)
         .subcommand(run_words(alloc)?)?
         .subcommand(format_words(alloc)?)?
-        .subcommand(show_words(alloc)?)
+        .subcommand(show_words(alloc)?)?
+        .subcommand(serve_words(alloc)?)?
+        .subcommand(connect_words(alloc)?)
 }
 
 /// What the words ask, the program's own name first among them; or the text for who started it, which is help, the version or why the
@@ -144,11 +251,15 @@ fn task_of<'a>(matches: &ArgMatches<'a>) -> Task<'a>
 {
     match matches.subcommand() {
         Some(("format", found)) => Task::Format {
-            path: path_in(found),
+            path: text_in(found, "disk"),
             size: number_in(found, "size", 0),
         },
         Some(("show", found)) => Task::Show {
-            path: path_in(found),
+            path: text_in(found, "disk"),
+        },
+        Some(("serve", found)) => server_in(found),
+        Some(("connect", found)) => Task::Connect {
+            address: text_in(found, "address"),
         },
         Some((_, found)) => session_in(found),
         None => Task::Run {
@@ -177,16 +288,33 @@ fn session_in<'a>(found: &ArgMatches<'a>) -> Task<'a>
     }
 }
 
+// A server on the file.
+fn server_in<'a>(found: &ArgMatches<'a>) -> Task<'a>
+    ensures asked { IsAsked (Some (codes "serve", rows_of (found_of found.now))) result }
+    ensures history { HasHistory result }
+{
+    let sessions = number_in(found, "sessions", 0).min(MOST_SESSIONS);
+    Task::Serve(Service {
+        address: text_in(found, "listen"),
+        path: text_in(found, "disk"),
+        size: number_in(found, "size", 0),
+        workers: number_in(found, "workers", WORKERS).clamp(1, MOST_WORKERS),
+        history: number_in(found, "history", HISTORY_LIMIT).clamp(1, MOST_HISTORY),
+        sessions: sessions as u32,
+    })
+}
+
+// The text of an option that is there.
+fn text_in<'a>(found: &ArgMatches<'a>, option: &str) -> &'a str
+    ensures { result.now ≡ unwrap_or (first_of option.now (rows_of (found_of found.now))) [] }
+{
+    found.get_str(option).unwrap_or("")
+}
+
 fn disk_in<'a>(found: &ArgMatches<'a>) -> Option<&'a str>
     ensures { option_map (λ s. s.now) result ≡ first_of (codes "disk") (rows_of (found_of found.now)) }
 {
     found.get_str("disk")
-}
-
-fn path_in<'a>(found: &ArgMatches<'a>) -> &'a str
-    ensures { result.now ≡ unwrap_or (first_of (codes "disk") (rows_of (found_of found.now))) [] }
-{
-    disk_in(found).unwrap_or("")
 }
 
 // The number of an option, where it is there.

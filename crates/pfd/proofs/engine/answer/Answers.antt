@@ -1,7 +1,7 @@
 use Rattle.pf_line.specs.Reply.Replies.{reply_text}
 use Rattle.std.specs.Prelude.{Some}
 use Rattle.std.proofs.Common.{[], None}
-use Rattle.pfd.proofs.Calling.{appends_none}
+use Rattle.pfd.proofs.Flushing.{appends_none}
 use Rattle.pfd.specs.Laws.Serving.{serves-one}
 use Rattle.pfd.proofs.engine.answer.Goals as goal
 

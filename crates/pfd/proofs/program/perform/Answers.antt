@@ -1,4 +1,4 @@
-use Rattle.std.proofs.Common.{inl, rules}
+use Rattle.std.proofs.Common.{inl}
 use Rattle.pfd.proofs.program.perform.Goals as goal
 
 pub returns-in_ok-disk-in-RunOn : goal.returns-in_ok-disk-in-RunOn

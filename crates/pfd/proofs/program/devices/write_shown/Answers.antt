@@ -2,7 +2,7 @@ use Rattle.std.proofs.Common.{Err, Ok, ap, length, ◌∙◌}
 use Rattle.pf_addr.specs.Writing.{Continues-then, behind_nothing}
 use Rattle.pf_anchor.specs.Configurations.{Configuration}
 use Rattle.pfd.specs.Showing.{shown_text}
-use Rattle.pfd.proofs.Showing.{as_told, flushed, told}
+use Rattle.pfd.proofs.{Flushing.flushed, Showing.{as_told, told}}
 use Rattle.pfd.proofs.program.devices.write_shown.Goals as goal
 
 pub returns-in-Ok : goal.returns-in-Ok

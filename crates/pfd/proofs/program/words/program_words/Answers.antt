@@ -1,7 +1,7 @@
 use Rattle.std.proofs.Common.{rules, ap, ap₂, codes, true, ◌≡◌, ◌∙◌}
 use Rattle.std.proofs.lemmas.Result.{IfOk-weaker}
 use Rattle.clap.specs.{Simple.on_top, Words.{App, app_of, new_app, with_subcommand}}
-use Rattle.pfd.specs.Words.{run_words, format_words}
+use Rattle.pfd.specs.Words.{run_words, format_words, show_words, serve_words}
 use Rattle.pfd.proofs.program.words.program_words.Goals as goal
 
 abbrev top : App
@@ -16,5 +16,12 @@ returns c =
     let second : app_of c.in_ok-subcommand-2.field-0 ≡ with_subcommand (with_subcommand top run_words.top) format_words.top =
     c.in_ok-subcommand-2.ensures.shape c.in_ok-format_words.ensures.local
     ∙ ap₂ with_subcommand first (ap (λ (a : App). a.top) c.in_ok-format_words.ensures.app) in
-    IfOk-weaker c.subcommand-3.result _ _ (λ p h. h.shape c.in_ok-show_words.ensures.local
-    ∙ ap₂ with_subcommand second (ap (λ (a : App). a.top) c.in_ok-show_words.ensures.app)) c.subcommand-3.ensures
+    let third : app_of c.in_ok-subcommand-3.field-0 ≡ with_subcommand (with_subcommand (with_subcommand top run_words.top) format_words.top) show_words.top =
+    c.in_ok-subcommand-3.ensures.shape c.in_ok-show_words.ensures.local
+    ∙ ap₂ with_subcommand second (ap (λ (a : App). a.top) c.in_ok-show_words.ensures.app) in
+    let fourth : app_of c.in_ok-subcommand-4.field-0
+    ≡ with_subcommand (with_subcommand (with_subcommand (with_subcommand top run_words.top) format_words.top) show_words.top) serve_words.top =
+    c.in_ok-subcommand-4.ensures.shape c.in_ok-serve_words.ensures.local
+    ∙ ap₂ with_subcommand third (ap (λ (a : App). a.top) c.in_ok-serve_words.ensures.app) in
+    IfOk-weaker c.subcommand-5.result _ _ (λ p h. h.shape c.in_ok-connect_words.ensures.local
+    ∙ ap₂ with_subcommand fourth (ap (λ (a : App). a.top) c.in_ok-connect_words.ensures.app)) c.subcommand-5.ensures

@@ -1,0 +1,20 @@
+-- What a writer holds behind a flush, or behind nothing.
+use Rattle.std.proofs.Common.{ℕ, List, [], length, arith, append-nil, sym, Option, Some, None, Result, Ok, Err}
+use Rattle.std.proofs.lemmas.List.{take_all}
+use Rattle.std.specs.Io.KnownBytes.{Appends, Keeps}
+use Rattle.std.specs.declared.io.Error.{Error}
+use Rattle.pf_addr.specs.Writing.{Appends-kept, Writes, WritesFront}
+
+-- a flush behind a text leaves it
+pub flushed : (r : Result (Unit {0}) Error) (old mid new : Option (List ℕ)) (text : List ℕ) → Appends old mid text → Keeps mid new → Writes r old new text
+flushed (Ok u) old mid new text a k = Appends-kept old mid new text a k
+flushed (Err e) old mid new text a k = (length text, rw (take_all (length text) text (omega arith)) (Appends-kept old mid new text a k))
+
+-- nothing is written where nothing is told
+pub appends_none : (o : Option (List ℕ)) → Appends o o []
+appends_none None = tt
+appends_none (Some bytes) = sym (append-nil bytes)
+
+-- the whole of a text is a front of it
+pub whole_front : (old new : Option (List ℕ)) (text : List ℕ) → Appends old new text → WritesFront old new text
+whole_front old new text a = (length text, rw (take_all (length text) text (omega arith)) a)

@@ -1,0 +1,5 @@
+pub mod Chains
+pub mod Sittings
+pub mod Attending
+pub mod Streams
+pub mod Carrying
