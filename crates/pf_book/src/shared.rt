@@ -1,6 +1,8 @@
 //! A Book that threads share.
 ghost use Rattle.std.specs.Option.{option_copied};
-ghost use Rattle.pf_book.specs.{Books.page, Receipts.{IsReached, IsAnswered}};
+ghost use Rattle.pf_disk.specs.Disk.{EachMoment};
+ghost use Rattle.pf_core.specs.{Pages.IsAt, Worlds.{Held, calling}};
+ghost use Rattle.pf_book.specs.{Books.{HoldsLeft, page}, Receipts.{IsReached, IsAnswered}};
 
 use crate::book::Book;
 use crate::history::Chapter;
@@ -27,9 +29,11 @@ impl<D: Disk + Drop, J: Chapter, R: Wait + Drop> Model for Desk<D, J, R> {
 }
 
 impl<D: Disk + Drop, J: Chapter, R: Wait + Drop> Desk<D, J, R> {
-    // One call.
+    // One call. At each moment of it an image of the device holds what some crash within it leaves of the opening.
     fn run(&mut self, command: &Command, last: Option<&Receipt<J>>) -> (Reply, Receipt<J>)
-        ensures { IsAnswered J.base J.setting command.now result.0 result.1 (option_copied last.entry) }
+        ensures answered { IsAnswered J.base J.setting command.now result.0 result.1 (option_copied last.entry) }
+        ensures any_moment { (h : Held) → IsAt h (page self.old)
+            → EachMoment D.moment D.left_since self.old.disk self.new.disk (HoldsLeft h (calling command.now)) }
     {
         self.book.answer(command, last)
     }

@@ -18,3 +18,8 @@ appends_none (Some bytes) = sym (append-nil bytes)
 -- the whole of a text is a front of it
 pub whole_front : (old new : Option (List ℕ)) (text : List ℕ) → Appends old new text → WritesFront old new text
 whole_front old new text a = (length text, rw (take_all (length text) text (omega arith)) a)
+
+-- the whole text, be it a success or not
+pub whole_writes : {A E : Type 0} (r : Result A E) (old new : Option (List ℕ)) (text : List ℕ) → Appends old new text → Writes r old new text
+whole_writes (Ok u) old new text a = a
+whole_writes (Err e) old new text a = whole_front old new text a

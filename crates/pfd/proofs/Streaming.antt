@@ -1,5 +1,5 @@
 -- A peer's stream that comes in pieces.
-use Rattle.std.proofs.{Common.{◌≡◌, ◌∙◌, ℕ, List, [], ◌∷◌, ◌++◌, Option, Some, None, Result, Ok, Err, inl, inr, refl, sym, ap, subst, append_assoc, append-nil, arith}, KnownBytes.{Appends-nil, Appends-trans}}
+use Rattle.std.proofs.{Common.{◌≡◌, ◌∙◌, ℕ, ◌≤◌, length, List, [], ◌∷◌, ◌++◌, Option, Some, None, Result, Ok, Err, inl, inr, refl, sym, ap, subst, append_assoc, append-nil, arith}, KnownBytes.{Appends-nil, Appends-trans}}
 use Rattle.std.specs.Io.KnownBytes.{Appends, IsAtEnd, Keeps}
 use Rattle.pf_addr.specs.Writing.{Appends-kept, WritesFront}
 use Rattle.pf_state.specs.declared.{peer.fault.PeerFault.PeerFault, peer.fault.PeerFault.TheVariants.Ended, peer.message.Message.Message}
@@ -61,12 +61,12 @@ module _ (base : Kept) (setting : Setting) where
   }
 
   -- nothing but a flush failed
-  pub flush-cut : {xs : List Item} (others : List Item) {a b : Option Slip} {h i : Option (List ℕ)} (j : Option (List ℕ)) → Keeps i j → Answered (Takes base setting) xs a b h i → CutOff (Takes base setting) (xs ++ others) a b h j
-  flush-cut {xs} others {a} {b} {h} {i} j keeps p = record {
+  pub flush-cut : {xs : List Item} {a b : Option Slip} {h i : Option (List ℕ)} (j : Option (List ℕ)) → Keeps i j → Answered (Takes base setting) xs a b h i → CutOff (Takes base setting) xs a b h j
+  flush-cut {xs} {a} {b} {h} {i} j keeps p = record {
     earlier = xs;
     last = [];
-    others = others;
-    lines_are = refl;
+    others = [];
+    lines_are = sym (append-nil xs);
     one = omega arith;
     before = b;
     mid = i;
@@ -144,7 +144,7 @@ module _ (base : Kept) (setting : Setting) where
   still-so_far j keeps s = record { messages = s.messages; rest = s.rest; reads = s.reads; kept_is = s.kept_is; answered = taken-kept j keeps s.answered }
 
   pub flush-ends : {input : List ℕ} {kept : Option (List ℕ)} (unread : Option (List ℕ)) {a b : Option Slip} {h i : Option (List ℕ)} (j : Option (List ℕ)) → Keeps i j → SoFar (Takes base setting) input kept a b h i → Ends (Takes base setting) (Err fault.Write) input unread a b h j
-  flush-ends unread j keeps s = (s.messages, Unfinished s.rest, s.reads, flush-cut (wrong (Unfinished s.rest)) j keeps s.answered)
+  flush-ends unread j keeps s = (s.messages, Unfinished s.rest, s.reads, inl (flush-cut j keeps s.answered))
 
   pub read-ends : {input : List ℕ} {kept : Option (List ℕ)} (unread : Option (List ℕ)) {a b : Option Slip} {h i : Option (List ℕ)} → SoFar (Takes base setting) input kept a b h i → Ends (Takes base setting) (Err fault.Read) input unread a b h i
   read-ends unread s = (s.messages, s.rest, s.reads, s.answered)
@@ -179,31 +179,32 @@ module _ (base : Kept) (setting : Setting) where
   over-ends piece kept' unread s (inr (bad, waits)) = absurd (cc (bad))
 
   -- a piece at which it fails
-  pub err-ends : (why : EngineFault) {input : List ℕ} {kept : Option (List ℕ)} (piece : List ℕ) (kept' unread : Option (List ℕ)) {a b c : Option Slip} {h i j : Option (List ℕ)} → SoFar (Takes base setting) input kept a b h i → TakesPiece (Takes base setting) (Err why) piece kept kept' b c i j → Ends (Takes base setting) (Err why) (input ++ piece) unread a c h j
-  err-ends fault.Read piece kept' unread s (inl (ms, f, taken, ran)) = absurd ran
-  err-ends fault.Read piece kept' unread s (inr (bad, waits)) = absurd (cc (bad))
-  err-ends fault.Write {input} {kept} piece kept' unread s (inl (ms, None, taken, cut)) =
+  pub err-ends : (why : EngineFault) {input : List ℕ} {kept : Option (List ℕ)} (piece : List ℕ) (kept' unread : Option (List ℕ)) {a b c : Option Slip} {h i j : Option (List ℕ)} → length piece ≤ 65536 → SoFar (Takes base setting) input kept a b h i → TakesPiece (Takes base setting) (Err why) piece kept kept' b c i j → Ends (Takes base setting) (Err why) (input ++ piece) unread a c h j
+  err-ends fault.Read piece kept' unread few s (inl (ms, f, taken, ran)) = absurd ran
+  err-ends fault.Read piece kept' unread few s (inr (bad, waits)) = absurd (cc (bad))
+  err-ends fault.Write {input} {kept} piece kept' unread few s (inl (ms, None, taken, cut)) =
       let (rest, reads, is) = subst (λ (k : Option (List ℕ)). TakenAs k piece kept' ms None) s.kept_is taken in (
         s.messages ++ ms,
         Unfinished rest,
         reads-more input piece s.messages ms s.rest (Unfinished rest) s.reads reads,
-        cut-longer (wrong (Unfinished rest)) (rw (items-then s.messages ms) (cut-behind s.answered (rw (append-nil (items ms)) at cut))),
+        inl (rw (items-then s.messages ms) (cut-behind s.answered (rw (append-nil (items ms)) at cut))),
       )
-  err-ends fault.Write {input} {kept} piece kept' unread s (inl (ms, Some f, taken, cut)) =
+  err-ends fault.Write {input} {kept} piece kept' unread few s (inl (ms, Some f, taken, cut)) =
       let (rest, reads, is) = subst (λ (k : Option (List ℕ)). TakenAs k piece kept' ms (Some f)) s.kept_is taken in (
         s.messages ++ ms,
         Faulty f,
         reads-more input piece s.messages ms s.rest (Faulty f) s.reads reads,
-        rw (items-more s.messages ms (Err f ∷ [])) (cut-behind s.answered cut),
+        inr (rw (items-more s.messages ms (Err f ∷ [])) (cut-behind s.answered cut), tt),
       )
-  err-ends fault.Write piece kept' unread s (inr (bad, waits)) = absurd (cc (bad))
-  err-ends fault.Memory piece kept' unread s (inl (ms, f, taken, ran)) = absurd ran
-  err-ends fault.Memory {input} piece kept' unread {a} {b} {c} {h} {i} {j} s (inr (is, waits)) = (
+  err-ends fault.Write piece kept' unread few s (inr (bad, waits)) = absurd (cc (bad))
+  err-ends fault.Memory piece kept' unread few s (inl (ms, f, taken, ran)) = absurd ran
+  err-ends fault.Memory {input} piece kept' unread {a} {b} {c} {h} {i} {j} few s (inr (is, waits)) = (
     input,
     piece,
     s.messages,
     s.rest,
     refl,
+    few,
     s.reads,
     subst (λ (x : Option (List ℕ)). Answered (Takes base setting) (items s.messages) a c h x) (sym waits.bytes)
         (subst (λ (x : Option Slip). Answered (Takes base setting) (items s.messages) a x h i) (sym waits.state) s.answered),
@@ -224,5 +225,5 @@ module _ (base : Kept) (setting : Setting) where
       (s.messages, Unfinished s.rest, s.reads, end-told s.rest s.messages j s.answered (subst (λ (k : Option (List ℕ)). Appends i j (end_text (finished k))) s.kept_is tells), end)
   end-ends (Err fault.Read) unread j s end tells = absurd tells
   end-ends (Err fault.Write) {kept = kept} unread {i = i} j s end tells =
-      (s.messages, Unfinished s.rest, s.reads, end-cut s.rest s.messages j s.answered (subst (λ (k : Option (List ℕ)). WritesFront i j (end_text (finished k))) s.kept_is tells))
+      (s.messages, Unfinished s.rest, s.reads, inr (end-cut s.rest s.messages j s.answered (subst (λ (k : Option (List ℕ)). WritesFront i j (end_text (finished k))) s.kept_is tells), end))
   end-ends (Err fault.Memory) unread j s end tells = absurd tells

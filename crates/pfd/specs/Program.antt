@@ -1,7 +1,7 @@
 -- What the program does with its words. Own.
 use Rattle.std.specs.{Prelude.{◌≡◌, ◌⊎◌, ℕ, ◌<◌, List, [], ◌∷◌, ◌++◌, Option, Result, Ok, Err, codes}, Io.KnownBytes.Keeps}
 use Rattle.std.specs.declared.{io.ErrorKind.ErrorKind, io.ErrorKind.TheVariants.OutOfMemory}
-use Rattle.pf_addr.specs.Writing.{WritesFront}
+use Rattle.pf_addr.specs.Writing.{Writes}
 use Rattle.pf_core.specs.{Durable.Edits.{Kept, kept_nothing}, Pages.{IsAt, StandsFor}, Worlds.{Event, begun, down, last_epoch, opened, raised, state_after, IsWorld}}
 use Rattle.pf_store.specs.{Banks.IsSize, Openings.IsUnopened, Rooms.on_device, Stores.Holds}
 use Rattle.pf_store.specs.declared.store.fault.OpenFault.{OpenFault}
@@ -108,8 +108,7 @@ abbrev pub listening_text : List ℕ → List ℕ
 listening_text address = codes "listening " ++ (address ++ 10 ∷ [])
 
 -- What was asked was done: lines are read in a session alone and to be sent to a server, a disk that is formatted tells nothing, and a server
--- where it listens. The functions count the faults of
--- disks in memory, give what a disk on a file reads as, and count the faults of such disks.
+-- where it listens. The functions count the faults of disks in memory, give what a disk on a file reads as, and count the faults of such disks.
 abbrev pub IsDone : {M F : Type 0} → (M → ℕ) → (F → List ℕ) → (F → ℕ) → Task → Result (Unit {0}) Fault
     → Option (List ℕ) → Option (List ℕ) → Option (List ℕ) → Option (List ℕ) → Type 0
 IsDone memory seen file (Run size history) result unread unread' held held' = RanOver memory size history result unread unread' held held'
@@ -117,7 +116,7 @@ IsDone memory seen file (RunOn path size history) result unread unread' held hel
 IsDone memory seen file (Format path size) result unread unread' held held' = Keeps unread unread' × Keeps held held'
 IsDone memory seen file (Show path) result unread unread' held held' = Keeps unread unread'
 IsDone memory seen file (Serve service) result unread unread' held held' =
-    Keeps unread unread' × ((bound : List ℕ) × WritesFront held held' (listening_text bound))
+    Keeps unread unread' × ((bound : List ℕ) × Writes result held held' (listening_text bound))
 IsDone memory seen file (Connect address) result unread unread' held held' = Unit {0}
 
 -- The status where the words couldn't be had: 1 for want of memory, else 2.

@@ -50,6 +50,15 @@ const CASES: &[Case] = &[
         1,
         "d41d8cd98f00b204e9800998ecf8427e\n",
     ),
+    // A packet is judged by what the session did before.
+    (
+        "judge in em0 tcp 10.0.0.1 1 10.0.0.2 2\nbegin filter -\nadd - 1.1 block in all\ncommit filter - 1.1\njudge in em0 tcp 10.0.0.1 1 10.0.0.2 2",
+        99,
+        9,
+        Ok(()),
+        5,
+        "pass default\nok 1.1\nok\napplied 1\nblock rule 0\n",
+    ),
     // Each line passes the gate, also one that is told nothing, or that is wrong.
     (
         "#\n\nfrob\n \nlog",
@@ -244,21 +253,42 @@ fn asked<N: Net<Listener = TcpListener, Stream = TcpStream>>(
     Ok(text)
 }
 
-// The client of session 1 is told nothing until that of session 2 is.
-fn ask_in_turn<N: Net<Listener = TcpListener, Stream = TcpStream>>(
+/// What session 1 sends, and what it is told.
+const COMMIT: (&[u8], &str) = (
+    b"begin filter -\nadd - 1.1 block in all\ncommit filter - 1.1\n",
+    "ok 1.1\nok\napplied 1\n",
+);
+
+// Whether a session is told this line of a packet.
+fn is_judged(alloc: Global, session: &mut TcpStream, wanted: &[u8]) -> io::Result<bool> {
+    session.write_all(b"judge in em0 tcp 10.0.0.1 1 10.0.0.2 2\n")?;
+    let mut line = vec![in alloc; 0u8; wanted.len()]?;
+    session.read_exact(line.as_mut_slice())?;
+    Ok(line.as_slice() == wanted)
+}
+
+// The client of session 1 is told nothing until that of session 2 is. Session 2 goes on, and its packets are judged by what session 1 was
+// told is applied.
+fn ask_in_turn<N: Net<Listener = TcpListener, Stream = TcpStream> + Abort>(
     net: &N,
     alloc: Global,
     server: SocketAddr,
     gate: &Holding,
-) -> io::Result<(String, String)> {
+) -> io::Result<()> {
     let mut first = TcpStream::connect(net, server)?;
-    first.write_all(b"tset - t 10/8\n")?;
-    let second = asked(net, alloc, server, b"test - t 10.0.0.1\n");
-    gate.is_answered.store(true, Ordering::SeqCst);
+    first.write_all(COMMIT.0)?;
     first.shutdown(Shutdown::Write)?;
-    let mut text = String::new(alloc);
-    first.read_to_string(&mut text)?;
-    Ok((text, second?))
+    let mut second = TcpStream::connect(net, server)?;
+    let before = is_judged(alloc, &mut second, b"pass default\n");
+    gate.is_answered.store(true, Ordering::SeqCst);
+    let passed = before?;
+    assert!(net; passed);
+    let mut told = String::new(alloc);
+    first.read_to_string(&mut told)?;
+    assert!(net; told.as_str() == COMMIT.1);
+    let blocked = is_judged(alloc, &mut second, b"block rule 0\n")?;
+    assert!(net; blocked);
+    Ok(())
 }
 
 fn overlap<
@@ -284,9 +314,7 @@ fn overlap<
         || ask_in_turn(rt, alloc, server, gate),
     );
     assert!(rt; served.is_ok());
-    let (first, second) = told?;
-    assert!(rt; first.as_str() == "applied 1\n");
-    assert!(rt; second.as_str() == "nomatch\n");
+    told?;
     assert!(rt; !gate.met_limit.load(Ordering::SeqCst));
     Ok(())
 }
@@ -296,7 +324,8 @@ fn sessions_overlap(rt: HostRuntime) -> Result<(), Fail> {
     overlap::<Brand, _, _>(&rt, &rt, rt.alloc(), opened(rt.alloc())?)
 }
 
-// One worker, which serves a session, a peer that ends within a message, a client that ends within a line, and one that says nothing.
+// One worker, which serves a session, a client that ends within a line, a peer that ends within a message, one that sends much behind a fault,
+// a client that closes with replies unread, which resets its connection, and one that says nothing.
 fn ask_one_after_the_other<N: Net<Listener = TcpListener, Stream = TcpStream> + Abort>(
     net: &N,
     alloc: Global,
@@ -308,6 +337,13 @@ fn ask_one_after_the_other<N: Net<Listener = TcpListener, Stream = TcpStream> + 
     assert!(net; torn.as_str() == "match 10.0.0.0/8\n");
     let peer = asked(net, alloc, server, &MESSAGE[..19])?;
     assert!(net; peer.as_str() == "err peer ended\n");
+    let faulty = vec![in alloc; 5u8; 200_000]?;
+    let told_of = asked(net, alloc, server, &faulty)?;
+    assert!(net; told_of.as_str() == "err peer version\n");
+    let mut rude = TcpStream::connect(net, server)?;
+    rude.write_all(b"log\nlog\n")?;
+    rude.read_exact(&mut [0u8; 1])?;
+    drop(rude);
     let silent = asked(net, alloc, server, b"")?;
     assert!(net; silent.is_empty());
     let told = asked(net, alloc, server, b"log\n")?;
@@ -330,7 +366,7 @@ fn serve_them_all<
     let server = listener.local_addr()?;
     let (served, told) = thread::join(
         rt,
-        || serve_listener(rt, alloc, listener, shared, seers, &OpenGate, 5),
+        || serve_listener(rt, alloc, listener, shared, seers, &OpenGate, 7),
         || ask_one_after_the_other(rt, alloc, server),
     );
     assert!(rt; served.is_ok());

@@ -2,10 +2,10 @@
 ghost use Rattle.pfd.specs.declared.program.words.TheConstants.{HISTORY_LIMIT};
 ghost use Rattle.pf_book.specs.Books.{IsNamed};
 
-use crate::books::opened;
+use crate::books::{opened, opened_of};
 use pf_line::{parse_line, write_judged, write_reply};
 use pf_rule::Packet;
-use pfd::{Book, Chapter, HISTORY_LIMIT, MemDisk, Opening, Receipt, Seer, Shared};
+use pfd::{Book, Chapter, HISTORY_LIMIT, MEMORY_SIZE, MemDisk, Opening, Receipt, Seer, Shared};
 use std::alloc::Global;
 use std::io::{self, ErrorKind};
 use std::marker::Brand;
@@ -79,7 +79,6 @@ fn confirm_all<J: Chapter, H: Wait + Drop>(
     receipts: &[Receipt<J>],
     numbers: &mut Vec<usize>,
 ) -> Result<(), Fail> {
-    assert!(rt; receipts.len() == 3 * COMMITS);
     for receipt in receipts {
         assert!(rt; book.confirm(receipt));
         if receipt.change().is_some() {
@@ -108,10 +107,12 @@ fn share<J: Chapter + Send + Sync, H: Wait + Drop + Send + Sync, R: Wait + Threa
         || commits(rt, alloc, the_shared, "a"),
         || commits(rt, alloc, the_shared, "b"),
     );
+    let (first, second) = (first?, second?);
+    assert!(rt; first.len() == 3 * COMMITS && second.len() == 3 * COMMITS);
     let mut numbers = Vec::new(alloc);
     let mut book = shared.close();
-    confirm_all(rt, &mut book, &first?, &mut numbers)?;
-    confirm_all(rt, &mut book, &second?, &mut numbers)?;
+    confirm_all(rt, &mut book, &first, &mut numbers)?;
+    confirm_all(rt, &mut book, &second, &mut numbers)?;
     numbers.sort()?;
     assert!(rt; numbers.iter().copied().eq(1..=2 * COMMITS));
     assert!(rt; book.log_len() == 2 * COMMITS);
@@ -121,7 +122,7 @@ fn share<J: Chapter + Send + Sync, H: Wait + Drop + Send + Sync, R: Wait + Threa
 
 #[test]
 fn each_receipt_is_confirmed(rt: HostRuntime) -> Result<(), Fail> {
-    share::<Brand, _, _>(&rt, &rt, rt.alloc(), opened(rt.alloc())?)
+    share::<Brand, _, _>(&rt, &rt, rt.alloc(), opened_of(rt.alloc(), MEMORY_SIZE)?)
 }
 
 const TABLE: &str = "tset - t 172.16.0.0/16 !172.16.1.0/24 172.16.1.100";
@@ -161,14 +162,14 @@ fn judged<J: Chapter>(alloc: Global, seer: &mut Seer<J>) -> io::Result<Vec<u8>> 
     Ok(text)
 }
 
-// One seer learns of a commit, and another isn't told; both judge by it in threads of their own.
+// One seer learns of a commit, and another isn't told; both judge by it in threads of their own. The receipts of the commit's lines.
 fn see<J: Chapter + Send + Sync, H: Wait + Drop + Send + Sync, R: Wait + Threads + Abort + Sync>(
     rt: &R,
     alloc: Global,
     shared: &Shared<MemDisk, J, H>,
     told: &mut Seer<J>,
     untold: &mut Seer<J>,
-) -> Result<(), Fail> {
+) -> Result<Vec<Receipt<J>>, Fail> {
     let before = judged(alloc, untold)?;
     assert!(rt; before.as_slice() == b"pass default\n".as_slice());
     let mut receipts = Vec::new(alloc);
@@ -190,7 +191,7 @@ fn see<J: Chapter + Send + Sync, H: Wait + Drop + Send + Sync, R: Wait + Threads
     let (one, other) = thread::join(rt, || judged(alloc, told), || judged(alloc, untold));
     assert!(rt; one?.as_slice() == b"block rule 0\n".as_slice());
     assert!(rt; other?.as_slice() == b"block rule 0\n".as_slice());
-    Ok(())
+    Ok(receipts)
 }
 
 fn see_beside<
@@ -207,8 +208,11 @@ fn see_beside<
         return Err(Fail::from("two seers"));
     };
     let shared = Shared::new(book);
-    see(rt, alloc, &shared, &mut told, &mut untold)?;
-    let book = shared.close();
+    let receipts = see(rt, alloc, &shared, &mut told, &mut untold)?;
+    let mut numbers = Vec::new(alloc);
+    let mut book = shared.close();
+    confirm_all(rt, &mut book, &receipts, &mut numbers)?;
+    assert!(rt; numbers.as_slice() == [1].as_slice());
     assert!(rt; book.log_len() == 1);
     Ok(())
 }

@@ -2,19 +2,20 @@
 use crate::streams::{Script, Tight};
 use pfd::{run_process, start, without_words};
 use std::alloc::Global;
-use std::fs::{File, Files};
-use std::io::{self, ErrorKind};
-use std::net::{Net, TcpListener, TcpStream};
+use std::fs::{File, Files, OpenOptions};
+use std::io::{self, ErrorKind, Read, Write};
+use std::net::{Net, SocketAddr, TcpListener, TcpStream};
 use std::process::Abort;
 use std::sync::Wait;
-use std::sync::atomic::AtomicBool;
+use std::sync::atomic::{AtomicBool, AtomicU32, Ordering};
 use std::test::*;
+use std::thread;
 use std::thread::Threads;
 
 /// Words, what a read gives, the writer's room and flushes.
 type Case<'a> = (&'a str, &'a str, usize, u32);
 
-fn words_of(alloc: Global, line: &str) -> Result<Vec<String>, Fail> {
+fn words_of(alloc: Global, line: &str) -> io::Result<Vec<String>> {
     let mut words = Vec::new(alloc);
     for word in line.split(' ') {
         words.push(String::from_str(alloc, word)?)?;
@@ -344,6 +345,14 @@ const KEPT: &[(Case, (u8, &str, &str))] = &[
         (0, "ok 1.1\napplied 1\nerr full\n", ""),
     ),
     (
+        ("pfd show --disk kept", "!", 99, 9),
+        (
+            0,
+            "epoch 1\nsum d41d8cd98f00b204e9800998ecf8427e\nrulesets 0\ntables 1\nstates 0\n",
+            "",
+        ),
+    ),
+    (
         (
             "pfd run --disk kept --size 300",
             "commit filter - 1.1\nbegin filter -\ntest - t 10.1.2.3\ntest - u 10.1.2.3",
@@ -405,6 +414,172 @@ fn keeps_what_it_answered(rt: HostRuntime) -> Result<(), Fail> {
     for (case, wanted) in KEPT {
         check(&rt, rt.alloc(), *case, *wanted)?;
     }
+    Ok(())
+}
+
+/// On a file of zeros.
+const NO_BANK: [&str; 3] = [
+    "pfd show --disk zeros",
+    "pfd run --disk zeros",
+    "pfd serve --listen 127.0.0.1:0 --disk zeros --size 300",
+];
+
+/// On a file that another program has locked.
+const LOCKED: [&str; 3] = [
+    "pfd run --disk zeros",
+    "pfd serve --listen 127.0.0.1:0 --disk zeros --size 300",
+    "pfd format --disk zeros --size 300",
+];
+
+#[test]
+fn leaves_files_that_are_no_disk_of_its_own(rt: HostRuntime) -> Result<(), Fail> {
+    let file = OpenOptions::new()
+        .write(true)
+        .create(true)
+        .open(&rt, "zeros")?;
+    file.set_len(0)?;
+    file.set_len(300)?;
+    for line in NO_BANK {
+        check(
+            &rt,
+            rt.alloc(),
+            (line, "!", 99, 9),
+            (1, "", "pfd: no bank\n"),
+        )?;
+    }
+    assert!(rt; file.try_lock().is_ok());
+    for line in LOCKED {
+        check(&rt, rt.alloc(), (line, "!", 99, 9), (1, "", "pfd: input\n"))?;
+    }
+    Ok(())
+}
+
+/// How often a client gives way to other threads at most, until a server listens.
+const MOST_TURNS: u32 = 10_000_000;
+
+/// A writer that says which port a server has told it, once that is flushed.
+#[derive(Drop)]
+struct Address<'a> {
+    text: Vec<u8>,
+    port: &'a AtomicU32,
+}
+
+impl Write for Address<'_> {
+    fn write(&mut self, buf: &[u8]) -> io::Result<usize> {
+        self.text.extend_from_slice(buf)?;
+        Ok(buf.len())
+    }
+
+    fn flush(&mut self) -> io::Result<()> {
+        let text = std::str::from_utf8(&self.text).unwrap_or("");
+        if let Some(port) = text.trim_end().strip_prefix("listening 127.0.0.1:") {
+            self.port
+                .store(port.parse::<u32>().unwrap_or(0), Ordering::SeqCst);
+        }
+        Ok(())
+    }
+}
+
+fn serve_one<
+    R: Files<File = File> + Wait + Threads + Net<Listener = TcpListener, Stream = TcpStream> + Sync,
+>(rt: &R, alloc: Global, port: &AtomicU32) -> io::Result<u8> {
+    let line = "pfd serve --listen 127.0.0.1:0 --disk served --size 4096 --sessions 1";
+    let words = words_of(alloc, line)?;
+    let mut nothing: &[u8] = b"";
+    let mut writer = Address {
+        text: Vec::new(alloc),
+        port,
+    };
+    let mut told = Vec::new(alloc);
+    let words = words.as_slice();
+    Ok(start(rt, alloc, rt, words, &mut nothing, &mut writer, &mut told))
+}
+
+fn connect_to<
+    R: Files<File = File> + Wait + Threads + Net<Listener = TcpListener, Stream = TcpStream> + Sync,
+>(rt: &R, alloc: Global, port: &AtomicU32, written: &mut Vec<u8>) -> io::Result<u8> {
+    for turn in 0..MOST_TURNS {
+        if port.load(Ordering::SeqCst) != 0 {
+            break;
+        }
+        thread::yield_now();
+    }
+    let port = port.load(Ordering::SeqCst);
+    let words = words_of(
+        alloc,
+        format!(in alloc; "pfd connect 127.0.0.1:{port}")?.as_str(),
+    )?;
+    let mut lines: &[u8] = b"tset - t 10/8\nlog";
+    let mut told = Vec::new(alloc);
+    let words = words.as_slice();
+    Ok(start(rt, alloc, rt, words, &mut lines, written, &mut told))
+}
+
+#[test]
+fn a_client_is_served(rt: HostRuntime) -> Result<(), Fail> {
+    let alloc = rt.alloc();
+    let format = "pfd format --disk served --size 4096";
+    check(&rt, alloc, (format, "!", 99, 9), (0, "", ""))?;
+    let port = &AtomicU32::new(0);
+    let mut written = Vec::new(alloc);
+    let (served, connected) = thread::join(
+        &rt,
+        || serve_one(&rt, alloc, port),
+        || connect_to(&rt, alloc, port, &mut written),
+    );
+    let (served, connected) = (served?, connected?);
+    assert!(rt; served == 0 && connected == 0);
+    assert!(rt; written.as_slice() == b"applied 1\nlog 1 acked 1 shown 1\n".as_slice());
+    Ok(())
+}
+
+// Hangs up on a first client at once, and on a second one at the end of what it sends.
+fn hang_up(listener: &TcpListener) -> io::Result<()> {
+    let (first, _) = listener.accept()?;
+    drop(first);
+    let (second, _) = listener.accept()?;
+    let mut reader = &second;
+    reader.read(&mut [0u8; 1])?;
+    Ok(())
+}
+
+// A client that never ends its input, and one whose input can't be read.
+fn call_twice<
+    R: Abort
+        + Files<File = File>
+        + Wait
+        + Threads
+        + Net<Listener = TcpListener, Stream = TcpStream>
+        + Sync,
+>(rt: &R, alloc: Global, server: SocketAddr) -> Result<(), Fail> {
+    let line = format!(in alloc; "pfd connect {server}")?;
+    let words = words_of(alloc, line.as_str())?;
+    let mut lines = io::repeat(b'\n');
+    let mut written = Vec::new(alloc);
+    let mut told = Vec::new(alloc);
+    let words = words.as_slice();
+    let status = start(rt, alloc, rt, words, &mut lines, &mut written, &mut told);
+    let got = (status, written.as_slice(), told.as_slice());
+    assert!(rt; is_so(got, (1, "", "pfd: output\n")));
+    check(
+        rt,
+        alloc,
+        (line.as_str(), "!", 99, 9),
+        (1, "", "pfd: input\n"),
+    )
+}
+
+#[test]
+fn a_client_says_what_failed(rt: HostRuntime) -> Result<(), Fail> {
+    let listener = &TcpListener::bind(&rt, "127.0.0.1:0")?;
+    let server = listener.local_addr()?;
+    let (hung_up, called) = thread::join(
+        &rt,
+        || hang_up(listener),
+        || call_twice(&rt, rt.alloc(), server),
+    );
+    called?;
+    hung_up?;
     Ok(())
 }
 

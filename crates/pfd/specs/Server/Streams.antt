@@ -1,5 +1,5 @@
 -- A peer's stream over a Book that others use too: each message is one call. Own.
-use Rattle.std.specs.{Prelude.{◌≡◌, ℕ, List, [], ◌∷◌, ◌++◌, map, Option, Some, None, Result, Ok, Err, ◌⊎◌, ⊤}, Io.KnownBytes.{Appends, Consumes, IsAtEnd}}
+use Rattle.std.specs.{Prelude.{◌≡◌, ℕ, ◌≤◌, length, List, [], ◌∷◌, ◌++◌, map, Option, Some, None, Result, Ok, Err, ◌⊎◌, ⊤}, Io.KnownBytes.{Appends, Consumes, IsAtEnd}}
 use Rattle.pf_addr.specs.Writing.{WritesFront}
 use Rattle.pf_state.specs.declared.{peer.fault.FeedError.FeedError, peer.fault.PeerFault.PeerFault, peer.fault.PeerFault.TheVariants.Ended, peer.message.Message.Message}
 use Rattle.pf_state.specs.Peer.{Outcomes.TakenAs, Streams.{Ending, Unfinished, Faulty, Reads}}
@@ -47,8 +47,8 @@ HasEnded (Unfinished rest) unread = IsAtEnd unread
 HasEnded (Faulty f) unread = ⊤
 
 -- What was done for this input. At its end, and at a fault, all its messages are run, and what is wrong is told; where no more could be read
--- all its messages are run. Where a write failed, some are, from the front on. Where memory was refused, all are that were whole before the
--- last piece of it.
+-- all its messages are run. Where a write failed, some are, from the front on, and what is wrong may be told in part where it would be told.
+-- Where memory was refused, all are that were whole before the last piece of it, which is what one read may give.
 abbrev pub Ends : {S : Type 0} → (S → S → List Item → List ℕ → Type 0)
     → Result (Unit {0}) EngineFault → List ℕ → Option (List ℕ) → S → S → Option (List ℕ) → Option (List ℕ) → Type 0
 Ends Serves (Ok u) input unread old new held held' =
@@ -56,9 +56,10 @@ Ends Serves (Ok u) input unread old new held held' =
 Ends Serves (Err fault.Read) input unread old new held held' =
     (ms : List Message) × (rest : List ℕ) × Reads input ms (Unfinished rest) × Answered Serves (items ms) old new held held'
 Ends Serves (Err fault.Write) input unread old new held held' =
-    (ms : List Message) × (e : Ending) × Reads input ms e × CutOff Serves (items ms ++ wrong e) old new held held'
+    (ms : List Message) × (e : Ending) × Reads input ms e
+    × (CutOff Serves (items ms) old new held held' ⊎ (CutOff Serves (items ms ++ wrong e) old new held held' × HasEnded e unread))
 Ends Serves (Err fault.Memory) input unread old new held held' =
-    (before piece : List ℕ) × (ms : List Message) × (rest : List ℕ) × (input ≡ before ++ piece)
+    (before piece : List ℕ) × (ms : List Message) × (rest : List ℕ) × (input ≡ before ++ piece) × (length piece ≤ 65536)
     × Reads before ms (Unfinished rest) × Answered Serves (items ms) old new held held'
 
 -- What was read, and what was done for it.

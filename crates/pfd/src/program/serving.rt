@@ -1,6 +1,6 @@
 //! The server of the program: what it listens on and serves no clause can say, so this is only tested.
 ghost use Rattle.std.specs.Prelude.{◌≡◌, ℕ, List};
-ghost use Rattle.pf_addr.specs.Writing.{Writes, WritesFront};
+ghost use Rattle.pf_addr.specs.Writing.{Writes};
 ghost use Rattle.pf_book.specs.Books.{IsNamed};
 ghost use Rattle.pfd.specs.{Program.listening_text, Words.CanServe};
 
@@ -26,7 +26,7 @@ pub(crate) fn serve_file<
     W: Write,
 >(machine: &N, alloc: Global, files: &S, service: &Service<'_>, writer: &mut W) -> Result<(), Fault>
     requires { CanServe service.now }
-    ensures { (bound : List ℕ) × WritesFront (W.contents writer.old) (W.contents writer.new) (listening_text bound) }
+    ensures { (bound : List ℕ) × Writes result (W.contents writer.old) (W.contents writer.new) (listening_text bound) }
 {
     let disk = open_file(alloc, files, service.path, Some(service.size))?;
     match Opening::open(alloc, disk) {
@@ -50,7 +50,7 @@ fn serve_opening<
 ) -> Result<(), Fault>
     requires service { CanServe service.now }
     requires name { IsNamed J.base J.history J.setting opening service.now.history }
-    ensures { (bound : List ℕ) × WritesFront (W.contents writer.old) (W.contents writer.new) (listening_text bound) }
+    ensures { (bound : List ℕ) × Writes result (W.contents writer.old) (W.contents writer.new) (listening_text bound) }
 {
     let made = Book::<D, J, &N>::of(machine, alloc, opening, service.history, service.workers);
     let (book, seers) = match made {
@@ -78,7 +78,7 @@ fn listen<N: Net<Listener = TcpListener, Stream = TcpStream>, W: Write>(
     address: &str,
     writer: &mut W,
 ) -> Result<TcpListener, Fault>
-    ensures { (bound : List ℕ) × WritesFront (W.contents writer.old) (W.contents writer.new) (listening_text bound) }
+    ensures { (bound : List ℕ) × Writes result (W.contents writer.old) (W.contents writer.new) (listening_text bound) }
 {
     let Ok(listener) = TcpListener::bind(net, address) else {
         return Err(Fault::Input);

@@ -199,9 +199,8 @@ fn serve_words<'a>(alloc: Global) -> Result<Command<'a>, AllocError>
     ensures app { IfOk result (λ c. app_of c ≡ serve_words) }
     ensures local { IfOk result (λ c. (out-Command c).has_globals ≡ false) }
 {
-    server_words(alloc)?
-        .arg(history(alloc))?
-        .arg(sessions(alloc))
+    let history = history(alloc).help("How many changes the process may make [default: 65536]");
+    server_words(alloc)?.arg(history)?.arg(sessions(alloc))
 }
 
 fn connect_words<'a>(alloc: Global) -> Result<Command<'a>, AllocError>

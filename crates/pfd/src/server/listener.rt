@@ -7,14 +7,18 @@ use crate::server::session::serve;
 use crate::server::stream::serve_peer;
 use pf_book::{Chapter, Disk, Seer, Shared};
 use std::alloc::Global;
-use std::io::{BufWriter, ErrorKind};
-use std::net::{TcpListener, TcpStream};
+use std::io::{BufWriter, ErrorKind, Read};
+use std::net::{Shutdown, TcpListener, TcpStream};
 use std::sync::{Mutex, Wait};
 use std::thread;
 use std::thread::Threads;
+use std::time::Duration;
 
 // What a peer's stream begins with, and no line does.
 const PEER: u8 = 5;
+
+// So many reads are made at most of what a peer sends behind a fault.
+const MOST_DROPPED: usize = 64;
 
 // How many connections were accepted, and whether an accept failed.
 #[derive(Drop)]
@@ -72,6 +76,26 @@ fn first_byte(stream: &TcpStream) -> Option<u8> {
     None
 }
 
+// Drops what a peer sends behind a fault, for some reads, until it sends nothing for a second or closes: a connection that is closed with
+// bytes that weren't read is reset by the system, and the peer might not read of its fault.
+fn drop_rest(stream: &TcpStream) {
+    let _ = stream.shutdown(Shutdown::Write);
+    if stream
+        .set_read_timeout(Some(Duration::from_secs(1)))
+        .is_err()
+    {
+        return;
+    }
+    let mut reader = stream;
+    let mut piece = [0u8; 16_384];
+    for _ in 0..MOST_DROPPED {
+        match reader.read(&mut piece) {
+            Ok(0) | Err(_) => return,
+            Ok(_) => {}
+        }
+    }
+}
+
 // Serves a connection to its end.
 fn attend<W: Wait, D: Disk + Drop, J: Chapter, H: Wait + Drop, G: Gate>(
     rt: &W,
@@ -92,7 +116,11 @@ fn attend<W: Wait, D: Disk + Drop, J: Chapter, H: Wait + Drop, G: Gate>(
         return Err(EngineFault::Memory);
     };
     if first == PEER {
-        serve_peer(rt, alloc, &mut reader, &mut writer, shared)
+        let served = serve_peer(rt, alloc, &mut reader, &mut writer, shared);
+        if served.is_ok() {
+            drop_rest(stream);
+        }
+        served
     } else {
         serve(
             rt,

@@ -1,5 +1,5 @@
 //! A peer's stream of messages over a Book that others use too.
-ghost use Rattle.std.specs.Prelude.{◌<◌, ℕ, List, Option, None, length, Ok};
+ghost use Rattle.std.specs.Prelude.{◌<◌, ◌≤◌, ℕ, List, Option, None, length, Ok};
 ghost use Rattle.pf_addr.specs.Writing.{Writes};
 ghost use Rattle.pf_state.specs.Peer.Outcomes.{finished};
 ghost use Rattle.pf_core.specs.declared.{reply.Refusal.TheVariants.BadPeer, reply.Reply.TheVariants.Refused};
@@ -131,7 +131,7 @@ fn tell_end<O: Write>(peer: &mut PeerReader, writer: &mut O) -> Result<(), Engin
 /// Has the messages of a peer's stream run by a Book that sessions use too, each by one `Shared::run` with the receipt of the one before, and
 /// writes a reply line for each, until the reader is at its end. Own.
 ///
-/// A fault of the stream, or its end within a message, is told in a line, as a `peer` line with such bytes is, and nothing is read behind
+/// A fault of the stream, or its end within a message, is told in a line, as a `peer` line with such bytes is, and nothing is told behind
 /// it. The writer is flushed before each read and at the end. A read that was interrupted is made again; there are fewer than 2^62 reads.
 ///
 /// `Err(Read)`: a read failed, or there were too many; the whole messages before are answered. `Err(Write)`: a write or a flush failed; of
@@ -167,6 +167,7 @@ fn follow<W: Wait, D: Disk + Drop, J: Chapter, H: Wait + Drop, R: Read, O: Write
     follower: &mut Follower<'_, W, D, J, H>,
 ) -> Result<(), EngineFault>
     requires piece { 0 < length piece.old }
+    requires room { length piece.old ≤ PIECE_LEN }
     ensures { IsStream (Takes J.base J.setting) result (R.remaining reader.old) (R.remaining reader.new)
         follower.old.last follower.new.last (O.contents writer.old) (O.contents writer.new) }
 {

@@ -1,6 +1,8 @@
+use Rattle.std.proofs.Common.{subst}
 use Rattle.std.specs.{Option.option_copied, Prelude.nat_lt}
-use Rattle.pf_core.specs.Worlds.{Upshot, upshot}
-use Rattle.pf_book.specs.Books.{page}
+use Rattle.pf_disk.specs.Disk.{EachMoment}
+use Rattle.pf_core.specs.{Pages.IsAt, Worlds.{Held, Upshot, calling, upshot}}
+use Rattle.pf_book.specs.Books.{HoldsLeft, Ledger, page}
 use Rattle.pf_book.proofs.Answering.{answered, reached-on}
 use Rattle.pf_book.proofs.shared.Desk.run.Goals as goal
 
@@ -12,10 +14,16 @@ invariant_of-self g c =
     let e = c.answer.ensures in
     reached-on g.J.Naming.base g.J.Chapter.setting (page old) (page new) c.args.command.now c.answer.result.0 t c.self.invariant e.leads e.base e.setting
 
-pub returns : goal.returns
-returns g c =
+pub returns-clause-answered : goal.returns-clause-answered
+returns-clause-answered g c =
     let old = c.self.inside.book in
     let new = c.answer.new.self in
     let t : Upshot = upshot new.shown (nat_lt (g.D.Disk.fault_count old.disk) (g.D.Disk.fault_count new.disk)) in
     let e = c.answer.ensures in
     answered g.J.Naming.base g.J.Chapter.setting (page old) (page new) c.args.command.now c.answer.result.0 t c.self.invariant e.leads c.answer.result.1 (option_copied c.args.last) e.front e.given e.token e.follows
+
+pub returns-clause-any_moment : goal.returns-clause-any_moment
+returns-clause-any_moment g c =
+    let before : Ledger g.row.D.Denot → Type 0 =
+    λ l. (h : Held) → IsAt h (page l) → EachMoment g.D.Disk.moment g.D.Disk.left_since l.disk c.answer.new.self.disk (HoldsLeft h (calling c.args.command.now)) in
+    subst before c.self.view_is c.answer.ensures.any_moment

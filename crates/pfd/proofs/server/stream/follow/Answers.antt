@@ -1,4 +1,4 @@
-use Rattle.std.proofs.{Common.{◌≡◌, [], ◌++◌, take, append-nil, rules}, KnownBytes.{Consumes-nil, Consumes-trans, Consumes-kept}}
+use Rattle.std.proofs.{Common.{◌≡◌, ℕ, [], ◌++◌, take, append-nil, arith, length-take, rules}, KnownBytes.{Consumes-nil, Consumes-trans, Consumes-kept}}
 use Rattle.std.specs.Io.KnownBytes.{IsAtEnd}
 use Rattle.pfd.proofs.{Streaming.{nothing-yet, still-so_far, flush-ends, on-so_far, over-ends, err-ends, end-ends}, server.stream.follow.Goals.{in-Ok+else-n-eq0+in-Ok-On, in-Err+else-ne}}
 use Rattle.pfd.proofs.server.stream.follow.Goals as goal
@@ -45,7 +45,7 @@ returns-in-Err-take g c =
     record {
       input = input ++ piece;
       read = Consumes-trans (g.R.Read.remaining c.args.reader.now) (g.R.Read.remaining c.loop.reader) (g.R.Read.remaining c.read.new.self) input piece read c.in-Ok.ensures.bytes.0;
-      ends = err-ends g.J.Naming.base g.J.Chapter.setting c.in-Err-take.fault piece c.take.new.peer (g.R.Read.remaining c.read.new.self) (still-so_far g.J.Naming.base g.J.Chapter.setting (g.O.Write.contents c.flush.new.self) c.flush.ensures.bytes s) c.in-Err-take.ensures;
+      ends = err-ends g.J.Naming.base g.J.Chapter.setting c.in-Err-take.fault piece c.take.new.peer (g.R.Read.remaining c.read.new.self) (omega (arith, length-take {A = ℕ})) (still-so_far g.J.Naming.base g.J.Chapter.setting (g.O.Write.contents c.flush.new.self) c.flush.ensures.bytes s) c.in-Err-take.ensures;
     }
 
 pub loop-preserved : goal.loop-preserved
