@@ -27,7 +27,8 @@ pub fn the_limits_of_sessions()
 {}
 
 /// The seer of a session over a shared Book has learnt of no fewer changes behind a line than before it, and behind a change that the session
-/// was told is applied of no fewer than its number: with what `Seer::judge` promises the session is judged after at least so many changes from then on.
+/// was told is applied of no fewer than its number: with what `Seer::judge` promises the session is judged after at least so many changes from
+/// then on.
 pub fn sessions_learn<G: Gate>()
     ensures kept { (gate : G) (session : ℕ) → LearnsNoLess (G.passed gate session) }
     ensures applied { LearnsApplied }

@@ -324,8 +324,8 @@ fn sessions_overlap(rt: HostRuntime) -> Result<(), Fail> {
     overlap::<Brand, _, _>(&rt, &rt, rt.alloc(), opened(rt.alloc())?)
 }
 
-// One worker, which serves a session, a client that ends within a line, a peer that ends within a message, one that sends much behind a fault,
-// a client that closes with replies unread, which resets its connection, and one that says nothing.
+// One worker, which serves a session, a client that ends within a line, a peer that ends within a message, one that sends much behind a
+// fault, a client that closes with replies unread, which resets its connection, and one that says nothing.
 fn ask_one_after_the_other<N: Net<Listener = TcpListener, Stream = TcpStream> + Abort>(
     net: &N,
     alloc: Global,

@@ -480,6 +480,7 @@ impl Write for Address<'_> {
     }
 }
 
+// Serves one connection, over a file that was just formatted.
 fn serve_one<
     R: Files<File = File> + Wait + Threads + Net<Listener = TcpListener, Stream = TcpStream> + Sync,
 >(rt: &R, alloc: Global, port: &AtomicU32) -> io::Result<u8> {
@@ -495,6 +496,7 @@ fn serve_one<
     Ok(start(rt, alloc, rt, words, &mut nothing, &mut writer, &mut told))
 }
 
+// A client of that server, once its port is told.
 fn connect_to<
     R: Files<File = File> + Wait + Threads + Net<Listener = TcpListener, Stream = TcpStream> + Sync,
 >(rt: &R, alloc: Global, port: &AtomicU32, written: &mut Vec<u8>) -> io::Result<u8> {

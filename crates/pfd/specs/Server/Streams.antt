@@ -47,8 +47,8 @@ HasEnded (Unfinished rest) unread = IsAtEnd unread
 HasEnded (Faulty f) unread = ⊤
 
 -- What was done for this input. At its end, and at a fault, all its messages are run, and what is wrong is told; where no more could be read
--- all its messages are run. Where a write failed, some are, from the front on, and what is wrong may be told in part where it would be told.
--- Where memory was refused, all are that were whole before the last piece of it, which is what one read may give.
+-- all its messages are run. Where a write failed, some are, from the front on; some front of what is wrong may be out only where all of it
+-- would be told. Where memory was refused, all are that were whole before the last piece of it, which is what one read may give.
 abbrev pub Ends : {S : Type 0} → (S → S → List Item → List ℕ → Type 0)
     → Result (Unit {0}) EngineFault → List ℕ → Option (List ℕ) → S → S → Option (List ℕ) → Option (List ℕ) → Type 0
 Ends Serves (Ok u) input unread old new held held' =

@@ -162,7 +162,8 @@ fn work<W: Wait, D: Disk + Drop, J: Chapter, H: Wait + Drop, G: Gate>(
 /// A worker serves one connection at a time; further ones wait until a worker is free. Sessions are numbered from 1 in the order in which
 /// their connections were accepted, and the number stays at 4,294,967,295 once it has come so far. A connection whose first byte is 5 is a
 /// peer's stream, as [`serve_peer`] has it, any other a session, as [`serve`] has it. What ends one before its client does, as a reset or a
-/// want of memory, ends it alone.
+/// want of memory, ends it alone. What a peer sends behind a fault of its stream is dropped before its connection is closed, in 64 reads of
+/// 16,384 bytes at most, and until nothing comes for a second, so that it can read of its fault.
 ///
 /// Each worker has a thread, where the system gives it one; workers without one begin when others have ended.
 ///

@@ -136,7 +136,7 @@ fn tell_end<O: Write>(peer: &mut PeerReader, writer: &mut O) -> Result<(), Engin
 ///
 /// `Err(Read)`: a read failed, or there were too many; the whole messages before are answered. `Err(Write)`: a write or a flush failed; of
 /// the last reply some front may be out. `Err(Memory)`: memory was refused for the buffer, and nothing was read, or for a piece of the
-/// stream, and the messages that were whole before it are answered.
+/// stream, of 65,536 bytes at most, and the messages that were whole before it are answered.
 pub fn serve_peer<W: Wait, D: Disk + Drop, J: Chapter, H: Wait + Drop, R: Read, O: Write>(
     rt: &W,
     alloc: Global,
