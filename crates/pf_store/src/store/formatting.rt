@@ -2,7 +2,7 @@
 ghost use Rattle.std.specs.Prelude.{◌≡◌, ◌↔◌, ◌+◌, ◌^◌, ◌<◌, ◌≤◌, ◌≢◌, ℕ, List, length, replicate, slice_index, OnOk, IsErrOf, if◌then◌else◌};
 ghost use Rattle.pf_disk.specs.{Disk.{EachMoment, IsImage, IsSynced}, declared.image.TheConstants.OPEN_GATE};
 ghost use Rattle.pf_core.specs.Durable.Edits.{kept_nothing};
-ghost use Rattle.pf_store.specs.{Banks.{IsSize, bank_end, IsOfFormat}, BankFaults.is_format_fault, Stores.Holds};
+ghost use Rattle.pf_store.specs.{Banks.{IsSize, bank_end, IsOfFormat}, BankFaults.is_format_fault, Openings.gate_of, Stores.Holds};
 
 use crate::bank::{self, FormatFault};
 use pf_disk::Disk;
@@ -13,6 +13,11 @@ use std::alloc::Global;
 pub fn format<D: Disk>(alloc: Global, disk: &mut D) -> Result<(), FormatFault>
     requires few { D.fault_count disk.old < 2 ^ 63 }
     ensures holds { OnOk result ((c : List ℕ) → IsImage (D.seen disk.new) (D.unsynced disk.new) c → Holds c (kept_nothing 0)) }
+
+    // Its bank's closed gate stands behind the header and a snapshot of 16 bytes.
+    ensures gate { OnOk result ((c : List ℕ) → IsImage (D.seen disk.new) (D.unsynced disk.new) c
+        → (held : Holds c (kept_nothing 0)) → gate_of c (kept_nothing 0) held ≡ 40) }
+
     ensures other { OnOk result ((c : List ℕ) → IsImage (D.seen disk.new) (D.unsynced disk.new) c
         → slice_index c (bank_end (length (D.seen disk.old))) ≢ OPEN_GATE) }
     ensures synced { OnOk result (IsSynced (D.unsynced disk.new)) }

@@ -125,6 +125,7 @@ impl<D: Disk> Store<D> {
         ensures untouched { IfErr result (λ e. is_fault e.0 ≡ false → (D.seen e.1 ≡ D.seen disk)
             × EachMoment D.moment D.left_since disk e.1 (IsImage (D.seen disk) (D.unsynced disk))) }
         ensures unchanged_at_bad_size { IfErr result (λ e. e.0 ≡ opening.BadSize → e.1 ≡ disk) }
+        ensures same_size { IfOk result (λ r. length (D.seen r.1.bank.journal.disk) ≡ length (D.seen disk)) }
         ensures moments { IfOk result (λ r. D.moment r.1.bank.journal.disk ≤ D.moment disk + 8) }
         ensures moments_err { IfErr result (λ e. D.moment e.1 ≤ D.moment disk + 8) }
         ensures no_fault { IfOk result (λ r. D.fault_count r.1.bank.journal.disk ≡ D.fault_count disk) }
@@ -198,6 +199,7 @@ fn raise_on<D: Disk>(
     ensures refused { IfErr result (λ e. IsUnopened e.0 (D.seen disk)) }
     ensures untouched { IfErr result (λ e. is_fault e.0 ≡ false → e.1 ≡ disk) }
     ensures gate { IfOk result (λ r. r.1.bank.journal.gate ≡ found.now.looked.gate + 11) }
+    ensures same_size { IfOk result (λ r. length (D.seen r.1.bank.journal.disk) ≡ length (D.seen disk)) }
     ensures moments { IfOk result (λ r. D.moment r.1.bank.journal.disk ≤ D.moment disk + 4) }
     ensures moments_err { IfErr result (λ e. D.moment e.1 ≤ D.moment disk + 4) }
     ensures no_fault { IfOk result (λ r. D.fault_count r.1.bank.journal.disk ≡ D.fault_count disk) }

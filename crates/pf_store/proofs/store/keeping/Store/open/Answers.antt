@@ -57,3 +57,6 @@ returns-in-Ok-clause-room g c =
     on_ok c.raise_on.result _ _
     (λ r room e held. subst (λ (k : ℕ). k + 12 ≤ bank_end (length seen)) (found.gate ∙ one_gate seen f.durable e (found_held seen f.looked f.durable found) held)
     (subst (λ (l : List ℕ). f.looked.gate + 12 ≤ bank_end (length l)) c.find.ensures.seen room)) c.raise_on.ensures.room
+
+pub returns-in-Ok-clause-same_size : goal.returns-in-Ok-clause-same_size
+returns-in-Ok-clause-same_size g c = on_ok c.raise_on.result _ _ (λ r same. same ∙ ap length c.find.ensures.seen) c.raise_on.ensures.same_size
