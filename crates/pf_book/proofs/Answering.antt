@@ -1,10 +1,11 @@
 -- What a call comes to under the lock.
-use Rattle.std.proofs.Common.{◌≡◌, inl, inr, ℕ, ◌+◌, ◌<◌, ◌≤◌, Bool, List, [], ◌∷◌, ◌++◌, length, Option, None, Some, Result, Ok, Err, refl, sym, ap, ◌∙◌, subst, arith, append_assoc, append-nil, length-append}
-use Rattle.std.specs.{Option.ForSome}
+use Rattle.std.proofs.Common.{◌≡◌, ◌⊎◌, inl, inr, ℕ, ◌+◌, ◌<◌, ◌≤◌, Bool, true, false, cond, List, [], ◌∷◌, ◌++◌, length, Option, None, Some, Result, Ok, Err, refl, sym, ap, ◌∙◌, subst, arith, append_assoc, append-nil, length-append}
+use Rattle.std.specs.{Prelude.◌&&◌, Option.ForSome}
 use mathlib.Core.List.{IsPrefix}
-use Rattle.pf_core.specs.declared.{command.Command.Command, command.HistoryCommand.HistoryCommand, command.HistoryCommand.TheVariants.{Log, Publish}, reply.Outcome.Outcome, reply.Refusal.Refusal, reply.Reply.Reply, reply.Reply.TheVariants.{Answer, Applied, Stored, Refused}, step.Step.Step, step.Step.TheVariants.{Done, Wants, OfHistory}}
-use Rattle.pf_core.specs.{Calls.call, Durable.Edits.{Kept, Edit}, Pages.{Page, IsAt, Leads}, Worlds.{Setting, Held, down, Upshot, called, flat, log_of, step_in, or_refused, due_at, due, group_in, heard, room_for, shown_by, State, StandsIn, LegalReply, LegalCall, IsLegal}}
-use Rattle.pf_core.proofs.{Fronts.flat-append, LongerWorlds.{flat-push, stands-on, in-two}}
+use Rattle.pf_core.specs.declared.{command.Command.Command, command.HistoryCommand.HistoryCommand, command.HistoryCommand.TheVariants.{Log, Publish}, reply.Outcome.Outcome, reply.Refusal.Refusal, reply.Refusal.TheVariants.Halted, reply.Reply.Reply, reply.Reply.TheVariants.{Answer, Applied, Stored, Refused}, step.Step.Step, step.Step.TheVariants.{Done, Wants, OfHistory}}
+use Rattle.pf_core.specs.{Calls.call, Commands.{step_by, may_change}, Durable.Edits.{Kept, Edit}, Pages.{Page, IsAt, Leads}, Worlds.{Setting, Held, down, Upshot, called, flat, log_of, durable_of, is_halted, acked_by, step_in, or_refused, due_at, due, group_in, heard, room_for, shown_by, State, StandsIn, LegalReply, LegalCall, IsLegal}}
+use Rattle.pf_core.proofs.{Fronts.flat-append, Groups.{IsKept, IsNotKept, kept-or-not}, Limits.unhalted, LongerWorlds.{flat-push, stands-on, in-two}}
+use Rattle.pf_book.proofs.Calling.{wants-may}
 use Rattle.pf_book.specs.{Books.{log_in, IsMore, IsTold}, Receipts.{Slip, EndsIn, ShownFits, token_of, IsAdded, IsGiven, Follows, IsReached, IsLast, IsChangeOf, IsAnswered}}
 
 -- ---- lists
@@ -95,8 +96,9 @@ module _ (base : Kept) (setting : Setting) (old new : Page) (c : Command) (r : R
     stands = stands-on reached.first old new reached.world (call c r) t reached.stands (leads reached.stands.held reached.stands.at);
   }
 
-  pub answered : (slip : Slip) (last : Option Slip) → slip.front ≡ log_in new → IsGiven r slip.change old new → slip.token ≡ token_of r → Follows last (log_in old) (length (flat old.acked)) → IsAnswered base setting c r slip last
-  answered slip last front given token follows =
+  pub answered : (slip : Slip) (last : Option Slip) → slip.front ≡ log_in new → slip.acked ≡ length (flat new.acked) → IsGiven r slip.change old new → slip.token ≡ token_of r
+      → Follows last (log_in old) (length (flat old.acked)) → IsAnswered base setting c r slip last
+  answered slip last front acked given token follows =
       let h : Held = reached.stands.held in
       let at : IsAt h old = reached.stands.at in
       let on : Leads h new (call c r) t = leads h at in
@@ -110,6 +112,7 @@ module _ (base : Kept) (setting : Setting) (old new : Page) (c : Command) (r : R
         setting_is = sym at.setting ∙ reached.setting_is;
         legal = (stands-on reached.first old new reached.world (call c r) t reached.stands on).legal;
         front = front ∙ log-at (heard h (call c r) t) new on.at;
+        acked = acked ∙ ap (λ (gs : List (List Edit)). length (flat gs)) on.at.acked;
         change = change-is h c r t slip old new at on.at front given;
         token = token;
         follows = subst (λ (gs : List (List Edit)). Follows last (log_of h) (length (flat gs))) at.acked (subst (λ (l : List Edit). Follows last l (length (flat old.acked))) (log-at h old at) follows);
@@ -141,6 +144,35 @@ change-longer h c (Answer a) slip e xs change is p = absurd (cc (change, is))
 change-longer h c (Applied n o) slip e xs change is p = last-longer h c slip xs change p
 change-longer h c (Stored n o) slip e xs change is p = last-longer h c slip xs change p
 change-longer h c (Refused x) slip e xs change is p = absurd (cc (change, is))
+
+-- ---- what is acknowledged
+
+more-acked : (gs hs : List (List Edit)) → length (flat gs) ≤ length (flat (gs ++ hs))
+more-acked gs hs = omega (arith, ap length (flat-append gs hs), length-append (flat gs) (flat hs))
+
+unhalted-none : (may : Bool) (gs : List (List Edit)) (s : Result Step Refusal) (x : Step) → may ≡ true → cond (may && is_halted gs) (Err Halted) s ≡ Ok x → gs ≡ []
+unhalted-none true [] s x may is = refl
+unhalted-none true (g ∷ gs) s x may is = absurd (cc (is))
+unhalted-none false gs s x may is = absurd (cc (may))
+
+-- where a change is kept none was pending
+none-pending : (h : Held) (c : Command) (slip : Slip) → IsLast h c slip → h.pending ≡ []
+none-pending h c slip last = by (kept-or-not h (step_in h c)) where
+  steps : Result Step Refusal
+  steps = step_by h.tickets (durable_of h) c
+
+  by : IsKept h (step_in h c) ⊎ IsNotKept h (step_in h c) → h.pending ≡ []
+  by (inl k) =
+      let x : Step = Wants k.change k.outcome in
+      let wants : steps ≡ Ok x = unhalted (may_change c && is_halted h.pending) steps x k.wanted in
+      unhalted-none (may_change c) h.pending steps x (wants-may h.tickets (durable_of h) c k.change k.outcome wants) k.wanted
+  by (inr none) = absurd (cc (last.due, none.group))
+
+last-acked : (h : Held) (c : Command) (slip : Slip) (n : ℕ) → IsLast h c slip → slip.acked ≡ length (flat (h.acked ++ group_in h c)) → n ≡ length (log_of h) + 1 → n ≡ slip.acked
+last-acked h c slip n last acked is =
+    let all : log_of h ≡ flat h.acked = ap (λ (gs : List (List Edit)). flat (h.acked ++ gs)) (none-pending h c slip last) ∙ ap flat (append-nil h.acked) in
+    let more : flat (h.acked ++ group_in h c) ≡ flat h.acked ++ last.edit ∷ [] = ap (λ (gs : List (List Edit)). flat (h.acked ++ gs)) last.due ∙ flat-push h.acked last.edit in
+    omega (arith, is, acked, ap length all, ap length more, length-append (flat h.acked) (last.edit ∷ []))
 
 -- ---- numbers
 
@@ -196,3 +228,15 @@ module _ (base : Kept) (setting : Setting) (c : Command) (slip : Slip) (last : O
 
   pub stored-is : (n : ℕ) (o : Outcome) → IsAnswered base setting c (Stored n o) slip last → n ≡ length slip.front
   stored-is n o a = last-number a.before c slip n a.change (legal-stored a.before c n o a.came.failed (call-legal (Stored n o) a).reply)
+
+  pub applied-acked : (n : ℕ) (o : Outcome) → IsAnswered base setting c (Applied n o) slip last → n ≡ slip.acked
+  applied-acked n o a = last-acked a.before c slip n a.change a.acked (legal-applied a.before c n o a.came.failed (call-legal (Applied n o) a).reply)
+
+  pub stored-acked : (n : ℕ) (o : Outcome) → IsAnswered base setting c (Stored n o) slip last → n ≡ slip.acked
+  stored-acked n o a = last-acked a.before c slip n a.change a.acked (legal-stored a.before c n o a.came.failed (call-legal (Stored n o) a).reply)
+
+  -- what was acknowledged at the reply of the receipt that was handed in still is
+  pub still-acked : (r : Reply) (handed : Slip) → last ≡ Some handed → IsAnswered base setting c r slip last → handed.acked ≤ slip.acked
+  still-acked r handed is a =
+      let before : handed.acked ≤ length (flat a.before.acked) = (a.follows handed is).1 in
+      omega (arith, before, a.acked, more-acked a.before.acked (acked_by r (group_in a.before c)))

@@ -10,6 +10,10 @@ use Rattle.pf_book.proofs.{Fronts.{prefix_length, prefix_get}, Parts.{whole-log,
 pub begins-log : (past tip : Past) (log : List Edit) (acked : ℕ) → Begins past tip → tip.front ≡ log → IsPrefix past.front (flat (singles (take acked log) ++ singles (drop acked log)))
 begins-log past tip log acked begins is = subst (λ (l : List Edit). IsPrefix past.front l) (is ∙ sym (whole-log log acked)) begins.0
 
+-- what was acknowledged there is so
+pub still-acked : (past tip : Past) (log : List Edit) (acked : ℕ) → Begins past tip → tip.acked ≡ acked → acked ≤ length log → past.acked ≤ length (flat (singles (take acked log)))
+still-acked past tip log acked begins is low = omega (arith, begins.1, is, counted-acked log acked low)
+
 -- and its change is acknowledged
 pub acked-too : (past tip : Past) (seq : ℕ) (change : Option Edit) (log : List Edit) (acked : ℕ) → Begins past tip → tip.acked ≡ acked → acked ≤ length log → IsReceipt past seq change →
     ForSome change (λ e. length past.front ≤ length (flat (singles (take acked log))))

@@ -7,10 +7,11 @@ use Rattle.pf_book.specs.{Books.{change_in}, Pasts.Past}
 
 -- ---- receipts
 
--- A receipt: the changes that the history had at the reply, with those before it; the change that the call made, if it was kept; and how many
--- changes were shown then, after `Applied`.
+-- A receipt: the changes that the history had at the reply, with those before it, and how many of them were acknowledged; the change that
+-- the call made, if it was kept; and how many changes were shown then, after `Applied`.
 pub record Slip : Type 0 where
   pub front : List Edit
+  pub acked : ℕ
   pub change : Option Edit
   pub token : Option ℕ
 
@@ -59,9 +60,10 @@ ShownFits (Applied seq outcome) shown = shown ≡ seq
 ShownFits (Stored seq outcome) shown = ⊤
 ShownFits (Refused e) shown = ⊤
 
--- The front of a receipt that is handed in begins the history, and the receipt's change, where it has one, is acknowledged.
+-- The front of a receipt that is handed in begins the history, and what was acknowledged at its reply is, as is the receipt's change, where
+-- it has one.
 abbrev pub Follows : Option Slip → List Edit → ℕ → Type 0
-Follows last log acked = ForSome last (λ l. IsPrefix l.front log × ForSome l.change (λ e. length l.front ≤ acked))
+Follows last log acked = ForSome last (λ l. IsPrefix l.front log × (l.acked ≤ acked) × ForSome l.change (λ e. length l.front ≤ acked))
 
 -- ---- under the lock
 
@@ -99,9 +101,10 @@ pub record IsAnswered (base : Kept) (setting : Setting) (c : Command) (r : Reply
   pub base_is : before.base ≡ base
   pub setting_is : before.setting ≡ setting
   pub legal : IsWorld first (world ++ called (call c r) came ∷ [])
-  -- the receipt's front is the history after it
+  -- the receipt's front is the history after it, with as many acknowledged changes
   pub front : slip.front ≡ log_of (heard before (call c r) came)
+  pub acked : slip.acked ≡ length (flat (heard before (call c r) came).acked)
   pub change : IsChangeOf r before c slip
   pub token : slip.token ≡ token_of r
-  -- and the front of the receipt that was handed in begins the history before it
+  -- the front of the receipt that was handed in begins the history before it, where what it has as acknowledged is so
   pub follows : Follows last (log_of before) (length (flat before.acked))

@@ -348,6 +348,15 @@ impl<D: Disk + Drop, J: Chapter, R: Wait + Drop> Book<D, J, R> {
         reply
     }
 
+    // Between two calls each image holds what a crash then leaves of the opening.
+    pub(crate) fn rests(&self)
+        ensures { (h : Held) → IsAt h (page self.now) → (c : List ℕ)
+            → IsImage (D.seen self.now.disk) (D.unsynced self.now.disk) c → HoldsLeft h idle c }
+    {
+        // looked at, so that what a Book keeps is known here
+        let _ = &self.core;
+    }
+
     /// What happens to a packet, by what is kept: the call that asks for it, made without its command and its reply, which are long to
     /// move. It changes nothing, and memory is never refused for it. Own.
     pub fn judge(&self, packet: &Packet) -> Verdict

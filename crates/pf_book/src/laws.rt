@@ -1,15 +1,32 @@
-//! What the definitions of receipts come to, whoever made them.
-ghost use Rattle.std.specs.Prelude.{◌≡◌, ◌<◌, ℕ, length, Option, Some};
+//! What the definitions come to, whoever made what they speak of: receipts, and openings after crashes.
+ghost use Rattle.std.specs.Prelude.{◌≡◌, ◌<◌, ◌≤◌, ◌++◌, ◌∷◌, [], ℕ, List, length, Option, Some};
 ghost use mathlib.Core.List.{IsPrefix};
 ghost use Rattle.pf_core.specs.declared.{command.Command.Command, reply.Outcome.Outcome, reply.Reply.Reply, reply.Reply.TheVariants.{Applied, Stored}};
-ghost use Rattle.pf_core.specs.{Durable.Edits.{Kept, Edit}, Worlds.Setting};
-ghost use Rattle.pf_book.specs.Receipts.{Slip, IsAnswered};
+ghost use Rattle.pf_core.specs.{Durable.Edits.{Kept, Edit}, Pages.{Page, IsAt, StandsFor}, Worlds.{Setting, Held, Doing, Event, crashed, opened, begun, raised, last_epoch, up, down, state_after, IsWorld}};
+ghost use Rattle.pf_store.specs.Stores.{Holds};
+ghost use Rattle.pf_book.specs.{Books.HoldsLeft, Receipts.{Slip, IsAnswered}};
 
 /// The receipt that a caller hands in and the one that it is given: the front of the first begins that of the second, and has fewer changes
-/// where the call made one. A reply's number is that of its receipt. Own.
+/// where the call made one; as many changes as were acknowledged at the first one's reply are at the second's. A reply's number is that of
+/// its receipt, and so many changes are acknowledged then: they stay so at each later call, where each hands in the receipt of the one
+/// before. Own.
 pub fn receipts()
-    ensures begins { (base : Kept) (setting : Setting) (c : Command) (r : Reply) (slip last : Slip) → IsAnswered base setting c r slip (Some last) → IsPrefix last.front slip.front }
-    ensures fewer { (base : Kept) (setting : Setting) (c : Command) (r : Reply) (slip last : Slip) (e : Edit) → IsAnswered base setting c r slip (Some last) → slip.change ≡ Some e → length last.front < length slip.front }
-    ensures applied { (base : Kept) (setting : Setting) (c : Command) (seq : ℕ) (o : Outcome) (slip : Slip) (last : Option Slip) → IsAnswered base setting c (Applied seq o) slip last → seq ≡ length slip.front }
-    ensures stored { (base : Kept) (setting : Setting) (c : Command) (seq : ℕ) (o : Outcome) (slip : Slip) (last : Option Slip) → IsAnswered base setting c (Stored seq o) slip last → seq ≡ length slip.front }
+    ensures begins { (base : Kept) (setting : Setting) (c : Command) (r : Reply) (slip last : Slip)
+        → IsAnswered base setting c r slip (Some last) → IsPrefix last.front slip.front }
+    ensures acked { (base : Kept) (setting : Setting) (c : Command) (r : Reply) (slip last : Slip)
+        → IsAnswered base setting c r slip (Some last) → last.acked ≤ slip.acked }
+    ensures fewer { (base : Kept) (setting : Setting) (c : Command) (r : Reply) (slip last : Slip) (e : Edit)
+        → IsAnswered base setting c r slip (Some last) → slip.change ≡ Some e → length last.front < length slip.front }
+    ensures applied { (base : Kept) (setting : Setting) (c : Command) (seq : ℕ) (o : Outcome) (slip : Slip) (last : Option Slip)
+        → IsAnswered base setting c (Applied seq o) slip last → (seq ≡ length slip.front) × (seq ≡ slip.acked) }
+    ensures stored { (base : Kept) (setting : Setting) (c : Command) (seq : ℕ) (o : Outcome) (slip : Slip) (last : Option Slip)
+        → IsAnswered base setting c (Stored seq o) slip last → (seq ≡ length slip.front) × (seq ≡ slip.acked) }
+{}
+
+/// Whatever image a crash leaves of an opening, within a call or between two: what an opening of that image gives stands for the world with
+/// the crash and the new opening at its end. Own.
+pub fn crashes_are_opened()
+    ensures { (first : Kept) (world : List Event) (h : Held) (doing : Doing) (image : List ℕ) (d : Kept) (setting : Setting) (b : Page)
+        → IsWorld first world → state_after (down first) world ≡ up h → HoldsLeft h doing image → Holds image d → d.epoch < last_epoch
+        → IsAt (begun setting (raised d)) b → (n : ℕ) × StandsFor first b ((world ++ crashed doing n ∷ []) ++ opened setting ∷ []) }
 {}

@@ -9,7 +9,7 @@
 //! - `history`: [`Chapter`], the name of an opening, and its history as proofs know it; `rule`: who may add to that.
 //! - `receipt`: [`Receipt`], what a caller is given with a reply.
 //! - `shared`: [`Shared`], a Book under a lock.
-//! - `laws`: what receipts come to.
+//! - `laws`: what receipts come to, and openings after crashes.
 //!
 //! Read first `specs/Books.antt`: what a Book is to contracts, then `specs/Receipts.antt`. What a Book keeps to is in the words of `pf_core`'s
 //! worlds.

@@ -57,6 +57,7 @@ impl<D: Disk> Opening<D> {
         ensures untouched { IfErr result (λ e. is_fault e.0 ≡ false → (e.0 ≡ Memory → ⊥) → (D.seen e.1 ≡ D.seen disk)
             × EachMoment D.moment D.left_since disk e.1 (IsImage (D.seen disk) (D.unsynced disk))) }
         ensures unchanged_at_bad_size { IfErr result (λ e. e.0 ≡ BadSize → e.1 ≡ disk) }
+        ensures same_size { IfOk result (λ o. length (D.seen o.disk) ≡ length (D.seen disk)) }
         ensures moments { IfOk result (λ o. D.moment o.disk ≤ D.moment disk + 8) }
         ensures moments_err { IfErr result (λ e. D.moment e.1 ≤ D.moment disk + 8) }
         ensures no_fault { IfOk result (λ o. D.fault_count o.disk ≡ D.fault_count disk) }

@@ -24,7 +24,7 @@ impl<J: Chapter> Model for Receipt<J> {
 
     ghost Value = { Slip };
 
-    ghost view = { λ r. record { front = r.front.front; change = option_map arc_value r.change; token = r.token } };
+    ghost view = { λ r. record { front = r.front.front; acked = r.front.acked; change = option_map arc_value r.change; token = r.token } };
 
     ghost invariant = { λ r. IsReceipt r.front r.seq (option_map arc_value r.change) };
 }

@@ -1,7 +1,7 @@
 //! A Book that threads share.
-ghost use Rattle.std.specs.Option.{option_copied};
-ghost use Rattle.pf_disk.specs.Disk.{EachMoment};
-ghost use Rattle.pf_core.specs.{Pages.IsAt, Worlds.{Held, calling}};
+ghost use Rattle.std.specs.{Option.option_copied, Prelude.{ℕ, List}};
+ghost use Rattle.pf_disk.specs.Disk.{EachMoment, IsImage};
+ghost use Rattle.pf_core.specs.{Pages.IsAt, Worlds.{Held, idle, calling}};
 ghost use Rattle.pf_book.specs.{Books.{HoldsLeft, page}, Receipts.{IsReached, IsAnswered}};
 
 use crate::book::Book;
@@ -71,12 +71,16 @@ impl<D: Disk + Drop, J: Chapter, R: Wait + Drop> Shared<D, J, R> {
         self.desk.lock(rt).run(&command, last)
     }
 
-    /// The Book, once all callers have ended. It confirms each receipt of this opening. Own.
+    /// The Book, once all callers have ended. It confirms each receipt of this opening, and each image of its device holds what a crash
+    /// leaves of the opening, as behind each call of `Book::run`. Own.
     pub fn close(self) -> Book<D, J, R>
-        ensures { IsReached J.base J.setting (page result) }
+        ensures reached { IsReached J.base J.setting (page result) }
+        ensures images { (h : Held) → IsAt h (page result) → (c : List ℕ)
+            → IsImage (D.seen result.disk) (D.unsynced result.disk) c → HoldsLeft h idle c }
     {
         let Shared { desk } = self;
         let Desk { book } = desk.into_inner();
+        book.rests();
         book
     }
 }

@@ -25,6 +25,7 @@ impl<D: Disk + Drop, J: Chapter, R: Wait + Drop> Book<D, J, R> {
         ensures any_moment { (h : Held) → IsAt h (page self.old)
             → EachMoment D.moment D.left_since self.old.disk self.new.disk (HoldsLeft h (calling command.now)) }
         ensures front { result.1.front ≡ log_in (page self.new) }
+        ensures acked { result.1.acked ≡ length (flat self.new.acked) }
         ensures given { IsGiven result.0 result.1.change (page self.old) (page self.new) }
         ensures token { result.1.token ≡ token_of result.0 }
         ensures follows { Follows (option_copied last.entry) (log_in (page self.old)) (length (flat self.old.acked)) }
@@ -39,11 +40,12 @@ impl<D: Disk + Drop, J: Chapter, R: Wait + Drop> Book<D, J, R> {
         (reply, receipt)
     }
 
-    // The history begins with the front of each receipt, whose change is acknowledged.
+    // The history begins with the front of each receipt, and what was acknowledged at its reply is, its change too.
     fn begins_with(&mut self, receipt: &Receipt<J>)
         ensures same { self.new ≡ self.old }
         ensures begins { IsPrefix receipt.now.front (log_in (page self.old)) }
-        ensures acked { ForSome receipt.now.change (λ e. length receipt.now.front ≤ length (flat self.old.acked)) }
+        ensures acked { receipt.now.acked ≤ length (flat self.old.acked) }
+        ensures change { ForSome receipt.now.change (λ e. length receipt.now.front ≤ length (flat self.old.acked)) }
     {
         self.tip.contains(&receipt.front);
         // looked at, so that what a receipt keeps is known here
@@ -56,6 +58,7 @@ impl<D: Disk + Drop, J: Chapter, R: Wait + Drop> Book<D, J, R> {
             × (length (log_in (page self.now)) ≤ length (flat self.now.acked))) }
         requires shown { ShownFits reply.now self.now.shown }
         ensures front { result.front ≡ log_in (page self.now) }
+        ensures acked { result.acked ≡ length (flat self.now.acked) }
         ensures change { result.change ≡ option_map arc_value change }
         ensures token { result.token ≡ token_of reply.now }
     {

@@ -3,7 +3,7 @@ use Rattle.std.specs.{Arc.arc_value, Option.{ForSome, option_map}}
 use mathlib.Core.List.{IsPrefix}
 use Rattle.pf_core.specs.{Durable.Edits.Edit, Worlds.flat}
 use Rattle.pf_book.specs.{Books.{Ledger, page, log_in}, Receipts.Slip}
-use Rattle.pf_book.proofs.Confirming.{begins-log, acked-too}
+use Rattle.pf_book.proofs.Confirming.{begins-log, still-acked, acked-too}
 use Rattle.pf_book.proofs.book.Book.begins_with.Goals as goal
 
 pub returns-clause-begins : goal.returns-clause-begins
@@ -15,6 +15,14 @@ returns-clause-begins g c =
 
 pub returns-clause-acked : goal.returns-clause-acked
 returns-clause-acked g c =
+    let s = c.self.inside in
+    let log : List Edit = map arc_value s.log.items in
+    subst (λ (r : Slip). r.acked ≤ length (flat c.args.self.now.acked)) c.receipt.view_is
+    (subst (λ (l : Ledger g.row.D.Denot). c.receipt.inside.front.acked ≤ length (flat l.acked)) c.self.view_is
+    (still-acked c.receipt.inside.front s.tip log s.acked c.contains.ensures.begins c.self.invariant.acked_is c.self.invariant.low))
+
+pub returns-clause-change : goal.returns-clause-change
+returns-clause-change g c =
     let s = c.self.inside in
     let r = c.receipt.inside in
     let log : List Edit = map arc_value s.log.items in

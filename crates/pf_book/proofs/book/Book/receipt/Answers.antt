@@ -29,3 +29,9 @@ returns-clause-front g c =
     let log : List Edit = map arc_value s.log.items in
     let whole : log_in (page c.args.self.now) ≡ log = ap (λ (l : Ledger g.row.D.Denot). log_in (page l)) (sym c.self.view_is) ∙ whole-log log s.acked in
     ap (λ (p : Past). p.front) c.front.ensures ∙ c.self.invariant.log_is ∙ sym whole
+
+pub returns-clause-acked : goal.returns-clause-acked
+returns-clause-acked g c =
+    let s = c.self.inside in
+    ap (λ (p : Past). p.acked) c.front.ensures ∙ c.self.invariant.acked_is ∙ counted-acked (map arc_value s.log.items) s.acked c.self.invariant.low
+    ∙ ap (λ (l : Ledger g.row.D.Denot). length (flat l.acked)) c.self.view_is

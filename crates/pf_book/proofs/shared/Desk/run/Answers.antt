@@ -20,7 +20,7 @@ returns-clause-answered g c =
     let new = c.answer.new.self in
     let t : Upshot = upshot new.shown (nat_lt (g.D.Disk.fault_count old.disk) (g.D.Disk.fault_count new.disk)) in
     let e = c.answer.ensures in
-    answered g.J.Naming.base g.J.Chapter.setting (page old) (page new) c.args.command.now c.answer.result.0 t c.self.invariant e.leads c.answer.result.1 (option_copied c.args.last) e.front e.given e.token e.follows
+    answered g.J.Naming.base g.J.Chapter.setting (page old) (page new) c.args.command.now c.answer.result.0 t c.self.invariant e.leads c.answer.result.1 (option_copied c.args.last) e.front e.acked e.given e.token e.follows
 
 pub returns-clause-any_moment : goal.returns-clause-any_moment
 returns-clause-any_moment g c =
