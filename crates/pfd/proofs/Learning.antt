@@ -1,11 +1,12 @@
 -- What a session's seer has learnt.
-use Rattle.std.proofs.Common.{◌≡◌, ◌∙◌, ◌≤◌, ℕ, List, [], ◌∷◌, Option, Some, None, Result, Ok, Err, inl, inr, ap, arith}
+use Rattle.std.proofs.Common.{◌≡◌, ◌∙◌, ◌≤◌, ℕ, List, [], ◌∷◌, Option, Some, None, ap, arith}
 use Rattle.pf_rule.specs.Packets.{PlainPacket}
-use Rattle.pf_core.specs.declared.{command.Command.Command, reply.Refusal.Refusal}
+use Rattle.pf_core.specs.declared.command.Command.{Command}
 use Rattle.pf_core.specs.{Durable.Edits.Kept, Worlds.Setting}
 use Rattle.pf_view.specs.Known.{Known}
 use Rattle.pf_book.specs.Receipts.{token_of}
-use Rattle.pfd.specs.{Server.Sittings.{Rests, Runs, RunsBy, Sits, Sitting, at_next_line, learns, packet_in}, Telling.{IsToldBy, Says}, Laws.Sittings.{LearnsApplied, LearnsNoLess}}
+use Rattle.pfd.specs.{Server.Sittings.{RunsBy, Sits, Sitting, at_next_line, learns}, Laws.Sittings.{LearnsApplied, LearnsNoLess}}
+use Rattle.pfd.proofs.Sitting.{line-moves}
 
 told-by : (o : Option ℕ) (k : Known) → k.told ≤ (learns o k).told
 told-by None k = omega arith
@@ -16,25 +17,16 @@ told-same a b is = let e = ap (λ (s : Sitting). s.seer.told) is in omega arith
 
 module _ (base : Kept) (setting : Setting) where
   runs-learn : (o : Option PlainPacket) (c : Command) (a b : Sitting) (text : List ℕ) → RunsBy o base setting c a b text → a.seer.told ≤ b.seer.told
-  runs-learn (Some packet) c a b text judged = let e = ap (λ (s : Sitting). s.seer.told) judged.same in omega arith
+  runs-learn (Some packet) c a b text judged = let e = judged.seer.told in omega arith
   runs-learn None c a b text run =
       let e = ap (λ (s : Sitting). s.seer.told) run.kept in
       let more = told-by run.slip.token a.seer in
       omega arith
 
-  says-learn : (meant : Result (Option Command) Refusal) (a b : Sitting) (text : List ℕ) → Says Rests (Runs base setting) meant (a, b) text → a.seer.told ≤ b.seer.told
-  says-learn (Ok None) a b text says = told-same a b says.0
-  says-learn (Ok (Some c)) a b text says = runs-learn (packet_in c) c a b text says
-  says-learn (Err e) a b text says = told-same a b says.0
-
-  line-learn : (line : List ℕ) (a b : Sitting) (text : List ℕ) → IsToldBy Rests (Runs base setting) line (a, b) text → a.seer.told ≤ b.seer.told
-  line-learn line a b text (inl (meant, means, says)) = says-learn meant a b text says
-  line-learn line a b text (inr none) = told-same a b none.no_call
-
   lines-learn : (passed : ℕ → Type 0) (a b : Sitting) (lines : List (List ℕ)) (text : List ℕ) → Sits passed base setting a b lines text → a.seer.told ≤ b.seer.told
   lines-learn passed a b [] text (is, none) = told-same a b is
   lines-learn passed a b (line ∷ lines) text (mid, first, rest, takes, more, is) =
-      let one = line-learn line (at_next_line a) mid first takes.told in
+      let one = line-moves base setting (λ (s t : Sitting). s.seer.told ≤ t.seer.told) told-same runs-learn line (at_next_line a) mid first takes.told in
       let others = lines-learn passed mid b lines rest more in
       omega arith
 

@@ -1,10 +1,12 @@
 pub mod Cutting
 pub mod Answering
 pub mod Moving
-pub mod Telling
+pub mod Told
 pub mod Sitting
 pub mod Streaming
 pub mod Learning
+pub mod Acknowledging
+pub mod Following
 pub mod Calling
 pub mod Limits
 mod TakingOver

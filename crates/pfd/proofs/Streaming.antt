@@ -8,7 +8,7 @@ use Rattle.pf_core.specs.{Durable.Edits.Kept, Worlds.Setting}
 use Rattle.pf_book.specs.Receipts.{Slip}
 use Rattle.pfd.specs.declared.{line_engine.fault.EngineFault.EngineFault, server.stream.Goes.Goes, server.stream.Goes.TheVariants.{On, Over}}
 use Rattle.pfd.specs.declared.line_engine.fault.EngineFault.TheVariants as fault
-use Rattle.pfd.specs.{Laws.Attending.{chain-one, chain-then}, LineEngine.Sessions.{Answered, CutOff}, Server.Streams.{Ends, Item, RunsFed, SoFar, Takes, TakesItem, TakesPiece, TellsEnd, TellsFault, end_text, items, told, told_text, wrong}}
+use Rattle.pfd.specs.{Laws.Server.{chain-one, chain-then}, LineEngine.Sessions.{Answered, CutOff}, Server.Streams.{Ends, Item, RunsFed, SoFar, Takes, TakesItem, TakesPiece, TellsEnd, TellsFault, end_text, items, told, told_text, wrong}}
 
 -- ---- what was read
 

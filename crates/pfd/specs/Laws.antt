@@ -1,6 +1,8 @@
 pub mod Seeing
 pub mod Serving
-pub mod Attending
+pub mod Server
 pub mod Sittings
+pub mod Acknowledged
+pub mod Receipts
 pub mod Lines
 pub mod Takeover

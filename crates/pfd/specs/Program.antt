@@ -1,15 +1,15 @@
 -- What the program does with its words. Own.
-use Rattle.std.specs.{Prelude.{◌≡◌, ◌⊎◌, ℕ, ◌<◌, List, [], ◌∷◌, ◌++◌, Option, Result, Ok, Err, codes}, Io.KnownBytes.Keeps}
+use Rattle.std.specs.{Prelude.{◌≡◌, ◌⊎◌, ℕ, ◌+◌, ◌<◌, List, [], ◌∷◌, ◌++◌, length, Option, Result, Ok, Err, codes}, Io.KnownBytes.Keeps}
 use Rattle.std.specs.declared.{io.ErrorKind.ErrorKind, io.ErrorKind.TheVariants.OutOfMemory}
 use Rattle.pf_addr.specs.Writing.{Writes}
 use Rattle.pf_core.specs.{Durable.Edits.{Kept, kept_nothing}, Pages.{IsAt, StandsFor}, Worlds.{Event, begun, down, last_epoch, opened, raised, state_after, IsWorld}}
-use Rattle.pf_store.specs.{Banks.IsSize, Openings.IsUnopened, Rooms.on_device, Stores.Holds}
+use Rattle.pf_store.specs.{Banks.{IsSize, bank_end}, Openings.{IsUnopened, gate_of}, Rooms.on_device, Stores.Holds}
 use Rattle.pf_store.specs.declared.store.fault.OpenFault.{OpenFault}
 use Rattle.pf_view.specs.declared.opening.ViewFault.{ViewFault}
 use Rattle.pf_book.specs.Books.{Ledger, Opened, page}
-use Rattle.pfd.specs.declared.{line_engine.fault.EngineFault.EngineFault, program.fault.Fault.Fault, program.fault.Fault.TheVariants.{BadSize, Device, Full, Input, Memory, Places}, program.words.Task.Task, program.words.Task.TheVariants.{Run, RunOn, Format, Show, Serve, Connect}}
+use Rattle.pfd.specs.declared.{line_engine.fault.EngineFault.EngineFault, program.fault.Fault.Fault, program.fault.Fault.TheVariants.{BadSize, Device, Input, Memory, Places}, program.words.Task.Task, program.words.Task.TheVariants.{Run, RunOn, Format, Show, Serve, Connect}}
 use Rattle.pfd.specs.declared.program.words.TheConstants.{MEMORY_SIZE}
-use Rattle.pfd.specs.{Faults.{ended, told_of_opening, told_of_views}, LineEngine.Sessions.IsSession, Serving.Serves}
+use Rattle.pfd.specs.{Faults.{ended, told_of_opening, told_of_views}, LineEngine.Sessions.IsSession, Serving.Serves, Showing.IsShown}
 
 -- the program's name, whatever it is, and `run`
 abbrev pub IsRun : List (List ℕ) → Type 0
@@ -38,25 +38,27 @@ ServesFrom faults opening history result unread unread' held held' =
     ((session : Result (Unit {0}) EngineFault) × (result ≡ ended session) × Began faults opening history session unread unread' held held')
     ⊎ ((fault : ViewFault) × (result ≡ Err (told_of_views fault)) × Keeps unread unread' × Keeps held held')
 
+-- where the closed gate stands once a disk that was just formatted is opened: behind a header of 24 bytes, a snapshot of 16 and the record
+-- of 11 that the opening adds
+abbrev pub fresh_gate : ℕ
+fresh_gate = 51
+
 -- A session was served over a disk in memory that was just formatted, by a Book with room for so many changes: it stands for the world in
--- which the first opening begins.
+-- which the first opening begins, with the room that a disk of this size has.
 pub record Ran {M : Type 0} (faults : M → ℕ) (size history : ℕ)
     (result : Result (Unit {0}) EngineFault) (unread unread' held held' : Option (List ℕ)) : Type 0 where
   pub size_is : IsSize size
   pub old : Ledger M
   pub new : Ledger M
-  pub end : ℕ
-  pub gate : ℕ
-  pub fresh : StandsFor (kept_nothing 0) (page old) (opened (on_device history end gate) ∷ [])
+  pub fresh : StandsFor (kept_nothing 0) (page old) (opened (on_device history (bank_end size) fresh_gate) ∷ [])
   pub session : IsSession (Serves faults) result unread unread' old new held held'
 
 -- Why there is no session over a disk in memory of so many bytes: it may not have so many; or it may, and memory is refused, the disk fails,
--- it has no room for an opening, or there are no places for workers.
+-- or there are no places for workers.
 abbrev pub Hinders : ℕ → Fault → Type 0
 Hinders size BadSize = ¬ IsSize size
 Hinders size Memory = IsSize size
 Hinders size Device = IsSize size
-Hinders size Full = IsSize size
 Hinders size Places = IsSize size
 Hinders size fault = ⊥
 
@@ -75,9 +77,13 @@ RanOver faults size history result unread unread' held held' =
     ((session : Result (Unit {0}) EngineFault) × (result ≡ ended session) × Ran faults size history session unread unread' held held')
     ⊎ ((fault : Fault) × (result ≡ Err fault) × Hinders size fault × Keeps unread unread' × Keeps held held')
 
--- what the disk held, in the next epoch
-abbrev pub Opens : {D : Type 0} → List ℕ → Opened D → Type 0
-Opens seen opening = (d : Kept) × Holds seen d × (opening.given ≡ raised d)
+-- What the disk held, in the next epoch. Its bank ends at half of the disk, and its closed gate stands behind the opening's record of 11 bytes.
+pub record Opens {D : Type 0} (seen : List ℕ) (opening : Opened D) : Type 0 where
+  pub kept : Kept
+  pub held : Holds seen kept
+  pub given : opening.given ≡ raised kept
+  pub end : opening.end ≡ bank_end (length seen)
+  pub gate : opening.gate ≡ gate_of seen kept held + 11
 
 -- A session was served over what the disk held; or the disk couldn't be opened, for a cause that there is, and nothing was read or written.
 abbrev pub RanOn : {D : Type 0} → (D → List ℕ) → (D → ℕ) → D → ℕ → Result (Unit {0}) Fault
@@ -92,6 +98,12 @@ abbrev pub RanOnFile : {F : Type 0} → (F → List ℕ) → (F → ℕ) → ℕ
 RanOnFile {F = F} seen faults history result unread unread' held held' =
     ((disk : F) × RanOn seen faults disk history result unread unread' held held')
     ⊎ ((fault : Fault) × (result ≡ Err fault) × IsOfFile fault × Keeps unread unread' × Keeps held held')
+
+-- It was told what some disk holds; or the file couldn't be had as one, and nothing was written.
+abbrev pub ShownOfFile : {F : Type 0} → (F → List ℕ) → Result (Unit {0}) Fault → Option (List ℕ) → Option (List ℕ) → Type 0
+ShownOfFile {F = F} seen result held held' =
+    ((disk : F) × IsShown result (seen disk) held held')
+    ⊎ ((fault : Fault) × (result ≡ Err fault) × IsOfFile fault × Keeps held held')
 
 abbrev pub status_of : {E : Type 0} → Result (Unit {0}) E → ℕ
 status_of (Ok u) = 0
@@ -114,7 +126,7 @@ abbrev pub IsDone : {M F : Type 0} → (M → ℕ) → (F → List ℕ) → (F �
 IsDone memory seen file (Run size history) result unread unread' held held' = RanOver memory size history result unread unread' held held'
 IsDone memory seen file (RunOn path size history) result unread unread' held held' = RanOnFile seen file history result unread unread' held held'
 IsDone memory seen file (Format path size) result unread unread' held held' = Keeps unread unread' × Keeps held held'
-IsDone memory seen file (Show path) result unread unread' held held' = Keeps unread unread'
+IsDone memory seen file (Show path) result unread unread' held held' = Keeps unread unread' × ShownOfFile seen result held held'
 IsDone memory seen file (Serve service) result unread unread' held held' =
     Keeps unread unread' × ((bound : List ℕ) × Writes result held held' (listening_text bound))
 IsDone memory seen file (Connect address) result unread unread' held held' = Unit {0}

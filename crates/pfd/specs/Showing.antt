@@ -1,11 +1,11 @@
 -- What is told of a disk, and what it tells. Own.
-use Rattle.std.specs.{Prelude.{◌≡◌, ◌⊎◌, ℕ, Bool, true, false, List, [], ◌∷◌, ◌++◌, codes, decimal, length, Option, Result, Ok, Err}, Io.KnownBytes.{Appends, Keeps}}
+use Rattle.std.specs.{Prelude.{◌≡◌, ◌≢◌, ◌⊎◌, ℕ, Bool, true, false, List, [], ◌∷◌, ◌++◌, codes, decimal, length, Option, Result, Ok, Err}, Io.KnownBytes.{Appends, Keeps}}
 use Rattle.pf_addr.specs.Writing.{WritesFront}
 use Rattle.pf_core.specs.Durable.Edits.{Kept, main_sum}
 use Rattle.pf_core.specs.declared.reply.{Answer.TheVariants.Sum, Reply.TheVariants.Answer}
 use Rattle.pf_line.specs.Reply.Replies.{reply_text}
 use Rattle.pf_store.specs.{Openings.IsUnopened, Stores.Holds}
-use Rattle.pf_store.specs.declared.store.fault.OpenFault.{OpenFault}
+use Rattle.pf_store.specs.declared.store.fault.{OpenFault.OpenFault, OpenFault.TheVariants.{EpochsExhausted, NoRoom}}
 use Rattle.pfd.specs.declared.program.fault.{Fault.Fault, Fault.TheVariants.{Device, Output}}
 use Rattle.pfd.specs.Faults.{told_of_opening}
 
@@ -26,12 +26,18 @@ shown_text d =
     ++ (number_line (codes "tables ") (length d.config.tables)
     ++ number_line (codes "states ") (length d.states))))
 
+-- why a disk that is read and not opened can't be told of
+pub record IsUnread (why : OpenFault) (seen : List ℕ) : Type 0 where
+  pub refused : IsUnopened why seen
+  pub epochs : why ≢ EpochsExhausted
+  pub room : why ≢ NoRoom
+
 -- It was told what a disk with these bytes holds. Or nothing was, since nothing was read that can be kept: the fault says why. Or a
 -- write failed behind some front of the text.
 abbrev pub IsShown : Result (Unit {0}) Fault → List ℕ → Option (List ℕ) → Option (List ℕ) → Type 0
 IsShown (Ok u) seen held held' = (d : Kept) × Holds seen d × Appends held held' (shown_text d)
 IsShown (Err fault) seen held held' =
-    ((why : OpenFault) × (fault ≡ told_of_opening why) × IsUnopened why seen × Keeps held held')
+    ((why : OpenFault) × (fault ≡ told_of_opening why) × IsUnread why seen × Keeps held held')
     ⊎ ((fault ≡ Output) × ((d : Kept) × Holds seen d × WritesFront held held' (shown_text d)))
 
 abbrev is_device : Fault → Bool

@@ -1,14 +1,13 @@
 //! Lines that a Book answers.
 ghost use Rattle.std.specs.Prelude.{◌≡◌, ℕ, List, [], ◌∷◌};
 ghost use Rattle.pf_addr.specs.Writing.{Writes};
-ghost use Rattle.pf_core.specs.declared.reply.Reply.TheVariants.{Refused};
-ghost use Rattle.pf_line.specs.Reply.Replies.{reply_text};
 ghost use Rattle.pf_book.specs.Books.{page};
 ghost use Rattle.pfd.specs.{LineEngine.Sessions.IsSession, Serving.{Told, Serves}, Laws.Serving.{serves-none, serves-then, serves-seen}};
 
 use crate::line_engine::{AnswerLine, EngineFault, serve};
+use crate::telling::refuse;
 use pf_book::{Book, Chapter};
-use pf_core::{Refusal, Reply};
+use pf_core::Reply;
 use pf_disk::Disk;
 use pf_line::{may_judge, parse_judge, parse_line, write_judged, write_reply};
 use std::alloc::Global;
@@ -63,13 +62,6 @@ fn answer_judge<D: Disk + Drop, J: Chapter, H: Wait + Drop, W: Write>(
         },
         None => answer(alloc, line, writer, book),
     }
-}
-
-/// Writes the reply of a refusal. Kept apart, since a function pays for the size of a reply wherever it goes.
-pub(crate) fn refuse<W: Write>(writer: &mut W, refusal: Refusal) -> io::Result<()>
-    ensures { Writes result (W.contents writer.old) (W.contents writer.new) (reply_text (Refused refusal)) }
-{
-    write_reply(writer, &Reply::Refused(refusal))
 }
 
 impl<D: Disk + Drop, J: Chapter, H: Wait + Drop> AnswerLine for Book<D, J, H> {

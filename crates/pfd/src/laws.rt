@@ -1,7 +1,7 @@
 //! Laws of a Book and of sessions. Each function does nothing; its contract is the law.
 ghost use Rattle.std.specs.Prelude.{◌≡◌, ℕ};
 ghost use Rattle.pfd.specs.declared.{line_engine.answer_line.TheConstants.LOOKED_AT, program.words.TheConstants.{HISTORY_LIMIT, MEMORY_SIZE, MOST_HISTORY, MOST_WORKERS, WORKERS}};
-ghost use Rattle.pfd.specs.Laws.{Sittings.{LearnsNoLess, LearnsApplied}, Takeover.{TakesOver, FreshTakesOver}};
+ghost use Rattle.pfd.specs.Laws.{Acknowledged.{AcknowledgesNoLess, AcknowledgesTold, FindsAcknowledged}, Receipts.{SitsWithin, TakesWithin}, Sittings.{LearnsNoLess, LearnsApplied}, Takeover.{TakesOver, FreshTakesOver}};
 
 use crate::server::Gate;
 use pf_disk::Disk;
@@ -32,4 +32,20 @@ pub fn the_limits_of_sessions()
 pub fn sessions_learn<G: Gate>()
     ensures kept { (gate : G) (session : ℕ) → LearnsNoLess (G.passed gate session) }
     ensures applied { LearnsApplied }
+{}
+
+/// A change that a session over a shared Book was told is applied or stored is acknowledged, with all before it, and stays so: the receipt
+/// of that call and of each later one says no fewer, and each later call finds no fewer, whatever else was asked in between.
+pub fn what_is_told_stays_acknowledged<G: Gate>()
+    ensures told { AcknowledgesTold }
+    ensures stays { (gate : G) (session : ℕ) → AcknowledgesNoLess (G.passed gate session) }
+    ensures found { FindsAcknowledged }
+{}
+
+/// Each reply that a session or a peer over a shared Book was written was answered by a history with which that of the last receipt begins:
+/// the front of the reply's receipt begins that of the receipt which the caller then has, as `serve_from` and `serve_peer_from` give it.
+/// So does that of the receipt which it handed in first.
+pub fn the_last_receipt_has_all<G: Gate>()
+    ensures sessions { (gate : G) (session : ℕ) → SitsWithin (G.passed gate session) }
+    ensures peers { TakesWithin }
 {}

@@ -15,7 +15,8 @@
 //! is given.
 //!
 //! `line_engine` knows bytes, lines and streams, and no command, reply or Book: whatever answers lines can stand under it. `engine` alone
-//! joins it with a `Book`, `server` with a `Shared`, and `program` uses both. No module uses `program`, but for its faults.
+//! joins it with a `Book`, `server` with a `Shared`; both tell refusals by `telling`. `program` uses both, and no module uses it, but that
+//! `laws` tells its numbers.
 #![tactic(auto)]
 
 mod engine;
@@ -23,6 +24,7 @@ pub mod laws;
 pub mod line_engine;
 mod program;
 mod server;
+mod telling;
 
 pub use engine::serve_alone;
 pub use line_engine::EngineFault;
@@ -33,4 +35,4 @@ pub use program::{
     Fault, HISTORY_LIMIT, MEMORY_SIZE, MOST_HISTORY, MOST_WORKERS, WORKERS, format_on, open_fresh,
     run_process, show_on, start, without_words,
 };
-pub use server::{Gate, OpenGate, serve, serve_listener, serve_peer};
+pub use server::{Gate, OpenGate, serve, serve_from, serve_listener, serve_peer, serve_peer_from};

@@ -8,9 +8,9 @@ ghost use Rattle.std.specs.{Prelude.{◌≡◌, ◌≤◌, ◌<◌, ◌^◌, ◌
 ghost use Rattle.clap.specs.Words.{kind_of, subcommand_of};
 ghost use Rattle.pfd.specs.declared.program.{fault.Fault.{Fault}, words.Task.{Task}};
 ghost use Rattle.pf_core.specs.{Durable.Edits.kept_nothing, Worlds.raised};
-ghost use Rattle.pf_store.specs.Banks.{IsSize};
+ghost use Rattle.pf_store.specs.Banks.{IsSize, bank_end};
 ghost use Rattle.pf_book.specs.Books.{IsNamed};
-ghost use Rattle.pfd.specs.{Program.{Hinders, IsDone, IsRun, RanOn, RanOver, RanWith, ServesFrom, status_of, status_without_words}, Words.{HasHistory, IsAsked, IsHistory, program_words}};
+ghost use Rattle.pfd.specs.{Program.{Hinders, IsDone, IsRun, RanOn, RanOver, RanWith, ServesFrom, status_of, status_without_words, fresh_gate}, Words.{HasHistory, IsAsked, IsHistory, program_words}};
 
 mod devices;
 mod fault;
@@ -43,6 +43,8 @@ pub use words::{HISTORY_LIMIT, MEMORY_SIZE, MOST_HISTORY, MOST_WORKERS, WORKERS}
 fn open_memory(alloc: Global, size: usize) -> Result<Opening<MemDisk>, Fault>
     ensures size { IfOk result (λ _. IsSize size) }
     ensures given { IfOk result (λ o. o.given ≡ raised (kept_nothing 0)) }
+    ensures end { IfOk result (λ o. o.end ≡ bank_end size) }
+    ensures gate { IfOk result (λ o. o.gate ≡ fresh_gate) }
     ensures hindered { IfErr result (λ fault. Hinders size fault) }
 {
     if !devices::is_size(size) {
@@ -150,7 +152,10 @@ fn perform<
         Task::Format { path, size } => format_file(alloc, files, path, size),
         Task::Show { path } => show_file(alloc, files, path, writer),
         Task::Serve(service) => serve_file(machine, alloc, files, &service, writer),
-        Task::Connect { address } => connect(machine, alloc, address, reader, writer),
+        Task::Connect { address } => {
+            connect(machine, alloc, address, reader, writer)?;
+            Ok(())
+        }
     }
 }
 

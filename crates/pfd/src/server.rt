@@ -16,5 +16,5 @@ mod stream;
 pub(crate) use client::connect;
 pub use gate::{Gate, OpenGate};
 pub use listener::serve_listener;
-pub use session::serve;
-pub use stream::serve_peer;
+pub use session::{serve, serve_from};
+pub use stream::{serve_peer, serve_peer_from};

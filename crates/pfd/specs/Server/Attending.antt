@@ -7,9 +7,10 @@ use Rattle.pfd.specs.Server.Sittings.{Sits, Sitting}
 abbrev pub sitting : {W D J H G : Type 0} → Session W D J H G → Sitting
 sitting s = record { line = s.line; last = s.last.now; seer = s.seer.now }
 
--- it is the same session: its seer, its number and its gate are
+-- it is the same session: its seer, the place of its receipt, its number and its gate are
 pub record IsSame {W D J H G : Type 0} (old new : Session W D J H G) : Type 0 where
   pub seer : new.seer.ghost_name ≡ old.seer.ghost_name
+  pub last : new.last.ghost_name ≡ old.last.ghost_name
   pub number : new.number ≡ old.number
   pub gate : new.gate ≡ old.gate
 

@@ -16,9 +16,9 @@ pub record Sitting : Type 0 where
   pub last : Option Slip
   pub seer : Known
 
--- before its first line
-abbrev pub seated : Known → Sitting
-seated known = record { line = 0; last = None; seer = known }
+-- before its first line, with the receipt of an earlier call, if it has one
+abbrev pub seated : Option Slip → Known → Sitting
+seated last known = record { line = 0; last = last; seer = known }
 
 -- Lines are numbered from 1 on, and the number stays at its last value.
 abbrev pub next_line : ℕ → ℕ
@@ -45,11 +45,16 @@ IsVerdict base packet old new text =
     ((old.told ≤ length new.seen) × (text ≡ reply_text (Answer (Judged (verdict (after base new.seen) packet)))))
     ⊎ (SeesTooFew old new × (text ≡ gone_text))
 
+-- A seer judged the packet, and learnt nothing by it.
+pub record HasJudged (base : Kept) (packet : PlainPacket) (old new : Known) (text : List ℕ) : Type 0 where
+  pub sees : IsPrefix old.seen new.seen
+  pub told : new.told ≡ old.told
+  pub verdict : IsVerdict base packet old new text
+
 -- The session's seer judged the packet, without the Book.
 pub record IsJudged (base : Kept) (packet : PlainPacket) (old new : Sitting) (text : List ℕ) : Type 0 where
-  pub sees : IsPrefix old.seer.seen new.seer.seen
-  pub verdict : IsVerdict base packet old.seer new.seer text
-  pub same : new ≡ record old { seer = record { seen = new.seer.seen; told = old.seer.told } }
+  pub seer : HasJudged base packet old.seer new.seer text
+  pub same : new ≡ record old { seer = new.seer }
 
 -- The Book ran the command, with the receipt of the session's last call handed in. The session keeps the receipt that it got, and its seer
 -- learns of the token in it, if there is one.
@@ -88,7 +93,10 @@ pub record TakesLine (passed : ℕ → Type 0) (base : Kept) (setting : Setting)
 abbrev pub Sits : (ℕ → Type 0) → Kept → Setting → Sitting → Sitting → List (List ℕ) → List ℕ → Type 0
 Sits passed base setting old new lines text = Chain (TakesLine passed base setting) old new lines text
 
--- What was done for what was read, by a session whose seer knew the one and then knows the other.
-abbrev pub IsSat : (ℕ → Type 0) → Kept → Setting → Result (Unit {0}) EngineFault → Option (List ℕ) → Option (List ℕ) → Known → Known → Option (List ℕ) → Option (List ℕ) → Type 0
-IsSat passed base setting result unread unread' known known' held held' =
-    (new : Sitting) × (new.seer ≡ known') × IsSession (Sits passed base setting) result unread unread' (seated known) new held held'
+-- What was done for what was read, by a session that had one receipt and then has the other, and whose seer knew the one and then knows the
+-- other.
+pub record IsSat (passed : ℕ → Type 0) (base : Kept) (setting : Setting) (result : Result (Unit {0}) EngineFault)
+    (unread unread' : Option (List ℕ)) (last last' : Option Slip) (known known' : Known) (held held' : Option (List ℕ)) : Type 0 where
+  -- the number of its last line
+  pub line : ℕ
+  pub session : IsSession (Sits passed base setting) result unread unread' (seated last known) (record { line = line; last = last'; seer = known' }) held held'

@@ -4,8 +4,8 @@ ghost use Rattle.pf_addr.specs.Writing.{Continues, Writes};
 ghost use Rattle.pf_disk.specs.Disk.{IsImage};
 ghost use Rattle.pf_anchor.specs.declared.limits.TheConstants.{RULESET_LIMIT, TABLE_COUNT_LIMIT};
 ghost use Rattle.pf_core.specs.{Durable.Edits.{kept_nothing}, Worlds.raised};
-ghost use Rattle.pf_store.specs.{Banks.IsSize, Stores.Holds};
-ghost use Rattle.pfd.specs.Program.{Hinders};
+ghost use Rattle.pf_store.specs.{Banks.{IsSize, bank_end}, Stores.Holds};
+ghost use Rattle.pfd.specs.Program.{Hinders, fresh_gate};
 ghost use Rattle.pfd.specs.Showing.{IsShown, is_device_fault, number_line, shown_text, sum_line};
 
 use crate::program::fault::Fault;
@@ -46,6 +46,8 @@ pub fn open_fresh<D: Disk + Drop>(alloc: Global, mut disk: D) -> Result<Opening<
     requires few { D.fault_count disk < 2 ^ 63 }
     ensures size { IfOk result (λ _. IsSize (length (D.seen disk))) }
     ensures given { IfOk result (λ o. o.given ≡ raised (kept_nothing 0)) }
+    ensures end { IfOk result (λ o. o.end ≡ bank_end (length (D.seen disk))) }
+    ensures gate { IfOk result (λ o. o.gate ≡ fresh_gate) }
     ensures hindered { IfErr result (λ fault. Hinders (length (D.seen disk)) fault) }
 {
     if !is_size(disk.size()) {

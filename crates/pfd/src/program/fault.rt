@@ -36,7 +36,8 @@ pub enum Fault {
     /// There is no place for a reader of what is published.
     #[error("places")]
     Places,
-    /// A read of the input failed, or the file can't be opened, made or brought to its length.
+    /// A read of the input failed, or the file can't be opened, made or brought to its length, or is locked. Of an address: it can't be
+    /// listened on, an accept failed, or nobody answers there.
     #[error("input")]
     Input,
     /// A write or a flush of the output failed.

@@ -1,6 +1,6 @@
 //! Disks that lie on files. What a file holds no clause can say, so this is only tested.
 ghost use Rattle.std.specs.Prelude.{◌≡◌, IfErr, IfOk};
-ghost use Rattle.pfd.specs.Program.{IsOfFile};
+ghost use Rattle.pfd.specs.Program.{IsOfFile, ShownOfFile};
 
 use crate::program::devices::{format_on, is_size, show_on};
 use crate::program::fault::Fault;
@@ -53,7 +53,9 @@ pub(crate) fn show_file<S: Files<File = File>, W: Write>(
     files: &S,
     path: &str,
     writer: &mut W,
-) -> Result<(), Fault> {
+) -> Result<(), Fault>
+    ensures { ShownOfFile ⟦<FileDisk as Disk>⟧.seen result (W.contents writer.old) (W.contents writer.new) }
+{
     let Ok(file) = File::open(files, path) else {
         return Err(Fault::Input);
     };

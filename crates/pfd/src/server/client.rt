@@ -4,7 +4,6 @@ ghost use Rattle.pf_addr.specs.Writing.{Writes};
 ghost use Rattle.pfd.specs.Server.Carrying.{Carries};
 
 use crate::line_engine::EngineFault;
-use crate::program::Fault;
 use pf_addr::write_text;
 use std::alloc::Global;
 use std::io::{self, ErrorKind, Read, Write};
@@ -114,15 +113,21 @@ fn receive<W: Write>(
 /// Sends what the reader gives to the server at the address, and writes what it answers, until the reader is at its end and the server has
 /// closed. Both go on at once, so that a reply is written before more is read.
 ///
-/// `Err(Input)`: nobody answers at the address, or a read of the reader failed. `Err(Output)`: the server closed before the reader's end, or
+/// `Err(Read)`: nobody answers at the address, or a read of the reader failed. `Err(Write)`: the server closed before the reader's end, or
 /// a write failed; where the reader waits then, this returns with what it gives next. `Err(Memory)`: memory was refused.
 pub(crate) fn connect<
     N: Net<Listener = TcpListener, Stream = TcpStream> + Threads,
     R: Read,
     W: Write + Send,
->(net: &N, alloc: Global, address: &str, reader: &mut R, writer: &mut W) -> Result<(), Fault> {
+>(
+    net: &N,
+    alloc: Global,
+    address: &str,
+    reader: &mut R,
+    writer: &mut W,
+) -> Result<(), EngineFault> {
     let Ok(stream) = TcpStream::connect(net, address) else {
-        return Err(Fault::Input);
+        return Err(EngineFault::Read);
     };
     let has_ended = AtomicBool::new(false);
     let (stream, has_ended) = (&stream, &has_ended);
@@ -132,6 +137,5 @@ pub(crate) fn connect<
         || send(alloc, stream, reader, has_ended),
     );
     received?;
-    sent?;
-    Ok(())
+    sent
 }

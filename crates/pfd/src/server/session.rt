@@ -1,12 +1,13 @@
 //! A session over a Book that others use too.
-ghost use Rattle.std.specs.Prelude.{◌≡◌, ℕ, List, option_map};
+ghost use Rattle.std.specs.Prelude.{◌≡◌, ℕ, List, None, Option, option_map};
 ghost use Rattle.pf_addr.specs.Writing.{Writes};
 ghost use Rattle.pf_line.specs.Reply.Replies.{reply_text};
-ghost use Rattle.pfd.specs.{LineEngine.Sessions.IsSession, Telling.IsToldBy, Server.{Sittings.{IsJudged, IsRun, IsSat, Rests, Runs, Sits, packet_in}, Attending.{Attends, IsSame, sitting}}, Laws.Attending.{attends-none, attends-then, attends-seen}};
+ghost use Rattle.pf_book.specs.Receipts.{Slip};
+ghost use Rattle.pfd.specs.{LineEngine.Sessions.IsSession, Telling.IsToldBy, Server.{Sittings.{HasJudged, IsJudged, IsRun, IsSat, Rests, Runs, Sits, packet_in}, Attending.{Attends, IsSame, sitting}}, Laws.Server.{attends-none, attends-then, attends-seen}};
 
-use crate::engine::refuse;
 use crate::line_engine::{self, AnswerLine, EngineFault};
 use crate::server::gate::Gate;
+use crate::telling::refuse;
 use pf_addr::write_text;
 use pf_book::{Chapter, Disk, Gone, Receipt, Seer, Shared};
 use pf_core::{Command, Question, Reply};
@@ -39,6 +40,21 @@ fn packet_in(command: &Command) -> Option<&Packet>
     }
 }
 
+// What happens to a packet, or that no copy could tell. It has no handle to wait by and no Book to ask: judging waits for the writer alone.
+fn write_verdict<J: Chapter, O: Write>(
+    seer: &mut Seer<J>,
+    packet: &Packet,
+    writer: &mut O,
+) -> io::Result<()>
+    ensures { (text : List ℕ) × HasJudged J.base packet.now seer.old seer.new text ×
+        Writes result (O.contents writer.old) (O.contents writer.new) text }
+{
+    match seer.judge(packet) {
+        Ok(verdict) => write_judged(writer, &verdict),
+        Err(Gone) => write_text(writer, b"err gone\n"),
+    }
+}
+
 impl<'a, W: Wait, D: Disk + Drop, J: Chapter, H: Wait + Drop, G: Gate> Session<'a, W, D, J, H, G> {
     // The Book's reply to a command.
     fn run(&mut self, command: Command) -> Reply
@@ -59,10 +75,7 @@ impl<'a, W: Wait, D: Disk + Drop, J: Chapter, H: Wait + Drop, G: Gate> Session<'
         ensures judged { (text : List ℕ) × IsJudged J.base packet.now (sitting self.old) (sitting self.new) text ×
             Writes result (O.contents writer.old) (O.contents writer.new) text }
     {
-        match self.seer.judge(packet) {
-            Ok(verdict) => write_judged(writer, &verdict),
-            Err(Gone) => write_text(writer, b"err gone\n"),
-        }
+        write_verdict(self.seer, packet, writer)
     }
 
     // A command is answered.
@@ -170,10 +183,34 @@ pub fn serve<W: Wait, D: Disk + Drop, J: Chapter, H: Wait + Drop, G: Gate, R: Re
     gate: &G,
     session: u32,
 ) -> Result<(), EngineFault>
-    ensures { IsSat (G.passed gate.now session) J.base J.setting result (R.remaining reader.old) (R.remaining reader.new)
-        seer.old seer.new (O.contents writer.old) (O.contents writer.new) }
+    ensures { (last : Option Slip) × IsSat (G.passed gate.now session) J.base J.setting result (R.remaining reader.old) (R.remaining reader.new)
+        None last seer.old seer.new (O.contents writer.old) (O.contents writer.new) }
 {
     let mut last = None;
+    serve_from(
+        rt, alloc, reader, writer, shared, seer, gate, session, &mut last,
+    )
+}
+
+/// The same, where the session's first call hands in the receipt that the caller has, if it has one. Behind it the caller has that of the
+/// session's last call, or its own where there was none. Own.
+///
+/// The front of the receipt that the caller then has begins with what each reply was answered by, as
+/// [`the_last_receipt_has_all`](crate::laws::the_last_receipt_has_all) says. So does the history of the Book that confirms it.
+pub fn serve_from<W: Wait, D: Disk + Drop, J: Chapter, H: Wait + Drop, G: Gate, R: Read, O: Write>(
+    rt: &W,
+    alloc: Global,
+    reader: &mut R,
+    writer: &mut O,
+    shared: &Shared<D, J, H>,
+    seer: &mut Seer<J>,
+    gate: &G,
+    session: u32,
+    last: &mut Option<Receipt<J>>,
+) -> Result<(), EngineFault>
+    ensures { IsSat (G.passed gate.now session) J.base J.setting result (R.remaining reader.old) (R.remaining reader.new)
+        last.old last.new seer.old seer.new (O.contents writer.old) (O.contents writer.new) }
+{
     let mut session = Session {
         rt,
         shared,
@@ -181,7 +218,7 @@ pub fn serve<W: Wait, D: Disk + Drop, J: Chapter, H: Wait + Drop, G: Gate, R: Re
         gate,
         number: session,
         line: 0,
-        last: &mut last,
+        last,
     };
     attend(alloc, reader, writer, &mut session)
 }

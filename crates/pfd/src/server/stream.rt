@@ -7,8 +7,8 @@ ghost use Rattle.pf_line.specs.Reply.Replies.{reply_text};
 ghost use Rattle.pf_book.specs.Receipts.{Slip};
 ghost use Rattle.pfd.specs.{LineEngine.Pieces.Answers, Server.Streams.{IsStream, RunsFed, Takes, TakesItem, TakesPiece, TellsEnd, TellsFault, items}};
 
-use crate::engine::refuse;
 use crate::line_engine::EngineFault;
+use crate::telling::refuse;
 use pf_book::{Chapter, Disk, Receipt, Shared};
 use pf_core::{Command, Refusal, StateCommand};
 use pf_line::write_reply;
@@ -147,15 +147,37 @@ pub fn serve_peer<W: Wait, D: Disk + Drop, J: Chapter, H: Wait + Drop, R: Read, 
     ensures { (last : Option Slip) × IsStream (Takes J.base J.setting) result (R.remaining reader.old) (R.remaining reader.new)
         None last (O.contents writer.old) (O.contents writer.new) }
 {
+    let mut last = None;
+    serve_peer_from(rt, alloc, reader, writer, shared, &mut last)
+}
+
+/// The same, where the first call hands in the receipt that the caller has, if it has one. Behind it the caller has that of the last call,
+/// or its own where there was none. Own.
+///
+/// The front of the receipt that the caller then has begins with what each reply was answered by, as
+/// [`the_last_receipt_has_all`](crate::laws::the_last_receipt_has_all) says. So does the history of the Book that confirms it.
+pub fn serve_peer_from<W: Wait, D: Disk + Drop, J: Chapter, H: Wait + Drop, R: Read, O: Write>(
+    rt: &W,
+    alloc: Global,
+    reader: &mut R,
+    writer: &mut O,
+    shared: &Shared<D, J, H>,
+    last: &mut Option<Receipt<J>>,
+) -> Result<(), EngineFault>
+    ensures { IsStream (Takes J.base J.setting) result (R.remaining reader.old) (R.remaining reader.new)
+        last.old last.new (O.contents writer.old) (O.contents writer.new) }
+{
     let Ok(mut buffer) = Vec::from_elem(alloc, 0, PIECE_LEN) else {
         return Err(EngineFault::Memory);
     };
     let mut follower = Follower {
         rt,
         shared,
-        last: None,
+        last: last.take(),
     };
-    follow(alloc, buffer.as_mut_slice(), reader, writer, &mut follower)
+    let ended = follow(alloc, buffer.as_mut_slice(), reader, writer, &mut follower);
+    *last = follower.last;
+    ended
 }
 
 // Reads to the end, or to a fault. `piece` has what a read gave.

@@ -1,6 +1,8 @@
-use Rattle.std.proofs.Common.{[], inl, inr, lit<, refl}
-use Rattle.pf_core.specs.Durable.Edits.{kept_nothing}
-use Rattle.pfd.specs.Faults.{told_of_views}
+use Rattle.std.proofs.Common.{ℕ, [], ◌∷◌, inl, inr, lit<, refl, subst}
+use Rattle.pf_core.specs.{Durable.Edits.kept_nothing, Pages.StandsFor, Worlds.opened}
+use Rattle.pf_store.specs.Rooms.{on_device}
+use Rattle.pf_book.specs.Books.{page}
+use Rattle.pfd.specs.{Faults.told_of_views, Program.fresh_gate}
 use Rattle.pfd.proofs.Begun.{views-hinder}
 use Rattle.pfd.proofs.program.run.Goals as goal
 
@@ -15,9 +17,9 @@ returns g c =
           size_is = size_is;
           old = began.old;
           new = began.new;
-          end = c.in_ok-opening.opening.end;
-          gate = c.in_ok-opening.opening.gate;
-          fresh = began.worlds (kept_nothing 0) (kept_nothing 0) [] tt refl (lit< tt) c.in_ok-opening.ensures.given;
+          fresh = subst (λ (k : ℕ). StandsFor (kept_nothing 0) (page began.old) (opened (on_device c.args.history k fresh_gate) ∷ [])) c.in_ok-opening.ensures.end
+              (subst (λ (k : ℕ). StandsFor (kept_nothing 0) (page began.old) (opened (on_device c.args.history c.in_ok-opening.opening.end k) ∷ [])) c.in_ok-opening.ensures.gate
+              (began.worlds (kept_nothing 0) (kept_nothing 0) [] tt refl (lit< tt) c.in_ok-opening.ensures.given));
           session = began.session;
         },
       )

@@ -2,7 +2,7 @@ use Rattle.std.proofs.Common.{[], refl}
 use Rattle.pf_line.specs.Reply.Replies.{reply_text}
 use Rattle.pf_core.specs.declared.reply.Reply.TheVariants.{Refused}
 use Rattle.pfd.specs.Server.{Sittings.{Rests, Runs}, Attending.sitting}
-use Rattle.pfd.proofs.{Flushing.appends_none, Telling.{silence-told, command-told, refusal-told}}
+use Rattle.pfd.proofs.{Flushing.appends_none, Told.{silence-told, command-told, refusal-told}}
 use Rattle.pfd.proofs.server.session.Session.answer.Goals as goal
 
 pub returns-in-Ok-None-clause-told : goal.returns-in-Ok-None-clause-told

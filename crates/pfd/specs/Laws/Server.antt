@@ -20,11 +20,11 @@ chain-one Step a b x s step = (b, s, [], step, (refl, refl), sym (append-nil s))
 
 module _ {W D J H G : Type 0} (passed : G → ℕ → ℕ → Type 0) (base : Kept) (setting : Setting) where
   pub attends-none : (s : Session W D J H G) → Attends passed base setting s s [] []
-  attends-none s = record { same = record { seer = refl; number = refl; gate = refl }; sits = (refl, refl) }
+  attends-none s = record { same = record { seer = refl; last = refl; number = refl; gate = refl }; sits = (refl, refl) }
 
   pub attends-then : (old mid new : Session W D J H G) (lines others : List (List ℕ)) (text more : List ℕ) → Attends passed base setting old mid lines text → Attends passed base setting mid new others more → Attends passed base setting old new (lines ++ others) (text ++ more)
   attends-then old mid new lines others text more p q = record {
-    same = record { seer = q.same.seer ∙ p.same.seer; number = q.same.number ∙ p.same.number; gate = q.same.gate ∙ p.same.gate };
+    same = record { seer = q.same.seer ∙ p.same.seer; last = q.same.last ∙ p.same.last; number = q.same.number ∙ p.same.number; gate = q.same.gate ∙ p.same.gate };
     sits = chain-then (TakesLine (passed old.gate.now old.number) base setting) (sitting old) (sitting mid) (sitting new) lines others text more p.sits
         (rw (sym p.same.gate, sym p.same.number) q.sits);
   }
