@@ -179,23 +179,27 @@ const STREAMS: &[(usize, &[u8], &str)] = &[
     ),
 ];
 
-// What is written to a peer that sends these bytes.
+// What is written to a peer that sends these bytes, and how many changes the Book then has.
 fn followed<J: Chapter, H: Wait + Drop, R: Wait + Abort>(
     waits: H,
     rt: &R,
     alloc: Global,
     opening: Opening<MemDisk>,
     mut bytes: &[u8],
-) -> Result<String, Fail>
+) -> Result<(String, usize), Fail>
     requires { IsNamed J.base J.history J.setting opening 10 }
 {
     let Ok((book, _seers)) = Book::<MemDisk, J, H>::of(waits, alloc, opening, 10, 1) else {
         return Err(Fail::from("a Book"));
     };
+    let shared = Shared::new(book);
     let mut text = Vec::new(alloc);
-    let ended = serve_peer(rt, alloc, &mut bytes, &mut text, &Shared::new(book));
+    let ended = serve_peer(rt, alloc, &mut bytes, &mut text, &shared);
     assert!(rt; ended.is_ok());
-    String::from_utf8(text).map_err(|_| Fail::from("a text"))
+    let Ok(text) = String::from_utf8(text) else {
+        return Err(Fail::from("a text"));
+    };
+    Ok((text, shared.close().log_len()))
 }
 
 #[test]
@@ -207,8 +211,9 @@ fn peers_are_told_line_by_line(rt: HostRuntime) -> Result<(), Fail> {
         }
         sent.extend_from_slice(rest)?;
         let opening = opened(rt.alloc())?;
-        let told = followed::<Brand, _, _>(&rt, &rt, rt.alloc(), opening, &sent)?;
+        let (told, changes) = followed::<Brand, _, _>(&rt, &rt, rt.alloc(), opening, &sent)?;
         assert!(rt; told.as_str() == *wanted, "wanted {wanted}");
+        assert!(rt; changes == *times, "wanted {wanted}");
     }
     Ok(())
 }
@@ -216,20 +221,28 @@ fn peers_are_told_line_by_line(rt: HostRuntime) -> Result<(), Fail> {
 /// How often the first session gives way to other threads at most.
 const MOST_TURNS: u32 = 10_000_000;
 
-/// A gate that holds session 1 at its first line until another session was answered, for a limited number of turns.
+/// A gate that holds session 1 at its first line until another session was answered, and that one until session 1 has come, for a limited
+/// number of turns.
 #[derive(Drop)]
 struct Holding {
+    has_come: AtomicBool,
     is_answered: AtomicBool,
     met_limit: AtomicBool,
 }
 
 impl Gate for Holding {
     fn pass(&self, session: u32, line: u32) {
-        if session != 1 || line != 1 {
+        if line != 1 {
             return;
         }
+        let awaited = if session == 1 {
+            self.has_come.store(true, Ordering::SeqCst);
+            &self.is_answered
+        } else {
+            &self.has_come
+        };
         for turn in 0..MOST_TURNS {
-            if self.is_answered.load(Ordering::SeqCst) {
+            if awaited.load(Ordering::SeqCst) {
                 return;
             }
             thread::yield_now();
@@ -255,20 +268,23 @@ fn asked<N: Net<Listener = TcpListener, Stream = TcpStream>>(
 
 /// What session 1 sends, and what it is told.
 const COMMIT: (&[u8], &str) = (
-    b"begin filter -\nadd - 1.1 block in all\ncommit filter - 1.1\n",
-    "ok 1.1\nok\napplied 1\n",
+    b"tset - t 10/8\nbegin filter -\nadd - 1.1 block in all\ncommit filter - 1.1\n",
+    "applied 1\nok 1.1\nok\napplied 2\n",
 );
 
-// Whether a session is told this line of a packet.
-fn is_judged(alloc: Global, session: &mut TcpStream, wanted: &[u8]) -> io::Result<bool> {
-    session.write_all(b"judge in em0 tcp 10.0.0.1 1 10.0.0.2 2\n")?;
-    let mut line = vec![in alloc; 0u8; wanted.len()]?;
-    session.read_exact(line.as_mut_slice())?;
-    Ok(line.as_slice() == wanted)
+/// What session 2 asks of a packet.
+const JUDGE: &[u8] = b"judge in em0 tcp 10.0.0.1 1 10.0.0.2 2\n";
+
+// Whether a session is told this.
+fn is_told(alloc: Global, session: &mut TcpStream, line: &[u8], wanted: &[u8]) -> io::Result<bool> {
+    session.write_all(line)?;
+    let mut told = vec![in alloc; 0u8; wanted.len()]?;
+    session.read_exact(told.as_mut_slice())?;
+    Ok(told.as_slice() == wanted)
 }
 
-// The client of session 1 is told nothing until that of session 2 is. Session 2 goes on, and its packets are judged by what session 1 was
-// told is applied.
+// The client of session 1 is told nothing until that of session 2 is, which sees nothing of the line at which session 1 is held. Session 2
+// goes on, and its packets are judged by what session 1 was told is applied.
 fn ask_in_turn<N: Net<Listener = TcpListener, Stream = TcpStream> + Abort>(
     net: &N,
     alloc: Global,
@@ -279,14 +295,16 @@ fn ask_in_turn<N: Net<Listener = TcpListener, Stream = TcpStream> + Abort>(
     first.write_all(COMMIT.0)?;
     first.shutdown(Shutdown::Write)?;
     let mut second = TcpStream::connect(net, server)?;
-    let before = is_judged(alloc, &mut second, b"pass default\n");
+    let log = is_told(alloc, &mut second, b"log\n", b"log 0 acked 0 shown 0\n");
+    let before = is_told(alloc, &mut second, JUDGE, b"pass default\n");
     gate.is_answered.store(true, Ordering::SeqCst);
-    let passed = before?;
+    let (is_empty, passed) = (log?, before?);
+    assert!(net; is_empty);
     assert!(net; passed);
     let mut told = String::new(alloc);
     first.read_to_string(&mut told)?;
     assert!(net; told.as_str() == COMMIT.1);
-    let blocked = is_judged(alloc, &mut second, b"block rule 0\n")?;
+    let blocked = is_told(alloc, &mut second, JUDGE, b"block rule 0\n")?;
     assert!(net; blocked);
     Ok(())
 }
@@ -305,6 +323,7 @@ fn overlap<
     let listener = &TcpListener::bind(rt, "127.0.0.1:0")?;
     let server = listener.local_addr()?;
     let gate = &Holding {
+        has_come: AtomicBool::new(false),
         is_answered: AtomicBool::new(false),
         met_limit: AtomicBool::new(false),
     };
@@ -324,19 +343,34 @@ fn sessions_overlap(rt: HostRuntime) -> Result<(), Fail> {
     overlap::<Brand, _, _>(&rt, &rt, rt.alloc(), opened(rt.alloc())?)
 }
 
-// One worker, which serves a session, a client that ends within a line, a peer that ends within a message, one that sends much behind a
-// fault, a client that closes with replies unread, which resets its connection, and one that says nothing.
+/// What clients send, one after the other, and what each is told.
+const ASKED: &[(&[u8], &str)] = &[
+    (b"tset - t 10/8\n", "applied 1\n"),
+    // It ends within a line.
+    (b"test - t 10.0.0.1", "match 10.0.0.0/8\n"),
+    // A peer that ends within a message, and one that sends a whole one.
+    (b"\x05\x00\x00\x58\xd4", "err peer ended\n"),
+    (
+        &MESSAGE,
+        "applied 2 new 1 replaced 0 stale 0 clash 0 deleted 0\n",
+    ),
+    (
+        b"show states\n",
+        "1 2 0 in tcp 10.0.0.1 1234 10.0.0.2 80 default\nend 1\n",
+    ),
+];
+
+// One worker, which serves these, a peer that sends much behind a fault, a client that closes with replies unread, which resets its
+// connection, and one that says nothing.
 fn ask_one_after_the_other<N: Net<Listener = TcpListener, Stream = TcpStream> + Abort>(
     net: &N,
     alloc: Global,
     server: SocketAddr,
 ) -> io::Result<()> {
-    let banned = asked(net, alloc, server, b"tset - t 10/8\n")?;
-    assert!(net; banned.as_str() == "applied 1\n");
-    let torn = asked(net, alloc, server, b"test - t 10.0.0.1")?;
-    assert!(net; torn.as_str() == "match 10.0.0.0/8\n");
-    let peer = asked(net, alloc, server, &MESSAGE[..19])?;
-    assert!(net; peer.as_str() == "err peer ended\n");
+    for (bytes, wanted) in ASKED {
+        let told = asked(net, alloc, server, bytes)?;
+        assert!(net; told.as_str() == *wanted, "wanted {wanted}");
+    }
     let faulty = vec![in alloc; 5u8; 200_000]?;
     let told_of = asked(net, alloc, server, &faulty)?;
     assert!(net; told_of.as_str() == "err peer version\n");
@@ -347,7 +381,7 @@ fn ask_one_after_the_other<N: Net<Listener = TcpListener, Stream = TcpStream> + 
     let silent = asked(net, alloc, server, b"")?;
     assert!(net; silent.is_empty());
     let told = asked(net, alloc, server, b"log\n")?;
-    assert!(net; told.as_str() == "log 1 acked 1 shown 1\n");
+    assert!(net; told.as_str() == "log 2 acked 2 shown 2\n");
     Ok(())
 }
 
@@ -366,7 +400,7 @@ fn serve_them_all<
     let server = listener.local_addr()?;
     let (served, told) = thread::join(
         rt,
-        || serve_listener(rt, alloc, listener, shared, seers, &OpenGate, 7),
+        || serve_listener(rt, alloc, listener, shared, seers, &OpenGate, 9),
         || ask_one_after_the_other(rt, alloc, server),
     );
     assert!(rt; served.is_ok());

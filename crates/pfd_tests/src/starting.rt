@@ -215,6 +215,8 @@ const REFUSED: &[(&str, u8, &str)] = &[
     ("pfd run --disk no/such/file", 1, "pfd: input\n"),
     ("pfd run --disk no/such/file --size 255", 1, "pfd: input\n"),
     ("pfd run --disk /", 1, "pfd: input\n"),
+    // What runs can't be written, whoever asks.
+    ("pfd run --disk /proc/self/exe", 1, "pfd: input\n"),
     ("pfd run --disk /dev/null", 1, "pfd: bad size\n"),
     ("pfd run --disk /dev/null --size 300", 1, "pfd: bad size\n"),
     (
@@ -447,6 +449,14 @@ fn leaves_files_that_are_no_disk_of_its_own(rt: HostRuntime) -> Result<(), Fail>
             (1, "", "pfd: no bank\n"),
         )?;
     }
+    // One byte too short.
+    file.set_len(299)?;
+    check(
+        &rt,
+        rt.alloc(),
+        ("pfd run --disk zeros", "!", 99, 9),
+        (1, "", "pfd: bad size\n"),
+    )?;
     assert!(rt; file.try_lock().is_ok());
     for line in LOCKED {
         check(&rt, rt.alloc(), (line, "!", 99, 9), (1, "", "pfd: input\n"))?;
@@ -532,7 +542,9 @@ fn a_client_is_served(rt: HostRuntime) -> Result<(), Fail> {
     let (served, connected) = (served?, connected?);
     assert!(rt; served == 0 && connected == 0);
     assert!(rt; written.as_slice() == b"applied 1\nlog 1 acked 1 shown 1\n".as_slice());
-    Ok(())
+    let holds = "epoch 1\nsum d41d8cd98f00b204e9800998ecf8427e\nrulesets 0\ntables 1\nstates 0\n";
+    let show = "pfd show --disk served";
+    check(&rt, alloc, (show, "!", 99, 9), (0, holds, ""))
 }
 
 // Hangs up on a first client at once, and on a second one at the end of what it sends.
