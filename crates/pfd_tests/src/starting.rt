@@ -409,6 +409,19 @@ const KEPT: &[(Case, (u8, &str, &str))] = &[
         ),
         (1, "listening 127.0.0.1:", "pfd: output\n"),
     ),
+    // Each opening takes some room, until there is none for one more.
+    (
+        ("pfd format --disk kept --size 300", "!", 99, 9),
+        (0, "", ""),
+    ),
+    (
+        ("pfd run --disk kept", "tset - t 10/8\ntset - t 10/8", 99, 9),
+        (0, "applied 1\napplied 2\n", ""),
+    ),
+    (("pfd run --disk kept", "", 99, 9), (0, "", "")),
+    (("pfd run --disk kept", "", 99, 9), (0, "", "")),
+    (("pfd run --disk kept", "!", 99, 9), (1, "", "pfd: full\n")),
+    (("pfd show --disk kept", "!", 99, 9), (0, "epoch 3\n", "")),
 ];
 
 #[test]
