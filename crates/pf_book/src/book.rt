@@ -184,6 +184,35 @@ impl<D: Disk + Drop, J: Chapter, R: Wait + Drop> Book<D, J, R> {
             noted,
             given,
         } = shares;
+        match self.save(change, noted, next, after) {
+            Ok(()) => Ok(given),
+            Err(refusal) => Err(refusal),
+        }
+    }
+
+    // Saves a change for which the history has a number, and notes it there.
+    fn save(
+        &mut self,
+        change: Arc<Change>,
+        noted: Arc<Change>,
+        next: Next,
+        after: Arc<Durable>,
+    ) -> Result<(), Refusal>
+        requires made { next ≡ left_by self.old.whole.durable (arc_value change) }
+        requires noted { arc_value noted ≡ arc_value change }
+        requires after { arc_value after ≡ next.durable }
+        requires fits { fits self.old.whole.durable (arc_value change) ≡ Ok tt }
+        requires few { length (flat self.old.acked) < self.old.limit }
+        requires free { self.old.pending ≡ [] }
+        ensures ok { OnOk result (IsMore (page self.old) (page self.new) (arc_value change)) }
+        ensures err { IfErr result (λ e. IsUnkept e (page self.old) (page self.new) (arc_value change)) }
+        ensures any_moment { EachMoment D.moment D.left_since self.old.disk self.new.disk
+            (HoldsEither self.old.whole.durable (applied self.old.whole.durable (arc_value change))) }
+        ensures still { IfErr result (λ e. is_fault e ≡ false → self.new.disk ≡ self.old.disk) }
+        ensures moments { D.moment self.new.disk ≤ D.moment self.old.disk + 4 }
+        ensures same_size { length (D.seen self.new.disk) ≡ length (D.seen self.old.disk) }
+        ensures faults { D.fault_count self.new.disk ≡ D.fault_count self.old.disk + (if is_fault_result result then 1 else 0) }
+    {
         self.log.reserve(1)?;
         match self
             .store
@@ -195,7 +224,7 @@ impl<D: Disk + Drop, J: Chapter, R: Wait + Drop> Book<D, J, R> {
                 self.acked += 1;
                 self.core.accept(next);
                 self.durable = after;
-                Ok(given)
+                Ok(())
             }
             Err(SaveFault::Memory) => Err(Refusal::Memory),
             Err(SaveFault::Full) => Err(Refusal::Full),

@@ -10,7 +10,6 @@ pub mod Following
 pub mod Calling
 pub mod Limits
 mod TakingOver
-pub mod Asking
 pub mod Flushing
 pub mod Showing
 pub mod Running

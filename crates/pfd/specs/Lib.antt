@@ -1,7 +1,6 @@
 pub mod LineEngine
 pub mod Telling
 pub mod Serving
-pub mod Words
 pub mod Faults
 pub mod Program
 pub mod Server

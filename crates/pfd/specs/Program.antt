@@ -7,13 +7,9 @@ use Rattle.pf_store.specs.{Banks.{IsSize, bank_end}, Openings.{IsUnopened, gate_
 use Rattle.pf_store.specs.declared.store.fault.OpenFault.{OpenFault}
 use Rattle.pf_view.specs.declared.opening.ViewFault.{ViewFault}
 use Rattle.pf_book.specs.Books.{Ledger, Opened, page}
-use Rattle.pfd.specs.declared.{line_engine.fault.EngineFault.EngineFault, program.fault.Fault.Fault, program.fault.Fault.TheVariants.{BadSize, Device, Input, Memory, Places}, program.words.Task.Task, program.words.Task.TheVariants.{Run, RunOn, Format, Show, Serve, Connect}}
-use Rattle.pfd.specs.declared.program.words.TheConstants.{MEMORY_SIZE}
+use Rattle.pfd_words.specs.declared.words.{Task.Task, Task.TheVariants.{Run, RunOn, Format, Show, Serve, Connect}, TheConstants.MEMORY_SIZE}
+use Rattle.pfd.specs.declared.{line_engine.fault.EngineFault.EngineFault, program.fault.Fault.Fault, program.fault.Fault.TheVariants.{BadSize, Device, Input, Memory, Places}}
 use Rattle.pfd.specs.{Faults.{ended, told_of_opening, told_of_views}, LineEngine.Sessions.IsSession, Serving.Serves, Showing.IsShown}
-
--- the program's name, whatever it is, and `run`
-abbrev pub IsRun : List (List ℕ) → Type 0
-IsRun words = (name : List ℕ) × (words ≡ name ∷ codes "run" ∷ [])
 
 -- of worlds that come to this and don't have the last epoch, the Book stands for those with this opening at their end
 abbrev pub Follows : {D : Type 0} → Opened D → ℕ → Ledger D → Type 0

@@ -1,6 +1,7 @@
 //! Laws of a Book and of sessions. Each function does nothing; its contract is the law.
 ghost use Rattle.std.specs.Prelude.{◌≡◌, ℕ};
-ghost use Rattle.pfd.specs.declared.{line_engine.answer_line.TheConstants.LOOKED_AT, program.words.TheConstants.{HISTORY_LIMIT, MEMORY_SIZE, MOST_HISTORY, MOST_WORKERS, WORKERS}};
+ghost use Rattle.pfd.specs.declared.line_engine.answer_line.TheConstants.{LOOKED_AT};
+ghost use Rattle.pfd_words.specs.declared.words.TheConstants.{HISTORY_LIMIT, MEMORY_SIZE, MOST_HISTORY, MOST_WORKERS, WORKERS};
 ghost use Rattle.pfd.specs.Laws.{Acknowledged.{AcknowledgesNoLess, AcknowledgesTold, FindsAcknowledged}, Receipts.{SitsWithin, TakesWithin}, Sittings.{LearnsNoLess, LearnsApplied}, Takeover.{TakesOver, FreshTakesOver}};
 
 use crate::server::Gate;

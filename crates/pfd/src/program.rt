@@ -1,27 +1,26 @@
-//! The program: its words, what they ask, and the status with which it ends.
+//! The program: what its words ask, and the status with which it ends.
 //!
-//! - `words`: what the words ask.
 //! - `devices`: what is done with a disk, whatever it lies on; `files`: the same with a file.
 //! - `serving`: a server over the disk on a file.
 //! - `fault`: why the program ends with status 1, in one line each.
 ghost use Rattle.std.specs.{Prelude.{◌≡◌, ◌≤◌, ◌<◌, ◌^◌, ◌⊎◌, IfErr, IfOk, Result, map, string_bytes}, Io.KnownBytes.Keeps, IoError.error_kind};
 ghost use Rattle.clap.specs.Words.{kind_of, subcommand_of};
-ghost use Rattle.pfd.specs.declared.program.{fault.Fault.{Fault}, words.Task.{Task}};
+ghost use Rattle.pfd.specs.declared.program.fault.Fault.{Fault};
+ghost use Rattle.pfd_words.specs.declared.words.Task.{Task};
 ghost use Rattle.pf_core.specs.{Durable.Edits.kept_nothing, Worlds.raised};
 ghost use Rattle.pf_store.specs.Banks.{IsSize, bank_end};
 ghost use Rattle.pf_book.specs.Books.{IsNamed};
-ghost use Rattle.pfd.specs.{Program.{Hinders, IsDone, IsRun, RanOn, RanOver, RanWith, ServesFrom, status_of, status_without_words, fresh_gate}, Words.{HasHistory, IsAsked, IsHistory, program_words}};
+ghost use Rattle.pfd_words.specs.Words.{IsRun, HasHistory, IsAsked, IsHistory, program_words};
+ghost use Rattle.pfd.specs.Program.{Hinders, IsDone, RanOn, RanOver, RanWith, ServesFrom, status_of, status_without_words, fresh_gate};
 
 mod devices;
 mod fault;
 mod files;
 mod serving;
-mod words;
 
 use crate::engine::serve_alone;
 use crate::program::files::{format_file, open_file, show_file};
 use crate::program::serving::serve_file;
-use crate::program::words::{Task, read_words};
 use crate::server::connect;
 use clap::Error;
 use clap::error::ErrorKind;
@@ -29,6 +28,8 @@ pub use devices::{format_on, open_fresh, show_on};
 pub use fault::Fault;
 use pf_book::{Book, Chapter, MemDisk, Opening};
 use pf_disk::{Disk, FileDisk};
+use pfd_words::{Task, read_words};
+pub use pfd_words::{HISTORY_LIMIT, MEMORY_SIZE, MOST_HISTORY, MOST_WORKERS, WORKERS};
 use std::alloc::Global;
 use std::env;
 use std::fs::{File, Files};
@@ -37,7 +38,6 @@ use std::marker::Brand;
 use std::net::{Net, TcpListener, TcpStream};
 use std::sync::Wait;
 use std::thread::Threads;
-pub use words::{HISTORY_LIMIT, MEMORY_SIZE, MOST_HISTORY, MOST_WORKERS, WORKERS};
 
 // A fresh disk in memory of so many bytes, opened.
 fn open_memory(alloc: Global, size: usize) -> Result<Opening<MemDisk>, Fault>
@@ -263,8 +263,23 @@ pub fn without_words<F: Write>(error: &io::Error, faults: &mut F) -> u8
     }
 }
 
-// The same with the process's words, files and streams; an error where its words can't be had. Standard input is read as it is:
-// the engine's own buffer takes all that is there in one read.
+// The same with the process's files and streams, and these words. Standard input is read as it is: the engine's own buffer takes all that is
+// there in one read.
+fn start_with<N: Wait + Threads + Net<Listener = TcpListener, Stream = TcpStream> + Sync, F: Write>(
+    machine: &N,
+    rt: &HostRuntime,
+    words: &[String],
+    faults: &mut F,
+) -> io::Result<u8>
+    ensures { IfOk result (λ status. status ≤ 2) }
+{
+    let alloc = rt.alloc();
+    let mut reader = rt.stdin();
+    let mut writer = BufWriter::new(alloc, rt.stdout())?;
+    Ok(start(machine, alloc, rt, words, &mut reader, &mut writer, faults))
+}
+
+// The same with the process's words; an error where they can't be had.
 fn start_on<N: Wait + Threads + Net<Listener = TcpListener, Stream = TcpStream> + Sync, F: Write>(
     machine: &N,
     rt: &HostRuntime,
@@ -272,19 +287,8 @@ fn start_on<N: Wait + Threads + Net<Listener = TcpListener, Stream = TcpStream> 
 ) -> io::Result<u8>
     ensures { IfOk result (λ status. status ≤ 2) }
 {
-    let alloc = rt.alloc();
-    let words: Vec<String> = env::args(rt)?.collect(alloc)?;
-    let mut reader = rt.stdin();
-    let mut writer = BufWriter::new(alloc, rt.stdout())?;
-    Ok(start(
-        machine,
-        alloc,
-        rt,
-        words.as_slice(),
-        &mut reader,
-        &mut writer,
-        faults,
-    ))
+    let words: Vec<String> = env::args(rt)?.collect(rt.alloc())?;
+    start_with(machine, rt, words.as_slice(), faults)
 }
 
 /// The program over this process: its words, files, standard input, output and error. It gives the status to end with, as

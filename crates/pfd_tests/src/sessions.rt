@@ -1,5 +1,5 @@
 //! Sessions over readers and writers that fail, or do little at a time.
-ghost use Rattle.pfd.specs.declared.program.words.TheConstants.{HISTORY_LIMIT};
+ghost use Rattle.pfd_words.specs.declared.words.TheConstants.{HISTORY_LIMIT};
 ghost use Rattle.pf_book.specs.Books.{IsNamed};
 
 use crate::books::opened;

@@ -1,5 +1,5 @@
 //! Callers that share a Book, in threads of their own: their receipts, and what is judged beside them.
-ghost use Rattle.pfd.specs.declared.program.words.TheConstants.{HISTORY_LIMIT};
+ghost use Rattle.pfd_words.specs.declared.words.TheConstants.{HISTORY_LIMIT};
 ghost use Rattle.pf_book.specs.Books.{IsNamed};
 
 use crate::books::{opened, opened_of};

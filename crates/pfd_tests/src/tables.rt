@@ -1,5 +1,5 @@
 //! Commands on tables that no line can carry: lists without entries, and lists longer than a line.
-ghost use Rattle.pfd.specs.declared.program.words.TheConstants.{HISTORY_LIMIT};
+ghost use Rattle.pfd_words.specs.declared.words.TheConstants.{HISTORY_LIMIT};
 ghost use Rattle.pf_book.specs.Books.{IsNamed};
 
 use crate::books::opened;

@@ -2,14 +2,15 @@
 ghost use Rattle.std.specs.Prelude.{◌≡◌, ℕ, List};
 ghost use Rattle.pf_addr.specs.Writing.{Writes};
 ghost use Rattle.pf_book.specs.Books.{IsNamed};
-ghost use Rattle.pfd.specs.{Program.listening_text, Words.CanServe};
+ghost use Rattle.pfd_words.specs.Words.{CanServe};
+ghost use Rattle.pfd.specs.Program.{listening_text};
 
 use crate::program::fault::Fault;
 use crate::program::files::open_file;
-use crate::program::words::Service;
 use crate::server::{OpenGate, serve_listener};
 use pf_addr::write_more;
 use pf_book::{Book, Chapter, Disk, Opening, Shared};
+use pfd_words::Service;
 use std::alloc::Global;
 use std::fs::{File, Files};
 use std::io::{self, Write};

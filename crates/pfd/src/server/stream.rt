@@ -170,12 +170,38 @@ pub fn serve_peer_from<W: Wait, D: Disk + Drop, J: Chapter, H: Wait + Drop, R: R
     let Ok(mut buffer) = Vec::from_elem(alloc, 0, PIECE_LEN) else {
         return Err(EngineFault::Memory);
     };
+    follow_from(
+        rt,
+        alloc,
+        buffer.as_mut_slice(),
+        reader,
+        writer,
+        shared,
+        last,
+    )
+}
+
+// The same with a buffer for what a read gives.
+fn follow_from<W: Wait, D: Disk + Drop, J: Chapter, H: Wait + Drop, R: Read, O: Write>(
+    rt: &W,
+    alloc: Global,
+    piece: &mut [u8],
+    reader: &mut R,
+    writer: &mut O,
+    shared: &Shared<D, J, H>,
+    last: &mut Option<Receipt<J>>,
+) -> Result<(), EngineFault>
+    requires piece { 0 < length piece.old }
+    requires room { length piece.old ≤ PIECE_LEN }
+    ensures { IsStream (Takes J.base J.setting) result (R.remaining reader.old) (R.remaining reader.new)
+        last.old last.new (O.contents writer.old) (O.contents writer.new) }
+{
     let mut follower = Follower {
         rt,
         shared,
         last: last.take(),
     };
-    let ended = follow(alloc, buffer.as_mut_slice(), reader, writer, &mut follower);
+    let ended = follow(alloc, piece, reader, writer, &mut follower);
     *last = follower.last;
     ended
 }

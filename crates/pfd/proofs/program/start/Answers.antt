@@ -1,4 +1,4 @@
-use Rattle.std.proofs.{Common.{ℕ, List, Err, Ok, Result, inl, inr, map, string_bytes, subst, ◌∙◌}, KnownBytes.Keeps-refl}
+use Rattle.std.proofs.{Common.{ℕ, List, Err, Ok, Result, inl, inr, subst, ◌∙◌}, KnownBytes.Keeps-refl}
 use Rattle.pfd.specs.declared.program.fault.Fault.{Fault}
 use Rattle.pfd.specs.Program.{IsDone}
 use Rattle.pfd.proofs.Running.{ran}
@@ -21,7 +21,7 @@ returns-in-Ok-perform-clause-run g c = λ words.
     let held = g.W.Write.contents c.args.writer.now in
     let held' = g.W.Write.contents c.perform.new.writer in
     let done = subst (λ (r : Result (Unit {0}) Fault). IsDone memory seen file c.in-Ok.task r unread unread' held held') c.in-Ok-perform.is c.perform.ensures in
-    ran memory seen file (map string_bytes c.args.words.now) c.in-Ok.task (Ok c.in-Ok-perform.field-0) unread unread' held held' words c.in-Ok.ensures.asked done
+    ran memory seen file c.in-Ok.task (Ok c.in-Ok-perform.field-0) unread unread' held held' (c.in-Ok.ensures.alone words) done
 
 pub returns-in-Err-perform-clause-run : goal.returns-in-Err-perform-clause-run
 returns-in-Err-perform-clause-run g c = λ words.
@@ -30,7 +30,7 @@ returns-in-Err-perform-clause-run g c = λ words.
     let held = g.W.Write.contents c.args.writer.now in
     let held' = g.W.Write.contents c.perform.new.writer in
     let done = subst (λ (r : Result (Unit {0}) Fault). IsDone memory seen file c.in-Ok.task r unread unread' held held') c.in-Err-perform.is c.perform.ensures in
-    elim (ran memory seen file (map string_bytes c.args.words.now) c.in-Ok.task (Err c.in-Err-perform.fault) unread unread' held held' words c.in-Ok.ensures.asked done) [
+    elim (ran memory seen file c.in-Ok.task (Err c.in-Err-perform.fault) unread unread' held held' (c.in-Ok.ensures.alone words) done) [
       | inl (session, is_end, served) ↦ inl (session, c.fail.ensures ∙ is_end, served)
       | inr (one, unread_still, held_still) ↦ inr (c.fail.ensures, unread_still, held_still)
     ]

@@ -1,5 +1,5 @@
 use Rattle.pf_store.specs.Rooms.{on_device}
-use Rattle.pfd.specs.declared.program.words.TheConstants.{HISTORY_LIMIT}
+use Rattle.pfd_words.specs.declared.words.TheConstants.{HISTORY_LIMIT}
 use Rattle.pfd_tests.proofs.sessions.many_reads.Given as goal
 
 -- the opening is named by what it gave, its history, and what it keeps within

@@ -2,8 +2,8 @@ use Rattle.std.proofs.Common.{◌∙◌}
 use Rattle.std.specs.Str.Parse.{ParsesUnsigned, ExplainsUnsignedError, HasUnsignedDigitsIfOk}
 use Rattle.clap.specs.Words.{found_of, one_of, rows_of}
 use Rattle.clap.proofs.WalkLemmas.{one_text-rows}
-use Rattle.pfd.proofs.Asking.{number_if_read}
-use Rattle.pfd.proofs.program.words.number_if_any.Goals as goal
+use Rattle.pfd_words.proofs.Asking.{number_if_read}
+use Rattle.pfd_words.proofs.words.number_if_any.Goals as goal
 
 pub returns : goal.returns
 returns c =

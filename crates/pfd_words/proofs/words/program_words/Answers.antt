@@ -1,8 +1,8 @@
 use Rattle.std.proofs.Common.{rules, ap, ap₂, codes, true, ◌≡◌, ◌∙◌}
 use Rattle.std.proofs.lemmas.Result.{IfOk-weaker}
 use Rattle.clap.specs.{Simple.on_top, Words.{App, app_of, new_app, with_subcommand}}
-use Rattle.pfd.specs.Words.{run_words, format_words, show_words, serve_words}
-use Rattle.pfd.proofs.program.words.program_words.Goals as goal
+use Rattle.pfd_words.specs.Words.{run_words, format_words, show_words, serve_words}
+use Rattle.pfd_words.proofs.words.program_words.Goals as goal
 
 abbrev top : App
 top = on_top (λ s. record s { has_version = true; subcommand_required = true }) (new_app (codes "pfd"))

@@ -1,8 +1,8 @@
 use Rattle.std.proofs.Common.{List, Option, subst, sym}
 use Rattle.clap.specs.Words.{Row, Text, found_of, rows_of, subcommand_rows_of}
-use Rattle.pfd.specs.Words.{IsAsked}
-use Rattle.pfd.proofs.Asking.{named}
-use Rattle.pfd.proofs.program.words.task_of.Goals as goal
+use Rattle.pfd_words.specs.Words.{IsAsked}
+use Rattle.pfd_words.proofs.Asking.{named}
+use Rattle.pfd_words.proofs.words.task_of.Goals as goal
 
 pub returns-in-Some-clause-asked : goal.returns-in-Some-clause-asked
 returns-in-Some-clause-asked c =

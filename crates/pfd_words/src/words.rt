@@ -1,9 +1,8 @@
-//! The program's words.
+//! What there is, as clap reads it, and what is read.
 ghost use Rattle.std.specs.Prelude.{◌≡◌, ◌≤◌, IfErr, IfOk, List, ℕ, Some, [], codes, false, map, option_map, string_bytes, unwrap_or};
 ghost use Rattle.clap.specs.Words.{app_of, found_of, kind_of, one_of, first_of, rows_of, rule_of, subcommand_of, subcommand_rows_of};
 ghost use Rattle.clap.specs.declared.builder.command.Command.TheViews.{out-Command};
-ghost use Rattle.pfd.specs.Program.{IsRun};
-ghost use Rattle.pfd.specs.Words.{HasHistory, IsAsked, MaySayNumber, SaysNumber, disk_rule, history_rule, size_rule, listen_rule, workers_rule, sessions_rule, run_words, format_words, show_words, place_words, server_words, serve_words, connect_words, program_words};
+ghost use Rattle.pfd_words.specs.Words.{IsRun, plain_run, HasHistory, IsAsked, MaySayNumber, SaysNumber, disk_rule, history_rule, size_rule, listen_rule, workers_rule, sessions_rule, run_words, format_words, show_words, place_words, server_words, serve_words, connect_words, program_words};
 
 use clap::error::ErrorKind;
 use clap::{Arg, ArgMatches, Command, Error, value_parser};
@@ -31,20 +30,25 @@ const MOST_SESSIONS: usize = 4_294_967_295;
 const VERSION: &str = "0.1.0";
 
 /// A server: the address that it listens on; the file that its disk lies on, which has to have so many bytes; how many connections it serves
-/// at once; how many changes its history may have; and after how many connections it ends, or never where that is 0.
+/// at once; how many changes its history may have; and after how many connections it ends, or never where that is 0. Own.
 #[derive(Clone, Copy, Debug, PartialEq, Eq)]
-pub(crate) struct Service<'a> {
-    pub(crate) address: &'a str,
-    pub(crate) path: &'a str,
-    pub(crate) size: usize,
-    pub(crate) workers: usize,
-    pub(crate) history: usize,
-    pub(crate) sessions: u32,
+pub struct Service<'a> {
+    /// As it was said: it may be no address.
+    pub address: &'a str,
+    /// The file's.
+    pub path: &'a str,
+    /// In bytes, any number up to 4,294,967,295.
+    pub size: usize,
+    /// 1 to 64.
+    pub workers: usize,
+    /// 1 to 1,048,576.
+    pub history: usize,
+    pub sessions: u32,
 }
 
-/// What the words ask.
+/// What the words ask. A history has 1 to 1,048,576 changes; a size is in bytes, and any number up to 4,294,967,295. Own.
 #[derive(Clone, Copy, Debug, PartialEq, Eq)]
-pub(crate) enum Task<'a> {
+pub enum Task<'a> {
     /// A session over a memory disk of so many bytes, whose history may have so many changes.
     Run {
         size: usize,
@@ -231,11 +235,12 @@ fn program_words<'a>(alloc: Global) -> Result<Command<'a>, AllocError>
 }
 
 /// What the words ask, the program's own name first among them; or the text for who started it, which is help, the version or why the
-/// words are refused, or that memory was.
-pub(crate) fn read_words<'a>(alloc: Global, words: &'a [String]) -> Result<Task<'a>, Error>
+/// words are refused, or that memory was. The word `run` alone is refused for want of memory alone. Own.
+pub fn read_words<'a>(alloc: Global, words: &'a [String]) -> Result<Task<'a>, Error>
     ensures asked { IfOk result (λ task. IsAsked (subcommand_of program_words (map string_bytes words.entry.now)) task) }
     ensures history { IfOk result HasHistory }
     ensures run { IsRun (map string_bytes words.entry.now) → IfErr result (λ e. kind_of e ≡ ErrorKind.OutOfMemory) }
+    ensures alone { IsRun (map string_bytes words.entry.now) → IfOk result (λ task. task ≡ plain_run) }
 {
     match program_words(alloc)?.try_get_matches_from(words) {
         Ok(matches) => Ok(task_of(&matches)),

@@ -1,8 +1,8 @@
 -- The words that the program takes, as clap reads them, and what they ask. Own.
-use Rattle.std.specs.{Prelude.{◌≡◌, ◌≤◌, ℕ, true, List, [], Option, Some, None, codes, option_and_then, option_map, pos, unwrap_or}, Str.Parse.{IsNumeral, digits_value, without_leading_plus}}
+use Rattle.std.specs.{Prelude.{◌≡◌, ◌≤◌, ℕ, true, List, [], ◌∷◌, Option, Some, None, codes, option_and_then, option_map, pos, unwrap_or}, Str.Parse.{IsNumeral, digits_value, without_leading_plus}}
 use Rattle.clap.specs.{Simple.on_top, Words.{App, Row, Rule, Text, new_app, new_rule, one_of, first_of, with_rule, with_subcommand}}
 use Rattle.clap.specs.declared.builder.value_parser.ValueParser.TheVariants.{Signed}
-use Rattle.pfd.specs.declared.program.words.{Service.Service, Task.Task, Task.TheVariants.{Run, RunOn, Format, Show, Serve, Connect}, TheConstants.{MEMORY_SIZE, HISTORY_LIMIT, MOST_HISTORY, WORKERS, MOST_WORKERS}}
+use Rattle.pfd_words.specs.declared.words.{Service.Service, Task.Task, Task.TheVariants.{Run, RunOn, Format, Show, Serve, Connect}, TheConstants.{MEMORY_SIZE, HISTORY_LIMIT, MOST_HISTORY, WORKERS, MOST_WORKERS}}
 
 -- ---- what there is
 
@@ -121,6 +121,14 @@ IsAsked met (Format path size) = (option_map (λ m. m.0) met ≡ Some (codes "fo
 IsAsked met (Show path) = (option_map (λ m. m.0) met ≡ Some (codes "show")) × SaysPath met path.now
 IsAsked met (Serve service) = (option_map (λ m. m.0) met ≡ Some (codes "serve")) × AsksService met service
 IsAsked met (Connect address) = (option_map (λ m. m.0) met ≡ Some (codes "connect")) × SaysText (codes "address") met address.now
+
+-- the program's name, whatever it is, and `run`
+abbrev pub IsRun : List Text → Type 0
+IsRun words = (name : Text) × (words ≡ name ∷ codes "run" ∷ [])
+
+-- which ask for this: a session over memory, with what the words don't say
+abbrev pub plain_run : Task
+plain_run = Run MEMORY_SIZE HISTORY_LIMIT
 
 -- a history may have so many changes
 pub record IsHistory (limit : ℕ) : Type 0 where
