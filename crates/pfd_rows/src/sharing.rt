@@ -113,10 +113,12 @@ fn share<J: Chapter, R: Wait>(
         return Err(AllocError);
     };
     let shared = Shared::new(book);
-    match (kind, seers.pop()) {
-        (Kind::Peers, _) => follow(rt, alloc, shared, case),
-        (_, Some(mut seer)) => attend(rt, alloc, &shared, &mut seer, case),
-        _ => Err(AllocError),
+    let Some(mut seer) = seers.pop() else {
+        return Err(AllocError);
+    };
+    match kind {
+        Kind::Peers => follow(rt, alloc, shared, case),
+        _ => attend(rt, alloc, &shared, &mut seer, case),
     }
 }
 

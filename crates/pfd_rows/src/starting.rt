@@ -68,7 +68,15 @@ fn started<N: Wait + Threads + Net<Listener = TcpListener, Stream = TcpStream> +
     let mut reader = Script::new(input.as_slice(), waiting);
     let mut writer = Tight::new(&mut written, limits, waiting);
     let words = words.as_slice();
-    let status = start(machine, alloc, rt, words, &mut reader, &mut writer, &mut told);
+    let status = start(
+        machine,
+        alloc,
+        rt,
+        words,
+        &mut reader,
+        &mut writer,
+        &mut told,
+    );
     if status == 0 && waiting.load(Ordering::SeqCst) {
         told.extend_from_slice(b"what was written waits to be flushed\n")?;
     }

@@ -47,11 +47,7 @@ pub(crate) struct Tight<'a> {
 
 impl<'a> Tight<'a> {
     /// A writer with these limits, as `stdin` spells them. A limit that isn't named is none.
-    pub(crate) fn new(
-        text: &'a mut Vec<u8>,
-        limits: &str,
-        waiting: &'a AtomicBool,
-    ) -> Tight<'a> {
+    pub(crate) fn new(text: &'a mut Vec<u8>, limits: &str, waiting: &'a AtomicBool) -> Tight<'a> {
         let mut writer = Tight {
             text,
             room: usize::MAX,

@@ -49,6 +49,10 @@ impl Tally {
         }
         let written = std::str::from_utf8(outcome.written.as_slice()).unwrap_or("no text");
         let end = outcome.end.as_str();
-        write!(self.differing, "  {} -> {end:?} -> {written:?}\n", case.line)
+        write!(
+            self.differing,
+            "  {} -> {end:?} -> {written:?}\n",
+            case.line
+        )
     }
 }

@@ -44,9 +44,11 @@ fn play<
     }
 }
 
-fn play_alone<
-    R: Net<Listener = TcpListener, Stream = TcpStream> + Wait + Threads + Abort + Sync,
->(rt: &R, alloc: Global, scene: Scene) -> Result<(), Fail> {
+fn play_alone<R: Net<Listener = TcpListener, Stream = TcpStream> + Wait + Threads + Abort + Sync>(
+    rt: &R,
+    alloc: Global,
+    scene: Scene,
+) -> Result<(), Fail> {
     let disk = MemDisk::of(alloc, vec![in alloc; 0u8; MEMORY_SIZE]?)?;
     match open_fresh(alloc, disk) {
         Ok(opening) => play::<Brand, _>(rt, alloc, opening, scene),
