@@ -1,14 +1,29 @@
-//! Plays tables of lines and their exact replies over sessions. Of each table it tells how many rows it has, and then each reply
-//! that differs.
+//! Plays tables of rows, each of which says what has to come of it. Of each table it tells how many rows it has, and then each row that
+//! came to something else. Its input, `stdin`, says in its head how rows are written.
+//!
+//! - `playing`: lines and their replies, over Books.
+//! - `starting`: starts of the program, by its words.
+//! - `sharing`: sessions and peers' streams over a Book that callers may share.
+//! - `table` and `spelling`: how tables and rows are read. `tally`: what a table came to. `streams`: readers and writers that fail.
 #![tactic(auto)]
 
 mod playing;
+mod sharing;
 mod spelling;
+mod starting;
+mod streams;
 mod table;
+mod tally;
 
-use crate::playing::play;
-use crate::table::Table;
+use crate::playing::play_lines;
+use crate::sharing::share_each;
+use crate::starting::start_each;
+use crate::table::{Kind, Table};
+use crate::tally::Tally;
 use std::io::{self, BufWriter, Write};
+use std::net::{Net, TcpListener, TcpStream};
+use std::sync::Wait;
+use std::thread::Threads;
 
 fn main(rt: HostRuntime) -> io::Result<()> {
     let alloc = rt.alloc();
@@ -17,9 +32,22 @@ fn main(rt: HostRuntime) -> io::Result<()> {
     // What stands before the first table says how rows are written.
     for table in text.as_str().split("\n== ").skip(1) {
         let table = Table::read(alloc, table)?;
-        let tally = play(&rt, alloc, &table)?;
+        let tally = play(&rt, &rt, &table)?;
         writeln!(out, "{}: {} rows", table.name, tally.rows)?;
         out.write_all(tally.differing.as_bytes())?;
     }
     out.flush()
+}
+
+// Plays all rows of a table.
+fn play<N: Wait + Threads + Net<Listener = TcpListener, Stream = TcpStream> + Sync>(
+    machine: &N,
+    rt: &HostRuntime,
+    table: &Table,
+) -> io::Result<Tally> {
+    match table.kind {
+        Kind::Lines => Ok(play_lines(machine, rt.alloc(), table)?),
+        Kind::Words => start_each(machine, rt, table),
+        Kind::Sessions | Kind::Peers => Ok(share_each(machine, rt.alloc(), table)?),
+    }
 }

@@ -1,17 +1,15 @@
-//! Rows, played over Books.
+//! Lines and their replies, played over Books.
 ghost use Rattle.std.specs.Prelude.{◌≡◌, ◌≤◌, ℕ, List, [], Option, Some, None, Ok};
 ghost use Rattle.pf_book.specs.Books.{IsNamed};
 ghost use Rattle.pfd.specs.{LineEngine.Sessions.IsSession, Serving.Serves};
 
-use crate::spelling::{choose, fill, push_line, reply_bytes};
+use crate::spelling::{fill, line_bytes, reply_bytes};
 use crate::table::Table;
+use crate::tally::Tally;
 use pfd::{Book, Chapter, Disk, FuseDisk, MemDisk, Opening, open_fresh, serve_alone};
 use std::alloc::{AllocError, Global};
 use std::marker::Brand;
 use std::sync::Wait;
-
-/// In how many ways a row is read at most.
-const MOST_WAYS: usize = 100_000;
 
 /// The most changes that a history may have.
 const MOST_HISTORY: usize = 1_048_576;
@@ -20,14 +18,7 @@ const MOST_HISTORY: usize = 1_048_576;
 const MOST_CALLS: u64 = 100;
 
 /// A disk in memory that may fail.
-type Device = FuseDisk<MemDisk>;
-
-/// What a table came to: how many rows were played, and a line for each reply that differs.
-#[derive(Drop)]
-pub(crate) struct Tally {
-    pub(crate) rows: usize,
-    pub(crate) differing: String,
-}
+pub(crate) type Device = FuseDisk<MemDisk>;
 
 // What is written for an input, where that isn't what is wanted. There is nothing to tell only where a session over the
 // input came to its end and wrote just the wanted bytes.
@@ -58,8 +49,7 @@ fn play_line<J: Chapter, H: Wait + Drop>(
     reply: &str,
     differing: &mut String,
 ) -> Result<(), AllocError> {
-    let mut input = Vec::new(alloc);
-    push_line(alloc, &mut input, line)?;
+    let mut input = line_bytes(alloc, line)?;
     if !table.as_input {
         input.push(b'\n')?;
     }
@@ -96,8 +86,8 @@ fn opened(alloc: Global, table: &Table, calls: u64) -> Result<Option<Opening<Dev
     Ok(open_fresh(alloc, disk).ok())
 }
 
-// The same, where as many calls pass as an opening makes and the table says.
-fn opening_of(alloc: Global, table: &Table) -> Result<Opening<Device>, AllocError> {
+/// A fresh disk of a table, opened, of whose calls as many pass as an opening makes and the table says.
+pub(crate) fn opening_of(alloc: Global, table: &Table) -> Result<Opening<Device>, AllocError> {
     let Some(more) = table.fails else {
         return opened(alloc, table, u64::MAX)?.ok_or(AllocError);
     };
@@ -109,8 +99,8 @@ fn opening_of(alloc: Global, table: &Table) -> Result<Opening<Device>, AllocErro
     Err(AllocError)
 }
 
-// The most changes that the history of a table's Book may have.
-fn history_of(table: &Table) -> usize
+/// The most changes that the history of a table's Book may have.
+pub(crate) fn history_of(table: &Table) -> usize
     ensures { (1 ≤ result) × (result ≤ 1_048_576) }
 {
     table.history.clamp(1, MOST_HISTORY)
@@ -142,19 +132,6 @@ fn begun<J: Chapter, H: Wait + Drop>(
     Ok(book)
 }
 
-// The fields of a row, read in the way of this number, where there are so many ways.
-fn fields_of(alloc: Global, row: &str, way: usize) -> Result<Option<Vec<String>>, AllocError> {
-    let mut fields = Vec::new(alloc);
-    for field in row.split(" -> ") {
-        let (chosen, left) = choose(alloc, field, way)?;
-        if left > 0 && fields.is_empty() {
-            return Ok(None);
-        }
-        fields.push(chosen)?;
-    }
-    Ok(Some(fields))
-}
-
 // Plays a row with these fields.
 fn play_fields<J: Chapter, H: Wait + Drop>(
     alloc: Global,
@@ -166,23 +143,6 @@ fn play_fields<J: Chapter, H: Wait + Drop>(
     let shapes = table.shapes.as_slice();
     play_rows(alloc, table, book, shapes, fields, &mut tally.differing)?;
     tally.rows = tally.rows.saturating_add(1);
-    Ok(())
-}
-
-// Plays a row in each way over one Book, and counts them.
-fn play_row<J: Chapter, H: Wait + Drop>(
-    alloc: Global,
-    table: &Table,
-    book: &mut Book<Device, J, H>,
-    row: &str,
-    tally: &mut Tally,
-) -> Result<(), AllocError> {
-    for way in 0..MOST_WAYS {
-        let Some(fields) = fields_of(alloc, row, way)? else {
-            break;
-        };
-        play_fields(alloc, table, book, fields.as_slice(), tally)?;
-    }
     Ok(())
 }
 
@@ -199,8 +159,8 @@ fn play_in_turn<J: Chapter, H: Wait + Drop>(
     requires history { (1 ≤ history) × (history ≤ 1_048_576) }
 {
     let mut book = begun::<J, H>(waits, alloc, table, opening, history, &mut tally.differing)?;
-    for row in &table.rows {
-        play_row(alloc, table, &mut book, row, tally)?;
+    for fields in &table.rows {
+        play_fields(alloc, table, &mut book, fields.as_slice(), tally)?;
     }
     Ok(())
 }
@@ -222,19 +182,15 @@ fn play_once<J: Chapter, H: Wait + Drop>(
     play_fields(alloc, table, &mut book, fields, tally)
 }
 
-// Plays a row in each way, each over a Book of its own, and counts them.
+// Plays all rows of a table, each over a Book of its own.
 fn play_apart<H: Wait + Drop + Copy>(
     waits: H,
     alloc: Global,
     table: &Table,
-    row: &str,
     tally: &mut Tally,
 ) -> Result<(), AllocError> {
     let history = history_of(table);
-    for way in 0..MOST_WAYS {
-        let Some(fields) = fields_of(alloc, row, way)? else {
-            break;
-        };
+    for fields in &table.rows {
         let opening = opening_of(alloc, table)?;
         play_once::<Brand, _>(
             waits,
@@ -249,35 +205,19 @@ fn play_apart<H: Wait + Drop + Copy>(
     Ok(())
 }
 
-// Plays all rows of a table, each over a Book of its own.
-fn play_each_apart<H: Wait + Drop + Copy>(
-    waits: H,
-    alloc: Global,
-    table: &Table,
-    tally: &mut Tally,
-) -> Result<(), AllocError> {
-    for row in &table.rows {
-        play_apart(waits, alloc, table, row, tally)?;
-    }
-    Ok(())
-}
-
-/// Plays all rows of a table.
-pub(crate) fn play<H: Wait + Drop + Copy>(
+/// Plays all rows of a table of lines.
+pub(crate) fn play_lines<H: Wait + Drop + Copy>(
     waits: H,
     alloc: Global,
     table: &Table,
 ) -> Result<Tally, AllocError> {
-    let mut tally = Tally {
-        rows: 0,
-        differing: String::new(alloc),
-    };
+    let mut tally = Tally::none(alloc);
     if table.in_turn {
         let opening = opening_of(alloc, table)?;
         let history = history_of(table);
         play_in_turn::<Brand, _>(waits, alloc, table, opening, history, &mut tally)?;
     } else {
-        play_each_apart(waits, alloc, table, &mut tally)?;
+        play_apart(waits, alloc, table, &mut tally)?;
     }
     Ok(tally)
 }

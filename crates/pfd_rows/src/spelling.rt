@@ -40,8 +40,8 @@ pub(crate) fn fill(alloc: Global, shape: &str, fields: &[String]) -> Result<Stri
     Ok(filled)
 }
 
-// A text in which `\` and two hexadecimal digits stand for a byte.
-fn push_bytes(bytes: &mut Vec<u8>, text: &str) -> Result<(), AllocError> {
+/// Appends the bytes of a text in which `\` and two hexadecimal digits stand for a byte.
+pub(crate) fn push_bytes(bytes: &mut Vec<u8>, text: &str) -> Result<(), AllocError> {
     for (place, piece) in text.split('\\').enumerate() {
         match piece.get(..2) {
             Some(digits) if place > 0 => {
@@ -90,8 +90,8 @@ fn push_repeated(alloc: Global, bytes: &mut Vec<u8>, repeat: &str) -> Result<(),
     Ok(())
 }
 
-/// Appends the bytes of a line.
-pub(crate) fn push_line(alloc: Global, bytes: &mut Vec<u8>, text: &str) -> Result<(), AllocError> {
+// Appends the bytes of a line.
+fn push_line(alloc: Global, bytes: &mut Vec<u8>, text: &str) -> Result<(), AllocError> {
     for (place, piece) in text.split('{').enumerate() {
         match piece.split_once('}') {
             Some((repeat, rest)) if place > 0 => {
@@ -104,6 +104,13 @@ pub(crate) fn push_line(alloc: Global, bytes: &mut Vec<u8>, text: &str) -> Resul
     Ok(())
 }
 
+/// The bytes of a line.
+pub(crate) fn line_bytes(alloc: Global, text: &str) -> Result<Vec<u8>, AllocError> {
+    let mut bytes = Vec::new(alloc);
+    push_line(alloc, &mut bytes, text)?;
+    Ok(bytes)
+}
+
 /// The bytes of a reply, each of whose lines ends in a newline.
 pub(crate) fn reply_bytes(alloc: Global, text: &str) -> Result<Vec<u8>, AllocError> {
     let mut bytes = Vec::new(alloc);
@@ -114,4 +121,15 @@ pub(crate) fn reply_bytes(alloc: Global, text: &str) -> Result<Vec<u8>, AllocErr
         }
     }
     Ok(bytes)
+}
+
+/// Whether these are the bytes of a reply, or begin with those of one that ends in `..`.
+pub(crate) fn is_reply(alloc: Global, bytes: &[u8], text: &str) -> Result<bool, AllocError> {
+    let Some(front) = text.strip_suffix("..") else {
+        return Ok(bytes == reply_bytes(alloc, text)?.as_slice());
+    };
+    let mut wanted = reply_bytes(alloc, front)?;
+    // The newline of its last line may stand behind more.
+    wanted.pop();
+    Ok(bytes.starts_with(wanted.as_slice()))
 }

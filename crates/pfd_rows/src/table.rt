@@ -1,16 +1,45 @@
 //! Tables of rows with their settings.
 
+use crate::spelling::{choose, fill};
+use crate::tally::Case;
 use pfd::HISTORY_LIMIT;
 use std::alloc::{AllocError, Global};
 
 /// How many bytes the disk of a Book has where the heading says no other number.
 const DISK_SIZE: usize = 8_192;
 
+/// In how many ways a row is read at most.
+const MOST_WAYS: usize = 100_000;
+
+/// What the rows of a table are.
+#[derive(Clone, Copy, Debug, PartialEq, Eq)]
+pub(crate) enum Kind {
+    /// Lines of a session that has a Book alone.
+    Lines,
+    /// Words that the program is started with.
+    Words,
+    /// Sessions over a Book that callers may share.
+    Sessions,
+    /// Peers' streams over such a Book.
+    Peers,
+}
+
+impl Kind {
+    /// How a row of this kind is played where the heading says nothing of it.
+    fn shape(self) -> &'static str {
+        match self {
+            Kind::Lines => "$1 -> $2",
+            Kind::Words | Kind::Sessions | Kind::Peers => "$1 -> $2 -> $3",
+        }
+    }
+}
+
 /// A table, and how its rows are played. `stdin` says in its head what its settings are.
 #[derive(Drop)]
 pub(crate) struct Table<'a> {
     /// What the table shows.
     pub(crate) name: &'a str,
+    pub(crate) kind: Kind,
     /// How many changes the history of a Book may have, the session's limit where the heading names no other number.
     pub(crate) history: usize,
     /// How many bytes the disk of a Book has.
@@ -21,44 +50,53 @@ pub(crate) struct Table<'a> {
     pub(crate) in_turn: bool,
     /// A row's line is a whole input, which no newline ends but its own.
     pub(crate) as_input: bool,
+    /// The file that is made first, if there is one: its name, its length, and the bytes with which it begins.
+    pub(crate) file: Option<&'a str>,
+    /// The file is locked while the rows are played.
+    pub(crate) is_locked: bool,
     /// The rows that are played first on a Book.
     pub(crate) before: Vec<&'a str>,
     /// The rows that are played for each row, which has the fields for their places.
     pub(crate) shapes: Vec<&'a str>,
-    pub(crate) rows: Vec<&'a str>,
+    /// The fields of each row, in each way that it is read.
+    pub(crate) rows: Vec<Vec<String>>,
 }
 
 impl<'a> Table<'a> {
     fn named(alloc: Global, name: &'a str) -> Table<'a> {
         Table {
             name,
+            kind: Kind::Lines,
             history: HISTORY_LIMIT,
             size: DISK_SIZE,
             fails: None,
             in_turn: false,
             as_input: false,
+            file: None,
+            is_locked: false,
             before: Vec::new(alloc),
             shapes: Vec::new(alloc),
             rows: Vec::new(alloc),
         }
     }
 
-    // One line of the heading.
+    // One line of the heading, of one word or more.
     fn set(&mut self, setting: &'a str) -> Result<(), AllocError> {
-        if setting == "in turn" {
-            self.in_turn = true;
-        } else if setting == "input" {
-            self.as_input = true;
-        } else if let Some(number) = setting.strip_prefix("history ") {
-            self.history = number.parse::<usize>().unwrap_or(HISTORY_LIMIT);
-        } else if let Some(number) = setting.strip_prefix("size ") {
-            self.size = number.parse::<usize>().unwrap_or(DISK_SIZE);
-        } else if let Some(number) = setting.strip_prefix("fails ") {
-            self.fails = number.parse::<u64>().ok();
-        } else if let Some(row) = setting.strip_prefix("before ") {
-            self.before.push(row)?;
-        } else if let Some(row) = setting.strip_prefix("as ") {
-            self.shapes.push(row)?;
+        let (word, rest) = setting.split_once(' ').unwrap_or((setting, ""));
+        match word {
+            "words" => self.kind = Kind::Words,
+            "session" => self.kind = Kind::Sessions,
+            "peer" => self.kind = Kind::Peers,
+            "in" => self.in_turn = true,
+            "input" => self.as_input = true,
+            "history" => self.history = rest.parse::<usize>().unwrap_or(HISTORY_LIMIT),
+            "size" => self.size = rest.parse::<usize>().unwrap_or(DISK_SIZE),
+            "fails" => self.fails = rest.parse::<u64>().ok(),
+            "file" => self.file = Some(rest),
+            "locked" => self.is_locked = true,
+            "before" => self.before.push(rest)?,
+            "as" => self.shapes.push(rest)?,
+            _ => {}
         }
         Ok(())
     }
@@ -71,12 +109,65 @@ impl<'a> Table<'a> {
             if let Some(setting) = line.strip_prefix(": ") {
                 table.set(setting)?;
             } else if !line.is_empty() && !line.starts_with("//") {
-                table.rows.push(line)?;
+                push_ways(alloc, &mut table.rows, line)?;
             }
         }
         if table.shapes.is_empty() {
-            table.shapes.push("$1 -> $2")?;
+            let shape = table.kind.shape();
+            table.shapes.push(shape)?;
         }
         Ok(table)
     }
+
+    /// The cases of a table whose rows are no lines.
+    pub(crate) fn cases(&self, alloc: Global) -> Result<Vec<Case>, AllocError> {
+        let mut cases = Vec::new(alloc);
+        for fields in &self.rows {
+            push_cases(alloc, &mut cases, self.shapes.as_slice(), fields.as_slice())?;
+        }
+        Ok(cases)
+    }
+}
+
+// The fields of a row, read in the way of this number, where there are so many ways.
+fn fields_of(alloc: Global, row: &str, way: usize) -> Result<Option<Vec<String>>, AllocError> {
+    let mut fields = Vec::new(alloc);
+    for field in row.split(" -> ") {
+        let (chosen, left) = choose(alloc, field, way)?;
+        if left > 0 && fields.is_empty() {
+            return Ok(None);
+        }
+        fields.push(chosen)?;
+    }
+    Ok(Some(fields))
+}
+
+// Appends the fields of a row, in each way that it is read.
+fn push_ways(alloc: Global, rows: &mut Vec<Vec<String>>, row: &str) -> Result<(), AllocError> {
+    for way in 0..MOST_WAYS {
+        match fields_of(alloc, row, way)? {
+            Some(fields) => rows.push(fields)?,
+            None => break,
+        }
+    }
+    Ok(())
+}
+
+// Appends the case of each shape, with the fields in their places.
+fn push_cases(
+    alloc: Global,
+    cases: &mut Vec<Case>,
+    shapes: &[&str],
+    fields: &[String],
+) -> Result<(), AllocError> {
+    for shape in shapes {
+        let (line, rest) = shape.split_once(" -> ").unwrap_or((shape, ""));
+        let (end, written) = rest.split_once(" -> ").unwrap_or((rest, ""));
+        cases.push(Case {
+            line: fill(alloc, line, fields)?,
+            end: fill(alloc, end, fields)?,
+            written: fill(alloc, written, fields)?,
+        })?;
+    }
+    Ok(())
 }

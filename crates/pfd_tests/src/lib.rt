@@ -1,32 +1,11 @@
-//! Tests of what no line can reach: readers and writers that fail in mid-stream, the program's words and statuses, a peer's stream in
-//! pieces, calls that no line comes to. What lines are answered stands in the tables of `pfd_rows`.
+//! Tests of what no line, no program's words and no stream shows: commands whose lists no line can carry, public calls that no line comes
+//! to, that values cross threads, the texts of all faults. What lines are answered, what the program does as its words say, and what
+//! sessions and peers are told stands in the tables of `pfd_rows`; what threads and connections show, in `server_tests`.
 #![tactic(auto)]
 
 #[cfg(test)]
-mod addresses;
+mod calls;
 #[cfg(test)]
-mod anchors;
-#[cfg(test)]
-mod books;
-#[cfg(test)]
-mod disks;
-#[cfg(test)]
-mod peers;
-#[cfg(test)]
-mod seers;
-#[cfg(test)]
-mod servers;
-#[cfg(test)]
-mod sessions;
-#[cfg(test)]
-mod sharing;
-#[cfg(test)]
-mod starting;
-#[cfg(test)]
-mod streams;
+mod faults;
 #[cfg(test)]
 mod tables;
-#[cfg(test)]
-mod tickets;
-#[cfg(test)]
-mod values;

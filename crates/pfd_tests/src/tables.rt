@@ -2,7 +2,6 @@
 ghost use Rattle.pfd_words.specs.declared.words.TheConstants.{HISTORY_LIMIT};
 ghost use Rattle.pf_book.specs.Books.{IsNamed};
 
-use crate::books::opened;
 use pf_addr::path::TableName;
 use pf_addr::{Addr, Net};
 use pf_anchor::Path;
@@ -10,12 +9,15 @@ use pf_core::{Command, EntryList, TableEdit, Transaction};
 use pf_line::write_reply;
 use pf_table::{Entry, TABLE_LIMIT};
 use pf_ticket::{RulesetName, RulesetNames, Ticket};
-use pfd::{Book, Chapter, HISTORY_LIMIT, MemDisk, Opening};
+use pfd::{Book, Chapter, HISTORY_LIMIT, MemDisk, Opening, open_fresh};
 use std::alloc::Global;
 use std::marker::Brand;
 use std::process::Abort;
 use std::sync::Wait;
 use std::test::*;
+
+/// How many bytes a disk has: room for two changes of a whole table.
+const DISK_SIZE: usize = 1 << 23;
 
 /// What is done with some entries, at the main ruleset's table `banned`.
 #[derive(Clone, Copy)]
@@ -109,59 +111,46 @@ fn command_of(alloc: Global, deed: Deed, count: usize) -> Result<Command, Fail> 
     Ok(command(deed, name, entries, tables))
 }
 
-/// What a command is answered.
-fn answer<J: Chapter, H: Wait + Drop>(
-    alloc: Global,
-    book: &mut Book<MemDisk, J, H>,
-    command: Command,
-) -> Result<Vec<u8>, Fail> {
-    let reply = book.run(command);
-    let mut text = Vec::new(alloc);
-    write_reply(&mut text, &reply)?;
-    Ok(text)
-}
-
 // It borrows the Book, so that it has not to let go of it wherever it may fail.
-fn play_on<J: Chapter, H: Wait + Drop>(
-    rt: &impl Abort,
+fn play_on<J: Chapter, R: Wait + Abort>(
+    rt: &R,
     alloc: Global,
-    book: &mut Book<MemDisk, J, H>,
+    book: &mut Book<MemDisk, J, &R>,
     rows: &[Row],
 ) -> Result<(), Fail> {
-    for (deed, count, reply) in rows {
-        let command = command_of(alloc, *deed, *count)?;
-        let text = answer(alloc, book, command)?;
-        assert!(rt; text.as_slice() == reply.as_bytes(), "at {reply}");
+    for (deed, count, wanted) in rows {
+        let reply = book.run(command_of(alloc, *deed, *count)?);
+        let mut text = Vec::new(alloc);
+        write_reply(&mut text, &reply)?;
+        assert!(rt; text.as_slice() == wanted.as_bytes(), "at {wanted}");
     }
     Ok(())
 }
 
-fn play<J: Chapter, H: Wait + Drop, A: Abort>(
-    waits: H,
-    rt: &A,
-    opening: Opening<MemDisk>,
+fn play<J: Chapter, R: Wait + Abort>(
+    rt: &R,
     alloc: Global,
+    opening: Opening<MemDisk>,
     rows: &[Row],
 ) -> Result<(), Fail>
     requires { IsNamed J.base J.history J.setting opening HISTORY_LIMIT }
 {
-    match Book::<MemDisk, J, H>::of(waits, alloc, opening, HISTORY_LIMIT, 1) {
+    match Book::<MemDisk, J, &R>::of(rt, alloc, opening, HISTORY_LIMIT, 1) {
         Ok((mut book, _seers)) => play_on(rt, alloc, &mut book, rows),
         Err(_) => Err(Fail::from("a Book")),
     }
 }
 
-#[test]
-fn lists_without_entries_are_taken(rt: HostRuntime) -> Result<(), Fail> {
-    play::<Brand, _, _>(&rt, &rt, opened(rt.alloc())?, rt.alloc(), WITHOUT_ENTRIES)
+/// A fresh disk in memory, opened.
+fn opened(alloc: Global) -> Result<Opening<MemDisk>, Fail> {
+    let disk = MemDisk::of(alloc, vec![in alloc; 0u8; DISK_SIZE]?)?;
+    open_fresh(alloc, disk).map_err(|_| Fail::from("a fresh disk"))
 }
 
 #[test]
-fn tables_have_so_many_entries(rt: HostRuntime) -> Result<(), Fail> {
-    play::<Brand, _, _>(&rt, &rt, opened(rt.alloc())?, rt.alloc(), FULL)
-}
-
-#[test]
-fn so_many_entries_are_offered(rt: HostRuntime) -> Result<(), Fail> {
-    play::<Brand, _, _>(&rt, &rt, opened(rt.alloc())?, rt.alloc(), OFFERED)
+fn lists_have_any_number_of_entries(rt: HostRuntime) -> Result<(), Fail> {
+    for rows in [WITHOUT_ENTRIES, FULL, OFFERED] {
+        play::<Brand, _>(&rt, rt.alloc(), opened(rt.alloc())?, rows)?;
+    }
+    Ok(())
 }

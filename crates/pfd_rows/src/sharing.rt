@@ -1,0 +1,140 @@
+//! Sessions and peers' streams over a Book that callers may share, each over one of its own.
+ghost use Rattle.std.specs.Prelude.{◌≤◌};
+ghost use Rattle.pf_book.specs.Books.{IsNamed};
+
+use crate::playing::{Device, history_of, opening_of};
+use crate::spelling::line_bytes;
+use crate::streams::{Script, Tight};
+use crate::table::{Kind, Table};
+use crate::tally::{Case, Outcome, Tally};
+use pfd::{Book, Chapter, EngineFault, Gate, Opening, Seer, Shared, serve, serve_peer};
+use std::alloc::{AllocError, Global};
+use std::marker::Brand;
+use std::sync::Wait;
+use std::sync::atomic::{AtomicBool, AtomicU32, Ordering};
+
+/// The number of each session.
+const SESSION: u32 = 7;
+
+/// A gate that says whether the lines of one session came to it in their order.
+#[derive(Drop)]
+struct Counting {
+    last: AtomicU32,
+    is_wrong: AtomicBool,
+}
+
+impl Gate for Counting {
+    fn pass(&self, session: u32, line: u32) {
+        let last = self.last.swap(line, Ordering::SeqCst);
+        if session != SESSION || last.checked_add(1) != Some(line) {
+            self.is_wrong.store(true, Ordering::SeqCst);
+        }
+    }
+}
+
+// How a stream ended, in a word, and a number; and whether the lines were out of their order.
+fn end_of(
+    alloc: Global,
+    ended: Result<(), EngineFault>,
+    number: usize,
+    is_wrong: bool,
+) -> Result<String, AllocError> {
+    let word = match ended {
+        Ok(()) => "ok",
+        Err(EngineFault::Read) => "input",
+        Err(EngineFault::Write) => "output",
+        Err(EngineFault::Memory) => "memory",
+    };
+    let order = if is_wrong { " out of order" } else { "" };
+    format!(in alloc; "{word} {number}{order}\n")
+}
+
+// One session, and how many lines passed its gate.
+fn attend<J: Chapter, R: Wait>(
+    rt: &R,
+    alloc: Global,
+    shared: &Shared<Device, J, &R>,
+    seer: &mut Seer<J>,
+    case: &Case,
+) -> Result<Outcome, AllocError> {
+    let line = case.line.as_str();
+    let (input, limits) = line.split_once(" > ").unwrap_or((line, ""));
+    let input = line_bytes(alloc, input)?;
+    let waiting = &AtomicBool::new(false);
+    let mut written = Vec::new(alloc);
+    let mut reader = Script::new(input.as_slice(), waiting);
+    let mut writer = Tight::new(&mut written, limits, waiting);
+    let gate = Counting {
+        last: AtomicU32::new(0),
+        is_wrong: AtomicBool::new(false),
+    };
+    let ended = serve(
+        rt,
+        alloc,
+        &mut reader,
+        &mut writer,
+        shared,
+        seer,
+        &gate,
+        SESSION,
+    );
+    let lines = gate.last.load(Ordering::SeqCst) as usize;
+    let end = end_of(alloc, ended, lines, gate.is_wrong.load(Ordering::SeqCst))?;
+    Ok(Outcome { end, written })
+}
+
+// A peer's stream, and how many changes the Book then has.
+fn follow<J: Chapter, R: Wait>(
+    rt: &R,
+    alloc: Global,
+    shared: Shared<Device, J, &R>,
+    case: &Case,
+) -> Result<Outcome, AllocError> {
+    let bytes = line_bytes(alloc, case.line.as_str())?;
+    let mut reader = bytes.as_slice();
+    let mut written = Vec::new(alloc);
+    let ended = serve_peer(rt, alloc, &mut reader, &mut written, &shared);
+    let end = end_of(alloc, ended, shared.close().log_len(), false)?;
+    Ok(Outcome { end, written })
+}
+
+// Plays a case over what was opened.
+fn share<J: Chapter, R: Wait>(
+    rt: &R,
+    alloc: Global,
+    kind: Kind,
+    opening: Opening<Device>,
+    history: usize,
+    case: &Case,
+) -> Result<Outcome, AllocError>
+    requires name { IsNamed J.base J.history J.setting opening history }
+    requires history { (1 ≤ history) × (history ≤ 1_048_576) }
+{
+    let Ok((book, mut seers)) = Book::<Device, J, &R>::of(rt, alloc, opening, history, 1) else {
+        return Err(AllocError);
+    };
+    let shared = Shared::new(book);
+    let Some(mut seer) = seers.pop() else {
+        return Err(AllocError);
+    };
+    match kind {
+        Kind::Peers => follow(rt, alloc, shared, case),
+        _ => attend(rt, alloc, &shared, &mut seer, case),
+    }
+}
+
+/// Plays all rows of a table of sessions or of peers' streams.
+pub(crate) fn share_each<R: Wait>(
+    rt: &R,
+    alloc: Global,
+    table: &Table,
+) -> Result<Tally, AllocError> {
+    let history = history_of(table);
+    let mut tally = Tally::none(alloc);
+    for case in &table.cases(alloc)? {
+        let opening = opening_of(alloc, table)?;
+        let outcome = share::<Brand, _>(rt, alloc, table.kind, opening, history, case)?;
+        tally.note(alloc, case, &outcome)?;
+    }
+    Ok(tally)
+}

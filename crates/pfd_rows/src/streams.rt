@@ -1,0 +1,101 @@
+//! Readers and writers that do what they are told.
+
+use std::io::{self, ErrorKind, Read, Write};
+use std::str::Split;
+use std::sync::atomic::{AtomicBool, Ordering};
+
+/// A reader whose reads each give the next piece, and then are at the end. A piece `~` is an interruption, and `!` a
+/// fault. It fails where replies wait to be flushed.
+#[derive(Drop)]
+pub(crate) struct Script<'a> {
+    pieces: Split<'a, char>,
+    waiting: &'a AtomicBool,
+}
+
+impl<'a> Script<'a> {
+    /// The reader of a text, in which `|` stands between pieces.
+    pub(crate) fn new(text: &'a [u8], waiting: &'a AtomicBool) -> Script<'a> {
+        Script {
+            pieces: std::str::from_utf8(text).unwrap_or("").split('|'),
+            waiting,
+        }
+    }
+}
+
+impl Read for Script<'_> {
+    fn read(&mut self, buf: &mut [u8]) -> io::Result<usize> {
+        let mut piece = self.pieces.next().unwrap_or("").as_bytes();
+        if self.waiting.load(Ordering::SeqCst) || piece == b"!".as_slice() {
+            return Err(io::Error::from(ErrorKind::Other));
+        }
+        if piece == b"~".as_slice() {
+            return Err(io::Error::from(ErrorKind::Interrupted));
+        }
+        piece.read(buf)
+    }
+}
+
+/// A writer with room for so many bytes, which is interrupted so often at first, and flushed so often at most.
+#[derive(Drop)]
+pub(crate) struct Tight<'a> {
+    text: &'a mut Vec<u8>,
+    room: usize,
+    interruptions: u32,
+    flushes: u32,
+    waiting: &'a AtomicBool,
+}
+
+impl<'a> Tight<'a> {
+    /// A writer with these limits, as `stdin` spells them. A limit that isn't named is none.
+    pub(crate) fn new(text: &'a mut Vec<u8>, limits: &str, waiting: &'a AtomicBool) -> Tight<'a> {
+        let mut writer = Tight {
+            text,
+            room: usize::MAX,
+            interruptions: 0,
+            flushes: u32::MAX,
+            waiting,
+        };
+        for limit in limits.split(", ") {
+            writer.limit(limit);
+        }
+        writer
+    }
+
+    // One limit: a word and its number.
+    fn limit(&mut self, limit: &str) {
+        let (word, number) = limit.split_once(' ').unwrap_or((limit, ""));
+        let number = number.parse::<u32>().unwrap_or(0);
+        match word {
+            "room" => self.room = number as usize,
+            "interrupted" => self.interruptions = number,
+            "flushes" => self.flushes = number,
+            _ => {}
+        }
+    }
+}
+
+impl Write for Tight<'_> {
+    fn write(&mut self, buf: &[u8]) -> io::Result<usize> {
+        if self.interruptions > 0 {
+            self.interruptions -= 1;
+            return Err(io::Error::from(ErrorKind::Interrupted));
+        }
+        if self.room == 0 {
+            return Err(io::Error::from(ErrorKind::Other));
+        }
+        let n = buf.len().min(self.room);
+        self.text.extend_from_slice(&buf[..n])?;
+        self.room -= n;
+        self.waiting.store(true, Ordering::SeqCst);
+        Ok(n)
+    }
+
+    fn flush(&mut self) -> io::Result<()> {
+        if self.flushes == 0 {
+            return Err(io::Error::from(ErrorKind::Other));
+        }
+        self.flushes -= 1;
+        self.waiting.store(false, Ordering::SeqCst);
+        Ok(())
+    }
+}

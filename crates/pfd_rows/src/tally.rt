@@ -1,0 +1,58 @@
+//! What tables come to.
+
+use crate::spelling::is_reply;
+use std::alloc::{AllocError, Global};
+
+/// A row that is no line: what is played, how it has to end, and what has to be written.
+#[derive(Drop)]
+pub(crate) struct Case {
+    pub(crate) line: String,
+    pub(crate) end: String,
+    pub(crate) written: String,
+}
+
+/// What a case came to: how it ended, in whole lines, and what was written.
+#[derive(Drop)]
+pub(crate) struct Outcome {
+    pub(crate) end: String,
+    pub(crate) written: Vec<u8>,
+}
+
+/// What a table came to: how many rows were played, and a line for each that differs.
+#[derive(Drop)]
+pub(crate) struct Tally {
+    pub(crate) rows: usize,
+    pub(crate) differing: String,
+}
+
+impl Tally {
+    /// Of no row.
+    pub(crate) fn none(alloc: Global) -> Tally {
+        Tally {
+            rows: 0,
+            differing: String::new(alloc),
+        }
+    }
+
+    /// Counts a case, and tells what it came to where that isn't what is wanted.
+    pub(crate) fn note(
+        &mut self,
+        alloc: Global,
+        case: &Case,
+        outcome: &Outcome,
+    ) -> Result<(), AllocError> {
+        let ended = is_reply(alloc, outcome.end.as_bytes(), case.end.as_str())?;
+        let wrote = is_reply(alloc, outcome.written.as_slice(), case.written.as_str())?;
+        self.rows = self.rows.saturating_add(1);
+        if ended && wrote {
+            return Ok(());
+        }
+        let written = std::str::from_utf8(outcome.written.as_slice()).unwrap_or("no text");
+        let end = outcome.end.as_str();
+        write!(
+            self.differing,
+            "  {} -> {end:?} -> {written:?}\n",
+            case.line
+        )
+    }
+}

@@ -1,0 +1,138 @@
+//! Public calls that no line comes to, each once with ample memory, and that values cross threads.
+use pf_addr::path::TableName;
+use pf_addr::{Addr, Net, write_addr, write_net};
+use pf_anchor::{Config, Path, RuleList};
+use pf_core::{Change, Command, Durable, Reply};
+use pf_rule::{Packet, Rule};
+use pf_state::{Bound, Flow, Held, State, StateName, StateTable, Step};
+use pf_table::{Entry, Table};
+use pf_ticket::{RulesetName, Ticket, TicketRange, TicketRefusal, Tickets};
+use std::alloc::Global;
+use std::test::*;
+
+// Texts that are read and written by themselves, and not as a part of a line.
+#[test]
+fn texts_are_read_and_written(rt: HostRuntime) -> Result<(), Fail> {
+    let packet = Packet::parse(rt.alloc(), "in em0 tcp 10.0.0.1 1234 10.0.0.2 80")?;
+    assert!(rt; packet.destination_port() == 80);
+    let rule = Rule::parse(rt.alloc(), "block drop in")?;
+    let address = Addr::V6(0x2001_0db8_0000_000f_0010_0100_1000_abcd);
+    let mut out = Vec::new(rt.alloc());
+    write_addr(&mut out, address)?;
+    out.push(b' ')?;
+    write_net(&mut out, Net::new(Addr::V4(0x0a01_0203), 8))?;
+    out.push(b' ')?;
+    rule.write(&mut out)?;
+    let wanted = b"2001:db8:0:f:10:100:1000:abcd 10.0.0.0/8 block in all";
+    assert!(rt; out.as_slice() == wanted.as_slice());
+    Ok(())
+}
+
+/// With a rule at `a/b/c` alone, and with the table `web` at `a/b`.
+fn nested(alloc: Global) -> Result<Config, Fail> {
+    let mut rules = RuleList::none();
+    rules.add(alloc, Rule::parse(alloc, "pass all")?)?;
+    let empty = Config::empty();
+    let ruled = empty.with_ruleset(alloc, &Path::from_ascii(b"a/b/c")?, &rules)?;
+    let entry = Entry::new(Net::parse("10.0.0.0/8")?, false);
+    let mut table = Table::empty();
+    table.replace(alloc, &[entry])?;
+    let name = TableName::from_ascii(b"web")?;
+    Ok(ruled.with_table(alloc, &Path::from_ascii(b"a/b")?, &name, &table)?)
+}
+
+/// The children of a path, each with a space behind it.
+fn children(alloc: Global, config: &Config, path: &str) -> Result<Vec<u8>, Fail> {
+    let path = Path::from_ascii(path.as_bytes())?;
+    let mut text = Vec::new(alloc);
+    for child in &config.children(alloc, &path)? {
+        text.extend_from_slice(child.as_bytes())?;
+        text.push(b' ')?;
+    }
+    Ok(text)
+}
+
+#[test]
+fn rules_and_tables_are_put_at_their_paths(rt: HostRuntime) -> Result<(), Fail> {
+    let config = nested(rt.alloc())?;
+    // A child has one component more.
+    for (path, wanted) in [("a", ""), ("a/b", "a/b/c "), ("a/b/c", "")] {
+        let found = children(rt.alloc(), &config, path)?;
+        assert!(rt; found.as_slice() == wanted.as_bytes(), "at {path}");
+    }
+    let path = Path::from_ascii(b"a/b")?;
+    let name = TableName::from_ascii(b"web")?;
+    let holds = match config.table_at(&path, &name) {
+        Some(table) => table.test(Addr::V4(0x0a01_0203)),
+        None => false,
+    };
+    assert!(rt; holds);
+    Ok(())
+}
+
+/// An insert of a state of this packet.
+fn insert(alloc: Global, id: u64, packet: &str) -> Result<Step, Fail> {
+    let packet = Packet::parse(alloc, packet)?;
+    let held = Held {
+        generation: 0,
+        flow: Flow::of(&packet),
+        bound: Bound::Default,
+    };
+    let name = StateName { id, creator: 2 };
+    Ok(Step::Insert(State::new(alloc, name, held)?))
+}
+
+#[test]
+fn states_change_in_place(rt: HostRuntime) -> Result<(), Fail> {
+    let first = insert(rt.alloc(), 1, "in em0 tcp 10.0.0.1 1234 10.0.0.2 80")?;
+    let answer = insert(rt.alloc(), 3, "out em0 tcp 10.0.0.2 80 10.0.0.1 1234")?;
+    let mut states = StateTable::empty();
+    let counts = states.apply_batch(rt.alloc(), &[first, answer])?;
+    assert!(rt; (counts.inserted, counts.clash) == (1, 1));
+    assert!(rt; states.clear_creator(rt.alloc(), 2)? == 1);
+    assert!(rt; states.states().next().is_none());
+    Ok(())
+}
+
+/// The last ticket of opening 1.
+const LAST: Ticket = Ticket {
+    epoch: 1,
+    count: u32::MAX,
+};
+
+#[test]
+fn the_last_ticket_is_given_once(rt: HostRuntime) -> Result<(), Fail> {
+    let main = RulesetName::filter(&Path::main());
+    let web = RulesetName::filter(&Path::from_ascii(b"web")?);
+    let names = [main.copied(), web];
+    let two = names.as_slice();
+    let mut tickets = Tickets::starting(rt.alloc(), LAST.epoch, LAST.count);
+    // Of two tickets not even the one that is left is given.
+    let refused = tickets.begin(two);
+    assert!(rt; refused == Err(TicketRefusal::TicketsExhausted));
+    let given = tickets.begin(&two[..1]);
+    let range = TicketRange {
+        first: LAST,
+        number: 1,
+    };
+    assert!(rt; given == Ok(range));
+    // No other is left, and this one stays valid.
+    let refused = tickets.begin(&two[1..]);
+    assert!(rt; refused == Err(TicketRefusal::TicketsExhausted));
+    let entry = pf_ticket::Entry {
+        name: main,
+        ticket: LAST,
+    };
+    assert!(rt; tickets.check_all([entry].as_slice()) == Ok(()));
+    Ok(())
+}
+
+fn crosses_threads<T: Send + Sync>() {}
+
+#[test]
+fn values_cross_threads(_rt: HostRuntime) {
+    crosses_threads::<Change>();
+    crosses_threads::<Durable>();
+    crosses_threads::<Command>();
+    crosses_threads::<Reply>();
+}

@@ -1,0 +1,197 @@
+//! The program's own server and client: what connections give them.
+use pfd::start;
+use std::alloc::Global;
+use std::fs::{File, Files};
+use std::io::{self, ErrorKind, Read, Write};
+use std::net::{Net, SocketAddr, TcpListener, TcpStream};
+use std::process::Abort;
+use std::sync::Wait;
+use std::sync::atomic::{AtomicU32, Ordering};
+use std::test::*;
+use std::thread;
+use std::thread::Threads;
+
+/// What a start reads.
+#[derive(Drop)]
+enum Input<'a> {
+    Text(&'a [u8]),
+    /// Newlines without an end.
+    Endless,
+    /// Each read fails.
+    Broken,
+}
+
+impl Read for Input<'_> {
+    fn read(&mut self, buf: &mut [u8]) -> io::Result<usize> {
+        match self {
+            Input::Text(text) => text.read(buf),
+            Input::Endless => {
+                buf.fill(b'\n');
+                Ok(buf.len())
+            }
+            Input::Broken => Err(io::Error::from(ErrorKind::Other)),
+        }
+    }
+}
+
+/// A writer that says which port a server has told it, once that is flushed.
+#[derive(Drop)]
+struct Output<'a> {
+    text: Vec<u8>,
+    port: &'a AtomicU32,
+}
+
+impl Write for Output<'_> {
+    fn write(&mut self, buf: &[u8]) -> io::Result<usize> {
+        self.text.extend_from_slice(buf)?;
+        Ok(buf.len())
+    }
+
+    fn flush(&mut self) -> io::Result<()> {
+        let text = std::str::from_utf8(&self.text).unwrap_or("");
+        if let Some(port) = text.trim_end().strip_prefix("listening 127.0.0.1:") {
+            let port = port.parse::<u32>().unwrap_or(0);
+            self.port.store(port, Ordering::SeqCst);
+        }
+        Ok(())
+    }
+}
+
+fn words_of(alloc: Global, line: &str) -> io::Result<Vec<String>> {
+    let mut words = Vec::new(alloc);
+    for word in line.split(' ') {
+        words.push(String::from_str(alloc, word)?)?;
+    }
+    Ok(words)
+}
+
+/// Starts with such words: the status, and what is told of faults or, without any, written. A server's port is stored.
+fn started<
+    R: Files<File = File> + Wait + Threads + Net<Listener = TcpListener, Stream = TcpStream> + Sync,
+>(
+    rt: &R,
+    alloc: Global,
+    line: &str,
+    mut input: Input<'_>,
+    port: &AtomicU32,
+) -> io::Result<(u8, Vec<u8>)> {
+    let words = words_of(alloc, line)?;
+    let mut output = Output {
+        text: Vec::new(alloc),
+        port,
+    };
+    let mut told = Vec::new(alloc);
+    let words = words.as_slice();
+    let status = start(rt, alloc, rt, words, &mut input, &mut output, &mut told);
+    told.extend_from_slice(&output.text)?;
+    Ok((status, told))
+}
+
+/// Starts with such words, with this status, and with this told of faults or written.
+fn ends<
+    R: Abort
+        + Files<File = File>
+        + Wait
+        + Threads
+        + Net<Listener = TcpListener, Stream = TcpStream>
+        + Sync,
+>(rt: &R, alloc: Global, line: &str, input: Input<'_>, wanted: (u8, &str)) -> io::Result<()> {
+    let (status, told) = started(rt, alloc, line, input, &AtomicU32::new(0))?;
+    assert!(rt; status == wanted.0, "at {line}");
+    assert!(rt; told.as_slice() == wanted.1.as_bytes(), "at {line}");
+    Ok(())
+}
+
+/// How often a client gives way to other threads at most, until a server listens.
+const MOST_TURNS: u32 = 10_000_000;
+
+// A client of a server, once its port is told.
+fn connect_to<
+    R: Abort
+        + Files<File = File>
+        + Wait
+        + Threads
+        + Net<Listener = TcpListener, Stream = TcpStream>
+        + Sync,
+>(rt: &R, alloc: Global, port: &AtomicU32) -> io::Result<()> {
+    for turn in 0..MOST_TURNS {
+        if port.load(Ordering::SeqCst) != 0 {
+            break;
+        }
+        thread::yield_now();
+    }
+    let port = port.load(Ordering::SeqCst);
+    let line = format!(in alloc; "pfd connect 127.0.0.1:{port}")?;
+    let input = Input::Text(b"tset - t 10/8\nlog");
+    let written = "applied 1\nlog 1 acked 1 shown 1\n";
+    ends(rt, alloc, line.as_str(), input, (0, written))
+}
+
+/// Makes the disk that is served, serves one connection over it, and tells what it then holds.
+const SERVED: [&str; 3] = [
+    "pfd format --disk served --size 4096",
+    "pfd serve --listen 127.0.0.1:0 --disk served --size 4096 --sessions 1",
+    "pfd show --disk served",
+];
+
+/// What is told of the disk that was served.
+const HOLDS: &str =
+    "epoch 1\nsum d41d8cd98f00b204e9800998ecf8427e\nrulesets 0\ntables 1\nstates 0\n";
+
+#[test]
+fn a_client_is_served(rt: HostRuntime) -> Result<(), Fail> {
+    let alloc = rt.alloc();
+    let [format, serve, show] = SERVED;
+    ends(&rt, alloc, format, Input::Broken, (0, ""))?;
+    let port = &AtomicU32::new(0);
+    let (served, connected) = thread::join(
+        &rt,
+        || started(&rt, alloc, serve, Input::Text(b""), port),
+        || connect_to(&rt, alloc, port),
+    );
+    connected?;
+    let (status, told) = served?;
+    assert!(rt; status == 0);
+    assert!(rt; told.starts_with(b"listening 127.0.0.1:"));
+    ends(&rt, alloc, show, Input::Broken, (0, HOLDS))?;
+    Ok(())
+}
+
+// Hangs up on a first client at once, and on a second one at the end of what it sends.
+fn hang_up(listener: &TcpListener) -> io::Result<()> {
+    let (first, _) = listener.accept()?;
+    drop(first);
+    let (second, _) = listener.accept()?;
+    let mut reader = &second;
+    reader.read(&mut [0u8; 1])?;
+    Ok(())
+}
+
+// A client that never ends its input, and one whose input can't be read.
+fn call_twice<
+    R: Abort
+        + Files<File = File>
+        + Wait
+        + Threads
+        + Net<Listener = TcpListener, Stream = TcpStream>
+        + Sync,
+>(rt: &R, alloc: Global, server: SocketAddr) -> io::Result<()> {
+    let line = format!(in alloc; "pfd connect {server}")?;
+    let line = line.as_str();
+    ends(rt, alloc, line, Input::Endless, (1, "pfd: output\n"))?;
+    ends(rt, alloc, line, Input::Broken, (1, "pfd: input\n"))
+}
+
+#[test]
+fn a_client_says_what_failed(rt: HostRuntime) -> Result<(), Fail> {
+    let listener = &TcpListener::bind(&rt, "127.0.0.1:0")?;
+    let server = listener.local_addr()?;
+    let (hung_up, called) = thread::join(
+        &rt,
+        || hang_up(listener),
+        || call_twice(&rt, rt.alloc(), server),
+    );
+    called?;
+    hung_up?;
+    Ok(())
+}
