@@ -3,7 +3,7 @@ ghost use Rattle.std.specs.{Prelude.{◌≡◌, ◌<◌, ◌≤◌, [], ◌∷�
 ghost use Rattle.pf_map.specs.ListMaps.{unless_empty, kept_again};
 
 use crate::limits::RULE_LIMIT;
-use pf_lanes::RuleCols;
+use pf_lanes::{LANES, RuleCols};
 use pf_map::Content;
 use pf_rule::Rule;
 use std::alloc::{AllocError, Global};
@@ -83,12 +83,13 @@ impl RuleList {
         })
     }
 
-    /// The same rules with their columns, none of them copied; columns that are there are shared. `AllocError`: nothing is made.
+    /// The same rules with their columns, none of them copied; columns that are there are shared, and fewer rules than a block has get
+    /// none. `AllocError`: nothing is made.
     pub(crate) fn with_columns(&self, alloc: Global) -> Result<RuleList, AllocError>
         ensures { IfOk result (λ l. l ≡ self.now) }
     {
         let list = self.shared()?;
-        let (Some(rules), None) = (&self.rules, &self.columns) else {
+        let (Some(rules), false) = (&self.rules, self.has_columns()) else {
             return Ok(list);
         };
         let columns = RuleCols::sharing(alloc, Arc::try_clone(rules)?)?;
@@ -108,9 +109,9 @@ impl RuleList {
         }
     }
 
-    /// Whether packets are judged by columns of its rules: no list without rules needs any.
+    /// Whether it has the columns that packets are judged by: fewer rules than a block has need none, since each by itself costs less.
     pub(crate) fn has_columns(&self) -> bool {
-        self.columns.is_some() || self.rules.is_none()
+        self.columns.is_some() || self.as_slice().len() < LANES
     }
 
     /// The rules in order.
