@@ -9,3 +9,4 @@ pub mod Deciding
 pub mod Unreached
 pub mod Entries
 pub mod Leading
+pub mod Blocks

@@ -4,6 +4,7 @@ pub mod Configurations
 pub mod Limits
 pub mod Matches
 pub mod Evaluation
+pub mod Blocks
 pub mod Laws
 -- what public clauses cite of the crates below
 pub use Rattle.pf_addr.specs.Refusing

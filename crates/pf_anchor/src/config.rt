@@ -8,7 +8,7 @@ use crate::evaluate::evaluate;
 use crate::fault::ConfigFault;
 use crate::limits::{RULESET_LIMIT, TABLE_COUNT_LIMIT};
 use crate::rule_list::RuleList;
-use crate::rulesets::{EachRuleset, Placed, Rulesets};
+use crate::rulesets::{EachRuleset, Placed, Rulesets, in_columns};
 use crate::tables::{EachTable, Place, PlacedTable, Tables};
 use crate::verdict::RuleVerdict;
 use pf_addr::path::{Path, TableName};
@@ -52,13 +52,14 @@ impl Config {
         }
     }
 
-    /// After a commit of these rulesets, in order. All else is shared, and no rule and no path is copied. `AllocError`: nothing is
-    /// made.
+    /// After a commit of these rulesets, in order. Their rules are put in columns, by which packets are judged. All else is shared, and
+    /// no rule is copied. `AllocError`: nothing is made.
     pub fn with_rulesets(&self, alloc: Global, items: &[Placed]) -> Result<Config, AllocError>
         ensures { IfOk result (λ c. c ≡ with_rulesets self.now items.now) }
     {
+        let items = in_columns(alloc, items)?;
         Ok(Config {
-            rulesets: self.rulesets.with(alloc, items)?,
+            rulesets: self.rulesets.with(alloc, items.as_slice())?,
             tables: self.tables.shared()?,
         })
     }

@@ -1,17 +1,78 @@
 //! Evaluation of rulesets that lead to one another, with tables as their rules name them.
-ghost use Rattle.std.specs.Prelude.{◌≡◌, filter};
+ghost use Rattle.std.specs.Prelude.{◌≡◌, ◌<◌, ◌≤◌, ◌*◌, ℕ, filter, length, IfSome};
 ghost use Rattle.pf_addr.specs.Path.Nested.{is_child};
-ghost use Rattle.pf_anchor.specs.{Rulesets.targets, Evaluation.{evaluation, effected, in_turn, matching}};
+ghost use Rattle.pf_lanes.specs.{Masks.is_set, Answered.{block_match, eight_from}, Probes.asked};
+ghost use Rattle.pf_anchor.specs.{Rulesets.targets, Tables.tables_say, Blocks.{AreStops, GivesLast}, Evaluation.{evaluation, effected, in_turn, matching, rules_at_path}};
 
 use crate::config::Config;
 use crate::evaluated::{Evaluated, Match};
 use crate::named_tables::NamedTables;
 use crate::rulesets::Placed;
 use pf_addr::path::{Path, Reference};
+use pf_lanes::{LANES, Probe, eight_of, first_and_last, is_set, match_one_by_one};
 use pf_rule::{Effect, Packet, Rule};
+
+// Which rules of a block match, with tables as they are named at their ruleset's path.
+#[inline(always)]
+fn matching_in(
+    config: &Config,
+    placed: &Placed,
+    probe: &Option<Probe<'_>>,
+    packet: &Packet,
+    block: usize,
+) -> u8
+    requires { IfSome probe.now (λ p. p ≡ asked placed.now.1 packet.now) }
+    ensures { (i : ℕ) → i < 8 → is_set result i ≡ block_match (tables_say config.now.tables placed.now.0) placed.now.1 packet.now block i }
+{
+    let tables = NamedTables {
+        config,
+        path: placed.key(),
+    };
+    match probe {
+        Some(probe) => probe.matching(&tables, block),
+        None => match_one_by_one(placed.value().as_slice(), &tables, packet, block),
+    }
+}
+
+// Which rules of a block that match are quick or anchor rules.
+#[inline(always)]
+fn stopping(placed: &Placed, block: usize, mask: u8) -> u8
+    ensures { AreStops placed.now.1 block mask result }
+{
+    if mask == 0 {
+        return 0;
+    }
+    match placed.value().columns() {
+        Some(columns) => columns.stops(block) & mask,
+        None => mask,
+    }
+}
+
+// The last rule of a block that matches, where it decides.
+#[inline(always)]
+fn last_match<'a>(placed: &'a Placed, block: usize, mask: u8) -> Option<Match<'a>>
+    requires { block ≤ length placed.now.1 }
+    ensures { GivesLast placed.now block mask result }
+{
+    let rules = placed.value().as_slice();
+    let (_, lane) = first_and_last(mask)?;
+    let number = LANES * block + lane as usize;
+    let rule = rules.get(number)?;
+    match rule.effect() {
+        Effect::Decide(action) => Some(Match {
+            placed,
+            number: number as u32,
+            action,
+        }),
+        Effect::Evaluate(_) => None,
+    }
+}
 
 /// What a ruleset gives for a packet: its rules in order, and at each place where an anchor rule matches what it leads to
 /// (pf.conf(5), Packet Filtering and Anchors). It takes no memory, and calls itself no deeper than a path has components.
+///
+/// Eight rules are looked at together. The last one that matches stands, and those before it are looked at only where a quick or an anchor
+/// rule is among them.
 #[cycle(evaluate)]
 #[tactic(auto, using(crate::proofs::Evaluations::none_and_then))]
 pub(crate) fn evaluate<'a>(
@@ -21,15 +82,47 @@ pub(crate) fn evaluate<'a>(
 ) -> Evaluated<Match<'a>>
     ensures { result ≡ evaluation config.now.rulesets (matching config.now.tables packet.now) placed.now }
 {
-    let tables = NamedTables {
-        config,
-        path: placed.key(),
+    let probe = match placed.value().columns() {
+        Some(columns) => Some(columns.probe(packet)),
+        None => None,
     };
     let mut last = None;
-    for (number, rule) in placed.value().as_slice().iter().enumerate() {
-        if rule.matches(&tables, packet) {
-            let effected = effected(config, placed, number as u32, rule, packet);
-            match effected.settled(rule.is_quick()) {
+    for block in 0..placed.value().as_slice().len().div_ceil(LANES) {
+        let mask = matching_in(config, placed, &probe, packet, block);
+        if stopping(placed, block, mask) == 0 {
+            last = last_match(placed, block, mask).or(last);
+        } else {
+            match each_match(config, placed, packet, block, mask) {
+                Evaluated::Open(latest) => last = latest.or(last),
+                Evaluated::Ended(end) => return Evaluated::Ended(end),
+            }
+        }
+    }
+    Evaluated::Open(last)
+}
+
+// What the rules of a block give that match, in order.
+#[cycle(evaluate)]
+#[tactic(auto, using(crate::proofs::Evaluations::none_and_then))]
+fn each_match<'a>(
+    config: &'a Config,
+    placed: &'a Placed,
+    packet: &Packet,
+    block: usize,
+    mask: u8,
+) -> Evaluated<Match<'a>>
+    requires { (i : ℕ) → i < 8 → is_set mask i ≡ block_match (tables_say config.now.tables placed.now.0) placed.now.1 packet.now block i }
+    ensures { result ≡ rules_at_path (evaluation config.now.rulesets (matching config.now.tables packet.now)) config.now.rulesets
+        (matching config.now.tables packet.now) placed.now.0 (8 * block) (eight_from (8 * block) placed.now.1) }
+{
+    let mut last = None;
+    for (lane, rule) in eight_of(placed.value().as_slice(), block)
+        .iter()
+        .enumerate()
+    {
+        if is_set(mask, lane) {
+            let number = (LANES * block + lane) as u32;
+            match effected(config, placed, number, rule, packet).settled(rule.is_quick()) {
                 Evaluated::Open(latest) => last = latest.or(last),
                 Evaluated::Ended(end) => return Evaluated::Ended(end),
             }

@@ -1,23 +1,27 @@
 //! Rules that are shared.
-ghost use Rattle.std.specs.{Prelude.{◌≡◌, ◌<◌, ◌≤◌, [], ◌∷◌, ◌++◌, length, IfOk, OnOk, OnErr}, Arc.arc_value};
+ghost use Rattle.std.specs.{Prelude.{◌≡◌, ◌<◌, ◌≤◌, [], ◌∷◌, ◌++◌, length, IfOk, IfSome, OnOk, OnErr}, Arc.arc_value};
 ghost use Rattle.pf_map.specs.ListMaps.{unless_empty, kept_again};
 
 use crate::limits::RULE_LIMIT;
+use pf_lanes::{LANES, RuleCols};
 use pf_map::Content;
 use pf_rule::Rule;
 use std::alloc::{AllocError, Global};
 use std::marker::Model;
 use std::sync::Arc;
 
-/// The rules of a ruleset in order, at most 1,024, shared with whatever else holds them. Contracts see it as the list.
+/// The rules of a ruleset in order, at most 1,024, shared with whatever else holds them, as their columns are once they are active.
+/// Contracts see it as the list.
 #[derive(Drop)]
 pub struct RuleList {
     // None where there are no rules, so that an empty list takes no memory.
     rules: Option<Arc<Vec<Rule>>>,
+    // The same rules in columns, once they are active: packets are judged by them. A list that grows has none.
+    columns: Option<Arc<RuleCols>>,
 }
 
 impl Model for RuleList {
-    ghost use Rattle.std.specs.Prelude.{List, [], length, ◌≤◌};
+    ghost use Rattle.std.specs.Prelude.{◌≡◌, List, [], length, ◌≤◌, IfSome};
     ghost use Rattle.pf_rule.specs.Rules.{PlainRule};
     ghost use Rattle.pf_anchor.specs.declared.limits.TheConstants.{RULE_LIMIT};
     ghost use Rattle.std.specs.Arc.{arc_value};
@@ -28,7 +32,8 @@ impl Model for RuleList {
 
     ghost view = { λ l. option_map_or vec_items (option_map arc_value l.rules) [] };
 
-    ghost invariant = { λ l. length (option_map_or vec_items (option_map arc_value l.rules) []) ≤ RULE_LIMIT };
+    ghost invariant = { λ l. (length (option_map_or vec_items (option_map arc_value l.rules) []) ≤ RULE_LIMIT)
+        × IfSome l.columns (λ c. arc_value c ≡ option_map_or vec_items (option_map arc_value l.rules) []) };
 }
 
 // Appends a rule. What others hold stays as it is: they share the rules so far, which are copied.
@@ -51,7 +56,10 @@ impl RuleList {
     pub fn none() -> RuleList
         ensures { result ≡ [] }
     {
-        RuleList { rules: None }
+        RuleList {
+            rules: None,
+            columns: None,
+        }
     }
 
     /// These rules, at most 1,024. `AllocError`: no list is made.
@@ -61,6 +69,7 @@ impl RuleList {
     {
         Ok(RuleList {
             rules: Some(Arc::new(alloc, rules)?),
+            columns: None,
         })
     }
 
@@ -70,7 +79,39 @@ impl RuleList {
     {
         Ok(RuleList {
             rules: self.rules.clone()?,
+            columns: self.columns.clone()?,
         })
+    }
+
+    /// The same rules with their columns, none of them copied; columns that are there are shared, and fewer rules than a block has get
+    /// none. `AllocError`: nothing is made.
+    pub(crate) fn with_columns(&self, alloc: Global) -> Result<RuleList, AllocError>
+        ensures { IfOk result (λ l. l ≡ self.now) }
+    {
+        let list = self.shared()?;
+        let (Some(rules), false) = (&self.rules, self.has_columns()) else {
+            return Ok(list);
+        };
+        let columns = RuleCols::sharing(alloc, Arc::try_clone(rules)?)?;
+        Ok(RuleList {
+            rules: list.rules,
+            columns: Some(Arc::new(alloc, columns)?),
+        })
+    }
+
+    /// Its rules in columns, where it has them.
+    pub(crate) fn columns(&self) -> Option<&RuleCols>
+        ensures { IfSome result (λ c. c.now ≡ self.now) }
+    {
+        match &self.columns {
+            Some(columns) => Some(columns),
+            None => None,
+        }
+    }
+
+    /// Whether it has the columns that packets are judged by: fewer rules than a block has need none, since each by itself costs less.
+    pub(crate) fn has_columns(&self) -> bool {
+        self.columns.is_some() || self.as_slice().len() < LANES
     }
 
     /// The rules in order.
@@ -92,11 +133,13 @@ impl RuleList {
         ensures err { OnErr result (self.new ≡ self.old) }
     {
         if let Some(rules) = &mut self.rules {
-            return add_own(rules, alloc, rule);
+            add_own(rules, alloc, rule)?;
+        } else {
+            let mut own = Vec::new(alloc);
+            own.push(rule)?;
+            self.rules = Some(Arc::new(alloc, own)?);
         }
-        let mut own = Vec::new(alloc);
-        own.push(rule)?;
-        self.rules = Some(Arc::new(alloc, own)?);
+        self.columns = None;
         Ok(())
     }
 }

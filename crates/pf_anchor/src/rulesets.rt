@@ -1,8 +1,10 @@
 //! The active rulesets.
+ghost use Rattle.std.specs.Prelude.{◌≡◌, IfOk};
 
 use crate::rule_list::RuleList;
 use pf_addr::path::Path;
 use pf_map::{Entries, Entry, PagedMap};
+use std::alloc::{AllocError, Global};
 
 /// A ruleset at its path, shared by all that hold it: path and rules stand once. Contracts see it as a `Ruled`.
 pub type Placed = Entry<Path, RuleList>;
@@ -12,3 +14,25 @@ pub(crate) type Rulesets = PagedMap<Path, RuleList>;
 
 /// Rulesets in the order of their paths, one after the other. Contracts see those that are left to come.
 pub type EachRuleset<'a> = Entries<'a, Path, RuleList, Placed>;
+
+// The same ruleset, with its rules in columns.
+fn columned(alloc: Global, placed: &Placed) -> Result<Placed, AllocError>
+    ensures { IfOk result (λ p. p ≡ placed.now) }
+{
+    let rules = placed.value();
+    if rules.has_columns() {
+        return placed.shared();
+    }
+    Placed::new(alloc, placed.key().copied(), rules.with_columns(alloc)?)
+}
+
+/// The same rulesets, each with its rules in columns, as the active ones are. `AllocError`: nothing is made.
+pub(crate) fn in_columns(alloc: Global, items: &[Placed]) -> Result<Vec<Placed>, AllocError>
+    ensures { IfOk result (λ v. v.items ≡ items.now) }
+{
+    let mut made = Vec::with_capacity(alloc, items.len())?;
+    for placed in items {
+        made.push(columned(alloc, placed)?)?;
+    }
+    Ok(made)
+}

@@ -1,32 +1,104 @@
-use Rattle.std.proofs.{Common.{◌≡◌, ℕ, ◌+◌, List, ◌∷◌, Bool, Option, drop, ap, true, false, sym, ◌∙◌, arith}, lemmas.Grind.common_steps}
+use Rattle.std.proofs.{Common.{◌≡◌, ◌<◌, ℕ, ◌+◌, ◌*◌, List, ◌∷◌, Bool, Option, None, drop, ap, true, false, sym, ◌∙◌, arith}, lemmas.Grind.common_steps}
+use Rattle.std.specs.Option.{option_or}
+use Rattle.pf_lanes.specs.Answered.{eight_from}
 use Rattle.std.specs.Prelude.{filter}
 use Rattle.pf_addr.specs.Path.Nested.{depth, path_within, is_child}
 use Rattle.pf_addr.proofs.Nesting.{leads_deeper}
 use Rattle.pf_rule.specs.Rules.{PlainRule}
 use Rattle.pf_anchor.specs.{declared.{evaluated.Evaluated.Evaluated, evaluated.Evaluated.TheVariants.Open, evaluated.Evaluated.TheVariants.Ended}, Matches.PlainMatch, Rulesets.{Ruled, ruled}, Evaluation.{and_then, settled, rules_give, effected, in_turn, evaluation, evaluate_with, matching}}
-use Rattle.pf_anchor.proofs.{Evaluations.{unrolled, none_and_then, no_rules}, Turns.{rule_goes_on, rule_passed, child_deeper, then_open, child_step, no_child_step, no_targets, targets_from, plain_turn}, evaluate.+evaluate.Goals.{evaluate-then-matches+in-Open, evaluate-else-matches}}
+use Rattle.pf_anchor.proofs.{Evaluations.{unrolled, none_and_then, no_rules}, Turns.{rule_goes_on, rule_passed, child_deeper, then_open, child_step, no_child_step, no_targets, targets_from, plain_turn}}
+use Rattle.pf_anchor.proofs.Blocks.{block_goes_on, block_ends, rule_ends, none_stops, lane_says}
+use Rattle.pf_anchor.proofs.evaluate.+evaluate.Goals.{evaluate-then-stopping-eq0, evaluate-else-stopping-eq0+in-Open, each_match-then-is_set+in-Open, each_match-else-is_set}
 use Rattle.pf_anchor.proofs.evaluate.+evaluate.Goals as goal
 
-pub evaluate-loop-number-init : goal.evaluate-loop-number-init
-evaluate-loop-number-init t c =
+pub evaluate-loop-block-init : goal.evaluate-loop-block-init
+evaluate-loop-block-init t c =
     unrolled c.args.config.now.rulesets (matching c.args.config.now.tables c.args.packet.now) c.args.placed.now
     ∙ sym (none_and_then (evaluate_with (evaluation c.args.config.now.rulesets (matching c.args.config.now.tables c.args.packet.now)) c.args.config.now.rulesets (matching c.args.config.now.tables c.args.packet.now) c.args.placed.now))
 
-pub evaluate-loop-number-preserved : goal.evaluate-loop-number-preserved
-evaluate-loop-number-preserved t c =
-    let effect : ℕ → PlainRule → Evaluated PlainMatch = λ n r. effected (evaluation c.args.config.now.rulesets (matching c.args.config.now.tables c.args.packet.now)) c.args.config.now.rulesets c.args.placed.now.0 n r.effect in
-    let test = matching c.args.config.now.tables c.args.packet.now c.args.placed.now.0 in
-    let rest = drop (c.loop-number.number + 1) c.args.placed.now.1 in
-    let later : Option PlainMatch → Evaluated PlainMatch = λ o. and_then (Open o) (rules_give effect test (c.loop-number.number + 1) rest) in
-    let items = c.as_slice-rule-items.ensures.value ∙ c.value.ensures in
-    let left : drop c.loop-number.number c.as_slice-rule-items.result.now ≡ c.rule-item.result ∷ drop (c.loop-number.number + 1) c.as_slice-rule-items.result.now = grind (arith, common_steps) in
-    let here = ap (drop c.loop-number.number) (sym items) ∙ left ∙ ap (λ (rs : List PlainRule). c.rule-item.result ∷ drop (c.loop-number.number + 1) rs) items in
-    let named : (b : Bool) → c.matches.result ≡ b → test c.rule-item.result ≡ b = λ b is. sym (c.matches.ensures ∙ ap (λ (p : List ℕ). matching c.args.config.now.tables c.args.packet.now p c.rule-item.result) c.key.ensures) ∙ is in
-    c.loop-number.invariant ∙ elim c.if-matches.branch [
-      | evaluate-then-matches+in-Open w ↦ rule_goes_on effect test c.loop-number.last w.in-Open.latest c.loop-number.number _ c.rule-item.result rest here (named true w.if-matches.true)
-          (w.in-Open.ensures ∙ ap (λ (q : Bool). settled q w.effected-effected.result) w.is_quick.ensures ∙ ap (settled c.rule-item.result.quick) w.effected-effected.ensures)
+pub evaluate-returns-in-Ended : goal.evaluate-returns-in-Ended
+evaluate-returns-in-Ended t c =
+    let tests = matching c.args.config.now.tables c.args.packet.now in
+    let f = evaluation c.args.config.now.rulesets tests in
+    let effect : ℕ → PlainRule → Evaluated PlainMatch = λ n r. effected f c.args.config.now.rulesets c.args.placed.now.0 n r.effect in
+    let test = tests c.args.placed.now.0 in
+    sym (c.loop-block.invariant ∙ block_ends effect test c.loop-block.last c.in-Ended.end c.loop-block.block c.args.placed.now.1 c.in-Ended.ensures)
+
+pub evaluate-loop-block-preserved : goal.evaluate-loop-block-preserved
+evaluate-loop-block-preserved t c =
+    let tests = matching c.args.config.now.tables c.args.packet.now in
+    let f = evaluation c.args.config.now.rulesets tests in
+    let effect : ℕ → PlainRule → Evaluated PlainMatch = λ n r. effected f c.args.config.now.rulesets c.args.placed.now.0 n r.effect in
+    let test = tests c.args.placed.now.0 in
+    let rules = c.args.placed.now.1 in
+    let b = c.loop-block.block in
+    let mask = c.matching_in-mask.result in
+    let later : Option PlainMatch → Evaluated PlainMatch = λ o. and_then (Open o) (rules_give effect test (8 * (b + 1)) (drop (8 * (b + 1)) rules)) in
+    c.loop-block.invariant ∙ elim c.if-stopping-eq0.branch [
+      | evaluate-then-stopping-eq0 w ↦ block_goes_on effect test c.loop-block.last w.last_match.result b rules
+          (w.last_match.ensures f c.args.config.now.rulesets tests c.matching_in-mask.ensures (none_stops rules b mask c.stopping.result c.stopping.ensures w.if-stopping-eq0.true))
           ∙ ap later (sym (w.last-is ∙ w.or-last.ensures))
-      | evaluate-else-matches w ↦ rule_passed effect test c.loop-number.last c.loop-number.number _ c.rule-item.result rest here (named false w.if-matches.false) ∙ ap later (sym w.last-is)
+      | evaluate-else-stopping-eq0+in-Open w ↦ block_goes_on effect test c.loop-block.last w.in-Open.latest b rules w.in-Open.ensures
+          ∙ ap later (sym (w.last-is ∙ w.or-last-in-Open.ensures))
+    ]
+
+pub each_match-loop-lane-init : goal.each_match-loop-lane-init
+each_match-loop-lane-init t c =
+    let tests = matching c.args.config.now.tables c.args.packet.now in
+    let f = evaluation c.args.config.now.rulesets tests in
+    let effect : ℕ → PlainRule → Evaluated PlainMatch = λ n r. effected f c.args.config.now.rulesets c.args.placed.now.0 n r.effect in
+    let test = tests c.args.placed.now.0 in
+    let eight = eight_from (8 * c.args.block) c.args.placed.now.1 in
+    sym (none_and_then (rules_give effect test (8 * c.args.block) eight))
+    ∙ ap (λ (n : ℕ). and_then (Open None) (rules_give effect test n eight)) (let z : 8 * c.args.block ≡ 8 * c.args.block + 0 = omega arith in z)
+
+pub each_match-returns-in-Ended : goal.each_match-returns-in-Ended
+each_match-returns-in-Ended t c =
+    let tests = matching c.args.config.now.tables c.args.packet.now in
+    let f = evaluation c.args.config.now.rulesets tests in
+    let effect : ℕ → PlainRule → Evaluated PlainMatch = λ n r. effected f c.args.config.now.rulesets c.args.placed.now.0 n r.effect in
+    let test = tests c.args.placed.now.0 in
+    let rules = c.args.placed.now.1 in
+    let lane = c.loop-lane.lane in
+    let r = c.rule-item.result in
+    let items = c.eight_of-rule-items.ensures.value ∙ ap (eight_from (8 * c.args.block)) (c.as_slice.ensures.value ∙ c.value.ensures) in
+    let left : drop lane c.eight_of-rule-items.result.now ≡ r ∷ drop (lane + 1) c.eight_of-rule-items.result.now = grind (arith, common_steps) in
+    let here = ap (drop lane) (sym items) ∙ left ∙ ap (λ (rs : List PlainRule). r ∷ drop (lane + 1) rs) items in
+    let lt = c.loop-lane-test.true in
+    let few = c.eight_of-rule-items.ensures.few in
+    let small : lane < 8 = omega (arith, lt, few) in
+    let bit = c.requires lane small ∙ lane_says test rules c.eight_of-rule-items.result.now c.args.block lane r items lt small c.rule-item.is in
+    sym (c.loop-lane.invariant
+    ∙ rule_ends effect test c.loop-lane.last c.in-Ended.end (8 * c.args.block + lane) _ r _ here (sym bit ∙ sym c.is_set.ensures ∙ c.if-is_set.true)
+    (c.in-Ended.ensures ∙ ap (λ (q : Bool). settled q c.effected.result) c.is_quick.ensures ∙ ap (settled r.quick) c.effected.ensures))
+
+pub each_match-loop-lane-preserved : goal.each_match-loop-lane-preserved
+each_match-loop-lane-preserved t c =
+    let tests = matching c.args.config.now.tables c.args.packet.now in
+    let f = evaluation c.args.config.now.rulesets tests in
+    let effect : ℕ → PlainRule → Evaluated PlainMatch = λ n r. effected f c.args.config.now.rulesets c.args.placed.now.0 n r.effect in
+    let test = tests c.args.placed.now.0 in
+    let rules = c.args.placed.now.1 in
+    let lane = c.loop-lane.lane in
+    let r = c.rule-item.result in
+    let items = c.eight_of-rule-items.ensures.value ∙ ap (eight_from (8 * c.args.block)) (c.as_slice.ensures.value ∙ c.value.ensures) in
+    let left : drop lane c.eight_of-rule-items.result.now ≡ r ∷ drop (lane + 1) c.eight_of-rule-items.result.now = grind (arith, common_steps) in
+    let here = ap (drop lane) (sym items) ∙ left ∙ ap (λ (rs : List PlainRule). r ∷ drop (lane + 1) rs) items in
+    let lt = c.loop-lane-test.true in
+    let few = c.eight_of-rule-items.ensures.few in
+    let small : lane < 8 = omega (arith, lt, few) in
+    let bit = c.requires lane small ∙ lane_says test rules c.eight_of-rule-items.result.now c.args.block lane r items lt small c.rule-item.is in
+    let rest = drop (lane + 1) (eight_from (8 * c.args.block) rules) in
+    let n = 8 * c.args.block + lane in
+    let next : n + 1 ≡ 8 * c.args.block + (lane + 1) = omega arith in
+    let later : Option PlainMatch → Evaluated PlainMatch = λ o. and_then (Open o) (rules_give effect test (8 * c.args.block + (lane + 1)) rest) in
+    let on : Option PlainMatch → ℕ → Evaluated PlainMatch = λ o k. and_then (Open o) (rules_give effect test k rest) in
+    c.loop-lane.invariant ∙ elim c.if-is_set.branch [
+      | each_match-then-is_set+in-Open w ↦ rule_goes_on effect test c.loop-lane.last w.in-Open.latest n _ r rest here (sym bit ∙ sym c.is_set.ensures ∙ w.if-is_set.true)
+          (w.in-Open.ensures ∙ ap (λ (q : Bool). settled q w.effected.result) w.is_quick.ensures ∙ ap (settled r.quick) w.effected.ensures)
+          ∙ ap (on (option_or w.in-Open.latest c.loop-lane.last)) next ∙ ap later (sym (w.last-is ∙ w.or-last.ensures))
+      | each_match-else-is_set w ↦ rule_passed effect test c.loop-lane.last n _ r rest here (sym bit ∙ sym c.is_set.ensures ∙ w.if-is_set.false)
+          ∙ ap (on c.loop-lane.last) next ∙ ap later (sym w.last-is)
     ]
 
 pub evaluate_targets-returns-in_default : goal.evaluate_targets-returns-in_default

@@ -2,28 +2,37 @@ use Rattle.std.proofs.Common.{◌≡◌, ◌+◌, ◌-◌, ◌*◌, drop}
 use Rattle.std.specs.Prelude.{filter}
 use Rattle.pf_addr.specs.declared.path.limits.TheConstants.{DEPTH_LIMIT}
 use Rattle.pf_addr.specs.Path.Nested.{depth, is_child}
+use Rattle.pf_lanes.specs.Answered.{eight_from}
 use Rattle.pf_anchor.specs.declared.evaluated.Evaluated.TheVariants.{Open}
-use Rattle.pf_anchor.specs.Evaluation.{and_then, in_turn, effected, rules_give, evaluation, matching}
+use Rattle.pf_anchor.specs.Evaluation.{and_then, in_turn, effected, rules_at_path, rules_give, evaluation, matching}
 use Rattle.pf_anchor.proofs.evaluate.+evaluate.Given as goal
 
 -- what a ruleset leads to is deeper
 abbrev pub decreases-evaluate : goal.decreases-evaluate
-decreases-evaluate l = 3 * (DEPTH_LIMIT - depth l.placed.now.0) + 2
+decreases-evaluate l = 4 * (DEPTH_LIMIT - depth l.placed.now.0) + 3
+
+abbrev pub decreases-each_match : goal.decreases-each_match
+decreases-each_match l = 4 * (DEPTH_LIMIT - depth l.placed.now.0) + 2
 
 abbrev pub decreases-effected : goal.decreases-effected
-decreases-effected l = 3 * (DEPTH_LIMIT - depth l.placed.now.0) + 1
+decreases-effected l = 4 * (DEPTH_LIMIT - depth l.placed.now.0) + 1
 
 abbrev pub decreases-evaluate_targets : goal.decreases-evaluate_targets
-decreases-evaluate_targets l = 3 * (DEPTH_LIMIT - depth l.path.now)
+decreases-evaluate_targets l = 4 * (DEPTH_LIMIT - depth l.path.now)
 
 abbrev pub decreases-evaluate_children : goal.decreases-evaluate_children
-decreases-evaluate_children l = 3 * (DEPTH_LIMIT - depth l.path.now) + 1
+decreases-evaluate_children l = 4 * (DEPTH_LIMIT - depth l.path.now) + 1
 
 -- what the rules left give comes after the last match so far
-abbrev pub invariant-evaluate-loop-number : goal.invariant-evaluate-loop-number
-invariant-evaluate-loop-number l =
+abbrev pub invariant-evaluate-loop-block : goal.invariant-evaluate-loop-block
+invariant-evaluate-loop-block l =
     evaluation l.config.rulesets (matching l.config.tables l.packet) l.placed
-    ≡ and_then (Open l.last) (rules_give (λ n r. effected (evaluation l.config.rulesets (matching l.config.tables l.packet)) l.config.rulesets l.placed.0 n r.effect) (matching l.config.tables l.packet l.placed.0) l.number (drop l.number l.placed.1))
+    ≡ and_then (Open l.last) (rules_give (λ n r. effected (evaluation l.config.rulesets (matching l.config.tables l.packet)) l.config.rulesets l.placed.0 n r.effect) (matching l.config.tables l.packet l.placed.0) (8 * l.block) (drop (8 * l.block) l.placed.1))
+
+abbrev pub invariant-each_match-loop-lane : goal.invariant-each_match-loop-lane
+invariant-each_match-loop-lane l =
+    rules_at_path (evaluation l.config.rulesets (matching l.config.tables l.packet)) l.config.rulesets (matching l.config.tables l.packet) l.placed.0 (8 * l.block) (eight_from (8 * l.block) l.placed.1)
+    ≡ and_then (Open l.last) (rules_give (λ n r. effected (evaluation l.config.rulesets (matching l.config.tables l.packet)) l.config.rulesets l.placed.0 n r.effect) (matching l.config.tables l.packet l.placed.0) (8 * l.block + l.lane) (drop l.lane (eight_from (8 * l.block) l.placed.1)))
 
 -- and so does what the rulesets left give
 abbrev pub invariant-evaluate_children-loop-placed : goal.invariant-evaluate_children-loop-placed

@@ -1,0 +1,197 @@
+-- Rules eight at a time: what a block gives, and what is left behind it.
+use Rattle.std.proofs.Common.{◌≡◌, ◌<◌, ◌≤◌, ℕ, zero, suc, ◌+◌, ◌*◌, Bool, true, false, cond, ◌&&◌, ◌||◌, List, [], ◌∷◌, length, take, drop, get_or, Option, Some, None, refl, sym, ap, ◌∙◌, arith, ⊎_elim}
+use Rattle.std.specs.{Prelude.{slice_get, bit_and}, Option.option_or}
+use Rattle.std.proofs.lemmas.{Bool.cases_lt, List.drop-drop, Option.slice_get-get_or}
+use Rattle.pf_addr.specs.Path.References.{PlainReference}
+use Rattle.pf_rule.specs.{Rules.PlainRule, declared.{rule.Action.Action, rule.Effect.Effect, rule.Effect.TheVariants.Decide, rule.Effect.TheVariants.Evaluate}}
+use Rattle.pf_lanes.specs.{Masks.{is_set, AreEnds}, Answered.{bit_by, block_mark, eight_from, is_anchor, stops}}
+use Rattle.pf_lanes.proofs.{Bits.{none_set, is_set-and}, Counted.taken_above, Places.eight_get}
+use Rattle.pf_anchor.specs.{Blocks.AreStops, declared.{evaluated.Evaluated.Evaluated, evaluated.Evaluated.TheVariants.Open, evaluated.Evaluated.TheVariants.Ended}, Matches.{PlainMatch, found}, Rulesets.Ruled, Evaluation.{and_then, settled, effected, rules_give}}
+use Rattle.pf_anchor.proofs.{Evaluations.{none_and_then, and_then_assoc}, Turns.then_open}
+
+-- ---- a block, and the rules behind it
+
+split : {M : Type 0} (effect : ℕ → PlainRule → Evaluated M) (test : PlainRule → Bool) (k n : ℕ) (rs : List PlainRule) →
+    rules_give effect test n rs ≡ and_then (rules_give effect test n (take k rs)) (rules_give effect test (n + k) (drop k rs))
+split effect test zero n rs = ap (λ m. rules_give effect test m rs) (let e : n ≡ n + 0 = omega arith in e) ∙ sym (none_and_then (rules_give effect test (n + 0) rs))
+split effect test (suc k) n [] = refl
+split {M} effect test (suc k) n (r ∷ rs) =
+    let here : Evaluated M = cond (test r) (settled r.quick (effect n r)) (Open None) in
+    ap (and_then here) (split effect test k (n + 1) rs)
+    ∙ sym (and_then_assoc here (rules_give effect test (n + 1) (take k rs)) (rules_give effect test (n + 1 + k) (drop k rs)))
+    ∙ ap (λ (m : ℕ). and_then (and_then here (rules_give effect test (n + 1) (take k rs))) (rules_give effect test m (drop k rs))) (let e : n + 1 + k ≡ n + suc k = omega arith in e)
+
+block_apart : {M : Type 0} (effect : ℕ → PlainRule → Evaluated M) (test : PlainRule → Bool) (block : ℕ) (rules : List PlainRule) →
+    rules_give effect test (8 * block) (drop (8 * block) rules)
+    ≡ and_then (rules_give effect test (8 * block) (eight_from (8 * block) rules)) (rules_give effect test (8 * (block + 1)) (drop (8 * (block + 1)) rules))
+block_apart effect test block rules =
+    let next : 8 * block + 8 ≡ 8 * (block + 1) = omega arith in
+    split effect test 8 (8 * block) (drop (8 * block) rules)
+    ∙ ap (λ (rs : List PlainRule). and_then (rules_give effect test (8 * block) (eight_from (8 * block) rules)) (rules_give effect test (8 * block + 8) rs)) (drop-drop 8 (8 * block) rules)
+    ∙ ap (λ (k : ℕ). and_then (rules_give effect test (8 * block) (eight_from (8 * block) rules)) (rules_give effect test k (drop k rules))) next
+
+pub block_goes_on : {M : Type 0} (effect : ℕ → PlainRule → Evaluated M) (test : PlainRule → Bool) (last latest : Option M) (block : ℕ) (rules : List PlainRule) →
+    Open latest ≡ rules_give effect test (8 * block) (eight_from (8 * block) rules) →
+    and_then (Open last) (rules_give effect test (8 * block) (drop (8 * block) rules))
+    ≡ and_then (Open (option_or latest last)) (rules_give effect test (8 * (block + 1)) (drop (8 * (block + 1)) rules))
+block_goes_on {M} effect test last latest block rules gives =
+    let behind = rules_give effect test (8 * (block + 1)) (drop (8 * (block + 1)) rules) in
+    ap (and_then (Open last)) (block_apart effect test block rules)
+    ∙ ap (λ (x : Evaluated M). and_then (Open last) (and_then x behind)) (sym gives)
+    ∙ then_open last latest behind
+
+pub block_ends : {M : Type 0} (effect : ℕ → PlainRule → Evaluated M) (test : PlainRule → Bool) (last : Option M) (m : M) (block : ℕ) (rules : List PlainRule) →
+    Ended m ≡ rules_give effect test (8 * block) (eight_from (8 * block) rules) →
+    and_then (Open last) (rules_give effect test (8 * block) (drop (8 * block) rules)) ≡ Ended m
+block_ends {M} effect test last m block rules gives =
+    let behind = rules_give effect test (8 * (block + 1)) (drop (8 * (block + 1)) rules) in
+    ap (and_then (Open last)) (block_apart effect test block rules)
+    ∙ ap (λ (x : Evaluated M). and_then (Open last) (and_then x behind)) (sym gives)
+
+-- a rule of a block that ends the evaluation
+pub rule_ends : {M : Type 0} (effect : ℕ → PlainRule → Evaluated M) (test : PlainRule → Bool) (last : Option M) (m : M) (n : ℕ) (rules : List PlainRule) (r : PlainRule) (rest : List PlainRule) →
+    rules ≡ r ∷ rest → test r ≡ true → Ended m ≡ settled r.quick (effect n r) → and_then (Open last) (rules_give effect test n rules) ≡ Ended m
+rule_ends {M} effect test last m n rules r rest left is settles =
+    ap (λ (rs : List PlainRule). and_then (Open last) (rules_give effect test n rs)) left
+    ∙ ap (λ (b : Bool). and_then (Open last) (and_then (cond b (settled r.quick (effect n r)) (Open None)) (rules_give effect test (n + 1) rest))) is
+    ∙ ap (λ (x : Evaluated M). and_then (Open last) (and_then x (rules_give effect test (n + 1) rest))) (sym settles)
+
+-- ---- a block without quick and without anchor rules among those that match
+
+passed : {M : Type 0} (effect : ℕ → PlainRule → Evaluated M) (test : PlainRule → Bool) (n : ℕ) (rs : List PlainRule) →
+    ((i : ℕ) → bit_by test (slice_get rs i) ≡ false) → rules_give effect test n rs ≡ Open None
+passed effect test n [] none = refl
+passed effect test n (r ∷ rs) none =
+    let rest = passed effect test (n + 1) rs (λ i. none (suc i)) in
+    λ j. and_then (cond (none 0 j) (settled r.quick (effect n r)) (Open None)) (rest j)
+
+neither : (a b : Bool) → (a || b) ≡ false → a ≡ false
+neither false b e = refl
+neither true b e = e
+
+some_is : {A : Type 0} (x y : A) → Some x ≡ Some y → x ≡ y
+some_is x y e = cc e
+
+-- a rule before the last one that matches leaves the evaluation free
+left_open : (f : Ruled → Evaluated PlainMatch) (c : List Ruled) (p : List ℕ) (n : ℕ) (b q : Bool) (e : Effect) → (b ≡ true → (q || is_anchor e) ≡ false) →
+    (o : Option PlainMatch) × (cond b (settled q (effected f c p n e)) (Open None) ≡ Open o)
+left_open f c p n false q e free = (None, refl)
+left_open f c p n true false (Decide a) free = (Some (found p n a), refl)
+left_open f c p n true false (Evaluate s) free = absurd (cc (free refl))
+left_open f c p n true true e free = absurd (cc (free refl))
+
+-- the rule at this lane matches, none behind it does, and none that matches is a quick or an anchor rule
+record IsLast (test : PlainRule → Bool) (rs : List PlainRule) (lane : ℕ) (r : PlainRule) : Type 0 where
+  pub there : slice_get rs lane ≡ Some r
+  pub matches : test r ≡ true
+  pub free : (i : ℕ) → bit_by test (slice_get rs i) ≡ true → bit_by stops (slice_get rs i) ≡ false
+  pub none : (i : ℕ) → lane < i → bit_by test (slice_get rs i) ≡ false
+
+last_stands : (f : Ruled → Evaluated PlainMatch) (c : List Ruled) (p : List ℕ) (test : PlainRule → Bool) (n : ℕ) (rs : List PlainRule) (lane : ℕ) (r : PlainRule) (a : Action) →
+    IsLast test rs lane r → r.effect ≡ Decide a → rules_give (λ k x. effected f c p k x.effect) test n rs ≡ Open (Some (found p (n + lane) a))
+last_stands f c p test n [] lane r a is decides = absurd (cc (is.there))
+last_stands f c p test n (x ∷ xs) zero r a is decides =
+    let same = some_is x r is.there in
+    let m : test x ≡ true = ap test same ∙ is.matches in
+    let q : x.quick ≡ false = neither x.quick (is_anchor x.effect) (is.free 0 m) in
+    let e : x.effect ≡ Decide a = ap (λ (y : PlainRule). y.effect) same ∙ decides in
+    let rest = passed (λ k x. effected f c p k x.effect) test (n + 1) xs (λ i. is.none (suc i) (omega arith)) in
+    (λ j. and_then (cond (m j) (settled (q j) (effected f c p n (e j))) (Open None)) (rest j))
+    ∙ ap (λ (k : ℕ). Open (Some (found p k a))) (let z : n ≡ n + 0 = omega arith in z)
+last_stands f c p test n (x ∷ xs) (suc lane) r a is decides =
+    let rest = last_stands f c p test (n + 1) xs lane r a (record { there = is.there; matches = is.matches; free = λ i. is.free (suc i); none = λ i lt. is.none (suc i) (omega arith) }) decides in
+    let here = left_open f c p n (test x) x.quick x.effect (is.free 0) in
+    (λ j. and_then (here.1 j) (rest j))
+    ∙ ap (λ (k : ℕ). Open (Some (found p k a))) (let z : n + 1 + lane ≡ n + suc lane = omega arith in z)
+
+-- ---- by the bits of a mask
+
+-- a bit tells of its rule
+pub record HasBits (test : PlainRule → Bool) (rules : List PlainRule) (block mask : ℕ) : Type 0 where
+  pub each : (i : ℕ) → i < 8 → is_set mask i ≡ block_mark test rules block i
+
+-- bits of the eight rules themselves
+eight_bit : (test : PlainRule → Bool) (rules : List PlainRule) (block i : ℕ) → i < 8 → bit_by test (slice_get (eight_from (8 * block) rules) i) ≡ block_mark test rules block i
+eight_bit test rules block i lt = ap (bit_by test) (eight_get rules (8 * block) i lt)
+
+no_ninth : (test : PlainRule → Bool) (rules : List PlainRule) (block i : ℕ) → 8 ≤ i → bit_by test (slice_get (eight_from (8 * block) rules) i) ≡ false
+no_ninth test rules block i le = ap (bit_by test) (taken_above (drop (8 * block) rules) 8 i le)
+
+-- a mask without bits: nothing matches
+pub none_found : {M : Type 0} (effect : ℕ → PlainRule → Evaluated M) (test : PlainRule → Bool) (rules : List PlainRule) (block mask : ℕ) →
+    HasBits test rules block mask → mask ≡ 0 → rules_give effect test (8 * block) (eight_from (8 * block) rules) ≡ Open None
+none_found effect test rules block mask bits none =
+    passed effect test (8 * block) (eight_from (8 * block) rules)
+    (λ i. ⊎_elim
+    (λ (lt : i < 8). eight_bit test rules block i lt ∙ sym (bits.each i lt) ∙ ap (λ m. is_set m i) none ∙ none_set i)
+    (λ (le : 8 ≤ i). no_ninth test rules block i le)
+    (cases_lt i 8))
+
+-- the last bit's rule decides
+pub last_found : (f : Ruled → Evaluated PlainMatch) (c : List Ruled) (p : List ℕ) (test : PlainRule → Bool) (rules : List PlainRule) (block mask first last : ℕ) (r : PlainRule) (a : Action) →
+    HasBits test rules block mask → ((i : ℕ) → i < 8 → is_set mask i ≡ true → block_mark stops rules block i ≡ false) → AreEnds mask first last →
+    slice_get rules (8 * block + last) ≡ Some r → r.effect ≡ Decide a →
+    rules_give (λ k x. effected f c p k x.effect) test (8 * block) (eight_from (8 * block) rules) ≡ Open (Some (found p (8 * block + last) a))
+last_found f c p test rules block mask first last r a bits free ends there decides =
+    let within = ends.within in
+    last_stands f c p test (8 * block) (eight_from (8 * block) rules) last r a
+    (record {
+      there = eight_get rules (8 * block) last within ∙ there;
+      matches = sym (bits.each last within ∙ ap (bit_by test) there) ∙ ends.last_set;
+      free = λ i is. ⊎_elim
+          (λ (lt : i < 8). eight_bit stops rules block i lt ∙ free i lt (bits.each i lt ∙ sym (eight_bit test rules block i lt) ∙ is))
+          (λ (le : 8 ≤ i). no_ninth stops rules block i le)
+          (cases_lt i 8);
+      none = λ i above. ⊎_elim
+          (λ (lt : i < 8). eight_bit test rules block i lt ∙ sym (bits.each i lt) ∙ ends.none_above i above)
+          (λ (le : 8 ≤ i). no_ninth test rules block i le)
+          (cases_lt i 8);
+    })
+    decides
+
+pub past_all : (rules items : List PlainRule) (k : ℕ) → rules ≡ items → length rules ≤ k → slice_get items k ≡ None
+past_all rules items k same le = ap (λ (rs : List PlainRule). slice_get rs k) (sym same) ∙ past rules k le where
+  past : (xs : List PlainRule) (n : ℕ) → length xs ≤ n → slice_get xs n ≡ None
+  past [] n le = refl
+  past (x ∷ xs) zero le = absurd (omega (arith, le))
+  past (x ∷ xs) (suc n) le = past xs n (omega (arith, le))
+
+pub there_at : (rules items : List PlainRule) (k : ℕ) (r : PlainRule) → rules ≡ items → k < length rules → r ≡ get_or rules k r → slice_get items k ≡ Some r
+there_at rules items k r same lt is = ap (λ (rs : List PlainRule). slice_get rs k) (sym same) ∙ slice_get-get_or rules k r lt ∙ ap (λ x. Some x) (sym is)
+
+-- a set bit has a rule
+pub bit_has_rule : (test : PlainRule → Bool) (rules : List PlainRule) (block mask i : ℕ) → HasBits test rules block mask → i < 8 → is_set mask i ≡ true →
+    slice_get rules (8 * block + i) ≡ None → {A : Type 0} → A
+bit_has_rule test rules block mask i bits lt set none = absurd (cc (sym set ∙ bits.each i lt ∙ ap (bit_by test) none))
+
+-- an anchor rule stops
+pub stops_there : (rules : List PlainRule) (block i : ℕ) (r : PlainRule) (s : PlainReference) → slice_get rules (8 * block + i) ≡ Some r → r.effect ≡ Evaluate s →
+    block_mark stops rules block i ≡ true
+stops_there rules block i r s there leads = ap (bit_by stops) there ∙ ap (λ (e : Effect). r.quick || is_anchor e) leads ∙ any r.quick where
+  any : (b : Bool) → (b || true) ≡ true
+  any true = refl
+  any false = refl
+
+pub no_match : (rules : List PlainRule) (block mask : ℕ) → mask ≡ 0 → AreStops rules block mask 0
+no_match rules block mask none = record { unset = λ i lt set un. absurd (cc (sym set ∙ ap (λ m. is_set m i) none ∙ none_set i)) }
+
+pub all_stop : (rules : List PlainRule) (block mask : ℕ) → AreStops rules block mask mask
+all_stop rules block mask = record { unset = λ i lt set un. absurd (cc (sym set ∙ un)) }
+
+pub told_of : (rules : List PlainRule) (block mask bits : ℕ) → ((i : ℕ) → i < 8 → is_set bits i ≡ block_mark stops rules block i) → AreStops rules block mask (bit_and bits mask)
+told_of rules block mask bits told = record {
+  unset = λ i lt set un. sym (told i lt) ∙ first (is_set bits i) (is_set mask i) set (sym (is_set-and bits mask i) ∙ un);
+} where
+  first : (a b : Bool) → b ≡ true → (a && b) ≡ false → a ≡ false
+  first false b e f = refl
+  first true b e f = absurd (cc (sym e ∙ f))
+
+pub none_stops : (rules : List PlainRule) (block mask bits : ℕ) → AreStops rules block mask bits → bits ≡ 0 →
+    (i : ℕ) → i < 8 → is_set mask i ≡ true → block_mark stops rules block i ≡ false
+none_stops rules block mask bits are none i lt set = are.unset i lt set (ap (λ n. is_set n i) none ∙ none_set i)
+
+-- the rule of a lane, by its bit
+pub lane_says : (test : PlainRule → Bool) (rules eight : List PlainRule) (block lane : ℕ) (r : PlainRule) → eight ≡ eight_from (8 * block) rules → lane < length eight → lane < 8 →
+    r ≡ get_or eight lane r → block_mark test rules block lane ≡ test r
+lane_says test rules eight block lane r same lt small is =
+    ap (bit_by test) (sym (eight_get rules (8 * block) lane small) ∙ there_at eight (eight_from (8 * block) rules) lane r same lt is)

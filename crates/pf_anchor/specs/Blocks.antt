@@ -1,0 +1,16 @@
+-- Eight rules of a ruleset together. Own.
+use Rattle.std.specs.Prelude.{◌≡◌, ℕ, ◌*◌, ◌<◌, true, false, List, Option}
+use Rattle.pf_rule.specs.Rules.{PlainRule}
+use Rattle.pf_lanes.specs.{Masks.is_set, Answered.{block_mark, eight_from, stops}}
+use Rattle.pf_anchor.specs.{declared.{evaluated.Evaluated.Evaluated, evaluated.Evaluated.TheVariants.Open}, Matches.PlainMatch, Rulesets.Ruled, Evaluation.{Tests, rules_at_path}}
+
+-- these bits tell quick and anchor rules among those of a mask: where such a bit isn't set, its rule is neither
+pub record AreStops (rules : List PlainRule) (block mask bits : ℕ) : Type 0 where
+  pub unset : (i : ℕ) → i < 8 → is_set mask i ≡ true → is_set bits i ≡ false → block_mark stops rules block i ≡ false
+
+-- a match, or none, is what the rules of a block give, where the mask has those that match and no quick and no anchor rule is among them
+abbrev pub GivesLast : Ruled → ℕ → ℕ → Option PlainMatch → Type 0
+GivesLast e block mask last = (f : Ruled → Evaluated PlainMatch) (c : List Ruled) (tests : Tests) →
+    ((i : ℕ) → i < 8 → is_set mask i ≡ block_mark (tests e.0) e.1 block i) →
+    ((i : ℕ) → i < 8 → is_set mask i ≡ true → block_mark stops e.1 block i ≡ false) →
+    Open last ≡ rules_at_path f c tests e.0 (8 * block) (eight_from (8 * block) e.1)

@@ -1,0 +1,14 @@
+pub mod Bits
+pub mod Counted
+pub mod Kernels
+pub mod Pushing
+pub mod Naming
+pub mod Fields
+pub mod Fronts
+pub mod Matched
+pub mod Places
+pub mod LongestSoFar
+pub mod NetPlaces
+pub mod Chosen
+pub mod Handed
+pub mod Tabled
