@@ -4,21 +4,6 @@ use Rattle.std.specs.{declared.{cmp.Ordering.Ordering, cmp.Ordering.TheVariants.
 use Rattle.pf_addr.specs.Address.{Network}
 use Rattle.pf_table.specs.Entries.{Row, net_order}
 
--- ---- tests
-
-pub first_of : (a b : Bool) → T (a && b) → T a
-first_of true b p = tt
-first_of false b p = p
-
-pub second_of : (a b : Bool) → T (a && b) → T b
-second_of true b p = p
-second_of false b p = absurd p
-
-pub less_of : (o : Ordering) → T (is_lt o) → o ≡ Less
-less_of Less p = refl
-less_of Equal p = absurd p
-less_of Greater p = absurd p
-
 -- ---- what is behind a network
 
 abbrev pub below : Network → List Row → Type 0

@@ -2,8 +2,8 @@
 ghost use Rattle.std.specs.Prelude.{◌≡◌};
 ghost use Rattle.pf_table.specs.{Entries.{net_order, net_hint}, Laws.Order.{net_total, net_same, net_rises}};
 
-use crate::map::Key;
 use pf_addr::{Addr, Net};
+use pf_map::Key;
 use std::cmp::Ordering;
 
 // The hints of V6 networks begin here: behind those of V4 networks, and with room for the first 63 bits of an address.
