@@ -1,5 +1,5 @@
 pub mod Program
-pub mod Carrying
+pub mod Client
 -- what public clauses cite of the crates below
 pub use Rattle.pf_session.specs.LineEngine
 pub use Rattle.pf_session.specs.Serving

@@ -1,7 +1,7 @@
 //! A client: what it reads goes to a server, and what that answers is written.
 ghost use Rattle.std.specs.Prelude.{◌<◌, length};
 ghost use Rattle.pf_addr.specs.Writing.{Writes};
-ghost use Rattle.pfd.specs.Carrying.{Carries};
+ghost use Rattle.pfd.specs.Client.{Carries};
 
 use pf_addr::write_text;
 use pf_session::EngineFault;
