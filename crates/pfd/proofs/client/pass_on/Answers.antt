@@ -1,4 +1,4 @@
-use Rattle.pfd_files.proofs.Showing.{flushed}
+use Rattle.pf_session.proofs.Flushing.{flushed}
 use Rattle.pfd.proofs.client.pass_on.Goals as goal
 
 pub returns-in-Ok : goal.returns-in-Ok

@@ -1,6 +1,7 @@
 use Rattle.std.proofs.Common.{Err, Ok, refl}
 use Rattle.pf_addr.specs.Writing.{Continues-then, behind_nothing}
-use Rattle.pfd_files.proofs.Showing.{as_told, flushed}
+use Rattle.pf_session.proofs.Flushing.{flushed}
+use Rattle.pfd_files.proofs.Showing.{as_told}
 use Rattle.pfd.specs.Program.{listening_text}
 use Rattle.pfd.proofs.program.serving.tell.Goals as goal
 
