@@ -6,4 +6,6 @@ pub mod Parts
 pub mod Pieces
 pub mod ListMaps
 pub mod Indexes
+pub mod Networks
+pub mod NetworkLaws
 pub mod Laws

@@ -1,6 +1,6 @@
 //! Finite maps in the order of their keys, in trees of pages that are shared; the crates above keep rulesets, tables and states in them.
 //!
-//! It knows paths and names of pf_addr as keys (`keys`), and not what a map's keys and values mean.
+//! It knows paths, names and networks of pf_addr as keys (`keys`, `networks`), and not what a map's keys and values mean.
 //!
 //! A map is the list of its entries in the order of their keys, no key twice. Read first specs/Maps.antt, which says what a map holds once
 //! a key's value was replaced, and specs/ListMaps.antt, maps of lists in which an empty list has no entry; specs/Indexes.antt is about
@@ -15,6 +15,7 @@ mod key;
 mod keys;
 pub mod laws;
 mod level;
+mod networks;
 mod paged_map;
 mod part;
 mod pieces;

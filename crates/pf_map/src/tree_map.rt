@@ -185,7 +185,7 @@ impl<K: Key, V: Drop, E: Held<K, V>> TreeMap<K, V, E> {
     }
 
     /// The same, where it has no entry at the key: a look-up less.
-    pub(crate) fn with_new(self, alloc: Global, new: &E) -> Result<TreeMap<K, V, E>, AllocError>
+    pub fn with_new(self, alloc: Global, new: &E) -> Result<TreeMap<K, V, E>, AllocError>
         requires { find K.order (E.pair new.now).0 self ≡ None }
         ensures { IfOk result (λ m. m ≡ with_value K.order self (E.pair new.now).0 (Some (E.pair new.now).1)) }
     {

@@ -2,7 +2,8 @@
 use Rattle.std.proofs.Common.{◌≡◌, ℕ, zero, suc, T, Bool, true, false, ◌&&◌, List, [], ◌∷◌, length, refl, ◌<◌, get_or, arith}
 use Rattle.std.specs.{declared.{cmp.Ordering.Ordering, cmp.Ordering.TheVariants.Less, cmp.Ordering.TheVariants.Equal, cmp.Ordering.TheVariants.Greater}, FinMap.is_sorted, FinMap.Entries.below_all, Ordering.is_lt}
 use Rattle.pf_addr.specs.Address.{Network}
-use Rattle.pf_table.specs.Entries.{Row, net_order}
+use Rattle.pf_table.specs.Entries.{Row}
+use Rattle.pf_map.specs.Networks.{net_order}
 
 -- ---- what is behind a network
 

@@ -1,4 +1,3 @@
-pub mod Order
 pub mod Edits
 pub mod Tables
 pub mod EntryForms

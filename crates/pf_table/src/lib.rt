@@ -5,7 +5,7 @@
 //! A table is the list of its entries in the order of their networks, none of them twice; of those that contain an address the one with
 //! the longest prefix decides. Read first specs/Tables.antt, which says so, and specs/Edits.antt, what an edit leaves and answers;
 //! specs/Laws.antt says the same without the recursion. Callers use `Table`, whose entries stand in a map in the order of their
-//! networks (`order`): an edit gathers its list (`batch`) and changes the map entry by entry (`change`), and a look-up takes a few
+//! networks: an edit gathers its list (`batch`) and changes the map entry by entry (`change`), and a look-up takes a few
 //! searches (`lookup`). In bytes an entry is as specs/EntryForms.antt says (`entry_form`).
 //!
 //! A table can be a map's value itself (`content`).
@@ -20,7 +20,6 @@ mod entry_form;
 pub mod laws;
 mod limits;
 mod lookup;
-mod order;
 mod refusal;
 mod table;
 

@@ -2,7 +2,7 @@
 use Rattle.std.proofs.{Common.{◌≡◌, ℕ, ◌*◌, ◌-◌, ◌/◌, ◌^◌, ◌<◌, ◌≤◌, Bool, true, false, nat_lt, refl, sym, ap, ◌∙◌, true≢false, arith}, Math.Nat.mul-div_cancel, Math.Pow.shr_mono, lemmas.Bool.Decides.nat_tests, lemmas.Nat.pow_pos, lemmas.Cmp.nat_cmp_total}
 use Rattle.std.specs.{Cmp.{IsTotalOrder, on_total, then_total, nat_cmp_is}, FinMap.{IsAntisymmetric, nat_cmp-IsAntisymmetric}, Ordering.{ordering_then, is_eq, nat_cmp}, declared.{cmp.Ordering.Ordering, cmp.Ordering.TheVariants.Less, cmp.Ordering.TheVariants.Equal, cmp.Ordering.TheVariants.Greater}}
 use Rattle.pf_addr.specs.{declared.{addr.Family.Family, addr.Family.TheVariants.V4, addr.Family.TheVariants.V6}, Address.{Network, width}, NetForms.first_number}
-use Rattle.pf_table.specs.Entries.{rank, net_order, hint_in, net_hint}
+use Rattle.pf_map.specs.Networks.{rank, net_order, hint_in, net_hint}
 use Rattle.pf_map.specs.Hints.{RisesWith}
 
 pub net_total : IsTotalOrder net_order

@@ -1,16 +1,16 @@
-//! The order of networks, by which a table's entries stand in a map.
+//! The order of networks, by which maps have them as keys.
 ghost use Rattle.std.specs.Prelude.{◌≡◌};
-ghost use Rattle.pf_table.specs.{Entries.{net_order, net_hint}, Laws.Order.{net_total, net_same, net_rises}};
+ghost use Rattle.pf_map.specs.{Networks.{net_order, net_hint}, NetworkLaws.{net_total, net_same, net_rises}};
 
+use crate::key::Key;
 use pf_addr::{Addr, Net};
-use pf_map::Key;
 use std::cmp::Ordering;
 
 // The hints of V6 networks begin here: behind those of V4 networks, and with room for the first 63 bits of an address.
 const V6_HINTS: u64 = 1 << 63;
 
 /// V4 before V6, then by the first address, then the shorter prefix before the longer.
-#[tactic(auto, unfolding(crate::specs::Entries::net_order))]
+#[tactic(auto, unfolding(crate::specs::Networks::net_order))]
 fn order(one: Net, other: Net) -> Ordering
     ensures { result ≡ net_order one other }
 {
