@@ -4,6 +4,7 @@ use Rattle.std.specs.{declared.{cmp.Ordering.Ordering, cmp.Ordering.TheVariants.
 use Rattle.pf_addr.specs.Address.{Network}
 use Rattle.pf_table.specs.Entries.{Row}
 use Rattle.pf_map.specs.Networks.{net_order}
+use Rattle.pf_map.proofs.Tests.{first_of, second_of, less_of}
 
 -- ---- what is behind a network
 
