@@ -7,7 +7,8 @@ use Rattle.pf_store.proofs.Refusing.{held_is_found, one_gate, one_held}
 use Rattle.pf_disk.specs.Disk.{IsImage}
 use Rattle.pf_view.specs.declared.opening.ViewFault.{ViewFault}
 use Rattle.pf_view.specs.declared.opening.ViewFault.TheVariants as views
-use Rattle.pfd.specs.{Faults.{told_of_opening, told_of_views}, Program.Hinders}
+use Rattle.pfd_files.specs.Faults.{told_of_opening, told_of_views}
+use Rattle.pfd.specs.Program.{Hinders}
 
 -- what a device reads as is an image of it
 pub own-image : (seen : List ℕ) (unsynced : ℕ → Bool) → IsImage seen unsynced seen

@@ -1,16 +1,2 @@
-pub mod Cutting
-pub mod Answering
-pub mod Moving
-pub mod Told
-pub mod Sitting
-pub mod Streaming
-pub mod Learning
-pub mod Acknowledging
-pub mod Following
-pub mod Calling
-pub mod Limits
-mod TakingOver
-pub mod Flushing
-pub mod Showing
 pub mod Running
 pub mod Begun

@@ -2,8 +2,9 @@
 use Rattle.std.proofs.Common.{◌≡◌, ◌∙◌, ap, inl, inr, refl, subst, ℕ, List, Option, Result, Ok, Err}
 use Rattle.pfd_words.specs.declared.words.{Task.Task, TheConstants.HISTORY_LIMIT}
 use Rattle.pfd_words.specs.Words.{plain_run}
-use Rattle.pfd.specs.declared.{line_engine.fault.EngineFault.EngineFault, program.fault.Fault.Fault}
-use Rattle.pfd.specs.{Faults.ended, Program.{IsDone, RanWith, status_of}}
+use Rattle.pf_session.specs.declared.line_engine.fault.EngineFault.{EngineFault}
+use Rattle.pfd_files.specs.declared.fault.Fault.{Fault}
+use Rattle.pfd.specs.Program.{IsDone, RanWith, ended, status_of}
 
 one_status : (r : Result (Unit {0}) EngineFault) → status_of (ended r) ≡ status_of r
 one_status (Ok u) = refl

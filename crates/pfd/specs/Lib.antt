@@ -1,12 +1,12 @@
-pub mod LineEngine
-pub mod Telling
-pub mod Serving
-pub mod Faults
 pub mod Program
-pub mod Server
-pub mod Showing
-pub mod Laws
+pub mod Client
 -- what public clauses cite of the crates below
+pub use Rattle.pf_session.specs.LineEngine
+pub use Rattle.pf_session.specs.Serving
+pub use Rattle.pf_session.specs.Server
+pub use Rattle.pf_session.specs.Laws
+pub use Rattle.pfd_files.specs.Faults
+pub use Rattle.pfd_files.specs.Showing
 pub use Rattle.pf_core.specs.Calls
 pub use Rattle.pf_core.specs.Durable.Edits
 pub use Rattle.pf_core.specs.Pages

@@ -8,8 +8,21 @@ use Rattle.pf_store.specs.declared.store.fault.OpenFault.{OpenFault}
 use Rattle.pf_view.specs.declared.opening.ViewFault.{ViewFault}
 use Rattle.pf_book.specs.Books.{Ledger, Opened, page}
 use Rattle.pfd_words.specs.declared.words.{Task.Task, Task.TheVariants.{Run, RunOn, Format, Show, Serve, Connect}, TheConstants.MEMORY_SIZE}
-use Rattle.pfd.specs.declared.{line_engine.fault.EngineFault.EngineFault, program.fault.Fault.Fault, program.fault.Fault.TheVariants.{BadSize, Device, Input, Memory, Places}}
-use Rattle.pfd.specs.{Faults.{ended, told_of_opening, told_of_views}, LineEngine.Sessions.IsSession, Serving.Serves, Showing.IsShown}
+use Rattle.pf_session.specs.declared.line_engine.fault.EngineFault.{EngineFault}
+use Rattle.pf_session.specs.declared.line_engine.fault.EngineFault.TheVariants as session
+use Rattle.pf_session.specs.{LineEngine.Sessions.IsSession, Serving.Serves}
+use Rattle.pfd_files.specs.declared.fault.{Fault.Fault, Fault.TheVariants.{BadSize, Device, Input, Memory, Output, Places}}
+use Rattle.pfd_files.specs.{Faults.{told_of_opening, told_of_views}, Showing.{IsOfFile, ShownOfFile}}
+
+abbrev pub told_of_session : EngineFault → Fault
+told_of_session session.Read = Input
+told_of_session session.Write = Output
+told_of_session session.Memory = Memory
+
+-- what the program tells of a session
+abbrev pub ended : Result (Unit {0}) EngineFault → Result (Unit {0}) Fault
+ended (Ok u) = Ok u
+ended (Err fault) = Err (told_of_session fault)
 
 -- of worlds that come to this and don't have the last epoch, the Book stands for those with this opening at their end
 abbrev pub Follows : {D : Type 0} → Opened D → ℕ → Ledger D → Type 0
@@ -58,14 +71,6 @@ Hinders size Device = IsSize size
 Hinders size Places = IsSize size
 Hinders size fault = ⊥
 
--- why a file can't be had as a disk
-abbrev pub IsOfFile : Fault → Type 0
-IsOfFile Input = Unit {0}
-IsOfFile BadSize = Unit {0}
-IsOfFile Device = Unit {0}
-IsOfFile Memory = Unit {0}
-IsOfFile fault = ⊥
-
 -- It ran, or something kept it from beginning: then nothing was read or written.
 abbrev pub RanOver : {M : Type 0} → (M → ℕ) → ℕ → ℕ → Result (Unit {0}) Fault
     → Option (List ℕ) → Option (List ℕ) → Option (List ℕ) → Option (List ℕ) → Type 0
@@ -94,12 +99,6 @@ abbrev pub RanOnFile : {F : Type 0} → (F → List ℕ) → (F → ℕ) → ℕ
 RanOnFile {F = F} seen faults history result unread unread' held held' =
     ((disk : F) × RanOn seen faults disk history result unread unread' held held')
     ⊎ ((fault : Fault) × (result ≡ Err fault) × IsOfFile fault × Keeps unread unread' × Keeps held held')
-
--- It was told what some disk holds; or the file couldn't be had as one, and nothing was written.
-abbrev pub ShownOfFile : {F : Type 0} → (F → List ℕ) → Result (Unit {0}) Fault → Option (List ℕ) → Option (List ℕ) → Type 0
-ShownOfFile {F = F} seen result held held' =
-    ((disk : F) × IsShown result (seen disk) held held')
-    ⊎ ((fault : Fault) × (result ≡ Err fault) × IsOfFile fault × Keeps held held')
 
 abbrev pub status_of : {E : Type 0} → Result (Unit {0}) E → ℕ
 status_of (Ok u) = 0

@@ -1,35 +1,32 @@
 //! The program: what its words ask, and the status with which it ends.
 //!
-//! - `devices`: what is done with a disk, whatever it lies on; `files`: the same with a file.
+//! - `fresh`: disks that hold nothing, opened.
 //! - `serving`: a server over the disk on a file.
-//! - `fault`: why the program ends with status 1, in one line each.
+//! - `ended`: what the program tells of a session.
 ghost use Rattle.std.specs.{Prelude.{◌≡◌, ◌≤◌, ◌<◌, ◌^◌, ◌⊎◌, IfErr, IfOk, Result, map, string_bytes}, Io.KnownBytes.Keeps, IoError.error_kind};
 ghost use Rattle.clap.specs.Words.{kind_of, subcommand_of};
-ghost use Rattle.pfd.specs.declared.program.fault.Fault.{Fault};
+ghost use Rattle.pfd_files.specs.declared.fault.Fault.{Fault};
 ghost use Rattle.pfd_words.specs.declared.words.Task.{Task};
-ghost use Rattle.pf_core.specs.{Durable.Edits.kept_nothing, Worlds.raised};
-ghost use Rattle.pf_store.specs.Banks.{IsSize, bank_end};
 ghost use Rattle.pf_book.specs.Books.{IsNamed};
 ghost use Rattle.pfd_words.specs.Words.{IsRun, HasHistory, IsAsked, IsHistory, program_words};
-ghost use Rattle.pfd.specs.Program.{Hinders, IsDone, RanOn, RanOver, RanWith, ServesFrom, status_of, status_without_words, fresh_gate};
+ghost use Rattle.pfd.specs.Program.{IsDone, RanOn, RanOver, RanWith, ServesFrom, status_of, status_without_words};
 
-mod devices;
-mod fault;
-mod files;
+mod ended;
+mod fresh;
 mod serving;
 
-use crate::engine::serve_alone;
-use crate::program::files::{format_file, open_file, show_file};
+use crate::client::connect;
+use crate::program::ended::told;
+use crate::program::fresh::open_memory;
 use crate::program::serving::serve_file;
-use crate::server::connect;
 use clap::Error;
 use clap::error::ErrorKind;
-pub use devices::{format_on, open_fresh, show_on};
-pub use fault::Fault;
+pub use fresh::open_fresh;
 use pf_book::{Book, Chapter, MemDisk, Opening};
 use pf_disk::{Disk, FileDisk};
+use pf_session::serve_alone;
+use pfd_files::{Fault, format_file, open_file, show_file};
 use pfd_words::{Task, read_words};
-pub use pfd_words::{HISTORY_LIMIT, MEMORY_SIZE, MOST_HISTORY, MOST_WORKERS, WORKERS};
 use std::alloc::Global;
 use std::env;
 use std::fs::{File, Files};
@@ -38,26 +35,6 @@ use std::marker::Brand;
 use std::net::{Net, TcpListener, TcpStream};
 use std::sync::Wait;
 use std::thread::Threads;
-
-// A fresh disk in memory of so many bytes, opened.
-fn open_memory(alloc: Global, size: usize) -> Result<Opening<MemDisk>, Fault>
-    ensures size { IfOk result (λ _. IsSize size) }
-    ensures given { IfOk result (λ o. o.given ≡ raised (kept_nothing 0)) }
-    ensures end { IfOk result (λ o. o.end ≡ bank_end size) }
-    ensures gate { IfOk result (λ o. o.gate ≡ fresh_gate) }
-    ensures hindered { IfErr result (λ fault. Hinders size fault) }
-{
-    if !devices::is_size(size) {
-        return Err(Fault::BadSize);
-    }
-    let Ok(bytes) = Vec::from_elem(alloc, 0, size) else {
-        return Err(Fault::Memory);
-    };
-    let Ok(disk) = MemDisk::of(alloc, bytes) else {
-        return Err(Fault::Memory);
-    };
-    open_fresh(alloc, disk)
-}
 
 // A session over what was opened, by a Book whose history may have so many changes.
 fn serve_opening<J: Chapter, D: Disk + Drop, H: Wait + Drop, R: Read, W: Write>(
@@ -74,10 +51,7 @@ fn serve_opening<J: Chapter, D: Disk + Drop, H: Wait + Drop, R: Read, W: Write>(
         (W.contents writer.old) (W.contents writer.new) }
 {
     match Book::<D, J, H>::of(waits, alloc, opening, history, 1) {
-        Ok((mut book, _seers)) => {
-            serve_alone(alloc, reader, writer, &mut book)?;
-            Ok(())
-        }
+        Ok((mut book, _seers)) => told(serve_alone(alloc, reader, writer, &mut book)),
         Err((fault, _disk)) => Err(Fault::from(fault)),
     }
 }
@@ -152,10 +126,7 @@ fn perform<
         Task::Format { path, size } => format_file(alloc, files, path, size),
         Task::Show { path } => show_file(alloc, files, path, writer),
         Task::Serve(service) => serve_file(machine, alloc, files, &service, writer),
-        Task::Connect { address } => {
-            connect(machine, alloc, address, reader, writer)?;
-            Ok(())
-        }
+        Task::Connect { address } => told(connect(machine, alloc, address, reader, writer)),
     }
 }
 

@@ -1,7 +1,7 @@
 //! Lines and their replies, played over Books.
 ghost use Rattle.std.specs.Prelude.{◌≡◌, ◌≤◌, ℕ, List, [], Option, Some, None, Ok};
 ghost use Rattle.pf_book.specs.Books.{IsNamed};
-ghost use Rattle.pfd.specs.{LineEngine.Sessions.IsSession, Serving.Serves};
+ghost use Rattle.pf_session.specs.{LineEngine.Sessions.IsSession, Serving.Serves};
 
 use crate::spelling::{fill, line_bytes, reply_bytes};
 use crate::table::Table;

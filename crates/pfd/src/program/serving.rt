@@ -5,11 +5,12 @@ ghost use Rattle.pf_book.specs.Books.{IsNamed};
 ghost use Rattle.pfd_words.specs.Words.{CanServe};
 ghost use Rattle.pfd.specs.Program.{listening_text};
 
-use crate::program::fault::Fault;
-use crate::program::files::open_file;
-use crate::server::{OpenGate, serve_listener};
+use crate::listener::serve_listener;
+use crate::program::ended::told;
 use pf_addr::write_more;
 use pf_book::{Book, Chapter, Disk, Opening, Shared};
+use pf_session::OpenGate;
+use pfd_files::{Fault, open_file};
 use pfd_words::Service;
 use std::alloc::Global;
 use std::fs::{File, Files};
@@ -60,7 +61,7 @@ fn serve_opening<
     };
     let shared = Shared::new(book);
     let listener = listen(machine, alloc, service.address, writer)?;
-    serve_listener(
+    told(serve_listener(
         machine,
         alloc,
         &listener,
@@ -68,8 +69,7 @@ fn serve_opening<
         seers,
         &OpenGate,
         service.sessions,
-    )?;
-    Ok(())
+    ))
 }
 
 // Listens on an address, and tells which one it got.

@@ -2,7 +2,8 @@ use Rattle.std.proofs.Common.{ℕ, [], ◌∷◌, inl, inr, lit<, refl, subst}
 use Rattle.pf_core.specs.{Durable.Edits.kept_nothing, Pages.StandsFor, Worlds.opened}
 use Rattle.pf_store.specs.Rooms.{on_device}
 use Rattle.pf_book.specs.Books.{page}
-use Rattle.pfd.specs.{Faults.told_of_views, Program.fresh_gate}
+use Rattle.pfd_files.specs.Faults.{told_of_views}
+use Rattle.pfd.specs.Program.{fresh_gate}
 use Rattle.pfd.proofs.Begun.{views-hinder}
 use Rattle.pfd.proofs.program.run.Goals as goal
 

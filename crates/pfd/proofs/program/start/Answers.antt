@@ -1,5 +1,5 @@
 use Rattle.std.proofs.{Common.{ℕ, List, Err, Ok, Result, inl, inr, subst, ◌∙◌}, KnownBytes.Keeps-refl}
-use Rattle.pfd.specs.declared.program.fault.Fault.{Fault}
+use Rattle.pfd_files.specs.declared.fault.Fault.{Fault}
 use Rattle.pfd.specs.Program.{IsDone}
 use Rattle.pfd.proofs.Running.{ran}
 use Rattle.pf_disk.specs.declared.{memory.MemDisk.MemDisk, file.FileDisk.FileDisk}

@@ -1,5 +1,5 @@
+use Rattle.pf_session.proofs.Flushing.{whole_writes}
 use Rattle.pfd.specs.Program.{listening_text}
-use Rattle.pfd.proofs.Flushing.{whole_writes}
 use Rattle.pfd.proofs.program.serving.serve_opening.Goals as goal
 
 pub returns-in_err-serve_listener : goal.returns-in_err-serve_listener

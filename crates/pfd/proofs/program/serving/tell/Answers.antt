@@ -1,7 +1,8 @@
 use Rattle.std.proofs.Common.{Err, Ok, refl}
 use Rattle.pf_addr.specs.Writing.{Continues-then, behind_nothing}
+use Rattle.pf_session.proofs.Flushing.{flushed}
+use Rattle.pfd_files.proofs.Showing.{as_told}
 use Rattle.pfd.specs.Program.{listening_text}
-use Rattle.pfd.proofs.{Flushing.flushed, Showing.as_told}
 use Rattle.pfd.proofs.program.serving.tell.Goals as goal
 
 pub returns-in-Ok : goal.returns-in-Ok

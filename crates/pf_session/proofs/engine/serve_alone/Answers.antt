@@ -1,0 +1,5 @@
+use Rattle.pf_session.proofs.Limits.{ends-setting}
+use Rattle.pf_session.proofs.engine.serve_alone.Goals as goal
+
+pub returns-clause-setting : goal.returns-clause-setting
+returns-clause-setting g c = ends-setting g.D.Disk.fault_count c.serve.result _ _ _ _ c.args.book.now c.serve.new.answerer _ _ c.serve.ensures.ends

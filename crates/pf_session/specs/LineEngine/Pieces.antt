@@ -1,0 +1,26 @@
+-- What the parts of the engine do, wherever a session has come to.
+use Rattle.std.specs.Prelude.{◌≡◌, ℕ, List, Option, Result, Ok, Err}
+use Rattle.pf_session.specs.{LineEngine.Lines.{IsCut, seen}, LineEngine.Sessions.{Answered, CutOff}}
+
+-- the lines were answered, or a failed write cut them off
+abbrev pub Answers : {S L A E : Type 0} → (S → S → List L → List ℕ → Type 0)
+    → Result A E → List L → S → S → Option (List ℕ) → Option (List ℕ) → Type 0
+Answers Serves (Ok x) lines old new held held' = Answered Serves lines old new held held'
+Answers Serves (Err e) lines old new held held' = CutOff Serves lines old new held held'
+
+-- the whole lines of the input were answered, and as much as is looked at is kept of the rest
+pub record SoFar {S : Type 0} (Serves : S → S → List (List ℕ) → List ℕ → Type 0)
+    (input kept : List ℕ) (old new : S) (held held' : Option (List ℕ)) : Type 0 where
+  pub lines : List (List ℕ)
+  pub rest : List ℕ
+  pub cut : IsCut input lines rest
+  pub kept_is : kept ≡ seen rest
+  pub answered : Answered Serves lines old new held held'
+
+-- a failed write cut off the whole lines of the input
+pub record Failed {S : Type 0} (Serves : S → S → List (List ℕ) → List ℕ → Type 0)
+    (input : List ℕ) (old new : S) (held held' : Option (List ℕ)) : Type 0 where
+  pub lines : List (List ℕ)
+  pub rest : List ℕ
+  pub cut : IsCut input lines rest
+  pub cut_off : CutOff Serves lines old new held held'

@@ -1,0 +1,4 @@
+pub mod Chains
+pub mod Sittings
+pub mod Attending
+pub mod Streams

@@ -1,0 +1,136 @@
+-- A peer's stream over a Book that others use too: each message is one call. Own.
+use Rattle.std.specs.{Prelude.{◌≡◌, ℕ, ◌≤◌, length, List, [], ◌∷◌, ◌++◌, map, Option, Some, None, Result, Ok, Err, ◌⊎◌, ⊤}, Io.KnownBytes.{Appends, Consumes, IsAtEnd}}
+use Rattle.pf_addr.specs.Writing.{WritesFront}
+use Rattle.pf_state.specs.declared.{peer.fault.FeedError.FeedError, peer.fault.PeerFault.PeerFault, peer.fault.PeerFault.TheVariants.Ended, peer.message.Message.Message}
+use Rattle.pf_state.specs.Peer.{Outcomes.TakenAs, Streams.{Ending, Unfinished, Faulty, Reads}}
+use Rattle.pf_core.specs.declared.{command.Command.TheVariants.States, command.StateCommand.TheVariants.Peer, reply.Refusal.TheVariants.BadPeer, reply.Reply.Reply, reply.Reply.TheVariants.Refused}
+use Rattle.pf_core.specs.{Durable.Edits.Kept, Worlds.Setting}
+use Rattle.pf_line.specs.Reply.Replies.{reply_text}
+use Rattle.pf_book.specs.Receipts.{Slip, IsAnswered}
+use Rattle.pf_session.specs.declared.{line_engine.fault.EngineFault.EngineFault, server.stream.Goes.Goes, server.stream.Goes.TheVariants.{On, Over}}
+use Rattle.pf_session.specs.declared.line_engine.fault.EngineFault.TheVariants as fault
+use Rattle.pf_session.specs.{LineEngine.Sessions.{Answered, CutOff}, Server.Chains.Chain}
+
+-- what comes in a stream: a message, or what is wrong behind the last one
+abbrev pub Item : Type 0
+Item = Result Message PeerFault
+
+-- where the stream ends so, this is wrong: its fault, or that it ends within a message
+abbrev pub wrong : Ending → List Item
+wrong (Unfinished []) = []
+wrong (Unfinished (b ∷ bytes)) = Err Ended ∷ []
+wrong (Faulty f) = Err f ∷ []
+
+abbrev pub items : List Message → List Item
+items ms = map Ok ms
+
+-- The Book ran the message, with the receipt of the last one handed in.
+pub record IsRun (base : Kept) (setting : Setting) (m : Message) (old new : Option Slip) (text : List ℕ) : Type 0 where
+  pub reply : Reply
+  pub slip : Slip
+  pub answered : IsAnswered base setting (States (Peer m)) reply slip old
+  pub told : text ≡ reply_text reply
+  pub kept : new ≡ Some slip
+
+-- A message was run, and a fault is told.
+abbrev pub TakesItem : Kept → Setting → Item → Option Slip → Option Slip → List ℕ → Type 0
+TakesItem base setting (Ok m) old new text = IsRun base setting m old new text
+TakesItem base setting (Err f) old new text = (new ≡ old) × (text ≡ reply_text (Refused (BadPeer f)))
+
+-- These took the receipt of the last call from the one to the other, and were told this.
+abbrev pub Takes : Kept → Setting → Option Slip → Option Slip → List Item → List ℕ → Type 0
+Takes base setting old new all text = Chain (TakesItem base setting) old new all text
+
+-- the stream has a fault, or the reader is at its end
+abbrev pub HasEnded : Ending → Option (List ℕ) → Type 0
+HasEnded (Unfinished rest) unread = IsAtEnd unread
+HasEnded (Faulty f) unread = ⊤
+
+-- What was done for this input. At its end, and at a fault, all its messages are run, and what is wrong is told; where no more could be read
+-- all its messages are run. Where a write failed, some are, from the front on; some front of what is wrong may be out only where all of it
+-- would be told. Where memory was refused, all are that were whole before the last piece of it, which is what one read may give.
+abbrev pub Ends : {S : Type 0} → (S → S → List Item → List ℕ → Type 0)
+    → Result (Unit {0}) EngineFault → List ℕ → Option (List ℕ) → S → S → Option (List ℕ) → Option (List ℕ) → Type 0
+Ends Serves (Ok u) input unread old new held held' =
+    (ms : List Message) × (e : Ending) × Reads input ms e × Answered Serves (items ms ++ wrong e) old new held held' × HasEnded e unread
+Ends Serves (Err fault.Read) input unread old new held held' =
+    (ms : List Message) × (rest : List ℕ) × Reads input ms (Unfinished rest) × Answered Serves (items ms) old new held held'
+Ends Serves (Err fault.Write) input unread old new held held' =
+    (ms : List Message) × (e : Ending) × Reads input ms e
+    × (CutOff Serves (items ms) old new held held' ⊎ (CutOff Serves (items ms ++ wrong e) old new held held' × HasEnded e unread))
+Ends Serves (Err fault.Memory) input unread old new held held' =
+    (before piece : List ℕ) × (ms : List Message) × (rest : List ℕ) × (input ≡ before ++ piece) × (length piece ≤ 65536)
+    × Reads before ms (Unfinished rest) × Answered Serves (items ms) old new held held'
+
+-- What was read, and what was done for it.
+pub record IsStream {S : Type 0} (Serves : S → S → List Item → List ℕ → Type 0)
+    (result : Result (Unit {0}) EngineFault) (unread unread' : Option (List ℕ)) (old new : S) (held held' : Option (List ℕ)) : Type 0 where
+  pub input : List ℕ
+  pub read : Consumes unread unread' input
+  pub ends : Ends Serves result input unread' old new held held'
+
+-- ---- a piece
+
+-- a fault, if there was one
+abbrev pub told : Option PeerFault → List Item
+told None = []
+told (Some f) = Err f ∷ []
+
+abbrev pub told_text : Option PeerFault → List ℕ
+told_text None = []
+told_text (Some f) = reply_text (Refused (BadPeer f))
+
+-- what is told where a reader finds this at the end
+abbrev pub end_text : Result (Option PeerFault) FeedError → List ℕ
+end_text (Ok fault) = told_text fault
+end_text (Err e) = []
+
+-- how the stream goes on behind this fault, if it is one
+abbrev pub IsGoing : Goes → Option PeerFault → Type 0
+IsGoing On fault = fault ≡ None
+IsGoing Over fault = (f : PeerFault) × (fault ≡ Some f)
+
+-- a fault was told, if there was one
+abbrev pub TellsFault : Result Goes EngineFault → Option PeerFault → Option (List ℕ) → Option (List ℕ) → Type 0
+TellsFault (Ok goes) fault held held' = IsGoing goes fault × Appends held held' (told_text fault)
+TellsFault (Err fault.Read) fault held held' = ⊥
+TellsFault (Err fault.Write) fault held held' = WritesFront held held' (told_text fault)
+TellsFault (Err fault.Memory) fault held held' = ⊥
+
+-- what is wrong at the end was told, if anything is
+abbrev pub TellsEnd : Result (Unit {0}) EngineFault → Result (Option PeerFault) FeedError → Option (List ℕ) → Option (List ℕ) → Type 0
+TellsEnd (Ok u) end held held' = Appends held held' (end_text end)
+TellsEnd (Err fault.Read) end held held' = ⊥
+TellsEnd (Err fault.Write) end held held' = WritesFront held held' (end_text end)
+TellsEnd (Err fault.Memory) end held held' = ⊥
+
+-- messages were run, and a fault was told behind them, if there was one; or a failed write cut that off
+abbrev pub RunsFed : {S : Type 0} → (S → S → List Item → List ℕ → Type 0)
+    → Result Goes EngineFault → List Message → Option PeerFault → S → S → Option (List ℕ) → Option (List ℕ) → Type 0
+RunsFed Serves (Ok goes) ms fault old new held held' = IsGoing goes fault × Answered Serves (items ms ++ told fault) old new held held'
+RunsFed Serves (Err fault.Read) ms fault old new held held' = ⊥
+RunsFed Serves (Err fault.Write) ms fault old new held held' = CutOff Serves (items ms ++ told fault) old new held held'
+RunsFed Serves (Err fault.Memory) ms fault old new held held' = ⊥
+
+-- nothing was done
+pub record Waits {S : Type 0} (old new : S) (held held' : Option (List ℕ)) : Type 0 where
+  pub state : new ≡ old
+  pub bytes : held' ≡ held
+
+-- what a piece brought was run; or memory was refused for it
+abbrev pub TakesPiece : {S : Type 0} → (S → S → List Item → List ℕ → Type 0)
+    → Result Goes EngineFault → List ℕ → Option (List ℕ) → Option (List ℕ) → S → S → Option (List ℕ) → Option (List ℕ) → Type 0
+TakesPiece Serves result piece kept kept' old new held held' =
+    ((ms : List Message) × (fault : Option PeerFault) × TakenAs kept piece kept' ms fault × RunsFed Serves result ms fault old new held held')
+    ⊎ ((result ≡ Err fault.Memory) × Waits old new held held')
+
+-- ---- so far
+
+-- the messages of the input were run, and the reader keeps the rest
+pub record SoFar {S : Type 0} (Serves : S → S → List Item → List ℕ → Type 0)
+    (input : List ℕ) (kept : Option (List ℕ)) (old new : S) (held held' : Option (List ℕ)) : Type 0 where
+  pub messages : List Message
+  pub rest : List ℕ
+  pub reads : Reads input messages (Unfinished rest)
+  pub kept_is : kept ≡ Some rest
+  pub answered : Answered Serves (items messages) old new held held'

@@ -1,0 +1,13 @@
+//! The server: sessions and peers' streams over one Book that all of them share, for any reader and writer.
+//!
+//! - `gate`: what a session passes before each line.
+//! - `session`: a session's lines, by the Book and the session's seer.
+//! - `stream`: a peer's messages, by the Book.
+
+mod gate;
+mod session;
+mod stream;
+
+pub use gate::{Gate, OpenGate};
+pub use session::{serve, serve_from};
+pub use stream::{serve_peer, serve_peer_from};

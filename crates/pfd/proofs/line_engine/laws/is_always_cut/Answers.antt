@@ -1,5 +1,0 @@
-use Rattle.pfd.proofs.Cutting.{is-always-cut}
-use Rattle.pfd.proofs.line_engine.laws.is_always_cut.Goals as goal
-
-pub returns : goal.returns
-returns c = is-always-cut

@@ -1,5 +1,0 @@
-use Rattle.std.proofs.Common.{rules}
-use Rattle.pfd.proofs.server.session.serve_from.Goals as goal
-
-pub returns : goal.returns
-returns g c = record { line = c.attend.new.session.line; session = search rules }

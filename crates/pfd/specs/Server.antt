@@ -1,5 +1,0 @@
-pub mod Chains
-pub mod Sittings
-pub mod Attending
-pub mod Streams
-pub mod Carrying

@@ -1,0 +1,200 @@
+//! Connections, and the workers that serve them. What a socket gives and takes no clause can say, so this is only tested.
+ghost use Rattle.std.specs.Prelude.{◌≡◌, ◌⊎◌, IfErr};
+
+use pf_book::{Chapter, Disk, Seer, Shared};
+use pf_session::{EngineFault, Gate, serve, serve_peer};
+use std::alloc::Global;
+use std::io::{BufWriter, ErrorKind, Read};
+use std::net::{Shutdown, TcpListener, TcpStream};
+use std::sync::{Mutex, Wait};
+use std::thread;
+use std::thread::Threads;
+use std::time::Duration;
+
+// What a peer's stream begins with, and no line does.
+const PEER: u8 = 5;
+
+// So many reads are made at most of what a peer sends behind a fault.
+const MOST_DROPPED: usize = 64;
+
+// How many connections were accepted, and whether an accept failed.
+#[derive(Drop)]
+struct Door {
+    accepted: u32,
+    has_failed: bool,
+}
+
+impl Door {
+    fn new() -> Door {
+        Door {
+            accepted: 0,
+            has_failed: false,
+        }
+    }
+
+    // The next connection, and the number of its session. `None`: so many were accepted, unless it is 0, or an accept failed. A connection
+    // that its client gave up before it was accepted is passed over.
+    fn next(&mut self, listener: &TcpListener, sessions: u32) -> Option<(TcpStream, u32)> {
+        if self.has_failed || (sessions != 0 && self.accepted >= sessions) {
+            return None;
+        }
+        for _ in 0..u64::MAX {
+            match listener.accept() {
+                Ok((stream, _)) => {
+                    self.accepted = self.accepted.saturating_add(1);
+                    return Some((stream, self.accepted));
+                }
+                Err(error) => {
+                    if error.kind() != ErrorKind::ConnectionAborted {
+                        self.has_failed = true;
+                        return None;
+                    }
+                }
+            }
+        }
+        None
+    }
+}
+
+// The first byte of a connection, which stays to be read. `None`: it ended before there was one, or failed.
+fn first_byte(stream: &TcpStream) -> Option<u8> {
+    let mut first = [0u8; 1];
+    for _ in 0..u64::MAX {
+        match stream.peek(&mut first) {
+            Ok(0) => return None,
+            Ok(_) => return Some(first[0]),
+            Err(error) => {
+                if error.kind() != ErrorKind::Interrupted {
+                    return None;
+                }
+            }
+        }
+    }
+    None
+}
+
+// Drops what a peer sends behind a fault, for some reads, until it sends nothing for a second or closes: a connection that is closed with
+// bytes that weren't read is reset by the system, and the peer might not read of its fault.
+fn drop_rest(stream: &TcpStream) {
+    let _ = stream.shutdown(Shutdown::Write);
+    if stream
+        .set_read_timeout(Some(Duration::from_secs(1)))
+        .is_err()
+    {
+        return;
+    }
+    let mut reader = stream;
+    let mut piece = [0u8; 16_384];
+    for _ in 0..MOST_DROPPED {
+        match reader.read(&mut piece) {
+            Ok(0) | Err(_) => return,
+            Ok(_) => {}
+        }
+    }
+}
+
+// Serves a connection to its end.
+fn attend<W: Wait, D: Disk + Drop, J: Chapter, H: Wait + Drop, G: Gate>(
+    rt: &W,
+    alloc: Global,
+    stream: &TcpStream,
+    shared: &Shared<D, J, H>,
+    seer: &mut Seer<J>,
+    gate: &G,
+    session: u32,
+) -> Result<(), EngineFault> {
+    let Some(first) = first_byte(stream) else {
+        return Ok(());
+    };
+    // a reply goes out as it is, and doesn't wait for the next
+    let _ = stream.set_nodelay(true);
+    let mut reader = stream;
+    let Ok(mut writer) = BufWriter::new(alloc, stream) else {
+        return Err(EngineFault::Memory);
+    };
+    if first == PEER {
+        let served = serve_peer(rt, alloc, &mut reader, &mut writer, shared);
+        if served.is_ok() {
+            drop_rest(stream);
+        }
+        served
+    } else {
+        serve(
+            rt,
+            alloc,
+            &mut reader,
+            &mut writer,
+            shared,
+            seer,
+            gate,
+            session,
+        )
+    }
+}
+
+// Serves one connection after the other, with one seer.
+fn work<W: Wait, D: Disk + Drop, J: Chapter, H: Wait + Drop, G: Gate>(
+    rt: &W,
+    alloc: Global,
+    listener: &TcpListener,
+    door: &Mutex<Door>,
+    shared: &Shared<D, J, H>,
+    mut seer: Seer<J>,
+    gate: &G,
+    sessions: u32,
+) {
+    for _ in rt.forever() {
+        let next = door.lock(rt).next(listener, sessions);
+        let Some((stream, session)) = next else {
+            return;
+        };
+        // a fault of a connection ends it alone
+        let _ = attend(rt, alloc, &stream, shared, &mut seer, gate, session);
+    }
+}
+
+/// Serves the connections of a listener by one worker for each seer, and returns once so many connections were accepted and have ended, or
+/// never where it is 0. Own.
+///
+/// A worker serves one connection at a time; further ones wait until a worker is free. Sessions are numbered from 1 in the order in which
+/// their connections were accepted, and the number stays at 4,294,967,295 once it has come so far. A connection whose first byte is 5 is a
+/// peer's stream, as [`serve_peer`] has it, any other a session, as [`serve`] has it. What ends one before its client does, as a reset or a
+/// want of memory, ends it alone. What a peer sends behind a fault of its stream is dropped before its connection is closed, in 64 reads of
+/// 16,384 bytes at most, and until nothing comes for a second, so that it can read of its fault.
+///
+/// Each worker has a thread, where the system gives it one; workers without one begin when others have ended.
+///
+/// `Err(Read)`: an accept failed; no more connections are accepted, and those that were have ended. `Err(Memory)`: memory was refused for
+/// the threads.
+pub fn serve_listener<
+    M: Wait + Threads + Sync,
+    D: Disk + Drop + Send,
+    J: Chapter + Send + Sync,
+    H: Wait + Drop + Send + Sync,
+    G: Gate + Sync,
+>(
+    rt: &M,
+    alloc: Global,
+    listener: &TcpListener,
+    shared: &Shared<D, J, H>,
+    seers: Vec<Seer<J>>,
+    gate: &G,
+    sessions: u32,
+) -> Result<(), EngineFault>
+    ensures { IfErr result (λ fault. (fault ≡ EngineFault.Read) ⊎ (fault ≡ EngineFault.Memory)) }
+{
+    let door = Mutex::new(Door::new());
+    let the_door = &door;
+    let served = thread::map_vec(
+        rt,
+        seers,
+        &|seer| { work(rt, alloc, listener, the_door, shared, seer, gate, sessions) },
+    );
+    if served.is_err() {
+        return Err(EngineFault::Memory);
+    }
+    if door.into_inner().has_failed {
+        return Err(EngineFault::Read);
+    }
+    Ok(())
+}

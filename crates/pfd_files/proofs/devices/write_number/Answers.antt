@@ -1,0 +1,5 @@
+use Rattle.pf_addr.specs.Writing.{Continues-then}
+use Rattle.pfd_files.proofs.devices.write_number.Goals as goal
+
+pub returns : goal.returns
+returns g c = Continues-then c.write_more-so_far.ensures (Continues-then c.write_more_number-so_far.ensures c.write_more.ensures)

@@ -1,0 +1,32 @@
+-- What the program tells of what failed below it. Own.
+use Rattle.pf_disk.specs.declared.file.FileFault.{FileFault}
+use Rattle.pf_disk.specs.declared.file.FileFault.TheVariants as file
+use Rattle.pf_store.specs.declared.{bank.fault.FormatFault.FormatFault, store.fault.OpenFault.OpenFault}
+use Rattle.pf_store.specs.declared.bank.fault.FormatFault.TheVariants as formatting
+use Rattle.pf_store.specs.declared.store.fault.OpenFault.TheVariants as opening
+use Rattle.pf_view.specs.declared.opening.ViewFault.{ViewFault}
+use Rattle.pf_view.specs.declared.opening.ViewFault.TheVariants as views
+use Rattle.pfd_files.specs.declared.fault.{Fault.Fault, Fault.TheVariants.{BadSize, NoBank, Corrupt, Device, Memory, EpochsExhausted, Full, Places, Input}}
+
+abbrev pub told_of_opening : OpenFault → Fault
+told_of_opening opening.BadSize = BadSize
+told_of_opening opening.NoBank = NoBank
+told_of_opening (opening.Corrupt at) = Corrupt at
+told_of_opening opening.Memory = Memory
+told_of_opening opening.Fault = Device
+told_of_opening opening.EpochsExhausted = EpochsExhausted
+told_of_opening opening.NoRoom = Full
+
+abbrev pub told_of_formatting : FormatFault → Fault
+told_of_formatting formatting.BadSize = BadSize
+told_of_formatting formatting.Memory = Memory
+told_of_formatting formatting.Fault = Device
+
+abbrev pub told_of_file : FileFault → Fault
+told_of_file file.WrongLength = Input
+told_of_file file.Fault = Device
+told_of_file file.Memory = Memory
+
+abbrev pub told_of_views : ViewFault → Fault
+told_of_views views.Memory = Memory
+told_of_views views.Places = Places

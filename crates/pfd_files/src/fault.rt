@@ -1,0 +1,96 @@
+//! Why the program ends with status 1.
+ghost use Rattle.std.specs.Prelude.{◌≡◌};
+ghost use Rattle.pfd_files.specs.Faults.{told_of_opening, told_of_formatting, told_of_file, told_of_views};
+
+use pf_disk::FileFault;
+use pf_store::OpenFault;
+use pf_store::bank::FormatFault;
+use pf_view::ViewFault;
+use thiserror::Error;
+
+/// Why the program ends with status 1. Own.
+#[derive(Clone, Copy, Debug, PartialEq, Eq, Error)]
+pub enum Fault {
+    /// A disk would have, or has, an odd number of bytes, or fewer than 256 or more than 2^30.
+    #[error("bad size")]
+    BadSize,
+    /// The disk has no open bank.
+    #[error("no bank")]
+    NoBank,
+    /// What begins at this place of the disk is nothing that is left there.
+    #[error("corrupt at {at}")]
+    Corrupt { at: usize },
+    /// A call of the disk failed.
+    #[error("fault")]
+    Device,
+    /// The epoch is the last one.
+    #[error("epochs exhausted")]
+    EpochsExhausted,
+    /// The disk has no room for the record of an opening.
+    #[error("full")]
+    Full,
+    /// Memory was refused.
+    #[error("memory")]
+    Memory,
+    /// There is no place for a reader of what is published.
+    #[error("places")]
+    Places,
+    /// A read of the input failed, or the file can't be opened, made or brought to its length, or is locked. Of an address: it can't be
+    /// listened on, an accept failed, or nobody answers there.
+    #[error("input")]
+    Input,
+    /// A write or a flush of the output failed.
+    #[error("output")]
+    Output,
+}
+
+impl From<OpenFault> for Fault {
+    ghost from_gives = { λ fault told. told ≡ told_of_opening fault };
+
+    fn from(fault: OpenFault) -> Fault {
+        match fault {
+            OpenFault::BadSize => Fault::BadSize,
+            OpenFault::NoBank => Fault::NoBank,
+            OpenFault::Corrupt { at } => Fault::Corrupt { at },
+            OpenFault::Memory => Fault::Memory,
+            OpenFault::Fault => Fault::Device,
+            OpenFault::EpochsExhausted => Fault::EpochsExhausted,
+            OpenFault::NoRoom => Fault::Full,
+        }
+    }
+}
+
+impl From<FormatFault> for Fault {
+    ghost from_gives = { λ fault told. told ≡ told_of_formatting fault };
+
+    fn from(fault: FormatFault) -> Fault {
+        match fault {
+            FormatFault::BadSize => Fault::BadSize,
+            FormatFault::Memory => Fault::Memory,
+            FormatFault::Fault => Fault::Device,
+        }
+    }
+}
+
+impl From<ViewFault> for Fault {
+    ghost from_gives = { λ fault told. told ≡ told_of_views fault };
+
+    fn from(fault: ViewFault) -> Fault {
+        match fault {
+            ViewFault::Memory => Fault::Memory,
+            ViewFault::Places => Fault::Places,
+        }
+    }
+}
+
+impl From<FileFault> for Fault {
+    ghost from_gives = { λ fault told. told ≡ told_of_file fault };
+
+    fn from(fault: FileFault) -> Fault {
+        match fault {
+            FileFault::WrongLength => Fault::Input,
+            FileFault::Fault => Fault::Device,
+            FileFault::Memory => Fault::Memory,
+        }
+    }
+}

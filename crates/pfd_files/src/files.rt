@@ -1,0 +1,102 @@
+//! Disks that lie on files. What a file holds no clause can say, so this is only tested.
+ghost use Rattle.std.specs.Prelude.{◌≡◌, IfErr, IfOk};
+ghost use Rattle.pfd_files.specs.Showing.{IsOfFile, ShownOfFile};
+
+use crate::devices::{format_on, is_size, show_on};
+use crate::fault::Fault;
+use pf_disk::{Disk, FileDisk};
+use std::alloc::Global;
+use std::fs::{File, Files, OpenOptions, TryLockError};
+use std::io::Write;
+
+/// Makes the file so many bytes long, whether it was there or not, and a disk that holds nothing. A size that no disk may have is refused
+/// before the file's length changes.
+pub fn format_file<S: Files<File = File>>(
+    alloc: Global,
+    files: &S,
+    path: &str,
+    size: usize,
+) -> Result<(), Fault> {
+    let file = open_to_write(files, path, true)?;
+    if !is_size(size) {
+        return Err(Fault::BadSize);
+    }
+    if file.set_len(size as u64).is_err() {
+        return Err(Fault::Input);
+    }
+    let mut disk = FileDisk::of(alloc, file, size)?;
+    format_on(alloc, &mut disk)
+}
+
+/// The disk that lies on a file, which is locked until the disk is dropped. The file has to have so many bytes where a number is there.
+pub fn open_file<S: Files<File = File>>(
+    alloc: Global,
+    files: &S,
+    path: &str,
+    size: Option<usize>,
+) -> Result<FileDisk, Fault>
+    ensures faults { IfOk result (λ disk. ⟦<FileDisk as Disk>⟧.fault_count disk ≡ 0) }
+    ensures cause { IfErr result IsOfFile }
+{
+    let file = open_to_write(files, path, false)?;
+    let found = length_of(&file)?;
+    if !is_size(found) || size.unwrap_or(found) != found {
+        return Err(Fault::BadSize);
+    }
+    let disk = FileDisk::of(alloc, file, found)?;
+    Ok(disk)
+}
+
+/// Tells what the disk holds that lies on a file. The file is open for reading alone.
+pub fn show_file<S: Files<File = File>, W: Write>(
+    alloc: Global,
+    files: &S,
+    path: &str,
+    writer: &mut W,
+) -> Result<(), Fault>
+    ensures { ShownOfFile ⟦<FileDisk as Disk>⟧.seen result (W.contents writer.old) (W.contents writer.new) }
+{
+    let Ok(file) = File::open(files, path) else {
+        return Err(Fault::Input);
+    };
+    let size = length_of(&file)?;
+    if !is_size(size) {
+        return Err(Fault::BadSize);
+    }
+    let mut disk = FileDisk::of(alloc, file, size)?;
+    show_on(alloc, &mut disk, writer)
+}
+
+// The file, made where it is missing and may be made, and locked until it is closed. It may be another's disk: then it isn't opened.
+fn open_to_write<S: Files<File = File>>(
+    files: &S,
+    path: &str,
+    may_make: bool,
+) -> Result<File, Fault>
+    ensures { IfErr result (λ fault. fault ≡ Fault.Input) }
+{
+    let opened = OpenOptions::new()
+        .read(true)
+        .write(true)
+        .create(may_make)
+        .open(files, path);
+    let Ok(file) = opened else {
+        return Err(Fault::Input);
+    };
+    match file.try_lock() {
+        Err(TryLockError::WouldBlock) => Err(Fault::Input),
+        // where files have no locks it goes without
+        _ => Ok(file),
+    }
+}
+
+// How many bytes a file has.
+fn length_of(file: &File) -> Result<usize, Fault>
+    ensures { IfErr result (λ fault. fault ≡ Fault.Input) }
+{
+    match file.metadata() {
+        // a folder can be opened, and not read
+        Ok(metadata) if !metadata.is_dir() => Ok(metadata.len() as usize),
+        _ => Err(Fault::Input),
+    }
+}
