@@ -1,7 +1,7 @@
 //! Rulesets and tables at their paths: what is active, and which rule decides on a packet (pf.conf(5), ANCHORS and TABLES).
 //!
-//! It knows the rules of pf_rule, the maps of pf_map and the tables of pf_table. It doesn't know who replaces a ruleset or a table and when, and
-//! nothing of tickets, commands and states.
+//! It knows the rules of pf_rule, which it judges by eight at a time in the columns of pf_lanes, the tables of pf_table and the maps of
+//! pf_map. It doesn't know who replaces a ruleset or a table and when, and nothing of tickets, commands and states.
 //!
 //! A `Config` is two maps, of rulesets by their paths and of tables by path and name, in which nothing is empty. A change gives another
 //! `Config`, which shares with the first what it doesn't change. A packet is judged by the main ruleset, and where its anchor rules match
