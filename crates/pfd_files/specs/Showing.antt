@@ -6,7 +6,7 @@ use Rattle.pf_core.specs.declared.reply.{Answer.TheVariants.Sum, Reply.TheVarian
 use Rattle.pf_line.specs.Reply.Replies.{reply_text}
 use Rattle.pf_store.specs.{Openings.IsUnopened, Stores.Holds}
 use Rattle.pf_store.specs.declared.store.fault.{OpenFault.OpenFault, OpenFault.TheVariants.{EpochsExhausted, NoRoom}}
-use Rattle.pfd_files.specs.declared.fault.{Fault.Fault, Fault.TheVariants.{Device, Output}}
+use Rattle.pfd_files.specs.declared.fault.{Fault.Fault, Fault.TheVariants.{BadSize, Device, Input, Memory, Output}}
 use Rattle.pfd_files.specs.Faults.{told_of_opening}
 
 -- a word, a number and a newline
