@@ -5,7 +5,7 @@ use Rattle.pf_addr.proofs.PathsRead.{same_path_is}
 use Rattle.pf_addr.specs.{Path.Nested.is_child, Path.Paths.{path_order, same_path}}
 use Rattle.pf_rule.specs.Rules.{PlainRule}
 use Rattle.pf_anchor.specs.{Laws.Configurations.{ReplacesInTurn, StaysMap, OneMap, in_order, ChildrenHaveRules}, Rulesets.{Ruled, ruled, rules_in}}
-use Rattle.pf_table.proofs.ListMaps.{lists_replaced, list_maps_stay, one_list_map}
+use Rattle.pf_map.proofs.ListMaps.{lists_replaced, list_maps_stay, one_list_map}
 
 -- ---- replaced
 

@@ -2,8 +2,9 @@
 use Rattle.std.proofs.{Common.{◌≡◌, ◌≢◌, ◌⊎◌, inl, inr, ℕ, ◌+◌, ◌≤◌, Bool, true, false, not, cond, List, length, [], ◌∷◌, Option, None, refl, sym, ap, ◌∙◌}, lemmas.Cmp.{eq_by_cmp_equiv, nat_list_cmp_total, on_total, then_total}}
 use Rattle.std.specs.{declared.{cmp.Ordering.Ordering, cmp.Ordering.TheVariants.Less, cmp.Ordering.TheVariants.Equal, cmp.Ordering.TheVariants.Greater}, Prelude.fold, Cmp.IsTotalOrder, FinMap.{IsAntisymmetric, slice_cmp-IsAntisymmetric, nat_cmp-IsAntisymmetric}, Option.{option_map_or, option_or}, Ordering.eq_by_cmp}
 use Rattle.pf_addr.specs.declared.addr.Addr.{Addr}
-use Rattle.pf_table.specs.{Map.ListMaps.{list_in, unless_empty}, Map.Pairs.pairs_alike, Entries.Row, Tables.table_holds}
-use Rattle.pf_table.proofs.{Maps.replaces_the_key, ListMaps.{lists_replaced, list_maps_stay, one_list_map, lists_grow}}
+use Rattle.pf_table.specs.{Entries.Row, Tables.table_holds}
+use Rattle.pf_map.specs.{ListMaps.{list_in, unless_empty}, Pairs.pairs_alike}
+use Rattle.pf_map.proofs.{Maps.replaces_the_key, ListMaps.{lists_replaced, list_maps_stay, one_list_map, lists_grow}}
 use Rattle.pf_addr.specs.{Path.Names.name_order, Path.Paths.{main, path_order}}
 use Rattle.pf_rule.specs.declared.host.host.Host.TheVariants.{Table}
 use Rattle.pf_rule.specs.Host.Hosts.{host_holds}

@@ -5,7 +5,7 @@ use Rattle.pf_addr.specs.{Path.Paths.{main, path_order, same_path}, Path.Referen
 use Rattle.pf_addr.proofs.PathsRead.{same_path_is}
 use Rattle.pf_rule.specs.{Rules.PlainRule, declared.{rule.Effect.Effect, rule.Effect.TheVariants.Decide, rule.Effect.TheVariants.Evaluate}}
 use Rattle.pf_anchor.specs.{declared.{evaluated.Evaluated.Evaluated, evaluated.Evaluated.TheVariants.Open}, Matches.PlainMatch, Rulesets.{Ruled, ruled, rules_in, rules_at, with_rules, leads_to, targets}, Evaluation.{Tests, in_turn, effected, evaluate_with, levels, evaluation, matching, verdict_by, last_of, rules_at_path}, Laws.Evaluation.{IsIn, rule_numbered, NoneLeadsTo, UnreachedIsNothing}}
-use Rattle.pf_table.specs.Map.Maps.{without}
+use Rattle.pf_map.specs.Maps.{without}
 use Rattle.pf_anchor.proofs.{RulesetMaps.replaced_in_turn, Entries.found_is_in}
 
 -- ---- entries of other paths stay

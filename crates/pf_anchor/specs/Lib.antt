@@ -8,4 +8,4 @@ pub mod Laws
 -- what public clauses cite of the crates below
 pub use Rattle.pf_addr.specs.Refusing
 pub use Rattle.pf_rule.specs.Rules
-pub use Rattle.pf_table.specs.Map.ListMaps
+pub use Rattle.pf_map.specs.ListMaps

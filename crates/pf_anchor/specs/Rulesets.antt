@@ -2,7 +2,7 @@
 use Rattle.std.specs.{Prelude.{ℕ, Bool, false, cond, List, Option, map, filter}, Option.option_map_or}
 use Rattle.pf_addr.specs.{Path.Paths.{path_order, same_path}, Path.Nested.{path_within, is_child}, Path.References.PlainReference}
 use Rattle.pf_rule.specs.Rules.{PlainRule}
-use Rattle.pf_table.specs.Map.ListMaps.{list_in, list_at, with_list, IsListMap}
+use Rattle.pf_map.specs.ListMaps.{list_in, list_at, with_list, IsListMap}
 
 -- a path and the rules there
 abbrev pub Ruled : Type 0

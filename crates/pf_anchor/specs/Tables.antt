@@ -3,7 +3,8 @@
 use Rattle.std.specs.{Prelude.{ℕ, Bool, false, List, Option, filter}, FinMap.find, Option.{option_map_or, option_or}}
 use Rattle.std.specs.declared.cmp.Ordering.{Ordering}
 use Rattle.pf_addr.specs.declared.addr.Addr.{Addr}
-use Rattle.pf_table.specs.{Map.Pairs.pair_order, Map.ListMaps.{list_at, with_list, IsListMap}, Entries.Row, Tables.table_holds}
+use Rattle.pf_table.specs.{Entries.Row, Tables.table_holds}
+use Rattle.pf_map.specs.{Pairs.pair_order, ListMaps.{list_at, with_list, IsListMap}}
 use Rattle.pf_addr.specs.{Path.Names.name_order, Path.Paths.{main, path_order, same_path}}
 
 -- where a table is: its path and its name

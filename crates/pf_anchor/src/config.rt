@@ -12,9 +12,9 @@ use crate::rulesets::{EachRuleset, Placed, Rulesets};
 use crate::tables::{EachTable, Place, PlacedTable, Tables};
 use crate::verdict::RuleVerdict;
 use pf_addr::path::{Path, TableName};
+use pf_map::PagedMap;
 use pf_rule::Packet;
 use pf_table::Table;
-use pf_table::map::PagedMap;
 use std::alloc::{AllocError, Global};
 use std::marker::Model;
 

@@ -1,6 +1,6 @@
 //! Rulesets and tables at their paths: what is active, and which rule decides on a packet (pf.conf(5), ANCHORS and TABLES).
 //!
-//! It knows the rules of pf_rule, and the tables and maps of pf_table. It doesn't know who replaces a ruleset or a table and when, and
+//! It knows the rules of pf_rule, the maps of pf_map and the tables of pf_table. It doesn't know who replaces a ruleset or a table and when, and
 //! nothing of tickets, commands and states.
 //!
 //! A `Config` is two maps, of rulesets by their paths and of tables by path and name, in which nothing is empty. A change gives another

@@ -1,10 +1,10 @@
 //! Rules that are shared.
 ghost use Rattle.std.specs.{Prelude.{◌≡◌, ◌<◌, ◌≤◌, [], ◌∷◌, ◌++◌, length, IfOk, OnOk, OnErr}, Arc.arc_value};
-ghost use Rattle.pf_table.specs.Map.ListMaps.{unless_empty, kept_again};
+ghost use Rattle.pf_map.specs.ListMaps.{unless_empty, kept_again};
 
 use crate::limits::RULE_LIMIT;
+use pf_map::Content;
 use pf_rule::Rule;
-use pf_table::map::Content;
 use std::alloc::{AllocError, Global};
 use std::marker::Model;
 use std::sync::Arc;

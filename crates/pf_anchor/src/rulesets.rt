@@ -2,7 +2,7 @@
 
 use crate::rule_list::RuleList;
 use pf_addr::path::Path;
-use pf_table::map::{Entries, Entry, PagedMap};
+use pf_map::{Entries, Entry, PagedMap};
 
 /// A ruleset at its path, shared by all that hold it: path and rules stand once. Contracts see it as a `Ruled`.
 pub type Placed = Entry<Path, RuleList>;

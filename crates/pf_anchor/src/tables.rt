@@ -1,8 +1,8 @@
 //! The active tables.
 
 use pf_addr::path::{Path, TableName};
+use pf_map::{Entries, Entry, Key, PagedMap, Probe};
 use pf_table::Table;
-use pf_table::map::{Entries, Entry, Key, PagedMap, Probe};
 use std::cmp::Ordering;
 
 /// A table where it is: its path, its name, and its entries, shared by all that hold it. Contracts see it as a `Tabled`.

@@ -3,7 +3,8 @@ use Rattle.std.proofs.{Common.{◌≡◌, ℕ, T, Bool, true, false, cond, ◌&&
 use Rattle.std.specs.{Prelude.{fold, unwrap_or}, declared.{cmp.Ordering.Ordering, cmp.Ordering.TheVariants.Less, cmp.Ordering.TheVariants.Equal, cmp.Ordering.TheVariants.Greater}, FinMap.{find, is_sorted, slice_cmp-IsAntisymmetric, nat_cmp-IsAntisymmetric}, FinMap.Entries.below_all, List.list_all, Ordering.{is_eq, is_lt, eq_by_cmp}}
 use Rattle.pf_rule.specs.Rules.{PlainRule}
 use Rattle.pf_addr.specs.{Refusing.{refused_at, both_passed}, Path.Names.name_order, Path.Paths.same_path}
-use Rattle.pf_table.specs.{Entries.Row, Map.ListMaps.list_by}
+use Rattle.pf_table.specs.Entries.{Row}
+use Rattle.pf_map.specs.ListMaps.{list_by}
 use Rattle.pf_anchor.specs.{Laws.Configurations.rules_by, Rulesets.{Ruled, rules_at, with_rules}, Tables.{TableKey, Tabled, table_order, with_table}}
 use Rattle.pf_anchor.proofs.{RulesetMaps.replaced_in_turn, TableMaps.tables_replaced}
 use Rattle.pf_ticket.specs.{declared.{entry.Entry.Entry, name.RulesetKind.RulesetKind, name.RulesetKind.TheVariants.Filter, name.RulesetKind.TheVariants.Table, name.RulesetName.RulesetName, refusal.TicketRefusal.TheVariants.BadCount, refusal.TicketRefusal.TheVariants.Twice, refusal.TicketRefusal.TheVariants.Busy}, Laws.Names.{paths_alike, name_is}, Names.{same_kind, same_name, is_named, names_of, filter_at, table_ruleset_at, IsDistinct}, Replies.{bad_count, twice_in, busy_in, list_check, commit_check}, Mentions.{Mention, switched, switches, dropped, named_in, after}, NamedTables.Named, Tickets.{Loaded, Open, offered_as, loaded, offer_at, ticket_in, valid_ticket, content}}

@@ -1,7 +1,8 @@
 -- How long lists are that a change leaves: entries of a table, and tables of a map.
 use Rattle.std.proofs.{Common.{◌≡◌, ℕ, ◌+◌, ◌≤◌, ◌==◌, ◌&&◌, not, suc, Bool, true, false, cond, List, [], ◌∷◌, length, Option, Some, None, refl, sym, subst, arith}, lemmas.Bool.Decides.nat_tests, lemmas.List.Sums.{length-filter, count_by-le-length}}
 use Rattle.std.specs.{Prelude.{fold, is_some, filter}, declared.{cmp.Ordering.Ordering, cmp.Ordering.TheVariants.Less, cmp.Ordering.TheVariants.Equal, cmp.Ordering.TheVariants.Greater}, FinMap.{find, put}, FinMap.Entries.by_order, Ordering.eq_by_cmp}
-use Rattle.pf_table.specs.{Map.Maps.without, Map.ListMaps.{list_in, list_at, with_list}, Edits.deleted, Entries.Row}
+use Rattle.pf_table.specs.{Edits.deleted, Entries.Row}
+use Rattle.pf_map.specs.{Maps.without, ListMaps.{list_in, list_at, with_list}}
 use Rattle.pf_anchor.specs.Tables.{Tabled, tabled, table_order, table_at, with_table}
 
 fewer : {X : Type 0} (p : X → Bool) (xs : List X) → length (filter p xs) ≤ length xs

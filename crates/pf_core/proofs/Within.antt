@@ -5,7 +5,9 @@ use Rattle.std.specs.declared.cmp.Ordering.{Ordering}
 use Rattle.pf_table.specs.declared.limits.TheConstants.{TABLE_LIMIT}
 use Rattle.pf_addr.specs.{Path.Paths.path_order, Refusing.{and_then, unless, refused_at, AreBothPassed, both_passed, not_refused}}
 use Rattle.pf_rule.specs.Rules.{PlainRule}
-use Rattle.pf_table.specs.{Laws.Edits.{deleted_fewer, sorted_added, sorted_deleted}, Edits.{added, deleted, replaced}, Entries.{Row, net_order}, Map.ListMaps.list_by, Tables.AreEntries}
+use Rattle.pf_table.specs.{Laws.Edits.{deleted_fewer, sorted_added, sorted_deleted}, Edits.{added, deleted, replaced}, Entries.Row, Tables.AreEntries}
+use Rattle.pf_map.specs.Networks.{net_order}
+use Rattle.pf_map.specs.ListMaps.{list_by}
 use Rattle.pf_anchor.specs.declared.limits.TheConstants.{RULE_LIMIT, RULESET_LIMIT, TABLE_COUNT_LIMIT}
 use Rattle.pf_anchor.specs.{Configurations.Configuration, Rulesets.rules_at, Tables.{tabled, table_order}}
 use Rattle.pf_anchor.proofs.TableMaps.{tables_replaced, table_maps_stay}

@@ -1,8 +1,8 @@
 -- By how much states grow and shrink, and what is counted.
 use Rattle.std.proofs.{Common.{◌≡◌, ℕ, suc, ◌+◌, ◌-◌, Bool, true, false, not, cond, List, [], ◌∷◌, length, Option, Some, None, is_some, refl, ap, ◌∙◌, arith}, lemmas.Bool.Decides.nat_tests, lemmas.List.Sums.sum_by-cons}
 use Rattle.std.specs.{Prelude.{◌==◌, nat_lt}, FinMap.Entries.{length-put, length_without}, List.count_by}
-use Rattle.pf_table.specs.Map.Maps.{with_value}
-use Rattle.pf_table.proofs.Maps.{stays_sorted}
+use Rattle.pf_map.specs.Maps.{with_value}
+use Rattle.pf_map.proofs.Maps.{stays_sorted}
 use Rattle.pf_state.specs.{Orders.name_total, declared.{counts.Counts.Counts, state.Held.Held, state.StateName.StateName, step.Insertion.Insertion, step.Insertion.TheVariants.Stale, step.Insertion.TheVariants.Clash, step.Insertion.TheVariants.Replaced, step.Insertion.TheVariants.New, step.Step.Step, step.Step.TheVariants.Insert, step.Step.TheVariants.Delete, step.Step.TheVariants.Clear}, States.{Stated, name_order, held_at, NamesFlows, IsStates}, Steps.{is_stale, is_clash, insertion, has_effect, without_creator, without_state, stepped, after, one_insertion, only_deleted, named_count, creator_count, counted, counts}, Laws.States.{is_insert, CountsAddUp}}
 use Rattle.pf_state.proofs.{Names.same_itself, Leaves.reads_delete, Tables.{names_step, names_delete, names_clear}}
 

@@ -1,8 +1,8 @@
 -- What an index of states answers is what the list of them has.
 use Rattle.std.proofs.{Common.{◌≡◌, ℕ, ◌⊎◌, inl, inr, Bool, true, false, not, ◌&&◌, cond, T, List, [], ◌∷◌, Option, Some, None, option_map, refl, sym, ap, ◌∙◌, subst}, lemmas.Cmp.eq_by_cmp_equiv}
 use Rattle.std.specs.{Prelude.◌==◌, FinMap.{is_sorted}, FinMap.Entries.{is_sorted-where_key, same_entries}, List.find as first_where, Option.option_map_or, Ordering.eq_by_cmp}
-use Rattle.pf_table.specs.Map.Indexes.{of_flow, is_clash as clashes_in}
-use Rattle.pf_table.proofs.Maps.{stays_sorted}
+use Rattle.pf_map.specs.Indexes.{of_flow, is_clash as clashes_in}
+use Rattle.pf_map.proofs.Maps.{stays_sorted}
 use Rattle.pf_state.specs.{declared.{state.Held.Held, state.StateName.StateName}, FlowKeys.{key_of, key_order}, Flows.{PlainFlow, same_flow}, Orders.{name_total, name_alike, key_total}, States.{Stated, name_order, held_at, state_of, NamesFlows}, Steps.{insertion, has_effect, is_clash, without_creator, without_state}}
 use Rattle.pf_state.proofs.{FlowKeys.same_flow_is, Flows.{left_true, right_true, either_true}, Leaves.{reads_delete, reads_clear}, Names.{one_name, same_itself}, Tables.{no, nothing_is, no_clash, others_differ, none_behind, one_state_a_flow, first_of, second_of}}
 

@@ -1,8 +1,8 @@
 -- What is read of states after a step.
 use Rattle.std.proofs.Common.{◌≡◌, ℕ, Bool, true, false, not, ◌&&◌, cond, List, [], ◌∷◌, Option, Some, None, refl, sym, ap, ◌∙◌}
 use Rattle.std.specs.{Prelude.◌==◌, FinMap.Entries.find-where_key, Ordering.eq_by_cmp}
-use Rattle.pf_table.specs.Map.Maps.{with_value}
-use Rattle.pf_table.proofs.Maps.{replaces_the_key}
+use Rattle.pf_map.specs.Maps.{with_value}
+use Rattle.pf_map.proofs.Maps.{replaces_the_key}
 use Rattle.pf_state.specs.{Orders.{name_total, name_alike}, declared.{state.Held.Held, state.StateName.StateName, step.Step.Step, step.Step.TheVariants.Insert, step.Step.TheVariants.Delete, step.Step.TheVariants.Clear}, States.{Stated, name_order, held_at}, Steps.{insertion, has_effect, without_creator, without_state, stepped}, Laws.States.{KeepsWhatIsThere, StepsRead, left_by, left_behind, LastStepStands}}
 
 unless : {X : Type 0} (b : Bool) (x : Option X) → cond (not b) x None ≡ cond b None x

@@ -2,7 +2,7 @@
 use Rattle.std.proofs.{Common.{◌≡◌, ◌&&◌, ◌||◌, not, ◌≤◌, ◌<◌, ℕ, Bool, true, false, T, List, [], ◌∷◌, ◌++◌, length, map, get_or, drop, ◌+◌, Some, ◌⊎◌, inl, inr, None, refl, sym, ap, ◌∙◌, append_assoc, subst, true≢false, arith}, lemmas.List.{append-nil, length-map, drop_more, drop_all}, lemmas.Bool.and_parts, lemmas.Bool.Decides.nat_tests}
 use Rattle.std.specs.{Prelude.nat_le, declared.{cmp.Ordering.Ordering, cmp.Ordering.TheVariants.Less}, FinMap.{is_sorted, put}, FinMap.Entries.below_all, List.list_any, Ordering.{is_eq, is_lt}}
 use Rattle.pf_addr.specs.Bytes.Lists.{in_order}
-use Rattle.pf_table.specs.Map.Maps.{with_value}
+use Rattle.pf_map.specs.Maps.{with_value}
 use Rattle.pf_state.specs.{declared.{limits.TheConstants.STATE_LIMIT, layouts.state.StoredState.StoredState}, Flows.same_flow, Orders.name_total, States.{Stated, name_order, NamesFlows, IsStates}, Steps.is_clash, Peer.Written.Each, Layouts.{Rows.{plain_row, IsTableOf}, States.{plain_state, state_in, plain_states, state_before, no_flow_twice}}}
 use Rattle.pf_state.proofs.{LayoutsBack.state_back, TakenOver.{Before, Apart, all_kept, put_last, less_of, all_held, apart_of}, Tables.{first_of, second_of, front_within, rest_within, names_put}}
 

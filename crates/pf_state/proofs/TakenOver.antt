@@ -1,7 +1,7 @@
 -- Inserts of a table's states, in order, make that table where there were no states.
 use Rattle.std.proofs.{Common.{◌≡◌, ◌&&◌, ◌||◌, not, ℕ, Bool, true, false, T, cond, List, [], ◌∷◌, ◌++◌, ◌≤◌, length, map, Some, None, refl, sym, subst, ap, ◌∙◌, append_assoc, length-append, true≢false, arith}, lemmas.List.{append-nil, length-map}}
 use Rattle.std.specs.{declared.{cmp.Ordering.Ordering, cmp.Ordering.TheVariants.Less, cmp.Ordering.TheVariants.Equal, cmp.Ordering.TheVariants.Greater}, FinMap.{is_sorted, put}, FinMap.Entries.below_all, Ordering.{is_eq, is_lt, ordering_reverse}}
-use Rattle.pf_table.specs.Map.Maps.{without, with_value}
+use Rattle.pf_map.specs.Maps.{without, with_value}
 use Rattle.pf_state.specs.{Orders.name_total, Peer.Written.Each, declared.{limits.TheConstants.STATE_LIMIT, step.Insertion.Insertion, step.Insertion.TheVariants.New, step.Step.TheVariants.Insert}, Flows.same_flow, States.{Stated, name_order, held_at, NamesFlows}, Steps.{is_clash, insertion, has_effect, stepped, after, is_over, passes_limit}, Laws.Failover.{state_there, TakesOver}}
 use Rattle.pf_state.proofs.{Names.{same_itself, same_name}, Tables.within_not_over, Told.tells_the_states}
 

@@ -4,7 +4,7 @@ use Rattle.std.specs.declared.{cmp.Ordering.Ordering, cmp.Ordering.TheVariants.L
 use Rattle.std.proofs.Common.{refl, sym, ap, ◌∙◌, subst}
 use Rattle.pf_addr.specs.declared.{addr.Addr.Addr, addr.Addr.TheVariants.V4, addr.Addr.TheVariants.V6}
 use Rattle.pf_rule.specs.declared.{value.direction.Direction.Direction, value.direction.Direction.TheVariants.In, value.direction.Direction.TheVariants.Out}
-use Rattle.pf_table.specs.Map.{Hints.{RisesWith, pairs_rise, numbers_rise}, Pairs.{pair_order, pairs_alike}}
+use Rattle.pf_map.specs.{Hints.{RisesWith, pairs_rise, numbers_rise}, Pairs.{pair_order, pairs_alike}}
 use Rattle.pf_state.specs.{declared.{flow_key.FlowEnds.FlowEnds, state.StateName.StateName}, FlowKeys.{flow_by, key_of, family_rank, number_of, addr_order, ends_order, mixed, key_order}, States.name_order}
 
 -- ---- names

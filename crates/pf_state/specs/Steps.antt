@@ -1,6 +1,6 @@
 -- Steps that change states: what an insert is judged as, what a delete and a clear take out, and what is counted. All own.
 use Rattle.std.specs.{Prelude.{◌≡◌, ℕ, ◌+◌, ◌<◌, ◌^◌, ◌==◌, ◌&&◌, ◌||◌, nat_lt, nat_le, Bool, true, false, not, cond, List, [], ◌∷◌, length, fold, is_some, Some, None, Result, Ok, Err}, FinMap.Entries.where_key, List.{list_any, count_by}, Option.option_map_or, Ordering.eq_by_cmp}
-use Rattle.pf_table.specs.Map.Maps.{with_value}
+use Rattle.pf_map.specs.Maps.{with_value}
 use Rattle.pf_state.specs.{declared.{counts.Counts.Counts, limits.TheConstants.STATE_LIMIT, refusal.StatesRefusal.StatesRefusal, refusal.StatesRefusal.TheVariants.StatesFull, refusal.StatesRefusal.TheVariants.Memory, state.StateName.StateName, step.Insertion.Insertion, step.Insertion.TheVariants.Stale, step.Insertion.TheVariants.Clash, step.Insertion.TheVariants.Replaced, step.Insertion.TheVariants.New, step.Step.Step, step.Step.TheVariants.Insert, step.Step.TheVariants.Delete, step.Step.TheVariants.Clear}, Flows.same_flow, States.{Stated, name_order, held_at}}
 
 -- ---- inserting

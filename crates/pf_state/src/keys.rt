@@ -3,7 +3,7 @@ ghost use Rattle.pf_state.specs.{FlowKeys.{key_of, key_order, mixed}, Orders.{na
 
 use crate::flow_key::FlowKey;
 use crate::state::{Held, StateName};
-use pf_table::map::{Flowed, Index, Key};
+use pf_map::{Flowed, Index, Key};
 use std::cmp::Ordering;
 
 /// States by name and by flow.

@@ -13,7 +13,7 @@
 //! - [`failover`], which knows states and messages: the steps that a message asks for, and the messages that tell a peer of all states.
 //!
 //! It knows packets and addresses, and of rules only how many main rules there are and the 16 bytes of their checksum: not what they
-//! say, no rulesets at paths, no lines and no disk. Of pf_table it has the maps in which states stand by name and by flow.
+//! say, no rulesets at paths, no lines and no disk. Of pf_map it has the maps in which states stand by name and by flow.
 //!
 //! To read first: `specs/Flows.antt`, `States.antt`, `Steps.antt` and `Bindings.antt` say what the table does, `specs/Peer/Records.antt`,
 //! `Groups.antt`, `Messages.antt` and `Streams.antt` what a peer's bytes mean, `specs/Layouts/` what a store's bytes are,

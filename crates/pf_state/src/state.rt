@@ -3,7 +3,7 @@ ghost use Rattle.std.specs.{Prelude.◌≡◌, Ordering.eq_by_cmp};
 ghost use Rattle.pf_state.specs.States.{name_order};
 
 use crate::flow::Flow;
-use pf_table::map::Entry;
+use pf_map::Entry;
 use std::cmp::Ordering;
 
 /// What a state is named by.

@@ -9,8 +9,8 @@ use crate::keys::States;
 use crate::refusal::StatesRefusal;
 use crate::state::{Held, State, StateName};
 use crate::step::Step;
+use pf_map::Entries;
 use pf_rule::Packet;
-use pf_table::map::Entries;
 use std::alloc::{AllocError, Global};
 use std::marker::Model;
 

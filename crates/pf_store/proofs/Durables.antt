@@ -9,8 +9,9 @@ use Rattle.pf_core.specs.Durable.Edits.{Kept, kept, kept_nothing}
 use Rattle.pf_rule.specs.Sum.{Layouts.plain_rule}
 use Rattle.pf_state.proofs.LayoutsBack.{states_back}
 use Rattle.pf_state.specs.Layouts.States.{state_in}
-use Rattle.pf_table.specs.{EntryForms.{entry, plain_entry}, Map.ListMaps.with_list}
-use Rattle.pf_table.proofs.{Ordered.{in_order_of, sorted_of, sorted_front, put_last}, Sorted.{first_of, second_of, less_of}}
+use Rattle.pf_table.specs.EntryForms.{entry, plain_entry}
+use Rattle.pf_map.specs.ListMaps.{with_list}
+use Rattle.pf_map.proofs.{Ordered.{in_order_of, sorted_of, sorted_front, put_last}, Tests.{first_of, second_of, less_of}}
 use Rattle.pf_store.specs.declared.snapshots.{rulesets.StoredRuleset.StoredRuleset, tables.StoredPlaced.StoredPlaced}
 use Rattle.pf_store.specs.{Groups.{at_most, RulesShape, rules_form, named_form, entries_form}, Durables.{has_some, ruleset_before, are_rulesets, rulesets_form, plain_ruled, PlacedShape, placed_before, are_tables, placed_form, kept_tables_form, plain_tabled, DurableShape, durable_form, plain_durable, ruled_in, tabled_in, configured, durable_in, durable_has_form, IsDurable, example_kept, example_bytes}, Snapshots.{empty_form, IsSnapshot}}
 use Rattle.pf_store.proofs.Told.{entries_told}

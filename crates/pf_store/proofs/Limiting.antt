@@ -7,8 +7,9 @@ use Rattle.pf_core.specs.{Durable.Edits.{Kept, kept_nothing, placed, rulesets_in
 use Rattle.pf_core.proofs.Within.{keeps_within}
 use Rattle.pf_rule.specs.Sum.Reading.{rule_of}
 use Rattle.pf_state.specs.Layouts.{States.name_in, Steps.step_in}
-use Rattle.pf_table.specs.{Entries.net_order, EntryForms.{EntryShape, entry_of, entry_before}, Laws.Order.net_total, Tables.AreEntries}
-use Rattle.pf_table.proofs.Ordered.{sorted_of}
+use Rattle.pf_table.specs.{EntryForms.{EntryShape, entry_of, entry_before}, Tables.AreEntries}
+use Rattle.pf_map.specs.{Networks.net_order, NetworkLaws.net_total}
+use Rattle.pf_map.proofs.Ordered.{sorted_of}
 use Rattle.pf_store.specs.declared.groups.change.Recorded.{Recorded}
 use Rattle.pf_store.specs.{Groups.{ChangeShape, ItemShape, NamedShape, change_form, defined_form, entries_form, group_form, item_form, item_in, items_form, named_form, named_in, record_in, rule_list_form, rules_form, tables_form, IsRecorded}, Stores.{Follows, left_by, Leads, Makes}}
 

@@ -5,7 +5,8 @@ use Rattle.pf_addr.specs.{Bytes.{Forms.{Fits, counted}, Lists.{in_order}}, Path.
 use Rattle.pf_core.specs.declared.durable.change.Item.{Item}
 use Rattle.pf_core.specs.declared.durable.change.Item.TheVariants as item
 use Rattle.pf_table.specs.{declared.limits.TheConstants.{TABLE_LIMIT}, Entries.Row, EntryForms.{plain_entry}, Tables.IsTable}
-use Rattle.pf_table.proofs.{Ordered.in_order_of, TableRows.table_fits}
+use Rattle.pf_table.proofs.TableRows.{table_fits}
+use Rattle.pf_map.proofs.Ordered.{in_order_of}
 use Rattle.pf_anchor.specs.declared.limits.TheConstants.{RULE_LIMIT}
 use Rattle.pf_rule.specs.{Rules.PlainRule, Sum.Layouts.{rule_layout, plain_rule}}
 use Rattle.pf_ticket.specs.{declared.limits.TheConstants.{OFFERED_TABLE_LIMIT}, NamedTables.Named}

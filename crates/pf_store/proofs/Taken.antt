@@ -4,7 +4,7 @@ use Rattle.std.specs.{Cmp.Lexicographic.nat_list_cmp_total, FinMap.is_sorted, Or
 use Rattle.pf_addr.specs.declared.bytes.fault.Fault.TheVariants.{Bad}
 use Rattle.pf_addr.specs.{Bytes.{Forms.{Value, counted, reads}, Lists.{in_order, ordered}}, Path.Names.name_order}
 use Rattle.pf_core.specs.declared.durable.change.Item.{Item}
-use Rattle.pf_table.proofs.Ordered.{sorted_of}
+use Rattle.pf_map.proofs.Ordered.{sorted_of}
 use Rattle.pf_ticket.specs.{declared.limits.TheConstants.OFFERED_TABLE_LIMIT, NamedTables.Named}
 use Rattle.pf_store.specs.declared.groups.{items.StoredItem.StoredItem, tables.StoredTable.StoredTable}
 use Rattle.pf_store.specs.Groups.{NamedShape, defined_form, named_form, named_before, plain_named, ItemShape, item_form, items_form, plain_item, is_commit}

@@ -1,10 +1,4 @@
-pub mod Maps
-pub mod Parts
-pub mod Fronts
-pub mod ListMaps
-pub mod Indexes
 pub mod Sorted
-pub mod Ordered
 pub mod TableRows
 pub mod Batches
 pub mod Prefixes

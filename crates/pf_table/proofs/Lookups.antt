@@ -3,9 +3,12 @@ use Rattle.std.proofs.{Common.{◌≡◌, ◌≢◌, ℕ, zero, suc, ◌-◌, �
 use Rattle.std.specs.{List.{Contains, All}, Ordering.{is_eq, is_lt, nat_cmp, ordering_then, ordering_reverse}, Cmp.tied_itself, Int.Count.count_leading_zeros}
 use Rattle.pf_addr.specs.{declared.{addr.Addr.Addr, addr.Family.Family, addr.Family.TheVariants.V4, addr.Family.TheVariants.V6}, Address.{Network, IsNetwork, contains, same_family, family_of, width, number_in, first_bits, network_from}, Spelling.{addr_in, first_addr}, NetForms.first_number}
 use Rattle.pf_addr.specs.declared.addr.Addr.TheVariants as addr
-use Rattle.pf_table.specs.{Entries.{Row, rank, net_order}, Map.Maps.{at_or_before, last_where}, Laws.Order.net_total, Shared.Share, Tables.{sign_of, Decides, longer, deciding}}
+use Rattle.pf_table.specs.{Entries.Row, Shared.Share, Tables.{sign_of, Decides, longer, deciding}}
+use Rattle.pf_map.specs.{Networks.{rank, net_order}, NetworkLaws.net_total}
+use Rattle.pf_map.specs.Maps.{at_or_before, last_where}
 use Rattle.std.specs.declared.cmp.Ordering.{Ordering, TheVariants.Less, TheVariants.Equal, TheVariants.Greater}
-use Rattle.pf_table.proofs.{Prefixes.{cut_off, cut_less, between, share_fewer, shared_bits}, Sorted.{sorted, first_of, second_of, below_at}}
+use Rattle.pf_table.proofs.{Prefixes.{cut_off, cut_less, between, share_fewer, shared_bits}, Sorted.{sorted, below_at}}
+use Rattle.pf_map.proofs.Tests.{first_of, second_of}
 
 -- ---- what is found decides
 

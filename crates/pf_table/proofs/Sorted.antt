@@ -2,22 +2,9 @@
 use Rattle.std.proofs.Common.{◌≡◌, ℕ, zero, suc, T, Bool, true, false, ◌&&◌, List, [], ◌∷◌, length, refl, ◌<◌, get_or, arith}
 use Rattle.std.specs.{declared.{cmp.Ordering.Ordering, cmp.Ordering.TheVariants.Less, cmp.Ordering.TheVariants.Equal, cmp.Ordering.TheVariants.Greater}, FinMap.is_sorted, FinMap.Entries.below_all, Ordering.is_lt}
 use Rattle.pf_addr.specs.Address.{Network}
-use Rattle.pf_table.specs.Entries.{Row, net_order}
-
--- ---- tests
-
-pub first_of : (a b : Bool) → T (a && b) → T a
-first_of true b p = tt
-first_of false b p = p
-
-pub second_of : (a b : Bool) → T (a && b) → T b
-second_of true b p = p
-second_of false b p = absurd p
-
-pub less_of : (o : Ordering) → T (is_lt o) → o ≡ Less
-less_of Less p = refl
-less_of Equal p = absurd p
-less_of Greater p = absurd p
+use Rattle.pf_table.specs.Entries.{Row}
+use Rattle.pf_map.specs.Networks.{net_order}
+use Rattle.pf_map.proofs.Tests.{first_of, second_of, less_of}
 
 -- ---- what is behind a network
 

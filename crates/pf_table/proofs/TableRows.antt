@@ -3,8 +3,9 @@ use Rattle.std.proofs.Common.{◌≡◌, ◌&&◌, suc, T, Bool, true, false, Li
 use Rattle.std.specs.{Prelude.map, List.{All, AllByRecursion}, Ordering.is_lt, FinMap.is_sorted, FinMap.Entries.below_all, declared.cmp.Ordering.{Ordering, TheVariants.Less}}
 use Rattle.std.proofs.lemmas.List.{length-map}
 use Rattle.pf_addr.specs.{Address.{Network, IsNetwork}, Bytes.Forms.Fits, Bytes.Lists.{ordered, in_order}}
-use Rattle.pf_table.specs.{Entries.{Row, net_order}, Tables.IsTable, EntryForms.{entry, plain_entry, entry_before}, Laws.Order.net_total, Laws.EntryForms.{entry_fits, entry_again}}
-use Rattle.pf_table.proofs.Sorted.{first_of, second_of, less_of}
+use Rattle.pf_table.specs.{Entries.Row, Tables.IsTable, EntryForms.{entry, plain_entry, entry_before}, Laws.EntryForms.{entry_fits, entry_again}}
+use Rattle.pf_map.specs.{Networks.net_order, NetworkLaws.net_total}
+use Rattle.pf_map.proofs.Tests.{first_of, second_of, less_of}
 
 each_fits : (es : List Row) → All (λ e. IsNetwork e.0) es → AllByRecursion (Fits entry) (map plain_entry es)
 each_fits [] all = tt

@@ -1,6 +1,7 @@
 -- Edits of tables (pfctl(8), -T add, delete, replace). What they answer of each entry, and when they refuse, is own.
 use Rattle.std.specs.{Prelude.{ℕ, nat_lt, Bool, true, false, not, ◌&&◌, cond, List, [], ◌∷◌, ◌++◌, length, fold, is_some, option_map, Option, Some, None}, Bool.beq, FinMap.put, FinMap.Entries.where_key, List.list_any, Option.{option_map_or, option_or}, Ordering.eq_by_cmp}
-use Rattle.pf_table.specs.{declared.{answer.Addition.Addition, answer.Addition.TheVariants.Added, answer.Addition.TheVariants.Same, answer.Addition.TheVariants.Conflict, answer.Deletion.Deletion, answer.Deletion.TheVariants.Deleted, answer.Deletion.TheVariants.Absent, refusal.TableRefusal.TableRefusal, limits.TheConstants.TABLE_LIMIT}, Entries.{Row, net_order}, Tables.sign_of}
+use Rattle.pf_table.specs.{declared.{answer.{Addition.{Addition, TheVariants.{Added, Same, Conflict}}, Deletion.{Deletion, TheVariants.{Deleted, Absent}}}, refusal.TableRefusal.TableRefusal, limits.TheConstants.TABLE_LIMIT}, Entries.Row, Tables.sign_of}
+use Rattle.pf_map.specs.Networks.{net_order}
 use Rattle.pf_table.specs.declared.refusal.TableRefusal.TheVariants as refusal
 
 -- ---- adding

@@ -8,7 +8,8 @@
 --       4    16 the network's first address, IPv4 in the first four
 use Rattle.std.specs.{Prelude.{◌==◌, Bool, [], ◌∷◌}, Ordering.is_lt}
 use Rattle.pf_addr.specs.{Bytes.Forms.{Shape, nat, both, Value, Form, number, front, pair, pair_by, that}, Bytes.Codes.{flag, flag_byte}, NetForms.{family, family_byte, address_in, first_number, is_network, network_at}}
-use Rattle.pf_table.specs.Entries.{Row, net_order}
+use Rattle.pf_table.specs.Entries.{Row}
+use Rattle.pf_map.specs.Networks.{net_order}
 
 abbrev pub EntryShape : Shape
 EntryShape = both nat (both nat (both nat nat))

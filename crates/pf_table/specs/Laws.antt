@@ -1,5 +1,3 @@
-pub mod Order
 pub mod Edits
 pub mod Tables
-pub mod Maps
 pub mod EntryForms

@@ -1,4 +1,3 @@
-pub mod Map
 pub mod Entries
 pub mod EntryForms
 pub mod Tables

@@ -3,7 +3,8 @@ use Rattle.std.specs.{Prelude.{◌≡◌, ◌≢◌, ◌<◌, ◌≤◌, nat_lt,
 use Rattle.pf_addr.specs.declared.addr.Addr.{Addr}
 use Rattle.pf_addr.specs.Address.{Network, contains, IsNetwork}
 use Rattle.pf_table.specs.declared.limits.TheConstants.{TABLE_LIMIT}
-use Rattle.pf_table.specs.Entries.{Row, net_order}
+use Rattle.pf_table.specs.Entries.{Row}
+use Rattle.pf_map.specs.Networks.{net_order}
 
 -- Entries in order, so no network twice; and at most as many as a table may have.
 pub record AreEntries (es : List Row) : Type 0 where

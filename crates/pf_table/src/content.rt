@@ -1,8 +1,8 @@
 //! Tables as the values of maps.
-ghost use Rattle.pf_table.specs.Map.ListMaps.{unless_empty, kept_again};
+ghost use Rattle.pf_map.specs.ListMaps.{unless_empty, kept_again};
 
-use crate::map::Content;
 use crate::table::Table;
+use pf_map::Content;
 
 impl Content for Table {
     ghost kept = { unless_empty };

@@ -2,8 +2,8 @@
 ghost use Rattle.std.specs.Prelude.{◌≡◌};
 ghost use Rattle.pf_addr.specs.Address.{IsNetwork};
 
-use crate::map::{Held, TreeMap};
 use pf_addr::Net;
+use pf_map::{Held, TreeMap};
 use std::alloc::AllocError;
 use std::marker::Model;
 

@@ -1,10 +1,10 @@
 //! Entries in bytes.
 use crate::entry::Entry;
-use crate::map::Key;
 use pf_addr::bytes::{
     Fault, Fitting, Layout, Ordered, Rest, Stop, expect, push_bytes, push_u8, read_flag, read_u8,
 };
 use pf_addr::{Net, push_addr, read_addr, read_family};
+use pf_map::Key;
 use std::alloc::{AllocError, Global};
 
 /// 20 bytes: the family, 4 or 6; how many bits the network's front has; 1 where it is negated, else 0; a zero; and the network's

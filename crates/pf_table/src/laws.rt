@@ -2,7 +2,8 @@
 ghost use Rattle.std.specs.{Prelude.{◌≡◌, T, true, List, map}, Cmp.IsTotalOrder, FinMap.{IsAntisymmetric, is_sorted}};
 ghost use Rattle.pf_addr.specs.{Address.IsNetwork, Bytes.Forms.Fits, Bytes.Lists.{ordered, in_order}};
 ghost use Rattle.pf_table.specs.declared.limits.TheConstants.{TABLE_LIMIT};
-ghost use Rattle.pf_table.specs.{Entries.{Row, net_order}, Tables.IsTable, EntryForms.{entry, plain_entry, entry_of, entry_before}, Laws.Tables.{TableDecides, TableMatches, FamiliesApart, OneTable, AddsWhatIsNamed, DeletesWhatIsNamed, HoldsTheList, AllElseStays, StaysTable, OneAnswerEach, AnswersInOrder, CountsWhatChanged, RepeatsChangeNothing, TellsTheFirstConflict}};
+ghost use Rattle.pf_table.specs.{Entries.Row, Tables.IsTable, EntryForms.{entry, plain_entry, entry_of, entry_before}, Laws.Tables.{TableDecides, TableMatches, FamiliesApart, OneTable, AddsWhatIsNamed, DeletesWhatIsNamed, HoldsTheList, AllElseStays, StaysTable, OneAnswerEach, AnswersInOrder, CountsWhatChanged, RepeatsChangeNothing, TellsTheFirstConflict}};
+ghost use Rattle.pf_map.specs.Networks.{net_order};
 
 /// A table has at most 65,536 entries.
 pub fn the_limit_of_entries()
@@ -10,7 +11,7 @@ pub fn the_limit_of_entries()
 {}
 
 /// Networks are in a total order, in which only equal ones tie.
-#[tactic(auto, using(crate::specs::Laws::Order::net_total, crate::specs::Laws::Order::net_same))]
+#[tactic(auto, using(pf_map::specs::NetworkLaws::net_total, pf_map::specs::NetworkLaws::net_same))]
 pub fn networks_are_in_order()
     ensures total { IsTotalOrder net_order }
     ensures own { IsAntisymmetric net_order }

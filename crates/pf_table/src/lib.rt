@@ -1,15 +1,14 @@
-//! Tables: networks, each plain or negated, and which of them decides about an address (pf.conf(5), TABLES). And maps in pages that are
-//! shared, in which the crates above keep rulesets, tables and states.
+//! Tables: networks, each plain or negated, and which of them decides about an address (pf.conf(5), TABLES).
 //!
-//! It knows the addresses and networks of pf_addr. It doesn't know where a table is, who names it, or what a map's keys and values mean.
+//! It knows the addresses and networks of pf_addr and the maps of pf_map. It doesn't know where a table is, or who names it.
 //!
 //! A table is the list of its entries in the order of their networks, none of them twice; of those that contain an address the one with
 //! the longest prefix decides. Read first specs/Tables.antt, which says so, and specs/Edits.antt, what an edit leaves and answers;
 //! specs/Laws.antt says the same without the recursion. Callers use `Table`, whose entries stand in a map in the order of their
-//! networks (`order`): an edit gathers its list (`batch`) and changes the map entry by entry (`change`), and a look-up takes a few
+//! networks: an edit gathers its list (`batch`) and changes the map entry by entry (`change`), and a look-up takes a few
 //! searches (`lookup`). In bytes an entry is as specs/EntryForms.antt says (`entry_form`).
 //!
-//! `map` uses no other module of this crate. A table can be a map's value (`content`). Its definitions are in specs/Map.
+//! A table can be a map's value itself (`content`).
 #![tactic(auto)]
 
 mod answer;
@@ -21,8 +20,6 @@ mod entry_form;
 pub mod laws;
 mod limits;
 mod lookup;
-pub mod map;
-mod order;
 mod refusal;
 mod table;
 

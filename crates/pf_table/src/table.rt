@@ -10,9 +10,9 @@ use crate::change::{add_all, delete_all};
 use crate::entry::{Entry, EntryMap};
 use crate::limits::TABLE_LIMIT;
 use crate::lookup::decider;
-use crate::map::Entries;
 use crate::refusal::TableRefusal;
 use pf_addr::{Addr, Net};
+use pf_map::Entries;
 use std::alloc::{AllocError, Global};
 use std::marker::Model;
 

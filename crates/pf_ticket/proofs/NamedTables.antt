@@ -1,8 +1,8 @@
 -- Where a table comes among those that are offered, and how many there are then.
 use Rattle.std.proofs.{Common.{◌≡◌, T, ℕ, ◌+◌, List, length, cond, Some, sym, ◌∙◌}, lemmas.Cmp.nat_list_cmp_total}
 use Rattle.std.specs.{declared.cmp.Ordering.TheVariants.Equal, Prelude.is_some, FinMap.{find, put, is_sorted, slice_cmp-IsAntisymmetric, nat_cmp-IsAntisymmetric}, FinMap.Entries.{find-put, is_sorted-put, length-put, same_entries}}
-use Rattle.pf_table.specs.Map.Maps.{with_value}
-use Rattle.pf_table.proofs.Maps.{replaces_the_key, stays_sorted}
+use Rattle.pf_map.specs.Maps.{with_value}
+use Rattle.pf_map.proofs.Maps.{replaces_the_key, stays_sorted}
 use Rattle.pf_addr.specs.Path.Names.{name_order}
 use Rattle.pf_table.specs.Entries.{Row}
 use Rattle.pf_ticket.specs.NamedTables.{Named}

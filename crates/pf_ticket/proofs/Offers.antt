@@ -2,8 +2,8 @@
 use Rattle.std.proofs.{Common.{◌≡◌, ℕ, ◌+◌, ◌<◌, ◌≤◌, Bool, true, false, not, cond, T, List, [], ◌∷◌, length, map, set, refl, sym, ap, ◌∙◌, subst, Option, Some, None, arith, is_some}, lemmas.Cmp.{nat_cmp_total, nat_list_cmp_total}, lemmas.List.Sums.{length-filter, count_by-le-length}}
 use Rattle.std.specs.{Cmp.{IsTotalOrder, on_total, then_total}, FinMap.{put, is_sorted, IsAntisymmetric}, FinMap.Entries.{by_order, is_some-find, is_sorted-where_key, length_without, length-put}, List.{HoldsAt, list_any, remove}, List.Sorted.{IsBinarySearchResult, IsSearchInRange}, Ordering.{eq_by_cmp, is_eq}, Prelude.{Result, Ok, Err, IfOk, IfErr}}
 use Rattle.std.specs.declared.cmp.Ordering.TheVariants.{Less, Equal, Greater}
-use Rattle.pf_table.specs.Map.Maps.{without}
-use Rattle.pf_table.proofs.Maps.{replaces_the_key, stays_sorted as sorted_with}
+use Rattle.pf_map.specs.Maps.{without}
+use Rattle.pf_map.proofs.Maps.{replaces_the_key, stays_sorted as sorted_with}
 use Rattle.pf_ticket.specs.declared.{name.RulesetKind.RulesetKind, name.RulesetKind.TheVariants.Filter, name.RulesetKind.TheVariants.Table, name.RulesetName.RulesetName}
 use Rattle.pf_ticket.specs.{Names.{kind_rank, same_name, is_named, ruleset_order, IsDistinct}, Laws.Names.{names_alike, name_is}, Tickets.{Offer, Offers, offer_at, with_offer, with_all, IsPlace, IsGap}}
 use Rattle.pf_ticket.proofs.Places.{first_of, second_of, find_below, rises, find_between, without_between, with_between, find_at, without_at, with_at}

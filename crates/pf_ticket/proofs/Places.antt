@@ -1,7 +1,7 @@
 -- In a list in the order of its keys: where a key stands, and what is found, replaced or taken out there.
 use Rattle.std.proofs.{Common.{◌≡◌, ℕ, zero, suc, ◌<◌, ◌≤◌, ◌&&◌, Bool, true, false, not, cond, T, List, [], ◌∷◌, length, get_or, set, add-one, Some, None, refl, sym, ap, ◌∙◌, subst, arith}, lemmas.Cmp.tied_itself, lemmas.List.Sorted.searchable_from_sorted}
 use Rattle.std.specs.{declared.{cmp.Ordering.Ordering, cmp.Ordering.TheVariants.Less, cmp.Ordering.TheVariants.Equal, cmp.Ordering.TheVariants.Greater}, Cmp.IsTotalOrder, FinMap.{find, put, is_sorted}, FinMap.Entries.below_all, List.{HoldsAt, insert, remove}, List.Sorted.{IsNonDecreasingBy, IsPartitionPoint}, Ordering.{is_eq, is_lt, ordering_index, ordering_reverse}}
-use Rattle.pf_table.specs.Map.Maps.{without, with_value}
+use Rattle.pf_map.specs.Maps.{without, with_value}
 
 pub first_of : (a b : Bool) → T (a && b) → T a
 first_of true b p = tt

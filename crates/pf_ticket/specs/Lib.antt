@@ -9,4 +9,4 @@ pub use Rattle.pf_addr.specs.Path.Names as AddrNames
 pub use Rattle.pf_addr.specs.Refusing
 pub use Rattle.pf_table.specs.Edits
 pub use Rattle.pf_table.specs.Entries
-pub use Rattle.pf_table.specs.Map.Maps
+pub use Rattle.pf_map.specs.Maps

@@ -3,7 +3,8 @@
 use Rattle.std.specs.{Prelude.{◌≡◌, ℕ, ◌+◌, Bool, true, List, [], ◌∷◌, ◌++◌, map, set, get_or, fold, Option, Some, None, is_some}, FinMap.{find, put}, List.{insert, remove}}
 use Rattle.pf_addr.specs.Path.Names.{name_order}
 use Rattle.pf_rule.specs.Rules.{PlainRule}
-use Rattle.pf_table.specs.{Entries.Row, Map.Maps.with_value}
+use Rattle.pf_table.specs.Entries.{Row}
+use Rattle.pf_map.specs.Maps.{with_value}
 use Rattle.pf_ticket.specs.{declared.{name.RulesetKind.RulesetKind, name.RulesetKind.TheVariants.Filter, name.RulesetKind.TheVariants.Table, name.RulesetName.RulesetName, offered.Offered.Offered, offered.Offered.TheVariants.Rules, offered.Offered.TheVariants.Tables, ticket.Ticket.Ticket}, NamedTables.Named, Names.{ruleset_order, ticket, is_ticket}}
 
 -- ---- what is offered

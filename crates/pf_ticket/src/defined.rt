@@ -6,8 +6,8 @@ ghost use Rattle.pf_ticket.specs.declared.limits.TheConstants.{OFFERED_TABLE_LIM
 
 use crate::limits::OFFERED_TABLE_LIMIT;
 use pf_addr::path::TableName;
+use pf_map::{Entries, Held, TreeMap};
 use pf_table::Table;
-use pf_table::map::{Entries, Held, TreeMap};
 use std::alloc::{AllocError, Global};
 use std::marker::Model;
 

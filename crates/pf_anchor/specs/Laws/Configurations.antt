@@ -1,7 +1,7 @@
 -- What follows from the definitions of maps, as law functions promise it.
 use Rattle.std.specs.{Prelude.{◌≡◌, ℕ, ◌==◌, ◌&&◌, T, Bool, not, List, [], length, fold, map}, List.list_any, FinMap.is_sorted}
 use Rattle.pf_rule.specs.Rules.{PlainRule}
-use Rattle.pf_table.specs.Map.ListMaps.{list_by}
+use Rattle.pf_map.specs.ListMaps.{list_by}
 use Rattle.pf_addr.specs.{Path.Paths.{path_order, same_path}, Path.Nested.is_child}
 use Rattle.pf_anchor.specs.Rulesets.{Ruled, ruled, rules_at, with_rules, children, IsMap}
 

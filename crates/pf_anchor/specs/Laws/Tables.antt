@@ -2,7 +2,8 @@
 -- ANCHORS).
 use Rattle.std.specs.{Prelude.{◌≡◌, ◌≢◌, ◌⊎◌, ℕ, T, Bool, false, List, [], Some, None, fold, map}, FinMap.{find, is_sorted}}
 use Rattle.pf_addr.specs.declared.addr.Addr.{Addr}
-use Rattle.pf_table.specs.{Map.ListMaps.list_by, Entries.Row, Tables.{deciding, table_holds}}
+use Rattle.pf_table.specs.{Entries.Row, Tables.{deciding, table_holds}}
+use Rattle.pf_map.specs.ListMaps.{list_by}
 use Rattle.pf_addr.specs.{Path.Names.name_order, Path.Paths.main}
 use Rattle.pf_rule.specs.declared.host.host.Host.TheVariants.{Table}
 use Rattle.pf_rule.specs.Host.Hosts.{host_holds}

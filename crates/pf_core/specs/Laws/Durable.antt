@@ -1,6 +1,7 @@
 -- What follows from the definitions, as law functions promise it.
 use Rattle.std.specs.{Prelude.{◌≡◌, ◌≢◌, ◌⊎◌, ℕ, ◌≤◌, List, [], length, Ok}, List.AllByRecursion}
-use Rattle.pf_table.specs.{Edits.{added, deleted, replaced}, Entries.Row, Tables.AreEntries, Map.ListMaps.list_by}
+use Rattle.pf_table.specs.{Edits.{added, deleted, replaced}, Entries.Row, Tables.AreEntries}
+use Rattle.pf_map.specs.ListMaps.{list_by}
 use Rattle.pf_anchor.specs.declared.limits.TheConstants.{RULE_LIMIT, RULESET_LIMIT, TABLE_COUNT_LIMIT}
 use Rattle.pf_anchor.specs.{Configurations.IsConfiguration, Laws.Configurations.rules_by, Rulesets.rules_at, Tables.{table_order, IsTableMap}}
 use Rattle.pf_state.specs.{declared.{state.StateName.StateName, step.Step.Step}, States.{Stated, IsStates}, Steps.{after as stepped_on, without_state}}

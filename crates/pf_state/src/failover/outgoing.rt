@@ -4,7 +4,7 @@ ghost use Rattle.pf_state.specs.{Peer.Messages.IsMessage, Peer.Streams.{Reads, U
 
 use crate::peer::{Group, Insert, InsertFields, Message, Records, write_peer};
 use crate::{ALL_ONES, Held, State, StateName, StateTable, exported};
-use pf_table::map::Entries;
+use pf_map::Entries;
 use std::alloc::{AllocError, Global};
 use std::marker::Model;
 

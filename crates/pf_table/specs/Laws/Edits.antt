@@ -2,7 +2,8 @@
 use Rattle.std.proofs.{Common.{◌≡◌, ◌≤◌, T, Bool, true, false, not, cond, ◌&&◌, ◌||◌, List, [], ◌∷◌, ◌++◌, length, Option, Some, None, is_some, refl, sym, ap, ◌∙◌, true≢false, arith}, lemmas.List.Folds.list_any-append}
 use Rattle.std.specs.{Bool.beq, Cmp.{alike_right, eq_by_cmp_equiv}, FinMap.{put, is_sorted}, FinMap.Entries.{by_order, where_key, below_all, find-put, find-where_key, find_tied, is_sorted-put, is_sorted-where_key, same_entries}, List.{list_any, AllByRecursion}, Option.option_or, Ordering.{eq_by_cmp, is_eq, is_lt}, declared.{cmp.Ordering.Ordering, cmp.Ordering.TheVariants.Less, cmp.Ordering.TheVariants.Equal, cmp.Ordering.TheVariants.Greater}}
 use Rattle.pf_addr.specs.Address.{Network}
-use Rattle.pf_table.specs.{Entries.{Row, net_order}, Laws.Order.{net_total, net_same}, Tables.sign_of, Edits.{with_entry, added, is_sign, has_entry, without_entry, deleted, same_entry, is_opposite}}
+use Rattle.pf_table.specs.{Entries.Row, Tables.sign_of, Edits.{with_entry, added, is_sign, has_entry, without_entry, deleted, same_entry, is_opposite}}
+use Rattle.pf_map.specs.{Networks.net_order, NetworkLaws.{net_total, net_same}}
 
 tied_of : (r : Ordering) → is_eq r ≡ true → r ≡ Equal
 tied_of Less e = absurd (true≢false (sym e))

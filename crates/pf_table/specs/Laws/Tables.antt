@@ -2,7 +2,8 @@
 use Rattle.std.specs.{Prelude.{◌≡◌, ◌≢◌, ℕ, ◌+◌, ◌<◌, ◌≤◌, ◌↔◌, T, Bool, true, false, not, List, length, slice_get, take, filter, Some, None, All, Contains}, FinMap.is_sorted, List.list_any, Option.option_or}
 use Rattle.pf_addr.specs.declared.addr.Addr.{Addr}
 use Rattle.pf_addr.specs.Address.{Network, contains, family_of, IsNetwork}
-use Rattle.pf_table.specs.{declared.{answer.Addition.Addition, answer.Addition.TheVariants.Added, answer.Addition.TheVariants.Same, answer.Addition.TheVariants.Conflict, answer.Deletion.Deletion, answer.Deletion.TheVariants.Deleted, answer.Deletion.TheVariants.Absent, limits.TheConstants.TABLE_LIMIT}, Entries.{Row, net_order}, Tables.{IsTable, sign_of, Decides, deciding, table_holds}, Edits.{added, addition, additions, with_entry, replaced, has_entry, without_entry, deleted, deletions, is_opposite, conflict_in}, Laws.Edits.sign_left}
+use Rattle.pf_table.specs.{declared.{answer.{Addition.{Addition, TheVariants.{Added, Same, Conflict}}, Deletion.{Deletion, TheVariants.{Deleted, Absent}}}, limits.TheConstants.TABLE_LIMIT}, Entries.Row, Tables.{IsTable, sign_of, Decides, deciding, table_holds}, Edits.{added, addition, additions, with_entry, replaced, has_entry, without_entry, deleted, deletions, is_opposite, conflict_in}, Laws.Edits.sign_left}
+use Rattle.pf_map.specs.Networks.{net_order}
 
 -- ---- which entry decides
 

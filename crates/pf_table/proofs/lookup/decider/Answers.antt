@@ -1,6 +1,8 @@
 use Rattle.std.proofs.Common.{◌≡◌, ◌≢◌, ◌<◌, arith, true, false, Some, None, ◌∙◌, sym, ap, subst}
 use Rattle.pf_addr.specs.{declared.addr.Addr.Addr, Address.{Network, contains, family_of, width, network_from}, Spelling.first_addr}
-use Rattle.pf_table.specs.{Entries.{net_order}, Map.Maps.at_or_before, Shared.Share}
+use Rattle.pf_table.specs.Shared.{Share}
+use Rattle.pf_map.specs.Networks.{net_order}
+use Rattle.pf_map.specs.Maps.{at_or_before}
 use Rattle.pf_table.proofs.Lookups.{NoneLonger, none_longer_at_first, none_left, longest_holds, other_family, shorter}
 use Rattle.pf_table.proofs.lookup.decider.Goals as goal
 

@@ -1,8 +1,8 @@
 use Rattle.std.proofs.Common.{◌≡◌, subst}
 use Rattle.std.specs.{Option.option_map, FinMap.find}
 use Rattle.pf_addr.specs.Path.Paths.{path_order}
-use Rattle.pf_table.specs.Map.Maps.{entry_at}
-use Rattle.pf_table.proofs.ListMaps.{list_map_is}
+use Rattle.pf_map.specs.Maps.{entry_at}
+use Rattle.pf_map.proofs.ListMaps.{list_map_is}
 use Rattle.pf_anchor.specs.{Rulesets.IsMap, Configurations.Configuration}
 use Rattle.pf_anchor.proofs.RulesetMaps.{ruleset_found}
 use Rattle.pf_anchor.proofs.config.Config.placed_at.Goals as goal

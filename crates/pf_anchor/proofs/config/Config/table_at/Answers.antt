@@ -1,5 +1,5 @@
 use Rattle.std.proofs.Common.{subst}
-use Rattle.pf_table.proofs.ListMaps.{list_map_is}
+use Rattle.pf_map.proofs.ListMaps.{list_map_is}
 use Rattle.pf_anchor.specs.{Tables.IsTableMap, Configurations.Configuration}
 use Rattle.pf_anchor.proofs.config.Config.table_at.Goals as goal
 

@@ -1,7 +1,7 @@
 use Rattle.std.proofs.{Common.{◌≡◌, ℕ, ◌+◌, ◌-◌, true, false, nat_lt, length, sym, ap, ◌∙◌, refl, arith}, lemmas.Bool.Decides.nat_tests}
 use Rattle.std.specs.{Prelude.is_some, FinMap.{find}}
 use Rattle.pf_addr.specs.Path.Names.{name_order}
-use Rattle.pf_table.proofs.Maps.{is_there}
+use Rattle.pf_map.proofs.Maps.{is_there}
 use Rattle.pf_ticket.specs.declared.limits.TheConstants.{OFFERED_TABLE_LIMIT}
 use Rattle.pf_ticket.proofs.NamedTables.{count_with}
 use Rattle.pf_ticket.proofs.defined.Defined.is_full_for.Goals.{in-Some, in-None}

@@ -1,0 +1,83 @@
+-- Maps that are made of lists in order, one entry after the other.
+use Rattle.std.proofs.{Common.{◌≡◌, ℕ, ◌+◌, ◌<◌, T, Bool, true, false, ◌&&◌, List, [], ◌∷◌, ◌++◌, length, Some, None, refl, sym, ap, ◌∙◌, subst, true≢false, get_or, take, drop, map}, lemmas.List.{map-append, take_more, take-append-drop}}
+use Rattle.std.specs.{declared.{cmp.Ordering.Ordering, cmp.Ordering.TheVariants.Less, cmp.Ordering.TheVariants.Greater}, Cmp.IsTotalOrder, FinMap.{find, put, is_sorted}, FinMap.Entries.{below_all}, Ordering.{is_lt, ordering_reverse}}
+use Rattle.pf_addr.specs.Bytes.Lists.{in_order}
+use Rattle.pf_map.specs.Maps.{without, with_value}
+use Rattle.pf_map.proofs.Tests.{first_of, second_of, less_of}
+
+both_of : (a b : Bool) → T a → T b → T (a && b)
+both_of true b p q = q
+both_of false b p q = p
+
+holds : (b : Bool) → T b → b ≡ true
+holds true p = refl
+holds false p = absurd p
+
+tells : (b : Bool) → b ≡ true → T b
+tells true e = tt
+tells false e = absurd (true≢false (sym e))
+
+module _ {K X : Type 0} {R : K → K → Ordering} (o : IsTotalOrder R) where
+  below_last : (e : K × X) (es : List (K × X)) (k : K) (v : X) → T (below_all R e.0 (es ++ (k, v) ∷ [])) → R k e.0 ≡ Greater
+  below_last e [] k v h = o.antisymm k e.0 ∙ ap ordering_reverse (less_of _ (first_of _ _ h))
+  below_last e (f ∷ es) k v h = below_last e es k v (second_of _ _ h)
+
+  -- an entry behind all others is new
+  pub none_last : (es : List (K × X)) (k : K) (v : X) → T (is_sorted R (es ++ (k, v) ∷ [])) → find R k es ≡ None
+  none_last [] k v is = refl
+  none_last (e ∷ es) k v is = rw (below_last e es k v (first_of _ _ is)) (none_last es k v (second_of _ _ is))
+
+  without_last : (es : List (K × X)) (k : K) (v : X) → T (is_sorted R (es ++ (k, v) ∷ [])) → without R es k ≡ es
+  without_last [] k v is = refl
+  without_last (e ∷ es) k v is = rw (below_last e es k v (first_of _ _ is)) (ap (λ l. e ∷ l) (without_last es k v (second_of _ _ is)))
+
+  put_behind : (es : List (K × X)) (k : K) (v : X) → T (is_sorted R (es ++ (k, v) ∷ [])) → put R k v es ≡ es ++ (k, v) ∷ []
+  put_behind [] k v is = refl
+  put_behind (e ∷ es) k v is = rw (below_last e es k v (first_of _ _ is)) (ap (λ l. e ∷ l) (put_behind es k v (second_of _ _ is)))
+
+  -- and stands behind them
+  pub put_last : (es : List (K × X)) (k : K) (v : X) → T (is_sorted R (es ++ (k, v) ∷ [])) → with_value R es k (Some v) ≡ es ++ (k, v) ∷ []
+  put_last es k v is = ap (put R k v) (without_last es k v is) ∙ put_behind es k v is
+
+  -- a front of a list in order is in order
+  pub sorted_front : (es fs : List (K × X)) → T (is_sorted R (es ++ fs)) → T (is_sorted R es)
+  sorted_front [] fs is = tt
+  sorted_front (e ∷ es) fs is = both_of _ _ (below_front es (first_of _ _ is)) (sorted_front es fs (second_of _ _ is)) where
+    below_front : (gs : List (K × X)) → T (below_all R e.0 (gs ++ fs)) → T (below_all R e.0 gs)
+    below_front [] h = tt
+    below_front (g ∷ gs) h = both_of _ _ (first_of _ _ h) (below_front gs (second_of _ _ h))
+
+  -- ---- each before the next
+
+  abbrev pub before : K × X → K × X → Bool
+  before e f = is_lt (R e.0 f.0)
+
+  below_more : (x y : K) (es : List (K × X)) → R x y ≡ Less → T (below_all R y es) → T (below_all R x es)
+  below_more x y [] less h = tt
+  below_more x y (e ∷ es) less h = both_of _ _ (subst (λ r. T (is_lt r)) (sym (o.trans x y e.0 less (less_of _ (first_of _ _ h)))) tt) (below_more x y es less (second_of _ _ h))
+
+  -- entries of which each stands before the next are in order, and no key stands twice
+  pub sorted_of : (es : List (K × X)) → in_order before es ≡ true → T (is_sorted R es)
+  sorted_of [] h = tt
+  sorted_of (e ∷ []) h = tt
+  sorted_of (e ∷ f ∷ es) h =
+      let rest : T (is_sorted R (f ∷ es)) = sorted_of (f ∷ es) (holds _ (second_of (before e f) (in_order before (f ∷ es)) (tells _ h))) in
+      let less : T (is_lt (R e.0 f.0)) = first_of (before e f) (in_order before (f ∷ es)) (tells _ h) in
+      both_of _ _ (both_of _ _ less (below_more e.0 f.0 es (less_of _ less) (first_of _ _ rest))) rest
+
+  pub in_order_of : (es : List (K × X)) → T (is_sorted R es) → in_order before es ≡ true
+  in_order_of [] is = refl
+  in_order_of (e ∷ []) is = refl
+  in_order_of (e ∷ f ∷ es) is = holds _ (both_of (before e f) (in_order before (f ∷ es)) (first_of _ _ (first_of _ _ is)) (tells _ (in_order_of (f ∷ es) (second_of _ _ is))))
+
+  -- ---- a list that is gone over
+
+  module _ {E : Type 0} (pair : E → K × X) (es : List E) (i : ℕ) (e : E) (low : i < length es) (at : e ≡ get_or es i e) where
+    pub one_more : map pair (take (i + 1) es) ≡ map pair (take i es) ++ pair e ∷ []
+    one_more = ap (map pair) (take_more es i e low ∙ ap (λ x. take i es ++ x ∷ []) (sym at)) ∙ map-append pair (take i es) (e ∷ [])
+
+    -- what comes next stands behind all so far
+    pub next_is_last : T (is_sorted R (map pair es)) → T (is_sorted R (map pair (take i es) ++ pair e ∷ []))
+    next_is_last is =
+        let whole : map pair es ≡ map pair (take (i + 1) es) ++ map pair (drop (i + 1) es) = ap (map pair) (sym (take-append-drop (i + 1) es)) ∙ map-append pair (take (i + 1) es) (drop (i + 1) es) in
+        subst (λ l. T (is_sorted R l)) one_more (sorted_front (map pair (take (i + 1) es)) (map pair (drop (i + 1) es)) (subst (λ l. T (is_sorted R l)) whole is))

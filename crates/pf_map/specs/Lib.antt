@@ -1,0 +1,11 @@
+pub mod Maps
+pub mod Pairs
+pub mod Hints
+pub mod Fronts
+pub mod Parts
+pub mod Pieces
+pub mod ListMaps
+pub mod Indexes
+pub mod Networks
+pub mod NetworkLaws
+pub mod Laws

@@ -1,0 +1,90 @@
+//! Going over a map.
+ghost use Rattle.std.specs.{Prelude.{◌≡◌, ◌++◌, [], MatchOption}, Iterator.{item_count, YieldsFirstBy}};
+ghost use Rattle.pf_map.specs.Parts.{joined};
+
+use crate::entry::Held;
+use crate::key::Key;
+use crate::part::Single;
+use crate::slot::Slot;
+use crate::tree_map::{Leaf, Middle};
+use std::marker::Model;
+
+/// The entries of a map that are left to come, in order: what is left of one page in each level. Contracts see it as the list.
+pub struct Entries<'a, K: Key, V: Drop, E: Held<K, V>> {
+    middles: &'a [Slot<K, V, E, Middle<K, V, E>>],
+    leaves: &'a [Slot<K, V, E, Leaf<K, V, E>>],
+    entries: &'a [Slot<K, V, E, Single<K, V, E>>],
+}
+
+impl<'a, K: Key, V: Drop, E: Held<K, V>> Drop for Entries<'a, K, V, E> {
+    fn drop(self) {
+        let Entries {
+            middles: _,
+            leaves: _,
+            entries: _,
+        } = self;
+    }
+}
+
+impl<'a, K: Key, V: Drop, E: Held<K, V>> Model for Entries<'a, K, V, E> {
+    ghost use Rattle.std.specs.Prelude.{List, ◌++◌};
+    ghost use Rattle.pf_map.specs.Parts.{joined};
+
+    ghost Value = { List (K × V) };
+
+    ghost view = { λ s. joined s.entries.now ++ (joined s.leaves.now ++ joined s.middles.now) };
+}
+
+// The next page of entries, and what is left behind it.
+fn next_leaf<'a, K: Key, V: Drop, E: Held<K, V>>(
+    leaves: &'a [Slot<K, V, E, Leaf<K, V, E>>],
+    middles: &'a [Slot<K, V, E, Middle<K, V, E>>],
+) -> Option<
+    (
+        &'a Slot<K, V, E, Leaf<K, V, E>>,
+        &'a [Slot<K, V, E, Leaf<K, V, E>>],
+        &'a [Slot<K, V, E, Middle<K, V, E>>],
+    ),
+>
+    ensures { MatchOption result (joined leaves.now ++ joined middles.now ≡ []) (λ p. joined leaves.now ++ joined middles.now ≡ p.0.now ++ (joined p.1.now ++ joined p.2.now)) }
+{
+    if let Some((leaf, others)) = leaves.split_first() {
+        return Some((leaf, others, middles));
+    }
+    let (middle, others) = middles.split_first()?;
+    let (leaf, more) = middle.part().slots().split_first()?;
+    Some((leaf, more, others))
+}
+
+impl<'a, K: Key, V: Drop, E: Held<K, V>> Entries<'a, K, V, E> {
+    /// Those of these pages.
+    pub(crate) fn over(middles: &'a [Slot<K, V, E, Middle<K, V, E>>]) -> Entries<'a, K, V, E>
+        ensures { result ≡ joined middles.now }
+    {
+        Entries {
+            middles,
+            leaves: &[],
+            entries: &[],
+        }
+    }
+}
+
+impl<'a, K: Key, V: Drop, E: Held<K, V>> Iterator for Entries<'a, K, V, E> {
+    type Item = &'a E;
+
+    ghost next_gives = { YieldsFirstBy (λ e. E.pair e.now) (λ s. s) };
+
+    ghost remaining = { item_count (λ s. s) };
+
+    fn next(&mut self) -> Option<&'a E> {
+        if self.entries.is_empty() {
+            let (leaf, leaves, middles) = next_leaf(self.leaves, self.middles)?;
+            self.entries = leaf.part().slots();
+            self.leaves = leaves;
+            self.middles = middles;
+        }
+        let (entry, others) = self.entries.split_first()?;
+        self.entries = others;
+        Some(entry.part().entry())
+    }
+}

@@ -1,0 +1,214 @@
+//! Maps in trees.
+ghost use Rattle.std.specs.{Prelude.{◌≡◌, ◌+◌, ◌<◌, T, [], length, map, cond, true, Some, None, is_some, IfOk, IfSome, nat_lt}, Option.option_map, FinMap.{find, is_sorted}};
+ghost use Rattle.pf_map.specs.{Maps.{with_value, without, entry_at, at_or_before}, Parts.joined};
+
+use crate::entries::Entries;
+use crate::entry::Held;
+use crate::key::{Key, Probe};
+use crate::level::{Level, find_in, last_up_to_in, replaced_in};
+use crate::part::{Part, Single};
+use crate::slot::Slot;
+use std::alloc::{AllocError, Global};
+use std::marker::Model;
+
+/// A page of entries.
+pub type Leaf<K, V, E> = Level<K, V, E, Single<K, V, E>>;
+
+/// A page of pages of entries.
+pub type Middle<K, V, E> = Level<K, V, E, Leaf<K, V, E>>;
+
+// The page above all others.
+type Top<K, V, E> = Level<K, V, E, Middle<K, V, E>>;
+
+// A count of entries, once the value at a key was replaced where there was one or none.
+fn recount(count: usize, had: bool, has: bool) -> Result<usize, AllocError>
+    requires { had ≡ true → 0 < count }
+    ensures { IfOk result (λ n. n + cond had 1 0 ≡ count + cond has 1 0) }
+{
+    let others = if had { count - 1 } else { count };
+    if has {
+        others.checked_add(1).ok_or(AllocError)
+    } else {
+        Ok(others)
+    }
+}
+
+/// A finite map: entries in the order of their keys, no key twice. Contracts see it as the list.
+///
+/// The entries stand in a tree of three levels, so that a changed map shares with an old one all pages but the three on the way to
+/// the entry that changed; pages that no other map holds are changed in place.
+pub struct TreeMap<K: Key, V: Drop, E: Held<K, V>> {
+    top: Option<Top<K, V, E>>,
+    count: usize,
+}
+
+impl<K: Key, V: Drop, E: Held<K, V>> Drop for TreeMap<K, V, E> {
+    fn drop(self) {
+        let TreeMap { top: _, count: _ } = self;
+    }
+}
+
+impl<K: Key, V: Drop, E: Held<K, V>> Model for TreeMap<K, V, E> {
+    ghost use Rattle.std.specs.{Prelude.{◌≡◌, T, List, [], length}, Option.option_map_or, FinMap.is_sorted};
+
+    ghost Value = { List (K × V) };
+
+    ghost view = { λ m. option_map_or (λ l. l) m.top [] };
+
+    ghost invariant = { λ m. T (is_sorted K.order (option_map_or (λ l. l) m.top [])) × (m.count ≡ length (option_map_or (λ l. l) m.top [])) };
+}
+
+impl<K: Key, V: Drop, E: Held<K, V>> TreeMap<K, V, E> {
+    /// The map of nothing. It takes no memory.
+    pub fn empty() -> TreeMap<K, V, E>
+        ensures { result ≡ [] }
+    {
+        TreeMap {
+            top: None,
+            count: 0,
+        }
+    }
+
+    /// The map of these entries, which stand in the order of their keys, no key twice. `AllocError`: nothing is made.
+    pub fn of(alloc: Global, entries: &[E]) -> Result<TreeMap<K, V, E>, AllocError>
+        requires { T (is_sorted K.order (map E.pair entries.now)) }
+        ensures { IfOk result (λ m. m ≡ map E.pair entries.now) }
+    {
+        let mut map = TreeMap::empty();
+        for entry in entries {
+            map = map.with_new(alloc, entry)?;
+        }
+        Ok(map)
+    }
+
+    /// How many entries it has.
+    pub fn len(&self) -> usize
+        ensures { result ≡ length self.now }
+    {
+        self.count
+    }
+
+    /// Whether it has more entries than this.
+    pub fn is_more_than(&self, limit: usize) -> bool
+        ensures { result ≡ nat_lt limit (length self.now) }
+    {
+        limit < self.count
+    }
+
+    // The parts below its top.
+    fn slots(&self) -> &[Slot<K, V, E, Middle<K, V, E>>]
+        ensures value { joined result.now ≡ self.now }
+        ensures sorted { T (is_sorted K.order self.now) }
+    {
+        match &self.top {
+            Some(top) => top.slots(),
+            None => &[],
+        }
+    }
+
+    /// The entry at a key; None where it has no value.
+    pub fn get<Q: Probe<K>>(&self, sought: &Q) -> Option<&E>
+        ensures entry { option_map (λ e. E.pair e.now) result ≡ entry_at K.order (Q.key sought.now) self.now }
+        // what each map keeps
+        ensures sorted { T (is_sorted K.order self.now) }
+    {
+        find_in(self.slots(), sought.hint(), sought)
+    }
+
+    /// The last entry that isn't behind a key; None where all are.
+    pub fn at_or_before<Q: Probe<K>>(&self, sought: &Q) -> Option<&E>
+        ensures { option_map (λ e. E.pair e.now) result ≡ at_or_before K.order (Q.key sought.now) self.now }
+    {
+        last_up_to_in(self.slots(), sought.hint(), sought)
+    }
+
+    /// The same map, with one owner more. No page is copied. `AllocError`: nothing is made.
+    pub fn shared(&self) -> Result<TreeMap<K, V, E>, AllocError>
+        ensures { IfOk result (λ m. m ≡ self.now) }
+    {
+        let top = match &self.top {
+            Some(top) => Some(top.share()?),
+            None => None,
+        };
+        Ok(TreeMap {
+            top,
+            count: self.count,
+        })
+    }
+
+    // The parts below its top, to be changed.
+    fn into_slots(self, alloc: Global) -> Result<Vec<Slot<K, V, E, Middle<K, V, E>>>, AllocError>
+        ensures value { IfOk result (λ v. joined v.items ≡ self) }
+        ensures sorted { T (is_sorted K.order self) }
+    {
+        let TreeMap { top, count: _ } = self;
+        match top {
+            Some(top) => top.into_slots(alloc),
+            None => Ok(Vec::new(alloc)),
+        }
+    }
+
+    // Whether there is an entry at a key.
+    fn has<Q: Probe<K>>(&self, sought: &Q) -> bool
+        ensures { result ≡ is_some (find K.order (Q.key sought.now) self.now) }
+    {
+        self.get(sought).is_some()
+    }
+
+    // The map with the entry at a key, if it had one, replaced, or taken out where there is no new one.
+    fn with_value<'a, Q: Probe<K>>(
+        self,
+        alloc: Global,
+        sought: &'a Q,
+        had: bool,
+        new: Option<&'a E>,
+    ) -> Result<TreeMap<K, V, E>, AllocError>
+        requires had { had ≡ is_some (find K.order (Q.key sought.now) self) }
+        requires named { IfSome new (λ e. (E.pair e.now).0 ≡ Q.key sought.now) }
+        ensures { IfOk result (λ m. m ≡ with_value K.order self (Q.key sought.now) (option_map (λ e. (E.pair e.now).1) new.entry)) }
+    {
+        let count = recount(self.count, had, new.is_some())?;
+        let slots = replaced_in(alloc, self.into_slots(alloc)?, sought.hint(), sought, new)?;
+        Ok(TreeMap {
+            top: Level::whole(alloc, slots)?,
+            count,
+        })
+    }
+
+    /// The map with an entry, in the place of the one at its key if there is one. Pages on the way to it that other maps hold are
+    /// copied, three at most, and all else is shared. `AllocError`: nothing is left of this map; what shares its pages stays.
+    pub fn with(self, alloc: Global, new: &E) -> Result<TreeMap<K, V, E>, AllocError>
+        ensures { IfOk result (λ m. m ≡ with_value K.order self (E.pair new.now).0 (Some (E.pair new.now).1)) }
+    {
+        let had = self.has(new.held_key());
+        self.with_value(alloc, new.held_key(), had, Some(new))
+    }
+
+    /// The same, where it has no entry at the key: a look-up less.
+    pub fn with_new(self, alloc: Global, new: &E) -> Result<TreeMap<K, V, E>, AllocError>
+        requires { find K.order (E.pair new.now).0 self ≡ None }
+        ensures { IfOk result (λ m. m ≡ with_value K.order self (E.pair new.now).0 (Some (E.pair new.now).1)) }
+    {
+        self.with_value(alloc, new.held_key(), false, Some(new))
+    }
+
+    /// The map with no value at a key. Pages on the way to it that other maps hold are copied, three at most, and all else is
+    /// shared. `AllocError`: nothing is left of this map; what shares its pages stays.
+    pub fn without<Q: Probe<K>>(
+        self,
+        alloc: Global,
+        sought: &Q,
+    ) -> Result<TreeMap<K, V, E>, AllocError>
+        ensures { IfOk result (λ m. m ≡ without K.order self (Q.key sought.now)) }
+    {
+        let had = self.has(sought);
+        self.with_value(alloc, sought, had, None)
+    }
+
+    /// Its entries, in order. It takes no memory.
+    pub fn entries(&self) -> Entries<'_, K, V, E>
+        ensures { result ≡ self.now }
+    {
+        Entries::over(self.slots())
+    }
+}

@@ -1,0 +1,346 @@
+//! Opening a device, adding records to the bank that counts, and switching to the other one.
+ghost use Rattle.std.specs.Prelude.{◌≡◌, ◌↔◌, ◌+◌, ◌^◌, ◌<◌, ◌≤◌, true, false, List, ℕ, length, IfOk, IfErr, OnOk, IsErrOf, MatchResult, if◌then◌else◌};
+ghost use Rattle.pf_disk.specs.Disk.{CountsFault, EachMoment, IsImage, IsSynced, is_within};
+ghost use Rattle.pf_journal.specs.{Faults.is_append_fault, Journal.IsOf};
+ghost use Rattle.pf_snap.specs.{Banks.{bank_size, Content, with_payload, switched, Holds, HoldsAt, HoldsEither}, Ready.{IsReady, IsNext, Keeps}, Looked.{IsFound, content_of}, Faults.{IsRefused, is_fault, is_switch_fault}};
+ghost use Rattle.pf_snap.specs.declared.fault.LookFault.TheVariants as looking;
+
+use crate::beginning::{bank_bytes, begin_bank};
+use crate::fault::{LookFault, SwitchFault};
+use crate::header::{HEADER, NEWEST, is_size};
+use crate::looking::{Looked, look_synced};
+use pf_disk::{Disk, DiskFault};
+use pf_journal::{AppendFault, Journal, Record};
+use std::alloc::{AllocError, Global};
+
+/// A device with two banks, of which one counts. Places are bytes from the device's start. Own.
+#[derive(Drop)]
+pub struct Banks<D: Disk> {
+    /// The device, and the counting bank's records.
+    pub journal: Journal<D>,
+    /// The first place of the bank that counts.
+    pub at: usize,
+    /// That of the other one.
+    pub other: usize,
+    /// Whether the other one's gate is open.
+    pub other_is_open: bool,
+    pub version: u8,
+    pub generation: u64,
+}
+
+/// A bank that is to be begun: what is written behind its gate, made before the device is called. Own.
+#[derive(Drop)]
+pub struct NextBank {
+    pub behind: Vec<u8>,
+    /// Bytes of its snapshot.
+    pub length: usize,
+}
+
+impl<D: Disk> Banks<D> {
+    /// Syncs a device, whatever a crash or a fault made of it, and looks at what it holds, in five moments of it at most. Where what is
+    /// found isn't broken the banks are ready; else they only hand the device back. `Err` hands it back too. Own.
+    pub fn open(alloc: Global, disk: D) -> Result<(Banks<D>, Looked), (LookFault, D)>
+        requires few { D.fault_count disk < 2 ^ 63 }
+        ensures found { IfOk result (λ r. IsFound (D.seen disk) r.1) }
+        ensures keeps { IfOk result (λ r. r.1.broken ≡ false → Keeps D.seen r.0 (content_of r.1)) }
+        ensures ready { IfOk result (λ r. r.1.broken ≡ false → IsReady D.seen D.unsynced r.0) }
+        ensures broken { IfOk result (λ r. r.1.broken ≡ true → (content : Content) → ¬ Holds (D.seen disk) content) }
+        ensures refused { IfErr result (λ e. IsRefused e.0 (D.seen disk)) }
+        ensures unchanged_at_bad_size { IfErr result (λ e. e.0 ≡ looking.BadSize → e.1 ≡ disk) }
+
+        // It reads as before, and each image at each moment is one from before.
+        ensures seen { IfOk result (λ r. D.seen r.0.journal.disk ≡ D.seen disk) }
+        ensures seen_err { IfErr result (λ e. D.seen e.1 ≡ D.seen disk) }
+        ensures any_moment { IfOk result (λ r. EachMoment D.moment D.left_since disk r.0.journal.disk
+            (IsImage (D.seen disk) (D.unsynced disk))) }
+        ensures any_moment_err { IfErr result (λ e. EachMoment D.moment D.left_since disk e.1 (IsImage (D.seen disk) (D.unsynced disk))) }
+
+        ensures moments { IfOk result (λ r. D.moment r.0.journal.disk ≤ D.moment disk + 5) }
+        ensures moments_err { IfErr result (λ e. D.moment e.1 ≤ D.moment disk + 5) }
+        ensures no_fault { IfOk result (λ r. D.fault_count r.0.journal.disk ≡ D.fault_count disk) }
+        ensures fault { IfErr result (λ e. D.fault_count e.1 ≡ D.fault_count disk + (if is_fault e.0 then 1 else 0)) }
+    {
+        if !is_size(disk.size()) {
+            return Err((LookFault::BadSize, disk));
+        }
+        let mut disk = disk;
+        match look_synced(alloc, &mut disk) {
+            Ok(looked) => Ok((Banks::found_on(disk, &looked), looked)),
+            Err(fault) => Err((fault, disk)),
+        }
+    }
+
+    /// The bank that a switch to this snapshot begins, with all the memory that it takes. Own.
+    pub fn prepare(&self, alloc: Global, snapshot: &[u8]) -> Result<NextBank, AllocError>
+        requires fits { HEADER + length snapshot.now + 1 < 2 ^ 32 }
+        requires early { self.now.generation + 1 < 2 ^ 64 }
+        ensures { IfOk result (λ next. IsNext self.now.generation next snapshot.now) }
+    {
+        let behind = bank_bytes(alloc, NEWEST, self.generation + 1, snapshot)?;
+        Ok(NextBank {
+            behind,
+            length: snapshot.len(),
+        })
+    }
+
+    /// Begins the other bank, with a snapshot and no records, in the newest version and with the next generation, so that it counts. It
+    /// takes six moments of the device at most, and four where the other bank's gate is closed; it makes no read and takes no memory.
+    ///
+    /// The snapshot has to fit: a bank has a byte left behind it. At its start nothing is unsynced: the banks are ready, which `Ok` leaves
+    /// them. After an `Err` they have to be opened again. Own.
+    pub fn begin(&mut self, next: &NextBank) -> Result<(), DiskFault>
+        requires ready { IsReady D.seen D.unsynced self.old }
+        requires long { length next.now.behind.items ≡ HEADER + next.now.length }
+        requires fits { HEADER + next.now.length + 1 ≤ bank_size (length (D.seen self.old.journal.disk)) }
+        requires early { self.old.generation + 1 < 2 ^ 64 }
+        requires few { D.fault_count self.old.journal.disk < 2 ^ 63 }
+
+        // At each moment of the call an image holds what it held, or the new snapshot and no payload.
+        ensures any_moment { (content : Content) (snapshot : List ℕ) → Keeps D.seen self.old content
+            → IsNext self.old.generation next.now snapshot
+            → EachMoment D.moment D.left_since self.old.journal.disk self.new.journal.disk
+            (HoldsEither content (switched content NEWEST snapshot)) }
+
+        // At each moment of the call an image is as the read before, but in the other bank; after it so is the read.
+        ensures elsewhere { EachMoment D.moment D.left_since self.old.journal.disk self.new.journal.disk
+            (IsImage (D.seen self.old.journal.disk) (is_within self.old.other (HEADER + next.now.length + 1))) }
+        ensures seen_elsewhere { IsImage (D.seen self.old.journal.disk) (is_within self.old.other (HEADER + next.now.length + 1))
+            (D.seen self.new.journal.disk) }
+
+        // After `Ok` each image holds the snapshot, and so does the read.
+        ensures images { OnOk result ((content : Content) (snapshot : List ℕ) → Keeps D.seen self.old content
+            → IsNext self.old.generation next.now snapshot → (c : List ℕ)
+            → IsImage (D.seen self.new.journal.disk) (D.unsynced self.new.journal.disk) c
+            → Holds c (switched content NEWEST snapshot)) }
+        ensures kept { OnOk result ((content : Content) (snapshot : List ℕ) → Keeps D.seen self.old content
+            → IsNext self.old.generation next.now snapshot → Keeps D.seen self.new (switched content NEWEST snapshot)) }
+        ensures ready { OnOk result (IsReady D.seen D.unsynced self.new) }
+
+        ensures turned { OnOk result ((self.new.at ≡ self.old.other) × (self.new.other ≡ self.old.at)) }
+        ensures generation { OnOk result (self.new.generation ≡ self.old.generation + 1) }
+        ensures version { OnOk result (self.new.version ≡ NEWEST) }
+        ensures gate { OnOk result (self.new.journal.gate ≡ self.old.other + HEADER + next.now.length) }
+        ensures end { OnOk result (self.new.journal.end ≡ self.old.other + bank_size (length (D.seen self.old.journal.disk))) }
+        ensures same_size { length (D.seen self.new.journal.disk) ≡ length (D.seen self.old.journal.disk) }
+        ensures moments { D.moment self.new.journal.disk ≤ D.moment self.old.journal.disk + (if self.old.other_is_open then 6 else 4) }
+        ensures faults { CountsFault result (D.fault_count self.old.journal.disk) (D.fault_count self.new.journal.disk) }
+    {
+        begin_bank(
+            &mut self.journal.disk,
+            self.other,
+            self.other_is_open,
+            &next.behind,
+        )?;
+        let size = self.journal.end - self.at;
+        let other = self.at;
+        self.at = self.other;
+        self.other = other;
+        self.other_is_open = true;
+        self.version = NEWEST;
+        self.generation += 1;
+        self.journal.start = self.at + HEADER + next.length;
+        self.journal.gate = self.journal.start;
+        self.journal.end = self.at + size;
+        Ok(())
+    }
+
+    /// Prepares a bank with this snapshot and begins it. After `Memory` all is as before; after a `Fault` the banks have to be opened again.
+    /// Own.
+    pub fn switch(&mut self, alloc: Global, snapshot: &[u8]) -> Result<(), SwitchFault>
+        requires ready { IsReady D.seen D.unsynced self.old }
+        requires fits { HEADER + length snapshot.now + 1 ≤ bank_size (length (D.seen self.old.journal.disk)) }
+        requires early { self.old.generation + 1 < 2 ^ 64 }
+        requires few { D.fault_count self.old.journal.disk < 2 ^ 63 }
+
+        // At each moment of the call an image holds what it held, or this snapshot and no payload.
+        ensures any_moment { (content : Content) → Keeps D.seen self.old content
+            → EachMoment D.moment D.left_since self.old.journal.disk self.new.journal.disk
+            (HoldsEither content (switched content NEWEST snapshot.now)) }
+
+        // At each moment of the call the bank that counts at its start is as it was; after it so is the read.
+        ensures elsewhere { EachMoment D.moment D.left_since self.old.journal.disk self.new.journal.disk
+            (IsImage (D.seen self.old.journal.disk) (is_within self.old.other (HEADER + length snapshot.now + 1))) }
+        ensures seen_elsewhere { IsImage (D.seen self.old.journal.disk) (is_within self.old.other (HEADER + length snapshot.now + 1))
+            (D.seen self.new.journal.disk) }
+
+        // After `Ok` each image holds the snapshot, and so does the read.
+        ensures images { OnOk result ((content : Content) → Keeps D.seen self.old content → (c : List ℕ)
+            → IsImage (D.seen self.new.journal.disk) (D.unsynced self.new.journal.disk) c
+            → Holds c (switched content NEWEST snapshot.now)) }
+        ensures kept { OnOk result ((content : Content) → Keeps D.seen self.old content
+            → Keeps D.seen self.new (switched content NEWEST snapshot.now)) }
+        ensures ready { OnOk result (IsReady D.seen D.unsynced self.new) }
+
+        ensures turned { OnOk result ((self.new.at ≡ self.old.other) × (self.new.other ≡ self.old.at)) }
+        ensures generation { OnOk result (self.new.generation ≡ self.old.generation + 1) }
+        ensures version { OnOk result (self.new.version ≡ NEWEST) }
+        ensures gate { OnOk result (self.new.journal.gate ≡ self.old.other + HEADER + length snapshot.now) }
+        ensures end { OnOk result (self.new.journal.end ≡ self.old.other + bank_size (length (D.seen self.old.journal.disk))) }
+        ensures unchanged_without_memory { IsErrOf result SwitchFault.Memory → self.new ≡ self.old }
+        ensures same_size { length (D.seen self.new.journal.disk) ≡ length (D.seen self.old.journal.disk) }
+        ensures moments { D.moment self.new.journal.disk ≤ D.moment self.old.journal.disk + (if self.old.other_is_open then 6 else 4) }
+        ensures faults { D.fault_count self.new.journal.disk
+            ≡ D.fault_count self.old.journal.disk + (if is_switch_fault result then 1 else 0) }
+    {
+        let next = self.prepare(alloc, snapshot)?;
+        match self.begin(&next) {
+            Ok(()) => Ok(()),
+            Err(_) => Err(SwitchFault::Fault),
+        }
+    }
+
+    /// Adds a record, in four moments of the device at most, as `Journal::append` does: header and snapshot stay as they are, and so does
+    /// the other bank.
+    ///
+    /// At its start the banks are ready, which `Ok`, `NoRoom` and `Memory` leave them. After a `Fault` they have to be opened again. Own.
+    pub fn append(&mut self, alloc: Global, payload: &[u8]) -> Result<(), AppendFault>
+        requires ready { IsReady D.seen D.unsynced self.old }
+        requires few { D.fault_count self.old.journal.disk < 2 ^ 63 }
+
+        // At each moment of the call an image holds what it held, or that with this payload.
+        ensures any_moment { (content : Content) → Keeps D.seen self.old content
+            → EachMoment D.moment D.left_since self.old.journal.disk self.new.journal.disk
+            (HoldsEither content (with_payload content payload.now)) }
+
+        // At each moment of the call an image is as the read before, but from the gate to the next one; after it so is the read.
+        ensures elsewhere { EachMoment D.moment D.left_since self.old.journal.disk self.new.journal.disk
+            (IsImage (D.seen self.old.journal.disk) (is_within self.old.journal.gate (6 + length payload.now))) }
+        ensures seen_elsewhere { IsImage (D.seen self.old.journal.disk) (is_within self.old.journal.gate (6 + length payload.now))
+            (D.seen self.new.journal.disk) }
+
+        // After `Ok` each image has the payload, and so does the read.
+        ensures images { OnOk result ((content : Content) → Keeps D.seen self.old content → (c : List ℕ)
+            → IsImage (D.seen self.new.journal.disk) (D.unsynced self.new.journal.disk) c
+            → Holds c (with_payload content payload.now)) }
+        ensures kept { OnOk result ((content : Content) → Keeps D.seen self.old content
+            → Keeps D.seen self.new (with_payload content payload.now)) }
+        ensures ready { OnOk result (IsReady D.seen D.unsynced self.new) }
+
+        ensures same_bank { (self.new.at ≡ self.old.at) × (self.new.other ≡ self.old.other) × (self.new.other_is_open ≡ self.old.other_is_open)
+            × (self.new.version ≡ self.old.version) × (self.new.generation ≡ self.old.generation)
+            × (self.new.journal.start ≡ self.old.journal.start) × (self.new.journal.end ≡ self.old.journal.end) }
+        ensures gate { MatchResult result (λ _. self.new.journal.gate ≡ self.old.journal.gate + 5 + length payload.now)
+            (λ _. self.new.journal.gate ≡ self.old.journal.gate) }
+        ensures no_room { IsErrOf result AppendFault.NoRoom ↔ (self.old.journal.end < self.old.journal.gate + 6 + length payload.now) }
+        ensures unchanged_without_room { IsErrOf result AppendFault.NoRoom → self.new ≡ self.old }
+        ensures unchanged_without_memory { IsErrOf result AppendFault.Memory → self.new ≡ self.old }
+        ensures same_size { length (D.seen self.new.journal.disk) ≡ length (D.seen self.old.journal.disk) }
+        ensures moments { D.moment self.new.journal.disk ≤ D.moment self.old.journal.disk + 4 }
+        ensures faults { D.fault_count self.new.journal.disk
+            ≡ D.fault_count self.old.journal.disk + (if is_append_fault result then 1 else 0) }
+    {
+        self.journal.append(alloc, payload)
+    }
+
+    /// Adds a record whose memory was taken before, in four moments of the device at most, as `Journal::append_record` does: header and
+    /// snapshot stay as they are, and so does the other bank.
+    ///
+    /// The record and the closed gate behind it have room. At its start the banks are ready, which `Ok` leaves them. After an `Err` they
+    /// have to be opened again. Own.
+    pub fn append_record(&mut self, next: &Record) -> Result<(), DiskFault>
+        requires ready { IsReady D.seen D.unsynced self.old }
+        requires room { self.old.journal.gate + 1 + length next.now.behind.items ≤ self.old.journal.end }
+        requires some { 0 < length next.now.behind.items }
+        requires few { D.fault_count self.old.journal.disk < 2 ^ 63 }
+
+        // At each moment of the call an image holds what it held, or that with this payload.
+        ensures any_moment { (content : Content) (payload : List ℕ) → Keeps D.seen self.old content → IsOf payload next.now
+            → EachMoment D.moment D.left_since self.old.journal.disk self.new.journal.disk
+            (HoldsEither content (with_payload content payload)) }
+
+        // At each moment of the call an image is as the read before, but from the gate to the next one; after it so is the read.
+        ensures elsewhere { EachMoment D.moment D.left_since self.old.journal.disk self.new.journal.disk
+            (IsImage (D.seen self.old.journal.disk) (is_within self.old.journal.gate (1 + length next.now.behind.items))) }
+        ensures seen_elsewhere { IsImage (D.seen self.old.journal.disk) (is_within self.old.journal.gate (1 + length next.now.behind.items))
+            (D.seen self.new.journal.disk) }
+
+        // After `Ok` each image has the payload, and so does the read.
+        ensures images { OnOk result ((content : Content) (payload : List ℕ) → Keeps D.seen self.old content → IsOf payload next.now
+            → (c : List ℕ) → IsImage (D.seen self.new.journal.disk) (D.unsynced self.new.journal.disk) c
+            → Holds c (with_payload content payload)) }
+        ensures kept { OnOk result ((content : Content) (payload : List ℕ) → Keeps D.seen self.old content → IsOf payload next.now
+            → Keeps D.seen self.new (with_payload content payload)) }
+        ensures ready { OnOk result (IsReady D.seen D.unsynced self.new) }
+
+        ensures same_bank { (self.new.at ≡ self.old.at) × (self.new.other ≡ self.old.other) × (self.new.other_is_open ≡ self.old.other_is_open)
+            × (self.new.version ≡ self.old.version) × (self.new.generation ≡ self.old.generation)
+            × (self.new.journal.start ≡ self.old.journal.start) × (self.new.journal.end ≡ self.old.journal.end) }
+        ensures gate { MatchResult result (λ _. self.new.journal.gate ≡ self.old.journal.gate + length next.now.behind.items)
+            (λ _. self.new.journal.gate ≡ self.old.journal.gate) }
+        ensures same_size { length (D.seen self.new.journal.disk) ≡ length (D.seen self.old.journal.disk) }
+        ensures moments { D.moment self.new.journal.disk ≤ D.moment self.old.journal.disk + 4 }
+        ensures faults { CountsFault result (D.fault_count self.old.journal.disk) (D.fault_count self.new.journal.disk) }
+    {
+        self.journal.append_record(next)
+    }
+
+    // The banks that a look found on this device. They are of use where it holds something.
+    fn found_on(disk: D, looked: &Looked) -> Banks<D>
+        requires found { IsFound (D.seen disk) looked.now }
+        ensures keeps { HoldsAt looked.now.at looked.now.other (D.seen disk) (content_of looked.now)
+            → Keeps D.seen result (content_of looked.now) }
+        ensures ready { IsSynced (D.unsynced disk) → HoldsAt looked.now.at looked.now.other (D.seen disk) (content_of looked.now)
+            → IsReady D.seen D.unsynced result }
+        ensures disk { result.journal.disk ≡ disk }
+    {
+        let size = disk.size() / 2;
+        let journal = Journal {
+            disk,
+            start: looked.start,
+            gate: looked.gate,
+            end: looked.at + size,
+        };
+        Banks {
+            journal,
+            at: looked.at,
+            other: looked.other,
+            other_is_open: looked.other_is_open,
+            version: looked.version,
+            generation: looked.generation,
+        }
+    }
+
+    /// How many bytes the counting bank has from the closed gate on. A record takes six and its payload's. Own.
+    pub fn room(&self) -> usize
+        requires { self.now.journal.gate ≤ self.now.journal.end }
+        ensures { self.now.journal.gate + result ≡ self.now.journal.end }
+    {
+        self.journal.end - self.journal.gate
+    }
+
+    /// Bytes of each bank. Own.
+    pub fn size(&self) -> usize
+        requires { self.now.at ≤ self.now.journal.end }
+        ensures { self.now.at + result ≡ self.now.journal.end }
+    {
+        self.journal.end - self.at
+    }
+
+    /// The version of the bank that counts. Own.
+    pub fn version(&self) -> u8
+        ensures { result ≡ self.now.version }
+    {
+        self.version
+    }
+
+    /// The device as it stands. Own.
+    pub fn into_disk(self) -> D
+        ensures { result ≡ self.journal.disk }
+    {
+        let Banks {
+            journal,
+            at: _,
+            other: _,
+            other_is_open: _,
+            version: _,
+            generation: _,
+        } = self;
+        let Journal {
+            disk,
+            start: _,
+            gate: _,
+            end: _,
+        } = journal;
+        disk
+    }
+}

@@ -1,7 +1,0 @@
-use Rattle.std.proofs.Common.{◌≡◌, take}
-use Rattle.std.specs.Prelude.{fold}
-use Rattle.pf_table.specs.Map.Maps.{with_entry}
-use Rattle.pf_table.proofs.map.paged_map.PagedMap.with.Given as goal
-
-abbrev pub invariant-loop-change : goal.invariant-loop-change
-invariant-loop-change g l = l.map ≡ fold (with_entry g.K.Key.order g.V.Content.kept) l.self (take l.change-index l.changes)

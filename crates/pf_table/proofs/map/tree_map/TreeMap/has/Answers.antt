@@ -1,9 +1,0 @@
-use Rattle.std.proofs.Common.{◌∙◌}
-use Rattle.std.specs.FinMap.{find}
-use Rattle.pf_table.proofs.Maps.{is_there}
-use Rattle.pf_table.proofs.map.tree_map.TreeMap.has.Goals as goal
-
-pub returns : goal.returns
-returns g c =
-    let key = g.Q.Probe.key c.args.sought.now in
-    c.is_some.ensures ∙ is_there (λ e. g.E.Held.pair e.now) key c.get.result (find g.K.Key.order key c.args.self.now) c.get.ensures.entry
