@@ -27,5 +27,7 @@ pub use pf_session::{
     serve_peer_from,
 };
 pub use pfd_files::{Fault, format_on, show_on};
-pub use pfd_words::{HISTORY_LIMIT, MEMORY_SIZE, MOST_HISTORY, MOST_WORKERS, WORKERS};
-pub use program::{open_fresh, run_process, start, without_words};
+pub use program::{
+    HISTORY_LIMIT, MEMORY_SIZE, MOST_HISTORY, MOST_WORKERS, WORKERS, open_fresh, run_process,
+    start, without_words,
+};

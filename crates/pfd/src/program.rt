@@ -27,6 +27,7 @@ use pf_disk::{Disk, FileDisk};
 use pf_session::serve_alone;
 use pfd_files::{Fault, format_file, open_file, show_file};
 use pfd_words::{Task, read_words};
+pub use pfd_words::{HISTORY_LIMIT, MEMORY_SIZE, MOST_HISTORY, MOST_WORKERS, WORKERS};
 use std::alloc::Global;
 use std::env;
 use std::fs::{File, Files};
