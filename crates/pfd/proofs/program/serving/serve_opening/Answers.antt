@@ -2,7 +2,7 @@ use Rattle.pf_session.proofs.Flushing.{whole_writes}
 use Rattle.pfd.specs.Program.{listening_text}
 use Rattle.pfd.proofs.program.serving.serve_opening.Goals as goal
 
-pub returns-in_err-serve_listener : goal.returns-in_err-serve_listener
-returns-in_err-serve_listener g c =
+pub returns : goal.returns
+returns g c =
     let (bound, out) = c.in_ok-listener.ensures in
-    (bound, whole_writes c.from_residual-in_err-serve_listener.result (g.W.Write.contents c.args.writer.now) (g.W.Write.contents c.listen.new.writer) (listening_text bound) out)
+    (bound, whole_writes c.told.result (g.W.Write.contents c.args.writer.now) (g.W.Write.contents c.listen.new.writer) (listening_text bound) out)
