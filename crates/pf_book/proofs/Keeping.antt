@@ -5,9 +5,7 @@ use mathlib.Core.List.{IsPrefix}
 use Rattle.pf_disk.specs.Disk.{IsImage}
 use Rattle.pf_core.specs.{Durable.Edits.{Kept, Edit, applied, after}, Pages.{Page, IsFolded}, Wholes.Whole, Worlds.{Setting, flat}}
 use Rattle.pf_core.proofs.LongerWorlds.{flat-push}
-use Rattle.pf_store.specs.{Lengths.payload_length, Rooms.{group_length, gate_after}, Stores.{Holds, HoldsEither}, StoreKept.Stands}
-use Rattle.pf_store.specs.declared.groups.change.Recorded.TheVariants as recorded
-use Rattle.pf_store.specs.declared.store.keeping.Store.{Store}
+use Rattle.pf_store.specs.{Stores.{Holds, HoldsEither}, StoreKept.{Stands, Storage}}
 use Rattle.pf_view.specs.Known.{Stage}
 use Rattle.pf_book.specs.{Books.{singles, page_of, HoldsFront, IsOpened, IsBook, shows_all}, Pasts.{Past, no_past, with_change}}
 use Rattle.pf_book.proofs.Parts.{flat-singles, all-acked, taken-more, taken-still, left-one, singles-more, prefix_is, prefix_short}
@@ -75,19 +73,9 @@ pending-page base whole log log' e acked setting setting' shown logged all same 
 pub goes-on : (halted : Bool) (log : List Edit) (acked : ℕ) → halted ≡ nat_lt acked (length log) → acked ≡ length log → halted ≡ false
 goes-on halted log acked is all = is ∙ grind (arith, nat_tests, all)
 
--- ---- gates
-
-gate-push : (gate : ℕ) (groups : List (List Edit)) (g : List Edit) → gate_after gate (groups ++ g ∷ []) ≡ gate_after gate groups + 5 + group_length g
-gate-push gate [] g = refl
-gate-push gate (x ∷ xs) g = gate-push (gate + 5 + group_length x) xs g
-
-one-long : (e : Edit) → group_length (e ∷ []) ≡ payload_length (recorded.Made e)
-unfolding group_length
-one-long e = omega arith
-
 -- ---- a Book
 
-module _ {D : Type 0} (seen : D → List ℕ) (unsynced : D → ℕ → Bool) (faults : D → ℕ) where
+module _ {D : Type 0} (seen : D → List ℕ) (unsynced : D → ℕ → Bool) where
   -- each image of the device holds what was acknowledged, where nothing is pending
   pub kept-front : (base : Kept) (whole : Whole) (log : List Edit) (acked : ℕ) (setting : Setting) (shown : List Edit) (c : List ℕ) →
       IsFolded (page_of base whole log acked setting shown) → Holds c whole.durable → HoldsFront (page_of base whole log acked setting shown) c
@@ -95,14 +83,13 @@ module _ {D : Type 0} (seen : D → List ℕ) (unsynced : D → ℕ → Bool) (f
       (0, subst (λ (k : Kept). Holds c k) (folded.durable ∙ ap (λ (gs : List (List Edit)). after base (flat gs)) (sym (append-nil (singles (take acked log))))) holds)
 
   -- a change was kept
-  pub more-book : (store store' : Store D) (base : Kept) (whole whole' : Whole) (d d' : Kept) (log log' : List Edit) (e : Edit) (acked acked' offered first : ℕ) (setting setting' : Setting) (stage : Stage) (past past' : Past)
-      → IsBook seen unsynced faults store (page_of base whole log acked setting stage.shown) d log acked offered first stage past
+  pub more-book : (store store' : Storage D) (base : Kept) (whole whole' : Whole) (d d' : Kept) (log log' : List Edit) (e : Edit) (acked acked' offered : ℕ) (setting setting' : Setting) (stage : Stage) (past past' : Past)
+      → IsBook seen unsynced store (page_of base whole log acked setting stage.shown) d log acked offered stage past
       → singles (drop acked log) ≡ [] → acked' ≡ acked + 1 → log' ≡ log ++ e ∷ [] → past' ≡ with_change past e true → whole'.durable ≡ applied whole.durable e → d' ≡ whole'.durable
-      → store.halted ≡ false → store'.halted ≡ false → Stands seen unsynced store' whole'.durable → faults store'.bank.journal.disk < 2 ^ 63
-      → store'.bank.journal.gate ≡ store.bank.journal.gate + 5 + payload_length (recorded.Made e)
-      → ((c : List ℕ) → IsImage (seen store'.bank.journal.disk) (unsynced store'.bank.journal.disk) c → Holds c whole'.durable)
-      → IsBook seen unsynced faults store' (page_of base whole' log' acked' setting' stage.shown) d' log' acked' offered first stage past'
-  more-book store store' base whole whole' d d' log log' e acked acked' offered first setting setting' stage past past' i none counted logged noted left latest was on stands few gate images =
+      → store.halted ≡ false → store'.halted ≡ false → Stands seen unsynced store' whole'.durable → store'.generation ≤ store.generation + 1 → setting'.limit ≤ 2 ^ 20
+      → ((c : List ℕ) → IsImage (seen store'.disk) (unsynced store'.disk) c → Holds c whole'.durable)
+      → IsBook seen unsynced store' (page_of base whole' log' acked' setting' stage.shown) d' log' acked' offered stage past'
+  more-book store store' base whole whole' d d' log log' e acked acked' offered setting setting' stage past past' i none counted logged noted left latest was on stands raised limit images =
       let all : acked ≡ length log = all-acked log acked i.low none in
       let page : Page = page_of base whole' (log ++ e ∷ []) (acked + 1) setting' stage.shown in
       let folded : IsFolded page = folded-more base whole whole' log e acked setting setting' stage.shown all left i.folded in
@@ -115,9 +102,8 @@ module _ {D : Type 0} (seen : D → List ℕ) (unsynced : D → ℕ → Bool) (f
         high = omega (arith, all, long);
         halted = on ∙ sym (grind (arith, nat_tests, all, long));
         stands = λ h. stands;
-        few = λ h. few;
-        gate = λ h. gate ∙ ap (λ (n : ℕ). n + 5 + payload_length (recorded.Made e)) (i.gate was) ∙ ap (λ (n : ℕ). gate_after first (singles (take acked log)) + 5 + n) (sym (one-long e))
-            ∙ sym (gate-push first (singles (take acked log)) (e ∷ [])) ∙ ap (gate_after first) (sym (acked-more log e acked all));
+        early = λ h. omega (arith, raised, i.early was, long);
+        limit = limit;
         images = λ c image. kept-front base whole' (log ++ e ∷ []) (acked + 1) setting' stage.shown c folded (images c image);
         offered_low = omega (arith, i.offered_low);
         offered_is = i.offered_is ∙ sym (taken-still log e offered (omega (arith, i.offered_low, i.low)));
@@ -126,12 +112,12 @@ module _ {D : Type 0} (seen : D → List ℕ) (unsynced : D → ℕ → Bool) (f
       })
 
   -- the device failed while one was
-  pub fault-book : (store store' : Store D) (base : Kept) (whole : Whole) (d : Kept) (log log' : List Edit) (e : Edit) (acked offered first : ℕ) (setting setting' : Setting) (stage : Stage) (past past' : Past)
-      → IsBook seen unsynced faults store (page_of base whole log acked setting stage.shown) d log acked offered first stage past
-      → singles (drop acked log) ≡ [] → log' ≡ log ++ e ∷ [] → past' ≡ with_change past e false → store'.halted ≡ true
-      → ((c : List ℕ) → IsImage (seen store'.bank.journal.disk) (unsynced store'.bank.journal.disk) c → HoldsEither whole.durable (applied whole.durable e) c)
-      → IsBook seen unsynced faults store' (page_of base whole log' acked setting' stage.shown) d log' acked offered first stage past'
-  fault-book store store' base whole d log log' e acked offered first setting setting' stage past past' i none logged noted off images =
+  pub fault-book : (store store' : Storage D) (base : Kept) (whole : Whole) (d : Kept) (log log' : List Edit) (e : Edit) (acked offered : ℕ) (setting setting' : Setting) (stage : Stage) (past past' : Past)
+      → IsBook seen unsynced store (page_of base whole log acked setting stage.shown) d log acked offered stage past
+      → singles (drop acked log) ≡ [] → log' ≡ log ++ e ∷ [] → past' ≡ with_change past e false → store'.halted ≡ true → setting'.limit ≤ 2 ^ 20
+      → ((c : List ℕ) → IsImage (seen store'.disk) (unsynced store'.disk) c → HoldsEither whole.durable (applied whole.durable e) c)
+      → IsBook seen unsynced store' (page_of base whole log' acked setting' stage.shown) d log' acked offered stage past'
+  fault-book store store' base whole d log log' e acked offered setting setting' stage past past' i none logged noted off limit images =
       let all : acked ≡ length log = all-acked log acked i.low none in
       let long : length (log ++ e ∷ []) ≡ length log + 1 = length-append log (e ∷ []) in
       let folded : IsFolded (page_of base whole (log ++ e ∷ []) acked setting' stage.shown) = folded-pending base whole log e acked setting setting' stage.shown i.low i.folded in
@@ -144,8 +130,8 @@ module _ {D : Type 0} (seen : D → List ℕ) (unsynced : D → ℕ → Bool) (f
         high = omega (arith, all, long);
         halted = off ∙ sym (grind (arith, nat_tests, all, long));
         stands = λ h. absurd (out h);
-        few = λ h. absurd (out h);
-        gate = λ h. absurd (out h);
+        early = λ h. absurd (out h);
+        limit = limit;
         images = λ c image. either c (images c image);
         offered_low = i.offered_low;
         offered_is = i.offered_is ∙ sym (taken-still log e offered (omega (arith, i.offered_low, i.low)));
@@ -168,11 +154,11 @@ module _ {D : Type 0} (seen : D → List ℕ) (unsynced : D → ℕ → Bool) (f
           (1, subst (λ (k : Kept). Holds c k) is next)
 
   -- more is offered, and perhaps shown
-  pub shown-book : (store : Store D) (base : Kept) (whole : Whole) (d : Kept) (log : List Edit) (acked offered first : ℕ) (setting : Setting) (stage stage' : Stage) (past : Past)
-      → IsBook seen unsynced faults store (page_of base whole log acked setting stage.shown) d log acked offered first stage past
+  pub shown-book : (store : Storage D) (base : Kept) (whole : Whole) (d : Kept) (log : List Edit) (acked offered : ℕ) (setting : Setting) (stage stage' : Stage) (past : Past)
+      → IsBook seen unsynced store (page_of base whole log acked setting stage.shown) d log acked offered stage past
       → stage'.offered ≡ take acked log → IsPrefix stage'.shown stage'.offered
-      → IsBook seen unsynced faults store (page_of base whole log acked setting stage'.shown) d log acked acked first stage' past
-  shown-book store base whole d log acked offered first setting stage stage' past i is front = record {
+      → IsBook seen unsynced store (page_of base whole log acked setting stage'.shown) d log acked acked stage' past
+  shown-book store base whole d log acked offered setting stage stage' past i is front = record {
     folded = folded-shown base whole log acked setting setting stage.shown stage'.shown (subst (λ (l : List Edit). IsPrefix stage'.shown l) is front) i.folded;
     log_is = i.log_is;
     acked_is = i.acked_is;
@@ -180,8 +166,8 @@ module _ {D : Type 0} (seen : D → List ℕ) (unsynced : D → ℕ → Bool) (f
     high = i.high;
     halted = i.halted;
     stands = i.stands;
-    few = i.few;
-    gate = i.gate;
+    early = i.early;
+    limit = i.limit;
     images = i.images;
     offered_low = omega arith;
     offered_is = is;
@@ -190,10 +176,10 @@ module _ {D : Type 0} (seen : D → List ℕ) (unsynced : D → ℕ → Bool) (f
   }
 
   -- other tickets
-  pub other-tickets : (store : Store D) (base : Kept) (whole whole' : Whole) (d : Kept) (log : List Edit) (acked offered first : ℕ) (setting : Setting) (stage : Stage) (past : Past)
-      → IsBook seen unsynced faults store (page_of base whole log acked setting stage.shown) d log acked offered first stage past → whole'.durable ≡ whole.durable
-      → IsBook seen unsynced faults store (page_of base whole' log acked setting stage.shown) d log acked offered first stage past
-  other-tickets store base whole whole' d log acked offered first setting stage past i same = record {
+  pub other-tickets : (store : Storage D) (base : Kept) (whole whole' : Whole) (d : Kept) (log : List Edit) (acked offered : ℕ) (setting : Setting) (stage : Stage) (past : Past)
+      → IsBook seen unsynced store (page_of base whole log acked setting stage.shown) d log acked offered stage past → whole'.durable ≡ whole.durable
+      → IsBook seen unsynced store (page_of base whole' log acked setting stage.shown) d log acked offered stage past
+  other-tickets store base whole whole' d log acked offered setting stage past i same = record {
     folded = record { durable = same ∙ i.folded.durable; within = i.folded.within; published = i.folded.published };
     log_is = i.log_is;
     acked_is = i.acked_is;
@@ -201,8 +187,8 @@ module _ {D : Type 0} (seen : D → List ℕ) (unsynced : D → ℕ → Bool) (f
     high = i.high;
     halted = i.halted;
     stands = λ h. subst (λ (k : Kept). Stands seen unsynced store k) (sym same) (i.stands h);
-    few = i.few;
-    gate = i.gate;
+    early = i.early;
+    limit = i.limit;
     images = i.images;
     offered_low = i.offered_low;
     offered_is = i.offered_is;
@@ -211,10 +197,10 @@ module _ {D : Type 0} (seen : D → List ℕ) (unsynced : D → ℕ → Bool) (f
   }
 
   -- a new Book
-  pub new-book : (store : Store D) (base : Kept) (whole : Whole) (d : Kept) (first : ℕ) (setting : Setting) (stage : Stage) (past : Past)
-      → IsOpened seen unsynced faults store d → past ≡ no_past → d ≡ base → whole.durable ≡ d → store.bank.journal.gate ≡ first → stage.shown ≡ [] → stage.offered ≡ []
-      → IsBook seen unsynced faults store (page_of base whole [] 0 setting stage.shown) d [] 0 0 first stage past
-  new-book store base whole d first setting stage past o empty same kept gate shown offered = record {
+  pub new-book : (store : Storage D) (base : Kept) (whole : Whole) (d : Kept) (setting : Setting) (stage : Stage) (past : Past)
+      → IsOpened seen unsynced store d → past ≡ no_past → d ≡ base → whole.durable ≡ d → setting.limit ≤ 2 ^ 20 → stage.shown ≡ [] → stage.offered ≡ []
+      → IsBook seen unsynced store (page_of base whole [] 0 setting stage.shown) d [] 0 0 stage past
+  new-book store base whole d setting stage past o empty same kept limit shown offered = record {
     folded = record { durable = kept ∙ same; within = omega (arith, ap length shown); published = ap (after base) shown ∙ sym (ap (λ (n : ℕ). after base (take n [])) (ap length shown)) };
     log_is = ap (λ (p : Past). p.front) empty;
     acked_is = ap (λ (p : Past). p.acked) empty;
@@ -222,8 +208,8 @@ module _ {D : Type 0} (seen : D → List ℕ) (unsynced : D → ℕ → Bool) (f
     high = omega arith;
     halted = o.goes_on;
     stands = λ h. subst (λ (k : Kept). Stands seen unsynced store k) (sym kept) o.stands;
-    few = λ h. o.few;
-    gate = λ h. gate;
+    early = λ h. omega (arith, o.early);
+    limit = limit;
     images = λ c image. (0, subst (λ (k : Kept). Holds c k) same (o.images c image));
     offered_low = omega arith;
     offered_is = offered;

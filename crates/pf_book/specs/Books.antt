@@ -8,27 +8,29 @@ use Rattle.pf_ticket.specs.{Mentions.{after as moved_by, switches}}
 use Rattle.pf_core.specs.declared.{command.Command.Command, command.Command.TheVariants.{Ask}, command.HistoryCommand.HistoryCommand, command.HistoryCommand.TheVariants.{Log, Publish}, command.Question.TheVariants.Judge, durable.verdict.Verdict.Verdict, reply.Outcome.Outcome, reply.Refusal.Refusal, reply.Refusal.TheVariants.{HistoryFull, Full, Fault, Memory}, reply.Reply.Reply, reply.Reply.TheVariants.{Answer, Applied, Stored, Refused}}
 use Rattle.pf_core.specs.declared.reply.Answer.TheVariants as answer
 use Rattle.pf_core.specs.{Calls.{Call, call}, Durable.Edits.{Kept, Edit, after, voided_by, verdict}, Laws.{Durable.IsWithin, Openings.Leaves}, Pages.{Page, IsFolded}, Wholes.Whole, Worlds.{Setting, Held, Doing, flat, is_fault, last_epoch, raised}}
-use Rattle.pf_store.specs.{Rooms.{gate_after, on_device}, Stores.Holds, StoreKept.Stands}
-use Rattle.pf_store.specs.declared.store.keeping.Store.{Store}
+use Rattle.pf_store.specs.{Rooms.on_device, Stores.Holds, StoreKept.{Stands, Storage}}
 use Rattle.pf_view.specs.Known.{Stage}
 use Rattle.pf_book.specs.Pasts.{Past}
 
 -- ---- an opened device
 
--- the device, what it held, in the next epoch, where its bank ends, where its closed gate stands, and which history is its own
+-- the device, what it held, in the next epoch, how many bytes each of its banks has, and which history is its own
 pub record Opened (D : Type 0) : Type 0 where
   pub disk : D
   pub given : Kept
-  pub end : ℕ
-  pub gate : ℕ
+  pub size : ℕ
   pub history : Book
 
-abbrev pub opened_store : {D : Type 0} → Store D → Kept → Book → Opened D
-opened_store store d history = record { disk = store.bank.journal.disk; given = d; end = store.bank.journal.end; gate = store.bank.journal.gate; history = history }
+abbrev pub opened_store : {D : Type 0} → Storage D → Kept → Book → Opened D
+opened_store store d history = record { disk = store.disk; given = d; size = store.size; history = history }
+
+-- what the opening keeps within, with so many changes as its history may have
+abbrev pub setting_of : {D : Type 0} → Opened D → ℕ → Setting
+setting_of o limit = on_device limit o.size
 
 -- The opening, with so many changes as its history may have, is named by these: what it gave, its history, and what it keeps within.
 abbrev pub IsNamed : {D : Type 0} → Kept → Book → Setting → Opened D → ℕ → Type 0
-IsNamed base history setting o limit = (o.given ≡ base) × (o.history ≡ history) × (on_device limit o.end o.gate ≡ setting)
+IsNamed base history setting o limit = (o.given ≡ base) × (o.history ≡ history) × (setting_of o limit ≡ setting)
 
 -- what is kept is what an epoch less was, in its next epoch
 pub record IsRaised (d : Kept) : Type 0 where
@@ -37,11 +39,11 @@ pub record IsRaised (d : Kept) : Type 0 where
   pub low : before.epoch < last_epoch
 
 -- what its type keeps
-pub record IsOpened {D : Type 0} (seen : D → List ℕ) (unsynced : D → ℕ → Bool) (faults : D → ℕ) (store : Store D) (d : Kept) : Type 0 where
+pub record IsOpened {D : Type 0} (seen : D → List ℕ) (unsynced : D → ℕ → Bool) (store : Storage D) (d : Kept) : Type 0 where
   pub goes_on : store.halted ≡ false
   pub stands : Stands seen unsynced store d
-  pub few : faults store.bank.journal.disk < 2 ^ 63
-  pub images : (c : List ℕ) → IsImage (seen store.bank.journal.disk) (unsynced store.bank.journal.disk) c → Holds c d
+  pub early : store.generation ≤ 2 ^ 63
+  pub images : (c : List ℕ) → IsImage (seen store.disk) (unsynced store.disk) c → Holds c d
   pub within : IsWithin d
   pub epoch : IsRaised d
 
@@ -64,8 +66,8 @@ page_of base whole log acked setting shown = record {
 }
 
 -- What contracts see of a Book: its device; what its opening gave; its core; the groups of changes that were acknowledged, and the one that
--- wasn't; how many changes it may have, where its bank ends, and where the closed gate stood after the opening; how many changes are shown,
--- and the copy that shows them.
+-- wasn't; how many changes it may have, and how many bytes each of its device's banks has; how many changes are shown, and the copy that
+-- shows them.
 pub record Ledger (D : Type 0) : Type 0 where
   pub disk : D
   pub base : Kept
@@ -73,21 +75,19 @@ pub record Ledger (D : Type 0) : Type 0 where
   pub acked : List (List Edit)
   pub pending : List (List Edit)
   pub limit : ℕ
-  pub end : ℕ
-  pub gate : ℕ
+  pub size : ℕ
   pub shown : ℕ
   pub published : Kept
 
-abbrev pub ledger : {D : Type 0} → D → Kept → Whole → List Edit → (acked limit end gate : ℕ) → List Edit → Ledger D
-ledger disk base whole log acked limit end gate shown = record {
+abbrev pub ledger : {D : Type 0} → D → Kept → Whole → List Edit → (acked limit size : ℕ) → List Edit → Ledger D
+ledger disk base whole log acked limit size shown = record {
   disk = disk;
   base = base;
   whole = whole;
   acked = singles (take acked log);
   pending = singles (drop acked log);
   limit = limit;
-  end = end;
-  gate = gate;
+  size = size;
   shown = length shown;
   published = after base shown;
 }
@@ -99,7 +99,7 @@ page b = record {
   whole = b.whole;
   acked = b.acked;
   pending = b.pending;
-  setting = on_device b.limit b.end b.gate;
+  setting = on_device b.limit b.size;
   shown = b.shown;
   published = b.published;
 }
@@ -113,8 +113,8 @@ abbrev pub HoldsLeft : Held → Doing → List ℕ → Type 0
 HoldsLeft h doing image = (d : Kept) × Holds image d × Leaves h doing d
 
 -- what a Book's type keeps
-pub record IsBook {D : Type 0} (seen : D → List ℕ) (unsynced : D → ℕ → Bool) (faults : D → ℕ)
-    (store : Store D) (b : Page) (d : Kept) (log : List Edit) (acked offered first_gate : ℕ) (stage : Stage) (past : Past) : Type 0 where
+pub record IsBook {D : Type 0} (seen : D → List ℕ) (unsynced : D → ℕ → Bool)
+    (store : Storage D) (b : Page) (d : Kept) (log : List Edit) (acked offered : ℕ) (stage : Stage) (past : Past) : Type 0 where
   pub folded : IsFolded b
   pub log_is : past.front ≡ log
   pub acked_is : past.acked ≡ acked
@@ -122,9 +122,10 @@ pub record IsBook {D : Type 0} (seen : D → List ℕ) (unsynced : D → ℕ →
   pub high : length log ≤ acked + 1
   pub halted : store.halted ≡ nat_lt acked (length log)
   pub stands : store.halted ≡ false → Stands seen unsynced store b.whole.durable
-  pub few : store.halted ≡ false → faults store.bank.journal.disk < 2 ^ 63
-  pub gate : store.halted ≡ false → store.bank.journal.gate ≡ gate_after first_gate b.acked
-  pub images : (c : List ℕ) → IsImage (seen store.bank.journal.disk) (unsynced store.bank.journal.disk) c → HoldsFront b c
+  -- each change raises the bank's generation by one at most
+  pub early : store.halted ≡ false → store.generation ≤ 2 ^ 63 + length log
+  pub limit : b.setting.limit ≤ 2 ^ 20
+  pub images : (c : List ℕ) → IsImage (seen store.disk) (unsynced store.disk) c → HoldsFront b c
   pub offered_low : offered ≤ acked
   pub offered_is : stage.offered ≡ take offered log
   pub shown_is : IsPrefix stage.shown stage.offered

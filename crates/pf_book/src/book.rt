@@ -4,10 +4,10 @@ ghost use Rattle.std.specs.{Arc.arc_value, Option.option_map};
 ghost use Rattle.pf_disk.specs.Disk.{EachMoment, IsImage};
 ghost use Rattle.pf_core.specs.declared.reply.Refusal.TheVariants as told;
 ghost use Rattle.pf_core.specs.{Calls.call, Commands.may_change, Durable.Edits.{Kept, applied, after, fits, verdict}, Pages.{IsAt, IsFolded, StandsFor, Leads}, Wholes.left_by, Worlds.{Held, idle, calling, begun, upshot, Event, called, opened, is_fault, flat, raised, last_epoch, down, state_after, IsWorld, LegalReply, shown_by}};
-ghost use Rattle.pf_store.specs.{Rooms.on_device, Stores.HoldsEither};
+ghost use Rattle.pf_store.specs.Stores.{HoldsEither};
 ghost use Rattle.pf_view.specs.Known.{IsNewSeer};
 ghost use Rattle.pf_book.specs.Receipts.{IsGiven, IsReached};
-ghost use Rattle.pf_book.specs.Books.{page, HoldsLeft, IsMore, IsUnkept, IsMade, IsTold, Stays, StaysIfRefused, shows_all, change_in, log_in, is_fault_reply, is_fault_result, IsNumbered, IsJudged, IsNamed, judging};
+ghost use Rattle.pf_book.specs.Books.{page, HoldsLeft, IsMore, IsUnkept, IsMade, IsTold, Stays, StaysIfRefused, shows_all, change_in, log_in, is_fault_reply, is_fault_result, IsNumbered, IsJudged, IsNamed, setting_of, judging};
 
 mod receipts;
 
@@ -40,8 +40,6 @@ pub struct Book<D: Disk + Drop, J: Chapter, R: Wait + Drop> {
     acked: usize,
     offered: usize,
     limit: usize,
-    // where the closed gate stood after the opening
-    first_gate: usize,
     shower: Shower<J, R>,
     tip: Tip<J>,
 }
@@ -54,12 +52,11 @@ impl<D: Disk + Drop, J: Chapter, R: Wait + Drop> Model for Book<D, J, R> {
 
     ghost Value = { Ledger D };
 
-    ghost view = { λ b. ledger b.store.bank.journal.disk J.base b.core (map arc_value b.log.items) b.acked
-        b.limit b.store.bank.journal.end b.first_gate b.shower.shown };
+    ghost view = { λ b. ledger b.store.disk J.base b.core (map arc_value b.log.items) b.acked b.limit b.store.size b.shower.shown };
 
-    ghost invariant = { λ b. IsBook D.seen D.unsynced D.fault_count b.store
-        (page_of J.base b.core (map arc_value b.log.items) b.acked (on_device b.limit b.store.bank.journal.end b.first_gate) b.shower.shown)
-        (arc_value b.durable) (map arc_value b.log.items) b.acked b.offered b.first_gate b.shower b.tip };
+    ghost invariant = { λ b. IsBook D.seen D.unsynced b.store
+        (page_of J.base b.core (map arc_value b.log.items) b.acked (on_device b.limit b.store.size) b.shower.shown)
+        (arc_value b.durable) (map arc_value b.log.items) b.acked b.offered b.shower b.tip };
 }
 
 // A change for the log, for the history, and for a receipt.
@@ -113,7 +110,7 @@ impl<D: Disk + Drop, J: Chapter, R: Wait + Drop> Book<D, J, R> {
         requires low { 1 ≤ history_limit }
         requires high { history_limit ≤ 1_048_576 }
         requires seers { (0 < seers) × (seers ≤ 64) }
-        ensures at { IfOk result (λ r. IsAt (begun (on_device history_limit opening.end opening.gate) opening.given) (page r.0)) }
+        ensures at { IfOk result (λ r. IsAt (begun (setting_of opening history_limit) opening.given) (page r.0)) }
         ensures device { IfOk result (λ r. r.0.disk ≡ opening.disk) }
         ensures device_err { IfErr result (λ e. e.1 ≡ opening.disk) }
         ensures seers { IfOk result (λ r. (length r.1.items ≡ seers) × All IsNewSeer r.1.items) }
@@ -121,7 +118,7 @@ impl<D: Disk + Drop, J: Chapter, R: Wait + Drop> Book<D, J, R> {
         // Of whatever world the device held this after, but for the epoch, it stands for that with an opening at its end.
         ensures worlds { IfOk result (λ r. (first d : Kept) (world : List Event) → IsWorld first world → state_after (down first) world ≡ down d
             → d.epoch < last_epoch → opening.given ≡ raised d
-            → StandsFor first (page r.0) (world ++ opened (on_device history_limit opening.end opening.gate) ∷ [])) }
+            → StandsFor first (page r.0) (world ++ opened (setting_of opening history_limit) ∷ [])) }
         ensures reached { IfOk result (λ r. IsReached J.base J.setting (page r.0)) }
     {
         let Opening {
@@ -137,7 +134,6 @@ impl<D: Disk + Drop, J: Chapter, R: Wait + Drop> Book<D, J, R> {
         };
         match views::<J, R>(rt, alloc, &durable, seers) {
             Ok((shower, all)) => {
-                let first_gate = store.bank.journal.gate;
                 let book = Book {
                     alloc,
                     store,
@@ -147,7 +143,6 @@ impl<D: Disk + Drop, J: Chapter, R: Wait + Drop> Book<D, J, R> {
                     acked: 0,
                     offered: 0,
                     limit: history_limit,
-                    first_gate,
                     shower,
                     tip,
                 };
@@ -168,7 +163,7 @@ impl<D: Disk + Drop, J: Chapter, R: Wait + Drop> Book<D, J, R> {
         ensures any_moment { EachMoment D.moment D.left_since self.old.disk self.new.disk
             (HoldsEither self.old.whole.durable (applied self.old.whole.durable change)) }
         ensures still { IfErr result (λ e. is_fault e ≡ false → self.new.disk ≡ self.old.disk) }
-        ensures moments { D.moment self.new.disk ≤ D.moment self.old.disk + 4 }
+        ensures moments { D.moment self.new.disk ≤ D.moment self.old.disk + 10 }
         ensures same_size { length (D.seen self.new.disk) ≡ length (D.seen self.old.disk) }
         ensures faults { D.fault_count self.new.disk ≡ D.fault_count self.old.disk + (if is_fault_result result then 1 else 0) }
     {
@@ -209,7 +204,7 @@ impl<D: Disk + Drop, J: Chapter, R: Wait + Drop> Book<D, J, R> {
         ensures any_moment { EachMoment D.moment D.left_since self.old.disk self.new.disk
             (HoldsEither self.old.whole.durable (applied self.old.whole.durable (arc_value change))) }
         ensures still { IfErr result (λ e. is_fault e ≡ false → self.new.disk ≡ self.old.disk) }
-        ensures moments { D.moment self.new.disk ≤ D.moment self.old.disk + 4 }
+        ensures moments { D.moment self.new.disk ≤ D.moment self.old.disk + 10 }
         ensures same_size { length (D.seen self.new.disk) ≡ length (D.seen self.old.disk) }
         ensures faults { D.fault_count self.new.disk ≡ D.fault_count self.old.disk + (if is_fault_result result then 1 else 0) }
     {
@@ -269,7 +264,7 @@ impl<D: Disk + Drop, J: Chapter, R: Wait + Drop> Book<D, J, R> {
         ensures any_moment { EachMoment D.moment D.left_since self.old.disk self.new.disk
             (HoldsEither self.old.whole.durable (applied self.old.whole.durable change)) }
         ensures still { (e : Refusal) → result.0 ≡ Reply.Refused e → is_fault e ≡ false → self.new.disk ≡ self.old.disk }
-        ensures moments { D.moment self.new.disk ≤ D.moment self.old.disk + 4 }
+        ensures moments { D.moment self.new.disk ≤ D.moment self.old.disk + 10 }
         ensures same_size { length (D.seen self.new.disk) ≡ length (D.seen self.old.disk) }
         ensures faults { D.fault_count self.new.disk ≡ D.fault_count self.old.disk + (if is_fault_reply result.0 then 1 else 0) }
     {
@@ -316,7 +311,7 @@ impl<D: Disk + Drop, J: Chapter, R: Wait + Drop> Book<D, J, R> {
         ensures given { IsGiven result.0 (option_map arc_value result.1) (page self.old) (page self.new) }
         ensures numbered { IsNumbered result.0 (page self.new) }
         ensures judged { IsJudged self.old.whole.durable command.now result.0 }
-        ensures moments { D.moment self.new.disk ≤ D.moment self.old.disk + 4 }
+        ensures moments { D.moment self.new.disk ≤ D.moment self.old.disk + 10 }
         ensures same_size { length (D.seen self.new.disk) ≡ length (D.seen self.old.disk) }
         ensures faults { D.fault_count self.new.disk ≡ D.fault_count self.old.disk + (if is_fault_reply result.0 then 1 else 0) }
         ensures base { self.new.base ≡ self.old.base }
@@ -367,7 +362,7 @@ impl<D: Disk + Drop, J: Chapter, R: Wait + Drop> Book<D, J, R> {
         ensures refused { StaysIfRefused result self.old self.new }
         ensures base { self.new.base ≡ self.old.base }
         ensures setting { (page self.new).setting ≡ (page self.old).setting }
-        ensures moments { D.moment self.new.disk ≤ D.moment self.old.disk + 4 }
+        ensures moments { D.moment self.new.disk ≤ D.moment self.old.disk + 10 }
         ensures same_size { length (D.seen self.new.disk) ≡ length (D.seen self.old.disk) }
         ensures faults { D.fault_count self.new.disk ≡ D.fault_count self.old.disk + (if is_fault_reply result then 1 else 0) }
     {
@@ -441,7 +436,7 @@ impl<D: Disk + Drop, J: Chapter, R: Wait + Drop> Book<D, J, R> {
     pub fn disk(&self) -> &D
         ensures { result.now ≡ self.now.disk }
     {
-        &self.store.bank.journal.disk
+        self.store.disk()
     }
 
     /// The device as it stands. Workers see nothing any more. Own.
@@ -457,7 +452,6 @@ impl<D: Disk + Drop, J: Chapter, R: Wait + Drop> Book<D, J, R> {
             acked: _,
             offered: _,
             limit: _,
-            first_gate: _,
             shower: _,
             tip: _,
         } = self;

@@ -3,7 +3,7 @@ ghost use Rattle.std.specs.Prelude.{◌≡◌, ◌+◌, ◌^◌, ◌<◌, ◌≤
 ghost use Rattle.pf_disk.specs.Disk.{EachMoment, IsImage};
 ghost use Rattle.pf_core.specs.{Durable.Edits.Kept, Laws.Durable.IsWithin, Worlds.{last_epoch, raised}};
 ghost use Rattle.pf_store.specs.declared.store.fault.OpenFault.TheVariants.{BadSize, Memory};
-ghost use Rattle.pf_store.specs.{Banks.bank_end, Stores.{Holds, IsOfOpening}, StoreFaults.is_fault, Openings.{IsUnopened, gate_of}};
+ghost use Rattle.pf_store.specs.{Banks.bank_size, Stores.{Holds, IsOfOpening}, StoreFaults.is_fault, Openings.IsUnopened};
 
 use crate::history::NewHistory;
 use pf_core::Durable;
@@ -30,11 +30,11 @@ impl<D: Disk> Model for Opening<D> {
 
     ghost view = { λ o. opened_store o.store (arc_value o.durable) o.history };
 
-    ghost invariant = { λ o. IsOpened D.seen D.unsynced D.fault_count o.store (arc_value o.durable) };
+    ghost invariant = { λ o. IsOpened D.seen D.unsynced o.store (arc_value o.durable) };
 }
 
 impl<D: Disk> Opening<D> {
-    /// Opens a device, whatever a crash or a fault made of it, in eight moments of the device at most. What was read gets the next epoch,
+    /// Opens a device, whatever a crash or a fault made of it, in fifteen moments of the device at most. What was read gets the next epoch,
     /// which is on the device before this returns, so that no ticket of an earlier opening is ever valid again.
     ///
     /// `Err` hands the device back with the cause, as [`OpenFault`] tells them. It reads as before, and each image is one from before, but
@@ -43,11 +43,10 @@ impl<D: Disk> Opening<D> {
         requires few { D.fault_count disk < 2 ^ 63 }
 
         // What the device held, in the next epoch. Each image holds that then.
-        ensures opened { IfOk result (λ o. (d : Kept) × (held : Holds (D.seen disk) d) × (o.given ≡ raised d) × (d.epoch < last_epoch)
-            × (o.gate ≡ gate_of (D.seen disk) d held + 11)) }
+        ensures opened { IfOk result (λ o. (d : Kept) × Holds (D.seen disk) d × (o.given ≡ raised d) × (d.epoch < last_epoch)) }
         ensures images { IfOk result (λ o. (c : List ℕ) → IsImage (D.seen o.disk) (D.unsynced o.disk) c → Holds c o.given) }
         ensures within { IfOk result (λ o. IsWithin o.given) }
-        ensures end { IfOk result (λ o. o.end ≡ bank_end (length (D.seen o.disk))) }
+        ensures size { IfOk result (λ o. o.size ≡ bank_size (length (D.seen o.disk))) }
 
         // At each moment an image is one from the start, or holds what was read, its epoch perhaps one greater.
         ensures any_moment { IfOk result (λ o. EachMoment D.moment D.left_since disk o.disk (IsOfOpening (D.seen disk) (D.unsynced disk))) }
@@ -58,8 +57,8 @@ impl<D: Disk> Opening<D> {
             × EachMoment D.moment D.left_since disk e.1 (IsImage (D.seen disk) (D.unsynced disk))) }
         ensures unchanged_at_bad_size { IfErr result (λ e. e.0 ≡ BadSize → e.1 ≡ disk) }
         ensures same_size { IfOk result (λ o. length (D.seen o.disk) ≡ length (D.seen disk)) }
-        ensures moments { IfOk result (λ o. D.moment o.disk ≤ D.moment disk + 8) }
-        ensures moments_err { IfErr result (λ e. D.moment e.1 ≤ D.moment disk + 8) }
+        ensures moments { IfOk result (λ o. D.moment o.disk ≤ D.moment disk + 15) }
+        ensures moments_err { IfErr result (λ e. D.moment e.1 ≤ D.moment disk + 15) }
         ensures no_fault { IfOk result (λ o. D.fault_count o.disk ≡ D.fault_count disk) }
         ensures fault { IfErr result (λ e. D.fault_count e.1 ≡ D.fault_count disk + (if is_fault e.0 then 1 else 0)) }
     {

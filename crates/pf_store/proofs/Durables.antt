@@ -13,12 +13,12 @@ use Rattle.pf_table.specs.EntryForms.{entry, plain_entry}
 use Rattle.pf_map.specs.ListMaps.{with_list}
 use Rattle.pf_map.proofs.{Ordered.{in_order_of, sorted_of, sorted_front, put_last}, Tests.{first_of, second_of, less_of}}
 use Rattle.pf_store.specs.declared.snapshots.{rulesets.StoredRuleset.StoredRuleset, tables.StoredPlaced.StoredPlaced}
-use Rattle.pf_store.specs.{Groups.{at_most, RulesShape, rules_form, named_form, entries_form}, Durables.{has_some, ruleset_before, are_rulesets, rulesets_form, plain_ruled, PlacedShape, placed_before, are_tables, placed_form, kept_tables_form, plain_tabled, DurableShape, durable_form, plain_durable, ruled_in, tabled_in, configured, durable_in, durable_has_form, IsDurable, example_kept, example_bytes}, Snapshots.{empty_form, IsSnapshot}}
+use Rattle.pf_store.specs.{Groups.{at_most, RulesShape, rules_form, named_form, entries_form}, Durables.{has_some, ruleset_before, are_rulesets, rulesets_form, plain_ruled, PlacedShape, placed_before, are_tables, placed_form, kept_tables_form, plain_tabled, DurableShape, durable_form, plain_durable, ruled_in, tabled_in, configured, durable_in, durable_has_form, IsDurable, example_kept, example_bytes}, Snapshots.empty_form}
 use Rattle.pf_store.proofs.Told.{entries_told}
 
 -- ---- lists
 
-few : {A B : Type 0} (limit : ℕ) (xs : List A) (f : A → B) → at_most limit (map f xs) ≡ at_most limit xs
+pub few : {A B : Type 0} (limit : ℕ) (xs : List A) (f : A → B) → at_most limit (map f xs) ≡ at_most limit xs
 few limit xs f = ap (λ n. nat_le n limit) (length-map xs f)
 
 at_most_is : {A : Type 0} (limit : ℕ) (xs : List A) → length xs ≤ limit → at_most limit xs ≡ true
@@ -27,11 +27,11 @@ at_most_is limit xs le = grind (arith, nat_tests, le)
 some_is : {X : Type 0} (x : X) (xs : List X) → has_some (x ∷ xs) ≡ true
 some_is x xs = let filled : (length (x ∷ xs) == 0) ≡ false = grind (arith, nat_tests) in ap not filled
 
-some_mapped : {A B : Type 0} (f : A → B) (xs : List A) → has_some (map f xs) ≡ has_some xs
+pub some_mapped : {A B : Type 0} (f : A → B) (xs : List A) → has_some (map f xs) ≡ has_some xs
 some_mapped f xs = ap (λ n. not (n == 0)) (length-map xs f)
 
 -- items that are seen as others are in order where those are
-seen_in_order : {A B : Type 0} (before : B → B → Bool) (view : A → B) (xs : List A)
+pub seen_in_order : {A B : Type 0} (before : B → B → Bool) (view : A → B) (xs : List A)
     → in_order before (map view xs) ≡ in_order (λ x y. before (view x) (view y)) xs
 seen_in_order before view [] = refl
 seen_in_order before view (x ∷ []) = refl
@@ -258,6 +258,10 @@ durable_formed d fits =
     rw (sym (few RULESET_LIMIT d.config.rulesets plain_ruled), rulesets)
     (rw (sym (few TABLE_COUNT_LIMIT d.config.tables plain_tabled), tables) refl)
 
+-- what is within all limits has bytes
+pub within_formed : (d : Kept) → length d.config.rulesets ≤ RULESET_LIMIT → length d.config.tables ≤ TABLE_COUNT_LIMIT → durable_has_form d ≡ true
+within_formed d rulesets tables = rw (at_most_is RULESET_LIMIT d.config.rulesets rulesets, at_most_is TABLE_COUNT_LIMIT d.config.tables tables) refl
+
 pub durable_formless : (d : Kept) (bytes : List ℕ) → durable_has_form d ≡ false → IsDurable d bytes → ⊥
 durable_formless d bytes none is =
     true≢false (sym (subst (λ x. durable_has_form x ≡ true) (sym is.told) (formed_of is.plain is.spelled.fits)) ∙ none)
@@ -320,9 +324,6 @@ empty_is_nothing epoch bytes is = record {
   };
   told = refl;
 }
-
-pub snapshot_is : (d : Kept) (bytes : List ℕ) → IsSnapshot d bytes → IsDurable d bytes
-snapshot_is d bytes is = subst (λ (k : Kept). IsDurable k bytes) (sym is.told) (empty_is_nothing is.epoch bytes is.spelled)
 
 -- ---- an example
 

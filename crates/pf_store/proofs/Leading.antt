@@ -7,17 +7,15 @@ use Rattle.pf_journal.proofs.Gates.{length-counted, length-records-push}
 use Rattle.pf_store.specs.declared.groups.fault.GroupFault.{GroupFault}
 use Rattle.pf_store.specs.declared.groups.fault.GroupFault.TheVariants.{NoForm}
 use Rattle.pf_addr.specs.Laws.Bytes.Texts.{one_value}
-use Rattle.pf_core.specs.Durable.Edits.{Kept, kept_nothing}
+use Rattle.pf_snap.specs.Banks.{Content}
+use Rattle.pf_core.specs.Durable.Edits.{Kept}
 use Rattle.pf_store.specs.declared.groups.change.Recorded.{Recorded}
-use Rattle.pf_store.specs.{Groups.{IsRecorded, group_form, record_in}, Snapshots.{IsSnapshot, empty_form}, Stores.{Follows, left_by, Leads, Makes}}
+use Rattle.pf_store.specs.{Groups.{IsRecorded, group_form, record_in}, Stores.{Follows, left_by, Leads, Makes}}
+use Rattle.pf_store.proofs.Durables.{one_durable}
 
 -- a payload is of one change or opening
 pub one_record : (x y : Recorded) (p : List ℕ) → IsRecorded x p → IsRecorded y p → x ≡ y
 one_record x y p a b = a.told ∙ ap record_in (one_value group_form p a.plain b.plain a.spelled b.spelled) ∙ sym b.told
-
--- a snapshot is of one thing
-pub one_snapshot : (d e : Kept) (bytes : List ℕ) → IsSnapshot d bytes → IsSnapshot e bytes → d ≡ e
-one_snapshot d e bytes a b = a.told ∙ ap kept_nothing (one_value empty_form bytes a.epoch b.epoch a.spelled b.spelled) ∙ sym b.told
 
 pub leads-push : (d : Kept) (ps : List (List ℕ)) (e : Kept) (p : List ℕ) (x : Recorded) → Leads d ps e → IsRecorded x p → Follows e x → Leads d (ps ++ p ∷ []) (left_by e x)
 leads-push d [] e p x led is follows = subst (λ (f : Kept). Leads f (p ∷ []) (left_by e x)) (sym led) (x, is, follows, refl)
@@ -29,8 +27,9 @@ one_end d [] e f a b = sym a ∙ b
 one_end d (p ∷ ps) e f a b =
     one_end (left_by d b.0) ps e f (subst (λ (x : Recorded). Leads (left_by d x) ps e) (one_record a.0 b.0 p a.1 b.1) a.3) b.3
 
-pub one_made : (snapshot : List ℕ) (ps : List (List ℕ)) (d e : Kept) → Makes snapshot ps d → Makes snapshot ps e → d ≡ e
-one_made snapshot ps d e a b = one_end b.first ps d e (subst (λ (f : Kept). Leads f ps d) (one_snapshot a.first b.first snapshot a.kept b.kept) a.leads) b.leads
+pub one_made : (content : Content) (d e : Kept) → Makes content d → Makes content e → d ≡ e
+one_made content d e a b =
+    one_end b.first content.payloads d e (subst (λ (f : Kept). Leads f content.payloads d) (one_durable a.first b.first content.snapshot a.kept b.kept) a.leads) b.leads
 
 -- where a payload leads nowhere, all of them don't
 pub stopped : (first : Kept) (done : List (List ℕ)) (p : List ℕ) (rest : List (List ℕ)) (d e : Kept) → Leads first done d → ((x : Recorded) → IsRecorded x p → Follows d x → ⊥) → Leads first (done ++ p ∷ rest) e → ⊥

@@ -1,6 +1,3 @@
-pub mod Holding
-pub mod Formatting
-pub mod Closing
 pub mod Pushed
 pub mod Taken
 pub mod Told
@@ -13,3 +10,4 @@ pub mod Rooming
 pub mod Limiting
 pub mod Durables
 pub mod DurablesSized
+pub mod DurablesWithin

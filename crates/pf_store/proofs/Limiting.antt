@@ -3,25 +3,15 @@ use Rattle.std.proofs.{Common.{◌≡◌, ◌≤◌, ◌&&◌, ℕ, Bool, true, 
 use Rattle.std.specs.{List.AllByRecursion, Ordering.is_lt}
 use Rattle.pf_addr.specs.Bytes.{Forms.{Value, Fits}, Lists.in_order}
 use Rattle.pf_anchor.specs.declared.limits.TheConstants.{RULE_LIMIT}
-use Rattle.pf_core.specs.{Durable.Edits.{Kept, kept_nothing, placed, rulesets_in, tables_in}, Laws.Durable.{AreFew, IsWithin}}
+use Rattle.pf_core.specs.{Durable.Edits.{Kept, placed, rulesets_in, tables_in}, Laws.Durable.{AreFew, IsWithin}}
 use Rattle.pf_core.proofs.Within.{keeps_within}
 use Rattle.pf_rule.specs.Sum.Reading.{rule_of}
 use Rattle.pf_state.specs.Layouts.{States.name_in, Steps.step_in}
-use Rattle.pf_table.specs.{EntryForms.{EntryShape, entry_of, entry_before}, Tables.AreEntries}
-use Rattle.pf_map.specs.{Networks.net_order, NetworkLaws.net_total}
-use Rattle.pf_map.proofs.Ordered.{sorted_of}
+use Rattle.pf_table.specs.{EntryForms.entry_of, Tables.AreEntries}
+use Rattle.pf_snap.specs.Banks.{Content}
 use Rattle.pf_store.specs.declared.groups.change.Recorded.{Recorded}
+use Rattle.pf_store.proofs.DurablesWithin.{durable_within, entries_few}
 use Rattle.pf_store.specs.{Groups.{ChangeShape, ItemShape, NamedShape, change_form, defined_form, entries_form, group_form, item_form, item_in, items_form, named_form, named_in, record_in, rule_list_form, rules_form, tables_form, IsRecorded}, Stores.{Follows, left_by, Leads, Makes}}
-
-nothing_within : (epoch : ℕ) → IsWithin (kept_nothing epoch)
-nothing_within epoch = record {
-  maps = record { rulesets = record { sorted = tt; filled = λ p found. cc (found) }; tables = record { sorted = tt; filled = λ p found. cc (found) } };
-  rulesets = omega arith;
-  rules = λ p. omega arith;
-  tables = omega arith;
-  entries = λ p name. record { sorted = tt; few = omega arith };
-  states = record { names = record { sorted = tt; one_flow = λ a b x y found other same. cc (found) }; few = omega arith };
-}
 
 -- ---- what a commit's bytes tell
 
@@ -34,21 +24,6 @@ unfolding item_form rules_form rule_list_form
 rules_few [] each = tt
 rules_few (inl v ∷ vs) each = (grind (arith, nat_tests, length-map v.1 rule_of, each.0.1.1), rules_few vs each.1)
 rules_few (inr v ∷ vs) each = rules_few vs each.1
-
-told_in_order : (es : List (Value EntryShape)) → in_order entry_before es ≡ true → in_order (λ a b. is_lt (net_order a.0 b.0)) (map entry_of es) ≡ true
-told_in_order [] is = refl
-told_in_order (e ∷ []) is = refl
-told_in_order (e ∷ f ∷ es) is = by (entry_before e f) is (told_in_order (f ∷ es)) where
-  by : (b : Bool) → (b && in_order entry_before (f ∷ es)) ≡ true → (in_order entry_before (f ∷ es) ≡ true → in_order (λ a c. is_lt (net_order a.0 c.0)) (map entry_of (f ∷ es)) ≡ true) → (b && in_order (λ a c. is_lt (net_order a.0 c.0)) (map entry_of (f ∷ es))) ≡ true
-  by true h rest = rest h
-  by false h rest = absurd (cc (h))
-
-entries_few : (es : List (Value EntryShape)) → Fits entries_form es → AreEntries (map entry_of es)
-unfolding entries_form
-entries_few es fits = record {
-  sorted = sorted_of net_total (map entry_of es) (told_in_order es fits.0.1);
-  few = grind (arith, nat_tests, length-map es entry_of, fits.1);
-}
 
 placed_few : (p : List ℕ) (ws : List (Value NamedShape)) → AllByRecursion (Fits named_form) ws → AllByRecursion (λ t. AreEntries t.1) (placed p (map named_in ws))
 unfolding named_form
@@ -87,5 +62,5 @@ led_within : (d : Kept) (ps : List (List ℕ)) (e : Kept) → Leads d ps e → I
 led_within d [] e led within = subst IsWithin led within
 led_within d (p ∷ ps) e led within = led_within (left_by d led.0) ps e led.3 (recorded_within d led.0 p led.1 led.2 within)
 
-pub made_within : (snapshot : List ℕ) (ps : List (List ℕ)) (d : Kept) → Makes snapshot ps d → IsWithin d
-made_within snapshot ps d makes = led_within makes.first ps d makes.leads (subst IsWithin (sym makes.kept.told) (nothing_within makes.kept.epoch))
+pub made_within : (content : Content) (d : Kept) → Makes content d → IsWithin d
+made_within content d makes = led_within makes.first content.payloads d makes.leads (durable_within makes.first content.snapshot makes.kept)

@@ -1,40 +1,60 @@
 -- What holds something isn't refused as nothing.
-use Rattle.std.proofs.Common.{◌≡◌, ◌≢◌, ◌⊎◌, ◌+◌, ◌<◌, ◌≤◌, inl, inr, ℕ, List, length, refl, ◌∙◌, ap, subst, arith}
-use Rattle.pf_journal.specs.Records.{records, region, IsFront}
+use Rattle.std.proofs.Common.{◌≡◌, ◌≢◌, ◌⊎◌, ⊎_elim, ◌+◌, ◌^◌, ◌<◌, inl, inr, ℕ, List, length, refl, ◌∙◌, ap, subst, arith}
+use Rattle.pf_journal.specs.Records.{records, region, IsFront, StandsFor}
 use Rattle.pf_journal.proofs.Parsing.{one_front, front_of}
+use Rattle.pf_snap.specs.{Banks.{AreBanks, Content, Counts, HasSnapshot, bank_size, records_start}, Faults.IsRefused, declared.fault.LookFault.LookFault}
+use Rattle.pf_snap.specs.Banks as snap
+use Rattle.pf_snap.specs.declared.fault.LookFault.TheVariants as looking
+use Rattle.pf_snap.proofs.Holding.{one_place, one_content}
+use Rattle.pf_snap.proofs.Holding as holding
 use Rattle.pf_core.specs.{Durable.Edits.{Kept}, Worlds.last_epoch}
-use Rattle.pf_store.specs.{Banks.{bank_end, records_start, HasSnapshot, HoldsBank}, Stores.{Holds, Leads, Makes}, StoreFaults.{BreaksOff, SaysNone}, Openings.{BreaksBehind, IsUnopened, MakesNone, gate_of}}
+use Rattle.pf_store.specs.{Durables.IsDurable, Stores.{Holds, IsRoomy, Leads, Makes}, StoreFaults.{BreaksOff, SaysNone}, Openings.{BreaksBehind, IsFull, IsUnopened, MakesNone, gate_of, generation_of}}
 use Rattle.pf_store.specs.declared.store.fault.OpenFault.{OpenFault}
-use Rattle.pf_store.specs.declared.store.fault.OpenFault.TheVariants.{BadSize, NoBank, Corrupt, Memory, Fault, EpochsExhausted, NoRoom}
-use Rattle.pf_store.proofs.{Holding.{one_bank, one_front_of_bank, open_gate}, Leading.{one_made, one_snapshot, stopped}}
+use Rattle.pf_store.specs.declared.store.fault.OpenFault.TheVariants.{BadSize, NoBank, Corrupt, Memory, Fault, EpochsExhausted, Full}
+use Rattle.pf_store.proofs.{Durables.one_durable, Leading.{one_made, stopped}}
 
 -- what makes something doesn't break off
-makes_some : (torn : Type 0) (snapshot : List ℕ) (ps : List (List ℕ)) (place : ℕ) (d : Kept) → ¬ torn → Makes snapshot ps d → MakesNone torn snapshot ps place → ⊥
-makes_some torn snapshot ps place d whole makes (inl none) = none.0 makes.first makes.kept
-makes_some torn snapshot ps place d whole makes (inr (inl none)) =
+makes_some : (torn : Type 0) (bank : ℕ) (content : Content) (place : ℕ) (d : Kept) → ¬ torn → Makes content d → MakesNone torn bank content place → ⊥
+makes_some torn bank content place d whole makes (inl none) = none.0 makes.first makes.kept
+makes_some torn bank content place d whole makes (inr (inl none)) =
     let s = none.stops in
     stopped none.first s.done s.payload s.rest s.d d s.leads s.none
-    (subst (λ (qs : List (List ℕ)). Leads none.first qs d) s.split (subst (λ (f : Kept). Leads f ps d) (one_snapshot makes.first none.first snapshot makes.kept none.kept) makes.leads))
-makes_some torn snapshot ps place d whole makes (inr (inr none)) = whole none.open_gate
+    (subst (λ (qs : List (List ℕ)). Leads none.first qs d) s.split
+    (subst (λ (f : Kept). Leads f content.payloads d) (one_durable makes.first none.first content.snapshot makes.kept none.kept) makes.leads))
+makes_some torn bank content place d whole makes (inr (inr none)) = whole none.open_gate
 
 held_behind : (image : List ℕ) (place : ℕ) (d : Kept) → Holds image d → BreaksBehind image place → ⊥
 held_behind image place d held b =
-    let same = (one_front_of_bank image held.generation b.generation held.snapshot b.snapshot held.bank.front b.has).1 in
-    let here : IsFront (region (records_start b.snapshot) (bank_end (length image)) image) held.payloads =
-    subst (λ (s : List ℕ). IsFront (region (records_start s) (bank_end (length image)) image) held.payloads) same (front_of _ held.payloads held.bank.records) in
-    let ps = one_front _ held.payloads b.payloads here b.front in
-    makes_some ((g : ℕ) (s : List ℕ) (qs : List (List ℕ)) → ¬ HoldsBank image g s qs) b.snapshot b.payloads place d (λ none. none held.generation held.snapshot held.payloads held.bank)
-    (subst (λ (qs : List (List ℕ)). Makes b.snapshot qs d) ps (subst (λ (s : List ℕ). Makes s held.payloads d) same held.makes)) b.none
+    let h = held.bank.holds in
+    let k = held.content in
+    let here : held.bank.at ≡ b.bank = one_place image (length image) held.bank.at held.bank.other b.bank b.other h.banks b.places h.counts b.counts in
+    let front = subst (λ (p : ℕ). HasSnapshot image p k.version k.generation k.snapshot) here h.bank.front in
+    let same = holding.one_front image b.bank k.version b.content.version k.generation b.content.generation k.snapshot b.content.snapshot h.size front b.has in
+    let stands : StandsFor (records_start b.bank b.content.snapshot) (b.bank + bank_size (length image)) image k.payloads =
+    subst (λ (s : List ℕ). StandsFor (records_start b.bank s) (b.bank + bank_size (length image)) image k.payloads) same.2
+    (subst (λ (p : ℕ). StandsFor (records_start p k.snapshot) (p + bank_size (length image)) image k.payloads) here h.bank.records) in
+    let payloads = one_front _ k.payloads b.content.payloads (front_of _ k.payloads stands) b.front in
+    makes_some ((c : Content) → ¬ snap.Holds image c) b.bank b.content place d (λ none. none k held.bank)
+    (record {
+      first = held.makes.first;
+      kept = subst (IsDurable held.makes.first) same.2 held.makes.kept;
+      leads = subst (λ (ps : List (List ℕ)). Leads held.makes.first ps d) payloads held.makes.leads;
+    })
+    b.none
 
-pub held_is_found : (image : List ℕ) (fault : OpenFault) (d : Kept) → Holds image d → IsUnopened fault image → SaysNone fault → ⊥
-held_is_found image BadSize d held refused says = refused held.bank.front.size
-held_is_found image NoBank d held refused says = refused.1 (open_gate image held.generation (length held.snapshot) held.bank.front.header)
-held_is_found image (Corrupt at) d held (inl refused) says = refused.2 held.generation (length held.snapshot) held.bank.front.header
-held_is_found image (Corrupt at) d held (inr broken) says = held_behind image at d held broken
-held_is_found image Memory d held refused says = says
-held_is_found image Fault d held refused says = says
-held_is_found image EpochsExhausted d held refused says = says
-held_is_found image NoRoom d held refused says = says
+-- a look is refused by chance alone
+none_refused : (image : List ℕ) (e : LookFault) (d : Kept) (held : Holds image d) → generation_of image d held < 2 ^ 63 → (e ≢ looking.Memory) → (e ≢ looking.Fault) → IsRefused e image → ⊥
+none_refused image e d held early no_memory no_fault refused = ⊎_elim no_memory no_fault (holding.by_chance image e held.content held.bank early refused)
+
+pub held_is_found : (image : List ℕ) (fault : OpenFault) (d : Kept) (held : Holds image d) → generation_of image d held < 2 ^ 63 → IsUnopened fault image → SaysNone fault → ⊥
+held_is_found image BadSize d held early refused says = none_refused image looking.BadSize d held early (λ is. cc (is)) (λ is. cc (is)) refused
+held_is_found image NoBank d held early refused says = none_refused image looking.NoBank d held early (λ is. cc (is)) (λ is. cc (is)) refused
+held_is_found image (Corrupt at) d held early (inl refused) says = none_refused image (looking.Corrupt at) d held early (λ is. cc (is)) (λ is. cc (is)) refused
+held_is_found image (Corrupt at) d held early (inr broken) says = held_behind image at d held broken
+held_is_found image Memory d held early refused says = says
+held_is_found image Fault d held early refused says = says
+held_is_found image EpochsExhausted d held early refused says = says
+held_is_found image Full d held early refused says = says
 
 -- broken off at such a place, told otherwise
 pub breaks_off : (e : OpenFault) (P Q : ℕ → Type 0) → ((n : ℕ) → P n → Q n) → BreaksOff e P → BreaksOff e Q
@@ -44,54 +64,71 @@ breaks_off (Corrupt at) P Q tell off = tell at off
 breaks_off Memory P Q tell off = off
 breaks_off Fault P Q tell off = off
 breaks_off EpochsExhausted P Q tell off = off
-breaks_off NoRoom P Q tell off = off
+breaks_off Full P Q tell off = off
 
 -- ---- what a look found, and no state in it
 
-torn_as : (A B : Type 0) (snapshot : List ℕ) (ps : List (List ℕ)) (place : ℕ) → (A → B) → MakesNone A snapshot ps place → MakesNone B snapshot ps place
-torn_as A B snapshot ps place tell (inl none) = inl none
-torn_as A B snapshot ps place tell (inr (inl none)) = inr (inl none)
-torn_as A B snapshot ps place tell (inr (inr t)) = inr (inr (record { d = t.d; makes = t.makes; open_gate = tell t.open_gate; at = t.at }))
+torn_as : (A B : Type 0) (bank : ℕ) (content : Content) (place : ℕ) → (A → B) → MakesNone A bank content place → MakesNone B bank content place
+torn_as A B bank content place tell (inl none) = inl none
+torn_as A B bank content place tell (inr (inl none)) = inr (inl none)
+torn_as A B bank content place tell (inr (inr t)) = inr (inr (record { d = t.d; makes = t.makes; open_gate = tell t.open_gate; at = t.at }))
 
-pub unopened : (seen : List ℕ) (g : ℕ) (snapshot : List ℕ) (ps : List (List ℕ)) (torn : Type 0) (e : OpenFault) → HasSnapshot seen g snapshot → IsFront (region (records_start snapshot) (bank_end (length seen)) seen) ps
-    → (torn → (h : ℕ) (s : List ℕ) (qs : List (List ℕ)) → ¬ HoldsBank seen h s qs) → BreaksOff e (MakesNone torn snapshot ps) → IsUnopened e seen
-unopened seen g snapshot ps torn BadSize has front none off = absurd off
-unopened seen g snapshot ps torn NoBank has front none off = absurd off
-unopened seen g snapshot ps torn (Corrupt at) has front none off =
-    inr (record { generation = g; snapshot = snapshot; payloads = ps; has = has; front = front; none = torn_as torn ((h : ℕ) (s : List ℕ) (qs : List (List ℕ)) → ¬ HoldsBank seen h s qs) snapshot ps at none off })
-unopened seen g snapshot ps torn Memory has front none off = tt
-unopened seen g snapshot ps torn Fault has front none off = tt
-unopened seen g snapshot ps torn EpochsExhausted has front none off = absurd off
-unopened seen g snapshot ps torn NoRoom has front none off = absurd off
+pub unopened : (seen : List ℕ) (bank other : ℕ) (content : Content) (torn : Type 0) (e : OpenFault) → AreBanks (length seen) bank other → Counts seen bank other
+    → HasSnapshot seen bank content.version content.generation content.snapshot
+    → IsFront (region (records_start bank content.snapshot) (bank + bank_size (length seen)) seen) content.payloads
+    → (torn → (c : Content) → ¬ snap.Holds seen c) → BreaksOff e (MakesNone torn bank content) → IsUnopened e seen
+unopened seen bank other content torn BadSize places counts has front none off = absurd off
+unopened seen bank other content torn NoBank places counts has front none off = absurd off
+unopened seen bank other content torn (Corrupt at) places counts has front none off =
+    inr (record {
+      bank = bank;
+      other = other;
+      content = content;
+      places = places;
+      counts = counts;
+      has = has;
+      front = front;
+      none = torn_as torn ((c : Content) → ¬ snap.Holds seen c) bank content at none off;
+    })
+unopened seen bank other content torn Memory places counts has front none off = tt
+unopened seen bank other content torn Fault places counts has front none off = tt
+unopened seen bank other content torn EpochsExhausted places counts has front none off = absurd off
+unopened seen bank other content torn Full places counts has front none off = absurd off
 
 -- and it isn't for an epoch or for room
-pub by_reading : (e : OpenFault) (P : ℕ → Type 0) → BreaksOff e P → (e ≢ EpochsExhausted) × (e ≢ NoRoom)
+pub by_reading : (e : OpenFault) (P : ℕ → Type 0) → BreaksOff e P → (e ≢ EpochsExhausted) × (e ≢ Full)
 by_reading BadSize P off = absurd off
 by_reading NoBank P off = absurd off
 by_reading (Corrupt at) P off = (λ is. cc (is), λ is. cc (is))
 by_reading Memory P off = (λ is. cc (is), λ is. cc (is))
 by_reading Fault P off = absurd off
 by_reading EpochsExhausted P off = absurd off
-by_reading NoRoom P off = absurd off
+by_reading Full P off = absurd off
 
 -- ---- what may be opened
 
--- an image has one closed gate
+-- one bank counts in an image, and has one closed gate
+pub one_at : (image : List ℕ) (d e : Kept) (a : Holds image d) (b : Holds image e) → a.bank.at ≡ b.bank.at
+one_at image d e a b =
+    one_place image (length image) a.bank.at a.bank.other b.bank.at b.bank.other a.bank.holds.banks b.bank.holds.banks a.bank.holds.counts b.bank.holds.counts
+
 pub one_gate : (image : List ℕ) (d e : Kept) (a : Holds image d) (b : Holds image e) → gate_of image d a ≡ gate_of image e b
 one_gate image d e a b =
-    let same = one_bank image a.generation b.generation a.snapshot b.snapshot a.payloads b.payloads a.bank b.bank in
-    ap (λ (s : List ℕ). records_start s + length (records a.payloads)) same.1 ∙ ap (λ (ps : List (List ℕ)). records_start b.snapshot + length (records ps)) same.2
+    ap (λ (p : ℕ). records_start p a.content.snapshot + length (records a.content.payloads)) (one_at image d e a b)
+    ∙ ap (λ (c : Content). records_start b.bank.at c.snapshot + length (records c.payloads)) (one_content image a.content b.content a.bank b.bank)
 
 pub one_held : (image : List ℕ) (d e : Kept) → Holds image d → Holds image e → d ≡ e
-one_held image d e a b =
-    let same = one_bank image a.generation b.generation a.snapshot b.snapshot a.payloads b.payloads a.bank b.bank in
-    one_made b.snapshot b.payloads d e (subst (λ (ps : List (List ℕ)). Makes b.snapshot ps d) same.2 (subst (λ (s : List ℕ). Makes s a.payloads d) same.1 a.makes)) b.makes
+one_held image d e a b = one_made b.content d e (subst (λ (c : Content). Makes c d) (one_content image a.content b.content a.bank b.bank) a.makes) b.makes
 
-pub by_chance : (image : List ℕ) (fault : OpenFault) (d : Kept) (held : Holds image d) → d.epoch < last_epoch → gate_of image d held + 12 ≤ bank_end (length image) → IsUnopened fault image → (fault ≡ Memory) ⊎ (fault ≡ Fault)
-by_chance image BadSize d held early room refused = absurd (held_is_found image BadSize d held refused tt)
-by_chance image NoBank d held early room refused = absurd (held_is_found image NoBank d held refused tt)
-by_chance image (Corrupt at) d held early room refused = absurd (held_is_found image (Corrupt at) d held refused tt)
-by_chance image Memory d held early room refused = inl refl
-by_chance image Fault d held early room refused = inr refl
-by_chance image EpochsExhausted d held early room refused = absurd (omega (arith, ap (λ (k : Kept). k.epoch) (one_held image d refused.0 held refused.1), refused.2, early))
-by_chance image NoRoom d held early room refused = absurd (omega (arith, one_gate image d refused.0 held refused.1, refused.3, room))
+pub roomy_is_not_full : (image : List ℕ) (d : Kept) → IsRoomy (bank_size (length image)) d → IsFull image d → ⊥
+roomy_is_not_full image d roomy full = omega (arith, roomy, full.there)
+
+pub by_chance : (image : List ℕ) (fault : OpenFault) (d : Kept) (held : Holds image d) → generation_of image d held < 2 ^ 63 → d.epoch < last_epoch → ¬ IsFull image d → IsUnopened fault image → (fault ≡ Memory) ⊎ (fault ≡ Fault)
+by_chance image BadSize d held early low room refused = absurd (held_is_found image BadSize d held early refused tt)
+by_chance image NoBank d held early low room refused = absurd (held_is_found image NoBank d held early refused tt)
+by_chance image (Corrupt at) d held early low room refused = absurd (held_is_found image (Corrupt at) d held early refused tt)
+by_chance image Memory d held early low room refused = inl refl
+by_chance image Fault d held early low room refused = inr refl
+by_chance image EpochsExhausted d held early low room refused =
+    absurd (omega (arith, ap (λ (k : Kept). k.epoch) (one_held image d refused.0 held refused.1), refused.2, low))
+by_chance image Full d held early low room refused = absurd (room (subst (IsFull image) (one_held image refused.0 d refused.1.held held) refused.1))

@@ -1,15 +1,15 @@
--- What an append leaves of what is held.
-use Rattle.std.proofs.Common.{◌≡◌, inl, inr, ℕ, ◌+◌, ◌<◌, ◌≤◌, Bool, List, [], ◌∷◌, ◌++◌, length, get_or, refl, sym, ◌∙◌, ap, subst, arith}
+-- What a record more, or a switch, leaves of what is held.
+use Rattle.std.proofs.Common.{◌≡◌, inl, inr, ℕ, ◌+◌, ◌^◌, ◌<◌, ◌≤◌, Bool, List, [], ◌∷◌, ◌++◌, length, refl, sym, ◌∙◌, ap, subst, arith}
 use Rattle.std.specs.Prelude.{Result, Ok, Err, IfOk, IfErr}
-use Rattle.pf_disk.specs.Disk.{AreIn, EachMoment, IsImage, IsSynced}
+use Rattle.pf_disk.specs.Disk.{EachMoment, IsImage, IsSynced}
 use Rattle.pf_disk.proofs.{Images.only_read, Moments.{started, weakened, and_then}}
-use Rattle.pf_journal.specs.Records.{contents}
-use Rattle.pf_core.specs.{Durable.Edits.{Kept, Edit, applied, fits}, Worlds.{last_epoch, raised}}
-use Rattle.pf_store.specs.declared.{groups.change.Recorded.Recorded, store.keeping.Store.Store, bank.looking.Looked.Looked}
-use Rattle.pf_store.specs.declared.store.fault.OpenFault.TheVariants.{NoRoom}
-use Rattle.pf_store.specs.declared.groups.change.Recorded.TheVariants.{Made as made, Opens as opens}
-use Rattle.pf_store.specs.{BankKept.{IsReady, Keeps}, Banks.{HoldsBank, HoldsBeforeOrAfter, bank_end}, Groups.IsRecorded, Stores.{Follows, left_by, Holds, HoldsEither, IsOfOpening, Makes}, StoreKept.{Stands, IsFound}, Openings.IsUnopened}
-use Rattle.pf_store.proofs.Leading.{leads-push}
+use Rattle.pf_snap.specs.{Banks.{Content, with_payload, switched, bank_size}, Ready.{IsReady, Keeps}, declared.{banks.Banks.Banks, header.TheConstants.{HEADER, NEWEST}}}
+use Rattle.pf_snap.specs.Banks as snap
+use Rattle.pf_snap.proofs.Holding.{one_content}
+use Rattle.pf_core.specs.{Durable.Edits.{Kept}, Worlds.{last_epoch, raised}}
+use Rattle.pf_store.specs.declared.groups.change.Recorded.{Recorded}
+use Rattle.pf_store.specs.{Durables.IsDurable, Groups.IsRecorded, Lengths.snapshot_length, Openings.{IsFull, gate_of}, Stores.{Follows, left_by, Holds, HoldsEither, IsOfOpening, Makes}, StoreKept.{Stands, Storage, IsStore, HaveKept}}
+use Rattle.pf_store.proofs.{Leading.{leads-push}, Refusing.{one_at, one_gate, one_held}}
 
 pub not_less : (a b : ℕ) → (a < b → ⊥) → b ≤ a
 not_less a b none = omega (arith, none)
@@ -28,91 +28,108 @@ pub on_err : {T E : Type 0} (r : Result T E) (P Q : E → Type 0) → ((e : E) �
 on_err (Ok x) P Q f p = tt
 on_err (Err e) P Q f p = f e p
 
-pub makes_more : (snapshot : List ℕ) (ps : List (List ℕ)) (d : Kept) (p : List ℕ) (x : Recorded) → Makes snapshot ps d → IsRecorded x p → Follows d x → Makes snapshot (ps ++ p ∷ []) (left_by d x)
-makes_more snapshot ps d p x makes is follows = record { first = makes.first; kept = makes.kept; leads = leads-push makes.first ps d p x makes.leads is follows }
+-- ---- what contents make
 
-abbrev pub held : (g : ℕ) (snapshot : List ℕ) (ps : List (List ℕ)) (d : Kept) (c : List ℕ) → Makes snapshot ps d → HoldsBank c g snapshot ps → Holds c d
-held g snapshot ps d c makes bank = record { generation = g; snapshot = snapshot; payloads = ps; bank = bank; makes = makes }
+pub makes_more : (content : Content) (d : Kept) (p : List ℕ) (x : Recorded) → Makes content d → IsRecorded x p → Follows d x → Makes (with_payload content p) (left_by d x)
+makes_more content d p x makes is follows = record { first = makes.first; kept = makes.kept; leads = leads-push makes.first content.payloads d p x makes.leads is follows }
 
-pub either : (g : ℕ) (snapshot : List ℕ) (ps : List (List ℕ)) (d : Kept) (p : List ℕ) (x : Recorded) → Makes snapshot ps d → IsRecorded x p → Follows d x → (c : List ℕ) → HoldsBeforeOrAfter g snapshot ps p c → HoldsEither d (left_by d x) c
-either g snapshot ps d p x makes is follows c (inl bank) = inl (held g snapshot ps d c makes bank)
-either g snapshot ps d p x makes is follows c (inr bank) = inr (held g snapshot (ps ++ p ∷ []) (left_by d x) c (makes_more snapshot ps d p x makes is follows) bank)
+pub makes_switched : (content : Content) (d : Kept) (snapshot : List ℕ) → IsDurable d snapshot → Makes (switched content NEWEST snapshot) d
+makes_switched content d snapshot is = record { first = d; kept = is; leads = refl }
 
--- each image of a device that reads the same and has no more unsynced
-pub same_image : (old seen : List ℕ) (set fewer : ℕ → Bool) → seen ≡ old → AreIn fewer set → (c : List ℕ) → IsImage seen fewer c → IsImage old set c
-same_image old seen set fewer same within c image = record { same_length = image.same_length ∙ ap length same; agrees = λ i out. image.agrees i (within i out) ∙ ap (λ (l : List ℕ). get_or l i 0) same }
+abbrev pub held : (content : Content) (d : Kept) (c : List ℕ) → Makes content d → snap.Holds c content → Holds c d
+held content d c makes bank = record { content = content; bank = bank; makes = makes }
+
+pub either : (content : Content) (d : Kept) (p : List ℕ) (x : Recorded) → Makes content d → IsRecorded x p → Follows d x → (c : List ℕ) → snap.HoldsEither content (with_payload content p) c → HoldsEither d (left_by d x) c
+either content d p x makes is follows c (inl bank) = inl (held content d c makes bank)
+either content d p x makes is follows c (inr bank) = inr (held (with_payload content p) (left_by d x) c (makes_more content d p x makes is follows) bank)
+
+pub still : (content : Content) (d : Kept) (snapshot : List ℕ) → Makes content d → IsDurable d snapshot → (c : List ℕ) → snap.HoldsEither content (switched content NEWEST snapshot) c → Holds c d
+still content d snapshot makes is c (inl bank) = held content d c makes bank
+still content d snapshot makes is c (inr bank) = held (switched content NEWEST snapshot) d c (makes_switched content d snapshot is) bank
 
 -- each image of a device that reads as it, where nothing is unsynced
 pub held_synced : (seen : List ℕ) (unsynced : ℕ → Bool) (d : Kept) → IsSynced unsynced → Holds seen d → (c : List ℕ) → IsImage seen unsynced c → Holds c d
 held_synced seen unsynced d synced holds c image = subst (λ (l : List ℕ). Holds l d) (sym (only_read seen unsynced c synced image)) holds
 
-module _ {D : Type 0} (seen : D → List ℕ) (unsynced : D → ℕ → Bool) (moment : D → ℕ) (left_since : D → ℕ → List ℕ → Type 0) where
+module _ {D : Type 0} (seen : D → List ℕ) (unsynced : D → ℕ → Bool) where
   -- each image of a device that a store stands on
-  pub standing : (store : Store D) (d : Kept) → Stands seen unsynced store d → (c : List ℕ) → IsImage (seen store.bank.journal.disk) (unsynced store.bank.journal.disk) c → Holds c d
-  standing store d s = held_synced (seen store.bank.journal.disk) (unsynced store.bank.journal.disk) d s.ready.journal.synced (held s.generation s.snapshot s.payloads d (seen store.bank.journal.disk) s.makes s.keeps.holds)
+  pub standing : (store : Storage D) (d : Kept) → Stands seen unsynced store d → (c : List ℕ) → IsImage (seen store.disk) (unsynced store.disk) c → Holds c d
+  standing store d s = held_synced (seen store.disk) (unsynced store.disk) d s.synced s.holds
 
-  -- no call was made
-  pub unmoved : (disk : D) (d e : Kept) → IsSynced (unsynced disk) → Holds (seen disk) d → ((c : List ℕ) → left_since disk (moment disk) c → IsImage (seen disk) (unsynced disk) c) → EachMoment moment left_since disk disk (HoldsEither d e)
-  unmoved disk d e synced holds only = started moment left_since disk (HoldsEither d e) (λ c left. inl (held_synced (seen disk) (unsynced disk) d synced holds c (only c left)))
+  module _ (faults : D → ℕ) (banks : Banks D) (d : Kept) where
+    -- the read of banks that hold it
+    abbrev pub have_held : HaveKept seen banks d → Holds (seen banks.journal.disk) d
+    have_held k = held k.content d (seen banks.journal.disk) k.makes (record { at = banks.at; other = banks.other; holds = k.keeps.holds })
 
-  -- an append was
-  pub moved : (old new : D) (g : ℕ) (snapshot : List ℕ) (ps : List (List ℕ)) (d : Kept) (p : List ℕ) (x : Recorded) → Makes snapshot ps d → IsRecorded x p → Follows d x
-      → EachMoment moment left_since old new (HoldsBeforeOrAfter g snapshot ps p) → EachMoment moment left_since old new (HoldsEither d (left_by d x))
-  moved old new g snapshot ps d p x makes is follows run = weakened moment left_since old new (HoldsBeforeOrAfter g snapshot ps p) (HoldsEither d (left_by d x)) run (λ c has. either g snapshot ps d p x makes is follows c has)
+    -- what a store's banks hold their fields tell
+    pub store_has : IsStore seen unsynced faults banks → Holds (seen banks.journal.disk) d → HaveKept seen banks d
+    store_has s h =
+        let there : snap.Holds (seen banks.journal.disk) s.content = record { at = banks.at; other = banks.other; holds = s.keeps.holds } in
+        record {
+          content = s.content;
+          keeps = s.keeps;
+          makes = subst (λ (c : Content). Makes c d) (one_content (seen banks.journal.disk) h.content s.content h.bank there) h.makes;
+        }
 
-  -- a device is read, and what was read gets the next epoch
-  pub opened : (old mid new : D) (d : Kept) → Holds (seen old) d → EachMoment moment left_since old mid (IsImage (seen old) (unsynced old)) → EachMoment moment left_since mid new (HoldsEither d (raised d)) → EachMoment moment left_since old new (IsOfOpening (seen old) (unsynced old))
-  opened old mid new d holds first second =
-      let P = IsOfOpening (seen old) (unsynced old) in
-      and_then moment left_since old mid new P
-      (weakened moment left_since old mid (IsImage (seen old) (unsynced old)) P first (λ c image. inl image))
-      (weakened moment left_since mid new (HoldsEither d (raised d)) P second (λ c has. inr (d, holds, has)))
+    pub stores : IsReady seen unsynced banks → HaveKept seen banks d → faults banks.journal.disk < 2 ^ 63 → IsStore seen unsynced faults banks
+    stores ready k few = record { ready = ready; content = k.content; keeps = k.keeps; few = few }
 
--- ---- what was found
+    module _ (ready : IsReady seen unsynced banks) (k : HaveKept seen banks d) (n : ℕ) (six : n ≡ 6) where
+      -- an opening's record has room nowhere
+      pub tells_full : (e : Kept) → IsFull (seen banks.journal.disk) e
+          → (banks.journal.end < banks.journal.gate + (n + 6)) × (bank_size (length (seen banks.journal.disk)) < HEADER + snapshot_length d + (n + 6))
+      tells_full e full =
+          let old = seen banks.journal.disk in
+          let mine = have_held k in
+          let at : full.held.bank.at ≡ banks.at = one_at old e d full.held mine in
+          let gate : gate_of old e full.held ≡ gate_of old d mine = one_gate old e d full.held mine in
+          let same : snapshot_length e ≡ snapshot_length d = ap (λ (x : Kept). snapshot_length x) (one_held old e d full.held mine) in
+          (omega (arith, full.here, at, gate, k.keeps.start, k.keeps.gate, ready.end, six), omega (arith, full.there, same, six))
 
-abbrev pub found_held : (seen : List ℕ) (looked : Looked) (d : Kept) → IsFound seen looked d → Holds seen d
-found_held seen looked d f = held looked.generation looked.snapshot.items (contents looked.payloads.items) d seen f.makes f.bank
+      pub is_full : d.epoch < last_epoch → (banks.journal.end < banks.journal.gate + (n + 6)) × (bank_size (length (seen banks.journal.disk)) < HEADER + snapshot_length d + (n + 6))
+          → IsFull (seen banks.journal.disk) d
+      is_full low full = record {
+        held = have_held k;
+        low = low;
+        here = omega (arith, full.0, k.keeps.start, k.keeps.gate, ready.end, six);
+        there = omega (arith, full.1, six);
+      }
 
--- the bank has no room for the record
-pub unroomy : (seen : List ℕ) (looked : Looked) (d : Kept) → IsFound seen looked d → d.epoch < last_epoch → bank_end (length seen) < looked.gate + 12 → IsUnopened NoRoom seen
-unroomy seen looked d f early full = (d, found_held seen looked d f, early, subst (λ (k : ℕ). bank_end (length seen) < k + 12) f.gate full)
+  pub have_more : (old new : Banks D) (d : Kept) (p : List ℕ) (x : Recorded) (k : HaveKept seen old d) → IsRecorded x p → Follows d x → Keeps seen new (with_payload k.content p) → HaveKept seen new (left_by d x)
+  have_more old new d p x k is follows keeps = record { content = with_payload k.content p; keeps = keeps; makes = makes_more k.content d p x k.makes is follows }
 
--- ---- an opening's record
+  pub have_switched : (old new : Banks D) (d : Kept) (snapshot : List ℕ) (k : HaveKept seen old d) → IsDurable d snapshot → Keeps seen new (switched k.content NEWEST snapshot) → HaveKept seen new d
+  have_switched old new d snapshot k is keeps = record { content = switched k.content NEWEST snapshot; keeps = keeps; makes = makes_switched k.content d snapshot is }
 
-module _ {D : Type 0} (seen : D → List ℕ) (unsynced : D → ℕ → Bool) (looked : Looked) (d : Kept) (p : List ℕ) (is : IsRecorded (opens (d.epoch + 1)) p) where
-  abbrev payloads : List (List ℕ)
-  payloads = contents looked.payloads.items
+  module _ (moment : D → ℕ) (left_since : D → ℕ → List ℕ → Type 0) where
+    -- no call was made
+    pub unmoved : (disk : D) (d : Kept) → IsSynced (unsynced disk) → Holds (seen disk) d → ((c : List ℕ) → left_since disk (moment disk) c → IsImage (seen disk) (unsynced disk) c) → EachMoment moment left_since disk disk (λ c. Holds c d)
+    unmoved disk d synced holds only = started moment left_since disk (λ c. Holds c d) (λ c left. held_synced (seen disk) (unsynced disk) d synced holds c (only c left))
 
-  pub raised_run : (moment : D → ℕ) (left_since : D → ℕ → List ℕ → Type 0) (disk started new : D) → IsFound (seen disk) looked d → started ≡ disk
-      → EachMoment moment left_since started new (HoldsBeforeOrAfter looked.generation looked.snapshot.items payloads p) → EachMoment moment left_since disk new (HoldsEither d (raised d))
-  raised_run moment left_since disk started new found same run =
-      moved seen unsynced moment left_since disk new looked.generation looked.snapshot.items payloads d p (opens (d.epoch + 1)) found.makes is refl
-      (subst (λ (x : D). EachMoment moment left_since x new (HoldsBeforeOrAfter looked.generation looked.snapshot.items payloads p)) same run)
+    -- nothing has become of it yet
+    pub before : (old new : D) (d e : Kept) → EachMoment moment left_since old new (λ c. Holds c d) → EachMoment moment left_since old new (HoldsEither d e)
+    before old new d e run = weakened moment left_since old new (λ c. Holds c d) (HoldsEither d e) run (λ c has. inl has)
 
-  pub raised_stands : (disk : D) (store : Store D) (e : Kept) → IsFound (seen disk) looked d → e ≡ raised d → IsReady seen unsynced store.bank → Keeps seen store.bank looked.generation looked.snapshot.items (payloads ++ p ∷ []) → Stands seen unsynced store e
-  raised_stands disk store e found next ready keeps = record {
-    ready = ready;
-    generation = looked.generation;
-    snapshot = looked.snapshot.items;
-    payloads = payloads ++ p ∷ [];
-    keeps = keeps;
-    makes = subst (λ (k : Kept). Makes looked.snapshot.items (payloads ++ p ∷ []) k) (sym next) (makes_more looked.snapshot.items payloads d p (opens (d.epoch + 1)) found.makes is refl);
-  }
+    -- a record was added
+    pub moved : (old new : D) (content : Content) (d : Kept) (p : List ℕ) (x : Recorded) → Makes content d → IsRecorded x p → Follows d x
+        → EachMoment moment left_since old new (snap.HoldsEither content (with_payload content p)) → EachMoment moment left_since old new (HoldsEither d (left_by d x))
+    moved old new content d p x makes is follows run =
+        weakened moment left_since old new (snap.HoldsEither content (with_payload content p)) (HoldsEither d (left_by d x)) run (λ c has. either content d p x makes is follows c has)
 
--- ---- a change's record
+    -- the other bank was begun
+    pub turned : (old new : D) (content : Content) (d : Kept) (snapshot : List ℕ) → Makes content d → IsDurable d snapshot
+        → EachMoment moment left_since old new (snap.HoldsEither content (switched content NEWEST snapshot)) → EachMoment moment left_since old new (λ c. Holds c d)
+    turned old new content d snapshot makes is run =
+        weakened moment left_since old new (snap.HoldsEither content (switched content NEWEST snapshot)) (λ c. Holds c d) run (λ c has. still content d snapshot makes is c has)
 
-module _ {D : Type 0} (seen : D → List ℕ) (unsynced : D → ℕ → Bool) (store : Store D) (d e : Kept) (change : Edit) (p : List ℕ) (s : Stands seen unsynced store d) (is : IsRecorded (made change) p) (fit : fits d change ≡ Ok tt) (leads : e ≡ applied d change) where
-  pub saved_run : (moment : D → ℕ) (left_since : D → ℕ → List ℕ → Type 0) (new : D) → EachMoment moment left_since store.bank.journal.disk new (HoldsBeforeOrAfter s.generation s.snapshot s.payloads p) → EachMoment moment left_since store.bank.journal.disk new (HoldsEither d e)
-  saved_run moment left_since new run =
-      subst (λ (k : Kept). EachMoment moment left_since store.bank.journal.disk new (HoldsEither d k)) (sym leads)
-      (moved seen unsynced moment left_since store.bank.journal.disk new s.generation s.snapshot s.payloads d p (made change) s.makes is fit run)
+    -- and then a record was added
+    pub turned_and_moved : (old mid new : D) (d e : Kept) → EachMoment moment left_since old mid (λ c. Holds c d) → EachMoment moment left_since mid new (HoldsEither d e) → EachMoment moment left_since old new (HoldsEither d e)
+    turned_and_moved old mid new d e first second = and_then moment left_since old mid new (HoldsEither d e) (before old mid d e first) second
 
-  pub saved_stands : (new : Store D) → IsReady seen unsynced new.bank → Keeps seen new.bank s.generation s.snapshot (s.payloads ++ p ∷ []) → Stands seen unsynced new e
-  saved_stands new ready keeps = record {
-    ready = ready;
-    generation = s.generation;
-    snapshot = s.snapshot;
-    payloads = s.payloads ++ p ∷ [];
-    keeps = keeps;
-    makes = subst (λ (k : Kept). Makes s.snapshot (s.payloads ++ p ∷ []) k) (sym leads) (makes_more s.snapshot s.payloads d p (made change) s.makes is fit);
-  }
+    -- a device is read, and what was read gets the next epoch
+    pub opened : (old mid new : D) (d : Kept) → Holds (seen old) d → EachMoment moment left_since old mid (IsImage (seen old) (unsynced old)) → EachMoment moment left_since mid new (HoldsEither d (raised d)) → EachMoment moment left_since old new (IsOfOpening (seen old) (unsynced old))
+    opened old mid new d holds first second =
+        let P = IsOfOpening (seen old) (unsynced old) in
+        and_then moment left_since old mid new P
+        (weakened moment left_since old mid (IsImage (seen old) (unsynced old)) P first (λ c image. inl image))
+        (weakened moment left_since mid new (HoldsEither d (raised d)) P second (λ c has. inr (d, holds, has)))

@@ -1,6 +1,3 @@
-pub mod Banks
-pub mod BankFaults
-pub mod BankKept
 pub mod Groups
 pub mod Durables
 pub mod Lengths
@@ -13,3 +10,5 @@ pub mod Rooms
 -- what public clauses cite of the crates below
 pub use Rattle.pf_disk.specs.Disk
 pub use Rattle.pf_journal.specs.Records
+pub use Rattle.pf_snap.specs.Banks
+pub use Rattle.pf_snap.specs.Faults

@@ -1,14 +1,16 @@
 -- Why a device isn't opened. Own.
 use Rattle.std.specs.Prelude.{◌≡◌, ◌⊎◌, ◌<◌, ℕ, ◌+◌, List, ◌∷◌, ◌++◌, length}
 use Rattle.pf_journal.specs.Records.{records, region, IsFront}
+use Rattle.pf_snap.specs.{Banks.{AreBanks, Content, Counts, HasSnapshot, bank_size, records_start}, Faults.IsRefused, declared.header.TheConstants.HEADER}
+use Rattle.pf_snap.specs.Banks as snap
+use Rattle.pf_snap.specs.declared.fault.LookFault.TheVariants as looking
 use Rattle.pf_core.specs.{Durable.Edits.{Kept}, Worlds.last_epoch}
-use Rattle.pf_store.specs.{BankFaults.IsRefused, Banks.{HasSnapshot, HoldsBank, bank_end, records_start}, Groups.IsRecorded, Snapshots.IsSnapshot, Stores.{Follows, Holds, Leads, Makes}}
-use Rattle.pf_store.specs.declared.{groups.change.Recorded.Recorded, bank.header.TheConstants.{HEADER}, store.fault.OpenFault.OpenFault, store.fault.OpenFault.TheVariants.{BadSize, NoBank, Corrupt, Memory, Fault, EpochsExhausted, NoRoom}}
-use Rattle.pf_store.specs.declared.bank.fault.LookFault.TheVariants as looking
+use Rattle.pf_store.specs.{Durables.IsDurable, Groups.IsRecorded, Lengths.snapshot_length, Stores.{Follows, Holds, Leads, Makes}}
+use Rattle.pf_store.specs.declared.{groups.change.Recorded.Recorded, store.fault.OpenFault.OpenFault, store.fault.OpenFault.TheVariants.{BadSize, NoBank, Corrupt, Memory, Fault, EpochsExhausted, Full}}
 
--- The snapshot is of nothing that may be kept in one.
-abbrev pub NoSnapshot : List ℕ → ℕ → Type 0
-NoSnapshot snapshot place = ((d : Kept) → ¬ IsSnapshot d snapshot) × (place ≡ HEADER)
+-- The snapshot of the bank at this place is of nothing.
+abbrev pub NoSnapshot : (at : ℕ) → List ℕ → ℕ → Type 0
+NoSnapshot at snapshot place = ((d : Kept) → ¬ IsDurable d snapshot) × (place ≡ at + HEADER)
 
 -- One of the payloads is of nothing that follows what the ones before it leave, where the first record's gate stands at `start`.
 pub record StopsAt (first : Kept) (start : ℕ) (payloads : List (List ℕ)) (place : ℕ) : Type 0 where
@@ -22,34 +24,49 @@ pub record StopsAt (first : Kept) (start : ℕ) (payloads : List (List ℕ)) (pl
   pub at : place ≡ start + length (records done)
 
 -- Behind such a snapshot it stops.
-pub record NoGroup (snapshot : List ℕ) (payloads : List (List ℕ)) (place : ℕ) : Type 0 where
+pub record NoGroup (bank : ℕ) (content : Content) (place : ℕ) : Type 0 where
   pub first : Kept
-  pub kept : IsSnapshot first snapshot
-  pub stops : StopsAt first (records_start snapshot) payloads place
+  pub kept : IsDurable first content.snapshot
+  pub stops : StopsAt first (records_start bank content.snapshot) content.payloads place
 
 -- All of them lead on, but the gate behind them is open.
-pub record IsTorn (torn : Type 0) (snapshot : List ℕ) (payloads : List (List ℕ)) (place : ℕ) : Type 0 where
+pub record IsTorn (torn : Type 0) (bank : ℕ) (content : Content) (place : ℕ) : Type 0 where
   pub d : Kept
-  pub makes : Makes snapshot payloads d
+  pub makes : Makes content d
   pub open_gate : torn
-  pub at : place ≡ records_start snapshot + length (records payloads)
+  pub at : place ≡ records_start bank content.snapshot + length (records content.payloads)
 
-abbrev pub MakesNone : Type 0 → List ℕ → List (List ℕ) → ℕ → Type 0
-MakesNone torn snapshot payloads place =
-    NoSnapshot snapshot place ⊎ (NoGroup snapshot payloads place ⊎ IsTorn torn snapshot payloads place)
+-- What the bank at a place has makes nothing: it breaks off at this place.
+abbrev pub MakesNone : Type 0 → (bank : ℕ) → Content → ℕ → Type 0
+MakesNone torn bank content place =
+    NoSnapshot bank content.snapshot place ⊎ (NoGroup bank content place ⊎ IsTorn torn bank content place)
 
--- Behind a header that is one, snapshot and records break off at this place.
+-- Behind the header of the bank that counts, which is one, snapshot and records break off at this place.
 pub record BreaksBehind (seen : List ℕ) (place : ℕ) : Type 0 where
-  pub generation : ℕ
-  pub snapshot : List ℕ
-  pub payloads : List (List ℕ)
-  pub has : HasSnapshot seen generation snapshot
-  pub front : IsFront (region (records_start snapshot) (bank_end (length seen)) seen) payloads
-  pub none : MakesNone ((g : ℕ) (s : List ℕ) (ps : List (List ℕ)) → ¬ HoldsBank seen g s ps) snapshot payloads place
+  pub bank : ℕ
+  pub other : ℕ
+  pub content : Content
+  pub places : AreBanks (length seen) bank other
+  pub counts : Counts seen bank other
+  pub has : HasSnapshot seen bank content.version content.generation content.snapshot
+  pub front : IsFront (region (records_start bank content.snapshot) (bank + bank_size (length seen)) seen) content.payloads
+  pub none : MakesNone ((c : Content) → ¬ snap.Holds seen c) bank content place
 
 -- where the closed gate is
 abbrev pub gate_of : (seen : List ℕ) (d : Kept) → Holds seen d → ℕ
-gate_of seen d held = records_start held.snapshot + length (records held.payloads)
+gate_of seen d held = records_start held.bank.at held.content.snapshot + length (records held.content.payloads)
+
+-- the generation of the bank that counts
+abbrev pub generation_of : (seen : List ℕ) (d : Kept) → Holds seen d → ℕ
+generation_of seen d held = held.content.generation
+
+-- The record of an opening has room neither behind the others nor in a bank behind a snapshot of what is held: it takes 12 bytes with the
+-- gate behind it.
+pub record IsFull (seen : List ℕ) (d : Kept) : Type 0 where
+  pub held : Holds seen d
+  pub low : d.epoch < last_epoch
+  pub here : held.bank.at + bank_size (length seen) < gate_of seen d held + 12
+  pub there : bank_size (length seen) < HEADER + snapshot_length d + 12
 
 -- What is so of the bytes that a device reads as, where it isn't opened. Want of memory or a fault of the device may come in place of each.
 abbrev pub IsUnopened : OpenFault → List ℕ → Type 0
@@ -59,4 +76,4 @@ IsUnopened (Corrupt at) seen = IsRefused (looking.Corrupt at) seen ⊎ BreaksBeh
 IsUnopened Memory seen = Unit {0}
 IsUnopened Fault seen = Unit {0}
 IsUnopened EpochsExhausted seen = (d : Kept) × Holds seen d × (d.epoch ≡ last_epoch)
-IsUnopened NoRoom seen = (d : Kept) × (held : Holds seen d) × (d.epoch < last_epoch) × (bank_end (length seen) < gate_of seen d held + 12)
+IsUnopened Full seen = (d : Kept) × IsFull seen d

@@ -1,7 +1,13 @@
 -- Which fault it is, and which of them the device's bytes alone decide.
 use Rattle.std.specs.Prelude.{ℕ, Bool, true, false, Result, Ok, Err}
-use Rattle.pf_store.specs.declared.store.fault.{SaveFault.SaveFault, OpenFault.OpenFault, OpenFault.TheVariants.{BadSize, NoBank, Corrupt, Memory, Fault, EpochsExhausted, NoRoom}}
+use Rattle.pf_snap.specs.declared.fault.LookFault.{LookFault}
+use Rattle.pf_snap.specs.declared.fault.LookFault.TheVariants as looking
+use Rattle.pf_store.specs.declared.store.fault.{SaveFault.SaveFault, OpenFault.OpenFault, OpenFault.TheVariants.{BadSize, NoBank, Corrupt, Memory, Fault, EpochsExhausted, Full}}
 use Rattle.pf_store.specs.declared.store.fault.SaveFault.TheVariants as saving
+use Rattle.pf_store.specs.declared.store.fault.AddFault.{AddFault}
+use Rattle.pf_store.specs.declared.store.fault.AddFault.TheVariants as adding
+use Rattle.pf_snap.specs.declared.fault.SwitchFault.{SwitchFault}
+use Rattle.pf_snap.specs.declared.fault.SwitchFault.TheVariants as switching
 
 abbrev is_saving_fault : SaveFault → Bool
 is_saving_fault saving.Memory = false
@@ -29,7 +35,7 @@ is_fault (Corrupt at) = false
 is_fault Memory = false
 is_fault Fault = true
 is_fault EpochsExhausted = false
-is_fault NoRoom = false
+is_fault Full = false
 
 -- a call of the device failed
 abbrev pub is_open_fault : {T : Type 0} → Result T OpenFault → Bool
@@ -44,7 +50,7 @@ SaysNone (Corrupt at) = Unit {0}
 SaysNone Memory = ⊥
 SaysNone Fault = ⊥
 SaysNone EpochsExhausted = ⊥
-SaysNone NoRoom = ⊥
+SaysNone Full = ⊥
 
 -- corrupt at a place for which P holds, or memory was refused
 abbrev pub BreaksOff : OpenFault → (ℕ → Type 0) → Type 0
@@ -54,4 +60,29 @@ BreaksOff (Corrupt at) P = P at
 BreaksOff Memory P = Unit {0}
 BreaksOff Fault P = ⊥
 BreaksOff EpochsExhausted P = ⊥
-BreaksOff NoRoom P = ⊥
+BreaksOff Full P = ⊥
+
+-- the same, where it came of looking at a device
+abbrev pub unlooked : LookFault → OpenFault
+unlooked looking.BadSize = BadSize
+unlooked looking.NoBank = NoBank
+unlooked (looking.Corrupt at) = Corrupt at
+unlooked looking.Memory = Memory
+unlooked looking.Fault = Fault
+
+-- ---- adding a record
+
+abbrev is_adding_fault : AddFault → Bool
+is_adding_fault adding.Memory = false
+is_adding_fault adding.Full = false
+is_adding_fault adding.Fault = true
+
+-- a call of the device failed
+abbrev pub is_add_fault : {T : Type 0} → Result T AddFault → Bool
+is_add_fault (Ok x) = false
+is_add_fault (Err e) = is_adding_fault e
+
+-- why a record wasn't added, where its switch failed
+abbrev pub switched_to : SwitchFault → AddFault
+switched_to switching.Memory = adding.Memory
+switched_to switching.Fault = adding.Fault

@@ -1,21 +1,40 @@
--- A store over a device, and what was found on one. Own.
-use Rattle.std.specs.Prelude.{◌≡◌, ℕ, ◌+◌, Bool, List, length}
-use Rattle.pf_journal.specs.Records.{records, contents}
+-- A store over a device. Own.
+use Rattle.std.specs.Prelude.{◌≡◌, ℕ, ◌^◌, ◌<◌, Bool, List, length}
+use Rattle.pf_disk.specs.Disk.{IsSynced}
+use Rattle.pf_snap.specs.{Banks.{bank_size, Content}, Ready.{IsReady, Keeps}, declared.banks.Banks.Banks}
 use Rattle.pf_core.specs.Durable.Edits.{Kept}
-use Rattle.pf_store.specs.{Banks.{HoldsBank, records_start}, BankKept.{IsReady, Keeps}, Stores.Makes}
-use Rattle.pf_store.specs.declared.{bank.looking.Looked.Looked, store.keeping.Store.Store}
+use Rattle.pf_store.specs.Stores.{Holds, Makes}
 
--- The store stands for what is kept: the device holds it, nothing is unsynced, and the closed gate is known.
-pub record Stands {D : Type 0} (seen : D → List ℕ) (unsynced : D → ℕ → Bool) (store : Store D) (d : Kept) : Type 0 where
-  pub ready : IsReady seen unsynced store.bank
+-- What contracts see of a store: its device; how many bytes each of its banks has; the generation of the one that counts; whether a save
+-- has met a fault.
+pub record Storage (D : Type 0) : Type 0 where
+  pub disk : D
+  pub size : ℕ
   pub generation : ℕ
-  pub snapshot : List ℕ
-  pub payloads : List (List ℕ)
-  pub keeps : Keeps seen store.bank generation snapshot payloads
-  pub makes : Makes snapshot payloads d
+  pub halted : Bool
 
--- What a look found is a bank, which says that this is kept.
-pub record IsFound (seen : List ℕ) (looked : Looked) (d : Kept) : Type 0 where
-  pub bank : HoldsBank seen looked.generation looked.snapshot.items (contents looked.payloads.items)
-  pub gate : looked.gate ≡ records_start looked.snapshot.items + length (records (contents looked.payloads.items))
-  pub makes : Makes looked.snapshot.items (contents looked.payloads.items) d
+abbrev pub storage : {D : Type 0} → (seen : D → List ℕ) → Banks D → Bool → Storage D
+storage seen banks halted = record {
+  disk = banks.journal.disk;
+  size = bank_size (length (seen banks.journal.disk));
+  generation = banks.generation;
+  halted = halted;
+}
+
+-- The store stands for what is kept: its device holds it, and nothing is unsynced.
+pub record Stands {D : Type 0} (seen : D → List ℕ) (unsynced : D → ℕ → Bool) (store : Storage D) (d : Kept) : Type 0 where
+  pub holds : Holds (seen store.disk) d
+  pub synced : IsSynced (unsynced store.disk)
+
+-- what a store's type keeps as long as it isn't halted
+pub record IsStore {D : Type 0} (seen : D → List ℕ) (unsynced : D → ℕ → Bool) (faults : D → ℕ) (banks : Banks D) : Type 0 where
+  pub ready : IsReady seen unsynced banks
+  pub content : Content
+  pub keeps : Keeps seen banks content
+  pub few : faults banks.journal.disk < 2 ^ 63
+
+-- the banks hold what is kept, and their fields tell it
+pub record HaveKept {D : Type 0} (seen : D → List ℕ) (banks : Banks D) (d : Kept) : Type 0 where
+  pub content : Content
+  pub keeps : Keeps seen banks content
+  pub makes : Makes content d

@@ -1,9 +1,13 @@
 -- What a device's image holds: what was kept first and what changes have made of it since. Own.
 use Rattle.std.specs.Prelude.{◌≡◌, ◌⊎◌, ◌≤◌, ℕ, ◌+◌, Bool, true, List, [], ◌∷◌, Ok}
 use Rattle.pf_disk.specs.Disk.{IsImage}
+use Rattle.pf_snap.specs.{Banks.Content, declared.header.TheConstants.HEADER}
+use Rattle.pf_snap.specs.Banks as snap
 use Rattle.pf_core.specs.{Durable.Edits.{Kept, Edit, in_epoch, applied, fits}, Worlds.raised}
-use Rattle.pf_store.specs.{Banks.HoldsBank, Groups.{IsRecorded, has_form}, Snapshots.IsSnapshot, Lengths.{snapshot_length, payload_length}, declared.{bank.header.TheConstants.HEADER, groups.change.Recorded.Recorded}}
+use Rattle.pf_store.specs.{Durables.IsDurable, Groups.{IsRecorded, has_form}, Lengths.{snapshot_length, payload_length}, declared.groups.change.Recorded.Recorded}
 use Rattle.pf_store.specs.declared.groups.change.Recorded.TheVariants as recorded
+
+-- ---- what is held
 
 -- It may come next: a change fits what is kept, and an opening has the next epoch.
 abbrev pub Follows : Kept → Recorded → Type 0
@@ -21,18 +25,16 @@ Leads d [] e = d ≡ e
 Leads d (p ∷ ps) e = (x : Recorded) × IsRecorded x p × Follows d x × Leads (left_by d x) ps e
 
 -- The snapshot is of what was kept first, and the payloads lead from there to this.
-pub record Makes (snapshot : List ℕ) (payloads : List (List ℕ)) (d : Kept) : Type 0 where
+pub record Makes (content : Content) (d : Kept) : Type 0 where
   pub first : Kept
-  pub kept : IsSnapshot first snapshot
-  pub leads : Leads first payloads d
+  pub kept : IsDurable first content.snapshot
+  pub leads : Leads first content.payloads d
 
--- The image holds what is kept: so its bank says.
+-- The image holds what is kept: so the bank that counts says.
 pub record Holds (image : List ℕ) (d : Kept) : Type 0 where
-  pub generation : ℕ
-  pub snapshot : List ℕ
-  pub payloads : List (List ℕ)
-  pub bank : HoldsBank image generation snapshot payloads
-  pub makes : Makes snapshot payloads d
+  pub content : Content
+  pub bank : snap.Holds image content
+  pub makes : Makes content d
 
 -- one of the two
 abbrev pub HoldsEither : Kept → Kept → List ℕ → Type 0
@@ -42,14 +44,19 @@ HoldsEither before next image = Holds image before ⊎ Holds image next
 abbrev pub IsOfOpening : List ℕ → (ℕ → Bool) → List ℕ → Type 0
 IsOfOpening seen unsynced image = IsImage seen unsynced image ⊎ ((d : Kept) × Holds seen d × HoldsEither d (raised d) image)
 
--- A payload of n bytes finds room at this closed gate of a bank that ends there: its record does; a bank has room for it behind a snapshot
--- of what is kept before; and for 64 bytes behind a snapshot of what is kept then.
-pub record HasRoom (end gate : ℕ) (before next : Kept) (n : ℕ) : Type 0 where
-  pub then : HEADER + snapshot_length next + 64 ≤ end
-  pub behind : HEADER + snapshot_length before + (n + 6) ≤ end
-  pub here : gate + 6 + n ≤ end
+-- ---- room
+
+-- A bank of so many bytes has 64 left behind a snapshot of what is kept: enough for an opening's record.
+abbrev pub IsRoomy : (size : ℕ) → Kept → Type 0
+IsRoomy size d = HEADER + snapshot_length d + 64 ≤ size
+
+-- A payload of n bytes finds room in banks of so many bytes: one has 64 bytes left behind a snapshot of what is kept then, and room for
+-- the payload's record behind one of what is kept before.
+pub record HasRoom (size : ℕ) (before next : Kept) (n : ℕ) : Type 0 where
+  pub then : IsRoomy size next
+  pub behind : HEADER + snapshot_length before + (n + 6) ≤ size
 
 -- a change that has a payload, and its payload finds room
-pub record FindsRoom (end gate : ℕ) (before next : Kept) (e : Edit) : Type 0 where
+pub record FindsRoom (size : ℕ) (before next : Kept) (e : Edit) : Type 0 where
   pub formed : has_form (recorded.Made e) ≡ true
-  pub room : HasRoom end gate before next (payload_length (recorded.Made e))
+  pub room : HasRoom size before next (payload_length (recorded.Made e))

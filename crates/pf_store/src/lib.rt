@@ -1,19 +1,17 @@
 //! What is kept on a device, so that a crash at any moment leaves it whole.
 //!
-//! The crate knows a device by the trait `pf_disk::Disk`, records by `pf_journal`, and what is kept by `pf_core`. The modules:
+//! The crate knows a device by the trait `pf_disk::Disk`, its two banks by `pf_snap`, and what is kept by `pf_core`. The modules:
 //!
-//! - `bank`: the first of a device's two banks, by its bytes alone: a header, a snapshot and records. What a snapshot and a record's
-//!   payload mean it doesn't know.
 //! - `groups`: what a record's payload means: a change, or an opening.
 //! - `snapshots`: what a snapshot means: all that is kept.
-//! - `store`: [`Store`], a device that holds what is kept: a snapshot, and a record for each change since. It uses `bank` and `groups`.
+//! - `store`: [`Store`], a device that holds what is kept: a snapshot, and a record for each change since. It uses the other two.
 #![tactic(auto)]
 
-pub mod bank;
 pub mod groups;
 pub mod snapshots;
 pub mod store;
 
 pub use groups::{GroupFault, Recorded, read_group, write_group};
+pub use pf_snap::FormatFault;
 pub use snapshots::{read_durable, write_durable};
 pub use store::{OpenFault, SaveFault, Store, format, peek};

@@ -1,8 +1,11 @@
-//! A device that holds what is kept: its bank has a snapshot of what was kept first, and a record for each change since.
+//! A device that holds what is kept: the bank that counts has a snapshot of what was kept when it was begun, and a record for each change
+//! since. Where a record has no room there, the other bank is begun first.
 //!
-//! Read first `specs/Stores.antt`: what an image holds, then `specs/Openings.antt`: why a device isn't opened. The modules:
+//! Read first `specs/Stores.antt`: what an image holds, then `specs/StoreKept.antt`: what contracts see of a store, and
+//! `specs/Openings.antt`: why a device isn't opened. The modules:
 //!
 //! - `keeping`: [`Store`], which saves a change, and [`Store::open`].
+//! - `adding`: a record more, behind a switch where it has no room.
 //! - `finding`: [`peek`], what a device holds.
 //! - `formatting`: [`format`], which makes a device hold nothing.
 //! - `replaying`: what a snapshot and payloads make.
@@ -10,6 +13,7 @@
 //! - `fault`: why any of them ends without its result.
 //! - `laws`: an image holds one thing at most, which is within all limits.
 
+mod adding;
 mod fault;
 mod finding;
 mod formatting;

@@ -3,22 +3,14 @@ ghost use Rattle.pf_book.specs.Books.{IsNamed};
 ghost use Rattle.pf_store_tests.specs.declared.books.TheConstants.{HISTORY_LIMIT};
 
 use pf_book::{Book, Chapter, Disk, Opening, Reply};
-use pf_disk::OPEN_GATE;
+use pf_disk::MemDisk;
 use pf_line::{parse_line, write_reply};
+use pf_snap::look;
 use std::alloc::{AllocError, Global};
 use std::sync::Wait;
 
 /// The most changes that a history may have. No rows have so many.
 pub const HISTORY_LIMIT: usize = 1000;
-
-/// Where a bank tells how long its snapshot is.
-const SNAPSHOT_LENGTH: usize = 16;
-
-/// Where the snapshot begins. The records are behind it.
-const SNAPSHOT: usize = 24;
-
-/// The bytes of a record's gate and of its length.
-const RECORD_HEAD: usize = 5;
 
 /// Makes a Book of an opening, and hands its device back with what the Book replies to lines.
 pub fn replies_over<D: Disk + Drop, J: Chapter, H: Wait + Drop>(
@@ -84,26 +76,11 @@ fn joined(alloc: Global, lines: &str) -> Result<String, AllocError> {
     Ok(text)
 }
 
-/// Where the next record goes on a device of these bytes: at the first gate that isn't open.
-pub fn closed_gate(bytes: &[u8]) -> usize {
-    let mut gate = length_at(bytes, SNAPSHOT_LENGTH).saturating_add(SNAPSHOT);
-    for _ in 0..bytes.len() {
-        if bytes.get(gate) != Some(&OPEN_GATE) {
-            break;
-        }
-        let payload = length_at(bytes, gate.saturating_add(1));
-        gate = gate.saturating_add(payload).saturating_add(RECORD_HEAD);
+/// Where the next record goes on a device of these bytes. 0: they hold nothing.
+pub fn closed_gate(alloc: Global, bytes: &[u8]) -> Result<usize, AllocError> {
+    let mut disk = MemDisk::of(alloc, Vec::from_slice(alloc, bytes)?)?;
+    match look(alloc, &mut disk) {
+        Ok(looked) => Ok(looked.gate),
+        Err(_) => Ok(0),
     }
-    gate
-}
-
-// The length in the four bytes at this place.
-fn length_at(bytes: &[u8], place: usize) -> usize {
-    let mut length = 0usize;
-    for byte in bytes.iter().skip(place).take(4) {
-        length = length
-            .saturating_mul(256)
-            .saturating_add(usize::from(*byte));
-    }
-    length
 }

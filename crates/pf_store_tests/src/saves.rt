@@ -18,7 +18,7 @@ const QUESTIONS: &str =
     "show rules - | show rules web | show tables - | show tables web | show states";
 
 /// The calls of an opening and of a save, and one more.
-const CALLS: u64 = 13;
+const CALLS: u64 = 14;
 
 /// A device between two rows, and what is known of the last opening of it.
 #[derive(Drop)]
@@ -121,6 +121,7 @@ impl<H: Wait + Drop + Copy> Bench<H> {
         match word {
             "zeros" => self.make(told, number(rest)),
             "format" => self.format(told),
+            "put" => self.put(told, rest),
             "bytes" => self.tell_bytes(told, rest),
             "with" => self.tell_changed(told, rest),
             "faults" => self.tell_faults(told, rest),
@@ -174,7 +175,7 @@ impl<H: Wait + Drop + Copy> Bench<H> {
     ) -> Result<(), AllocError> {
         self.kept = Vec::new(self.alloc);
         self.keep(book)?;
-        let (epoch, gate) = (book.durable().epoch(), closed_gate(&self.bytes));
+        let (epoch, gate) = (book.durable().epoch(), closed_gate(self.alloc, &self.bytes)?);
         write!(
             told,
             "epoch {epoch}, gate {gate}, {} calls\n",
@@ -201,9 +202,16 @@ impl<H: Wait + Drop + Copy> Bench<H> {
         told.push_str(&text)?;
         if text.starts_with("applied") {
             self.keep(book)?;
-            write!(told, ", gate {}", closed_gate(&self.bytes))?;
+            let gate = closed_gate(self.alloc, &self.bytes)?;
+            write!(told, ", gate {gate}")?;
         }
         Ok(())
+    }
+
+    /// Other bytes at some places, until the device is opened.
+    fn put(&mut self, told: &mut String, changes: &str) -> Result<(), AllocError> {
+        put_bytes(&mut self.bytes, changes);
+        told.push_str("put")
     }
 
     /// The bytes between two places.
@@ -360,7 +368,8 @@ impl<H: Wait + Drop + Copy> Bench<H> {
             opening,
             &self.questions,
         )?;
-        let gate = closed_gate(&disk.image(self.alloc, u64::MAX, Fill::New)?);
+        let bytes = disk.image(self.alloc, u64::MAX, Fill::New)?;
+        let gate = closed_gate(self.alloc, &bytes)?;
         Ok(Ok(Opened { epoch, gate, kept }))
     }
 

@@ -1,9 +1,9 @@
 -- What keeps a fresh disk from being opened.
-use Rattle.std.proofs.{Common.{◌≡◌, ◌∙◌, ℕ, ◌+◌, ◌≤◌, Bool, List, length, ap, arith, refl}, lemmas.Nat.le-div}
+use Rattle.std.proofs.{Common.{◌≡◌, ◌∙◌, ℕ, ◌+◌, ◌≤◌, Bool, List, length, ap, arith, refl, subst}, lemmas.Nat.le-div}
 use Rattle.pf_core.specs.{Durable.Edits.{Kept, kept_nothing}, Worlds.raised}
-use Rattle.pf_store.specs.{Banks.{IsSize, bank_end}, Openings.{IsUnopened, gate_of}, Stores.Holds}
-use Rattle.pf_store.specs.declared.{store.fault.OpenFault.OpenFault, store.fault.OpenFault.TheVariants.{BadSize, NoBank, Corrupt, Memory, Fault, EpochsExhausted, NoRoom}}
-use Rattle.pf_store.proofs.Refusing.{held_is_found, one_gate, one_held}
+use Rattle.pf_store.specs.{Banks.{IsSize, bank_size}, Openings.{IsFull, IsUnopened, generation_of}, Stores.Holds}
+use Rattle.pf_store.specs.declared.{store.fault.OpenFault.OpenFault, store.fault.OpenFault.TheVariants.{BadSize, NoBank, Corrupt, Memory, Fault, EpochsExhausted, Full}}
+use Rattle.pf_store.proofs.Refusing.{held_is_found, one_held, roomy_is_not_full}
 use Rattle.pf_disk.specs.Disk.{IsImage}
 use Rattle.pf_view.specs.declared.opening.ViewFault.{ViewFault}
 use Rattle.pf_view.specs.declared.opening.ViewFault.TheVariants as views
@@ -15,25 +15,20 @@ pub own-image : (seen : List ℕ) (unsynced : ℕ → Bool) → IsImage seen uns
 own-image seen unsynced = record { same_length = refl; agrees = λ i synced. refl }
 
 -- half of a disk is large enough for an opening's record
-roomy : (size : ℕ) → IsSize size → 128 ≤ bank_end size
+roomy : (size : ℕ) → IsSize size → 128 ≤ bank_size size
 roomy size is = le-div 128 size 2 (omega arith) (omega (arith, is.least))
 
--- a fresh disk, by its bytes and by where its closed gate stands
-module _ (seen : List ℕ) (size : ℕ) (is : IsSize size) (same : length seen ≡ size) (held : Holds seen (kept_nothing 0)) (gate : gate_of seen (kept_nothing 0) held ≡ 40) where
+-- a fresh disk, by its bytes and by the generation of the bank that counts
+module _ (seen : List ℕ) (size : ℕ) (is : IsSize size) (same : length seen ≡ size) (held : Holds seen (kept_nothing 0)) (first : generation_of seen (kept_nothing 0) held ≡ 1) where
   pub unopened-hinders : (e : OpenFault) → IsUnopened e seen → Hinders size (told_of_opening e)
-  unopened-hinders BadSize why = absurd (held_is_found seen BadSize (kept_nothing 0) held why tt)
-  unopened-hinders NoBank why = absurd (held_is_found seen NoBank (kept_nothing 0) held why tt)
-  unopened-hinders (Corrupt at) why = absurd (held_is_found seen (Corrupt at) (kept_nothing 0) held why tt)
+  unopened-hinders BadSize why = absurd (held_is_found seen BadSize (kept_nothing 0) held (omega (arith, first)) why tt)
+  unopened-hinders NoBank why = absurd (held_is_found seen NoBank (kept_nothing 0) held (omega (arith, first)) why tt)
+  unopened-hinders (Corrupt at) why = absurd (held_is_found seen (Corrupt at) (kept_nothing 0) held (omega (arith, first)) why tt)
   unopened-hinders Memory why = is
   unopened-hinders Fault why = is
   unopened-hinders EpochsExhausted (d, other, last) = absurd (omega (arith, ap (λ (k : Kept). k.epoch) (one_held seen d (kept_nothing 0) other held), last))
-  unopened-hinders NoRoom (d, other, early, full) =
-      let at : gate_of seen d other ≡ 40 = one_gate seen d (kept_nothing 0) other held ∙ gate in
-      absurd (omega (arith, roomy size is, ap bank_end same, at, full))
-
-  -- where the gate stands behind an opening's record
-  pub gate-is : (d : Kept) (other : Holds seen d) (place : ℕ) → place ≡ gate_of seen d other + 11 → place ≡ 51
-  gate-is d other place is = omega (arith, is, one_gate seen d (kept_nothing 0) other held, gate)
+  unopened-hinders Full (d, full) =
+      absurd (roomy_is_not_full seen (kept_nothing 0) (omega (arith, roomy size is, ap bank_size same)) (subst (IsFull seen) (one_held seen d (kept_nothing 0) full.held held) full))
 
 pub views-hinder : (size : ℕ) (e : ViewFault) → IsSize size → Hinders size (told_of_views e)
 views-hinder size views.Memory is = is

@@ -3,10 +3,10 @@ use Rattle.std.specs.{Prelude.{◌≡◌, ◌⊎◌, ℕ, ◌+◌, ◌<◌, List
 use Rattle.std.specs.declared.{io.ErrorKind.ErrorKind, io.ErrorKind.TheVariants.OutOfMemory}
 use Rattle.pf_addr.specs.Writing.{Writes}
 use Rattle.pf_core.specs.{Durable.Edits.{Kept, kept_nothing}, Pages.{IsAt, StandsFor}, Worlds.{Event, begun, down, last_epoch, opened, raised, state_after, IsWorld}}
-use Rattle.pf_store.specs.{Banks.{IsSize, bank_end}, Openings.{IsUnopened, gate_of}, Rooms.on_device, Stores.Holds}
+use Rattle.pf_store.specs.{Banks.{IsSize, bank_size}, Openings.IsUnopened, Rooms.on_device, Stores.Holds}
 use Rattle.pf_store.specs.declared.store.fault.OpenFault.{OpenFault}
 use Rattle.pf_view.specs.declared.opening.ViewFault.{ViewFault}
-use Rattle.pf_book.specs.Books.{Ledger, Opened, page}
+use Rattle.pf_book.specs.Books.{Ledger, Opened, page, setting_of}
 use Rattle.pfd_words.specs.declared.words.{Task.Task, Task.TheVariants.{Run, RunOn, Format, Show, Serve, Connect}, TheConstants.MEMORY_SIZE}
 use Rattle.pf_session.specs.declared.line_engine.fault.EngineFault.{EngineFault}
 use Rattle.pf_session.specs.declared.line_engine.fault.EngineFault.TheVariants as session
@@ -28,14 +28,14 @@ ended (Err fault) = Err (told_of_session fault)
 abbrev pub Follows : {D : Type 0} → Opened D → ℕ → Ledger D → Type 0
 Follows opening history book = (first d : Kept) (world : List Event) → IsWorld first world → state_after (down first) world ≡ down d
     → d.epoch < last_epoch → opening.given ≡ raised d
-    → StandsFor first (page book) (world ++ opened (on_device history opening.end opening.gate) ∷ [])
+    → StandsFor first (page book) (world ++ opened (setting_of opening history) ∷ [])
 
 -- A session was served over what was opened, by a Book with room for so many changes.
 pub record Began {D : Type 0} (faults : D → ℕ) (opening : Opened D) (history : ℕ)
     (result : Result (Unit {0}) EngineFault) (unread unread' held held' : Option (List ℕ)) : Type 0 where
   pub old : Ledger D
   pub new : Ledger D
-  pub at : IsAt (begun (on_device history opening.end opening.gate) opening.given) (page old)
+  pub at : IsAt (begun (setting_of opening history) opening.given) (page old)
   pub device : old.disk ≡ opening.disk
   pub worlds : Follows opening history old
   pub session : IsSession (Serves faults) result unread unread' old new held held'
@@ -47,11 +47,6 @@ ServesFrom faults opening history result unread unread' held held' =
     ((session : Result (Unit {0}) EngineFault) × (result ≡ ended session) × Began faults opening history session unread unread' held held')
     ⊎ ((fault : ViewFault) × (result ≡ Err (told_of_views fault)) × Keeps unread unread' × Keeps held held')
 
--- where the closed gate stands once a disk that was just formatted is opened: behind a header of 24 bytes, a snapshot of 16 and the record
--- of 11 that the opening adds
-abbrev pub fresh_gate : ℕ
-fresh_gate = 51
-
 -- A session was served over a disk in memory that was just formatted, by a Book with room for so many changes: it stands for the world in
 -- which the first opening begins, with the room that a disk of this size has.
 pub record Ran {M : Type 0} (faults : M → ℕ) (size history : ℕ)
@@ -59,7 +54,7 @@ pub record Ran {M : Type 0} (faults : M → ℕ) (size history : ℕ)
   pub size_is : IsSize size
   pub old : Ledger M
   pub new : Ledger M
-  pub fresh : StandsFor (kept_nothing 0) (page old) (opened (on_device history (bank_end size) fresh_gate) ∷ [])
+  pub fresh : StandsFor (kept_nothing 0) (page old) (opened (on_device history (bank_size size)) ∷ [])
   pub session : IsSession (Serves faults) result unread unread' old new held held'
 
 -- Why there is no session over a disk in memory of so many bytes: it may not have so many; or it may, and memory is refused, the disk fails,
@@ -78,13 +73,12 @@ RanOver faults size history result unread unread' held held' =
     ((session : Result (Unit {0}) EngineFault) × (result ≡ ended session) × Ran faults size history session unread unread' held held')
     ⊎ ((fault : Fault) × (result ≡ Err fault) × Hinders size fault × Keeps unread unread' × Keeps held held')
 
--- What the disk held, in the next epoch. Its bank ends at half of the disk, and its closed gate stands behind the opening's record of 11 bytes.
+-- What the disk held, in the next epoch. Each of its banks has half of its bytes.
 pub record Opens {D : Type 0} (seen : List ℕ) (opening : Opened D) : Type 0 where
   pub kept : Kept
   pub held : Holds seen kept
   pub given : opening.given ≡ raised kept
-  pub end : opening.end ≡ bank_end (length seen)
-  pub gate : opening.gate ≡ gate_of seen kept held + 11
+  pub size : opening.size ≡ bank_size (length seen)
 
 -- A session was served over what the disk held; or the disk couldn't be opened, for a cause that there is, and nothing was read or written.
 abbrev pub RanOn : {D : Type 0} → (D → List ℕ) → (D → ℕ) → D → ℕ → Result (Unit {0}) Fault

@@ -1,8 +1,9 @@
 -- What the program tells of what failed below it. Own.
 use Rattle.pf_disk.specs.declared.file.FileFault.{FileFault}
 use Rattle.pf_disk.specs.declared.file.FileFault.TheVariants as file
-use Rattle.pf_store.specs.declared.{bank.fault.FormatFault.FormatFault, store.fault.OpenFault.OpenFault}
-use Rattle.pf_store.specs.declared.bank.fault.FormatFault.TheVariants as formatting
+use Rattle.pf_store.specs.declared.store.fault.OpenFault.{OpenFault}
+use Rattle.pf_snap.specs.declared.fault.FormatFault.{FormatFault}
+use Rattle.pf_snap.specs.declared.fault.FormatFault.TheVariants as formatting
 use Rattle.pf_store.specs.declared.store.fault.OpenFault.TheVariants as opening
 use Rattle.pf_view.specs.declared.opening.ViewFault.{ViewFault}
 use Rattle.pf_view.specs.declared.opening.ViewFault.TheVariants as views
@@ -15,7 +16,7 @@ told_of_opening (opening.Corrupt at) = Corrupt at
 told_of_opening opening.Memory = Memory
 told_of_opening opening.Fault = Device
 told_of_opening opening.EpochsExhausted = EpochsExhausted
-told_of_opening opening.NoRoom = Full
+told_of_opening opening.Full = Full
 
 abbrev pub told_of_formatting : FormatFault → Fault
 told_of_formatting formatting.BadSize = BadSize

@@ -5,7 +5,7 @@ use Rattle.pf_core.specs.Durable.Edits.{Kept, main_sum}
 use Rattle.pf_core.specs.declared.reply.{Answer.TheVariants.Sum, Reply.TheVariants.Answer}
 use Rattle.pf_line.specs.Reply.Replies.{reply_text}
 use Rattle.pf_store.specs.{Openings.IsUnopened, Stores.Holds}
-use Rattle.pf_store.specs.declared.store.fault.{OpenFault.OpenFault, OpenFault.TheVariants.{EpochsExhausted, NoRoom}}
+use Rattle.pf_store.specs.declared.store.fault.{OpenFault.OpenFault, OpenFault.TheVariants.{EpochsExhausted, Full}}
 use Rattle.pfd_files.specs.declared.fault.{Fault.Fault, Fault.TheVariants.{BadSize, Device, Input, Memory, Output}}
 use Rattle.pfd_files.specs.Faults.{told_of_opening}
 
@@ -30,7 +30,7 @@ shown_text d =
 pub record IsUnread (why : OpenFault) (seen : List ℕ) : Type 0 where
   pub refused : IsUnopened why seen
   pub epochs : why ≢ EpochsExhausted
-  pub room : why ≢ NoRoom
+  pub room : why ≢ Full
 
 -- It was told what a disk with these bytes holds. Or nothing was, since nothing was read that can be kept: the fault says why. Or a
 -- write failed behind some front of the text.

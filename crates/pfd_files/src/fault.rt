@@ -3,8 +3,7 @@ ghost use Rattle.std.specs.Prelude.{◌≡◌};
 ghost use Rattle.pfd_files.specs.Faults.{told_of_opening, told_of_formatting, told_of_file, told_of_views};
 
 use pf_disk::FileFault;
-use pf_store::OpenFault;
-use pf_store::bank::FormatFault;
+use pf_store::{FormatFault, OpenFault};
 use pf_view::ViewFault;
 use thiserror::Error;
 
@@ -55,7 +54,7 @@ impl From<OpenFault> for Fault {
             OpenFault::Memory => Fault::Memory,
             OpenFault::Fault => Fault::Device,
             OpenFault::EpochsExhausted => Fault::EpochsExhausted,
-            OpenFault::NoRoom => Fault::Full,
+            OpenFault::Full => Fault::Full,
         }
     }
 }

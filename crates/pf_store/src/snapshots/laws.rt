@@ -2,7 +2,7 @@
 ghost use Rattle.std.specs.Prelude.{◌≡◌, ◌↔◌, ℕ, List, false, length, replicate};
 ghost use Rattle.pf_addr.specs.Bytes.Forms.{Spells};
 ghost use Rattle.pf_core.specs.Durable.Edits.{Kept, kept_nothing};
-ghost use Rattle.pf_store.specs.{Durables.{IsDurable, durable_has_form, example_kept, example_bytes}, Lengths.snapshot_length, Snapshots.{empty_form, IsSnapshot}};
+ghost use Rattle.pf_store.specs.{Durables.{IsDurable, durable_has_form, example_kept, example_bytes}, Lengths.snapshot_length, Snapshots.empty_form};
 
 /// Bytes are the snapshot of one thing kept at most, and what has more rulesets or tables than there may be has none. Own.
 pub fn snapshot_is_of_one_durable()
@@ -17,8 +17,7 @@ pub fn snapshots_are_so_long()
 
 /// The snapshot of nothing is its epoch in four bytes, and twelve zeros. Own.
 pub fn snapshot_of_nothing_is_its_epoch()
-    ensures bytes { (epoch : ℕ) (bytes : List ℕ) → IsDurable (kept_nothing epoch) bytes ↔ Spells empty_form epoch bytes }
-    ensures snapshot { (d : Kept) (bytes : List ℕ) → IsSnapshot d bytes → IsDurable d bytes }
+    ensures { (epoch : ℕ) (bytes : List ℕ) → IsDurable (kept_nothing epoch) bytes ↔ Spells empty_form epoch bytes }
 {}
 
 /// The snapshot of nothing with epoch 0 is 16 zeros, and one of main's table `t` of 10.0.0.0/8 has these 43 bytes. Own.

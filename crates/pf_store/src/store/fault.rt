@@ -1,7 +1,11 @@
 //! Why a store isn't opened, or doesn't save.
 ghost use Rattle.std.specs.Prelude.{◌≡◌};
 ghost use Rattle.pf_store.specs.declared.store.fault.OpenFault.TheVariants as opening;
+ghost use Rattle.pf_store.specs.declared.store.fault.AddFault.TheVariants as adding;
+ghost use Rattle.pf_store.specs.StoreFaults.{switched_to};
 
+use pf_disk::DiskFault;
+use pf_snap::SwitchFault;
 use std::alloc::AllocError;
 
 /// Why a change wasn't saved. Own.
@@ -22,10 +26,11 @@ pub enum SaveFault {
 pub enum OpenFault {
     /// The device has an odd number of bytes, or fewer than 256 or more than 2^30. No call was made.
     BadSize,
-    /// The bank's gate is closed.
+    /// Both banks' gates are closed.
     NoBank,
-    /// What begins at this place of the device is none that this store leaves there: the header (0), the snapshot (24), or else the first
-    /// record that is none, has no room, or doesn't follow what is kept before it; then it is that of its gate.
+    /// What begins at this place of the device is none that this store leaves there: the header of the bank that counts, or both banks' (0),
+    /// its snapshot, or else the first record that is none, has no room, or doesn't follow what is kept before it; then it is that of its
+    /// gate.
     Corrupt { at: usize },
     /// Memory was refused.
     Memory,
@@ -33,8 +38,8 @@ pub enum OpenFault {
     Fault,
     /// The epoch is the last one.
     EpochsExhausted,
-    /// The bank has no room for the record of an opening.
-    NoRoom,
+    /// The record of an opening has no room, and none in the other bank behind a snapshot of what is held.
+    Full,
 }
 
 impl From<AllocError> for OpenFault {
@@ -42,5 +47,43 @@ impl From<AllocError> for OpenFault {
 
     fn from(_: AllocError) -> Self {
         OpenFault::Memory
+    }
+}
+
+/// Why a record wasn't added.
+#[derive(Clone, Copy, Debug)]
+pub(crate) enum AddFault {
+    /// Memory was refused. All is as before, and the device wasn't called.
+    Memory,
+    /// There is no room for it, here or behind a snapshot. All is as before, and the device wasn't called.
+    Full,
+    /// A call of the device failed.
+    Fault,
+}
+
+impl From<AllocError> for AddFault {
+    ghost from_gives = { λ _ e. e ≡ adding.Memory };
+
+    fn from(_: AllocError) -> Self {
+        AddFault::Memory
+    }
+}
+
+impl From<DiskFault> for AddFault {
+    ghost from_gives = { λ _ e. e ≡ adding.Fault };
+
+    fn from(_: DiskFault) -> Self {
+        AddFault::Fault
+    }
+}
+
+impl From<SwitchFault> for AddFault {
+    ghost from_gives = { λ fault e. e ≡ switched_to fault };
+
+    fn from(fault: SwitchFault) -> Self {
+        match fault {
+            SwitchFault::Memory => AddFault::Memory,
+            SwitchFault::Fault => AddFault::Fault,
+        }
     }
 }

@@ -1,12 +1,16 @@
 //! Making a device hold nothing.
 ghost use Rattle.std.specs.Prelude.{◌≡◌, ◌↔◌, ◌+◌, ◌^◌, ◌<◌, ◌≤◌, ◌≢◌, ℕ, List, length, replicate, slice_index, OnOk, IsErrOf, if◌then◌else◌};
 ghost use Rattle.pf_disk.specs.{Disk.{EachMoment, IsImage, IsSynced}, declared.image.TheConstants.OPEN_GATE};
+ghost use Rattle.pf_snap.specs.{Banks.{IsSize, bank_size, IsOfFormat}, Faults.is_format_fault};
 ghost use Rattle.pf_core.specs.Durable.Edits.{kept_nothing};
-ghost use Rattle.pf_store.specs.{Banks.{IsSize, bank_end, IsOfFormat}, BankFaults.is_format_fault, Openings.gate_of, Stores.Holds};
+ghost use Rattle.pf_store.specs.{Openings.generation_of, Stores.Holds};
 
-use crate::bank::{self, FormatFault};
 use pf_disk::Disk;
+use pf_snap::FormatFault;
 use std::alloc::Global;
+
+/// A snapshot of nothing in the epoch 0.
+const EMPTY_SNAPSHOT: [u8; 16] = [0; 16];
 
 /// Makes a device hold nothing but the epoch 0, whatever it held, in seven moments of the device at most. `Err`: the device is as before,
 /// or a call of it failed. Own.
@@ -14,15 +18,15 @@ pub fn format<D: Disk>(alloc: Global, disk: &mut D) -> Result<(), FormatFault>
     requires few { D.fault_count disk.old < 2 ^ 63 }
     ensures holds { OnOk result ((c : List ℕ) → IsImage (D.seen disk.new) (D.unsynced disk.new) c → Holds c (kept_nothing 0)) }
 
-    // Its bank's closed gate stands behind the header and a snapshot of 16 bytes.
-    ensures gate { OnOk result ((c : List ℕ) → IsImage (D.seen disk.new) (D.unsynced disk.new) c
-        → (held : Holds c (kept_nothing 0)) → gate_of c (kept_nothing 0) held ≡ 40) }
+    // By the first generation.
+    ensures first { OnOk result ((c : List ℕ) → IsImage (D.seen disk.new) (D.unsynced disk.new) c
+        → (held : Holds c (kept_nothing 0)) → generation_of c (kept_nothing 0) held ≡ 1) }
 
     ensures other { OnOk result ((c : List ℕ) → IsImage (D.seen disk.new) (D.unsynced disk.new) c
-        → slice_index c (bank_end (length (D.seen disk.old))) ≢ OPEN_GATE) }
+        → slice_index c (bank_size (length (D.seen disk.old))) ≢ OPEN_GATE) }
     ensures synced { OnOk result (IsSynced (D.unsynced disk.new)) }
 
-    // At each moment an image is as before but for the banks' gates, or its first gate is closed, or it holds a bank of nothing.
+    // At each moment an image is as before but for the banks' gates, or both are closed, or it holds a bank of nothing.
     ensures any_moment { EachMoment D.moment D.left_since disk.old disk.new
         (IsOfFormat (D.seen disk.old) (D.unsynced disk.old) (replicate 16 0)) }
 
@@ -33,5 +37,5 @@ pub fn format<D: Disk>(alloc: Global, disk: &mut D) -> Result<(), FormatFault>
     ensures moments { D.moment disk.new ≤ D.moment disk.old + 7 }
     ensures faults { D.fault_count disk.new ≡ D.fault_count disk.old + (if is_format_fault result then 1 else 0) }
 {
-    bank::format(alloc, disk, &[0; 16])
+    pf_snap::format(alloc, disk, &EMPTY_SNAPSHOT)
 }

@@ -1,25 +1,29 @@
 //! Laws of what is held. Each function does nothing; its clauses are what is proved.
-ghost use Rattle.std.specs.Prelude.{◌≡◌, ◌⊎◌, ◌↔◌, ◌+◌, ◌<◌, ◌≤◌, true, [], ◌∷◌, List, ℕ, length};
+ghost use Rattle.std.specs.Prelude.{◌≡◌, ◌⊎◌, ◌↔◌, ◌^◌, ◌<◌, true, [], ◌∷◌, List, ℕ, length};
+ghost use Rattle.pf_snap.specs.Banks.{bank_size};
 ghost use Rattle.pf_core.specs.{Durable.Edits.{Kept, Edit}, Laws.Durable.IsWithin, Worlds.last_epoch};
 ghost use Rattle.pf_store.specs.declared.store.fault.{OpenFault.OpenFault, OpenFault.TheVariants.{Memory, Fault}};
 ghost use Rattle.pf_store.specs.declared.groups.change.Recorded.TheVariants as recorded;
-ghost use Rattle.pf_store.specs.{Banks.bank_end, Lengths.payload_length, Rooms.{group_fits, group_length}, Stores.{FindsRoom, Holds}, StoreFaults.SaysNone, Openings.{IsUnopened, gate_of}};
+ghost use Rattle.pf_store.specs.{Lengths.payload_length, Rooms.{group_fits, group_length}, Stores.{FindsRoom, Holds, IsRoomy}, StoreFaults.SaysNone, Openings.{IsFull, IsUnopened, generation_of}};
 
 /// An image holds one state of what is kept at most. Own.
 pub fn image_holds_one_state()
     ensures { (image : List ℕ) (d e : Kept) → Holds image d → Holds image e → d ≡ e }
 {}
 
-/// What holds a state is never refused as one that holds none. Own.
+/// What holds a state by a generation below 2^63 is never refused as one that holds none. Own.
 pub fn held_state_is_found()
-    ensures { (image : List ℕ) (fault : OpenFault) (d : Kept) → Holds image d → IsUnopened fault image → ¬ SaysNone fault }
+    ensures { (image : List ℕ) (fault : OpenFault) (d : Kept) (held : Holds image d) → generation_of image d held < 2 ^ 63
+        → IsUnopened fault image → ¬ SaysNone fault }
 {}
 
-/// Where the epoch isn't the last one and the bank has room for an opening's record, only want of memory or a fault of the device keeps a
-/// state that is held from being opened. Own.
+/// Where the epoch isn't the last one, and an opening's record has room here or in the other bank, only want of memory or a fault of the
+/// device keeps a state from being opened that is held by a generation below 2^63. It has room where a bank has 64 bytes left behind a
+/// snapshot of that state. Own.
 pub fn state_with_room_is_refused_by_chance_alone()
-    ensures { (image : List ℕ) (fault : OpenFault) (d : Kept) (held : Holds image d) → d.epoch < last_epoch
-        → gate_of image d held + 12 ≤ bank_end (length image) → IsUnopened fault image → (fault ≡ Memory) ⊎ (fault ≡ Fault) }
+    ensures chance { (image : List ℕ) (fault : OpenFault) (d : Kept) (held : Holds image d) → generation_of image d held < 2 ^ 63
+        → d.epoch < last_epoch → ¬ IsFull image d → IsUnopened fault image → (fault ≡ Memory) ⊎ (fault ≡ Fault) }
+    ensures room { (image : List ℕ) (d : Kept) → IsRoomy (bank_size (length image)) d → ¬ IsFull image d }
 {}
 
 /// What is held is within all limits, whatever bytes hold it. Own.
@@ -29,7 +33,7 @@ pub fn held_state_is_within_limits()
 
 /// A change's record finds room exactly where a group of it alone fits, and is as long. Own.
 pub fn group_of_one_fits_where_its_record_does()
-    ensures fits { (end gate : ℕ) (before next : Kept) (e : Edit)
-        → (group_fits end gate before next (e ∷ []) ≡ true) ↔ FindsRoom end gate before next e }
+    ensures fits { (size : ℕ) (before next : Kept) (e : Edit)
+        → (group_fits size before next (e ∷ []) ≡ true) ↔ FindsRoom size before next e }
     ensures length { (e : Edit) → group_length (e ∷ []) ≡ payload_length (recorded.Made e) }
 {}

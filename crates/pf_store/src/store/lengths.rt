@@ -3,26 +3,26 @@ ghost use Rattle.std.specs.Prelude.{◌≡◌, ◌↔◌, ◌+◌, ◌*◌, ◌<
 ghost use Rattle.pf_anchor.specs.{Rulesets.Ruled, Tables.Tabled};
 ghost use Rattle.pf_store.specs.Lengths.{ruleset_length, table_length, total, snapshot_length};
 
-use crate::bank::HEADER;
 use pf_anchor::{Config, Placed, PlacedTable};
 use pf_core::Durable;
+use pf_snap::HEADER;
 
-/// Whether a bank that ends at this place has room for so many bytes behind a snapshot of what is kept.
-pub(crate) fn has_room(durable: &Durable, end: usize, more: usize) -> bool
-    ensures { IsTrue result ↔ (HEADER + snapshot_length durable.now + more ≤ end) }
+/// Whether a bank of so many bytes has room for so many more behind a snapshot of what is kept.
+pub(crate) fn has_room(durable: &Durable, size: usize, more: usize) -> bool
+    ensures { IsTrue result ↔ (HEADER + snapshot_length durable.now + more ≤ size) }
 {
-    match behind_snapshot(durable, end) {
+    match behind_snapshot(durable, size) {
         Some(room) => more <= room,
         None => false,
     }
 }
 
 // The bytes that such a bank has left behind the snapshot.
-fn behind_snapshot(durable: &Durable, end: usize) -> Option<usize>
-    ensures { MatchOption result (end < HEADER + snapshot_length durable.now)
-        (λ room. end ≡ HEADER + snapshot_length durable.now + room) }
+fn behind_snapshot(durable: &Durable, size: usize) -> Option<usize>
+    ensures { MatchOption result (size < HEADER + snapshot_length durable.now)
+        (λ room. size ≡ HEADER + snapshot_length durable.now + room) }
 {
-    let room = end.checked_sub(HEADER + 16)?;
+    let room = size.checked_sub(HEADER + 16)?;
     let room = behind_rulesets(durable.config(), room)?;
     let room = behind_tables(durable.config(), room)?;
     room.checked_sub(durable.states().len().saturating_mul(96))

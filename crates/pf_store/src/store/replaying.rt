@@ -1,51 +1,53 @@
 //! What a bank's snapshot and payloads make.
 ghost use Rattle.std.specs.Prelude.{◌≡◌, ◌+◌, ◌^◌, ◌<◌, true, false, ℕ, List, length, IfOk, IfErr};
 ghost use Rattle.pf_journal.specs.Records.{records, contents};
+ghost use Rattle.pf_snap.specs.{Banks.records_start, Looked.content_of};
 ghost use Rattle.pf_core.specs.Durable.Edits.{Kept};
 ghost use Rattle.pf_core.specs.declared.durable.refusal.ChangeRefusal.TheVariants as refusing;
 ghost use Rattle.pf_store.specs.declared.groups.fault.GroupFault.TheVariants as group;
 ghost use Rattle.pf_store.specs.declared.groups.change.Recorded.{Recorded};
-ghost use Rattle.pf_store.specs.{Banks.records_start, Groups.IsRecorded, Snapshots.IsSnapshot, Stores.{Follows, left_by, Leads, Makes}, StoreFaults.BreaksOff, Openings.{NoSnapshot, StopsAt, MakesNone}};
+ghost use Rattle.pf_store.specs.{Durables.IsDurable, Groups.IsRecorded, Stores.{Follows, left_by, Leads, Makes}, StoreFaults.BreaksOff, Openings.{NoSnapshot, StopsAt, MakesNone}};
 
-use crate::bank::{HEADER, Looked};
 use crate::groups::{GroupFault, Recorded, read_group};
+use crate::snapshots::read_durable;
 use crate::store::fault::OpenFault;
-use pf_addr::bytes::{Layout, Rest, Stop, decode, expect, push_bytes, push_u32, read_u32};
 use pf_core::{ChangeRefusal, Durable};
-use std::alloc::{AllocError, Global};
+use pf_snap::{HEADER, Looked};
+use std::alloc::Global;
 
 /// Bytes in front of a record's payload: its gate and the length.
 const RECORD_FRONT: usize = 5;
 
 /// What is kept after all that a look found. `Err`: it is nothing that can be kept, or memory was refused.
 pub(crate) fn replay(alloc: Global, looked: &Looked) -> Result<Durable, OpenFault>
-    requires gate { looked.now.gate ≡ records_start looked.now.snapshot.items + length (records (contents looked.now.payloads.items)) }
+    requires start { looked.now.start ≡ records_start looked.now.at looked.now.snapshot.items }
+    requires gate { looked.now.gate ≡ looked.now.start + length (records (contents looked.now.payloads.items)) }
     ensures whole { IfOk result (λ d. looked.now.broken ≡ false) }
-    ensures made { IfOk result (λ d. Makes looked.now.snapshot.items (contents looked.now.payloads.items) d) }
-    ensures refused { IfErr result (λ e. BreaksOff e
-        (MakesNone (looked.now.broken ≡ true) looked.now.snapshot.items (contents looked.now.payloads.items))) }
+    ensures made { IfOk result (λ d. Makes (content_of looked.now) d) }
+    ensures refused { IfErr result (λ e. BreaksOff e (MakesNone (looked.now.broken ≡ true) looked.now.at (content_of looked.now))) }
 {
-    match first_kept(alloc, &looked.snapshot) {
-        Ok(first) => replay_from(alloc, first, looked, looked.gate),
+    let (start, gate) = (looked.start, looked.gate);
+    match first_kept(alloc, looked.at, &looked.snapshot) {
+        Ok(first) => replay_from(alloc, first, looked, start, gate),
         Err(fault) => Err(fault),
     }
 }
 
-// The same, where the snapshot is of this and the gate behind the records is at this place.
+// The same, where the snapshot is of this, and where the first record's gate and the one behind the records are at these places.
 fn replay_from(
     alloc: Global,
     first: Durable,
     looked: &Looked,
+    start: usize,
     gate: usize,
 ) -> Result<Durable, OpenFault>
-    requires kept { IsSnapshot first looked.now.snapshot.items }
-    requires gate { gate ≡ records_start looked.now.snapshot.items + length (records (contents looked.now.payloads.items)) }
+    requires kept { IsDurable first looked.now.snapshot.items }
+    requires start { start ≡ records_start looked.now.at looked.now.snapshot.items }
+    requires gate { gate ≡ start + length (records (contents looked.now.payloads.items)) }
     ensures whole { IfOk result (λ d. looked.now.broken ≡ false) }
-    ensures made { IfOk result (λ d. Makes looked.now.snapshot.items (contents looked.now.payloads.items) d) }
-    ensures refused { IfErr result (λ e. BreaksOff e
-        (MakesNone (looked.now.broken ≡ true) looked.now.snapshot.items (contents looked.now.payloads.items))) }
+    ensures made { IfOk result (λ d. Makes (content_of looked.now) d) }
+    ensures refused { IfErr result (λ e. BreaksOff e (MakesNone (looked.now.broken ≡ true) looked.now.at (content_of looked.now))) }
 {
-    let start = HEADER + looked.snapshot.len();
     match follow_all(alloc, first, start, &looked.payloads) {
         Ok(durable) => {
             if looked.broken {
@@ -57,48 +59,16 @@ fn replay_from(
     }
 }
 
-// The snapshot of nothing.
-#[derive(Drop)]
-struct Nothing {
-    epoch: u32,
-}
-
-impl Layout for Nothing {
-    ghost use Rattle.std.specs.Prelude.{true};
-    ghost use Rattle.pf_addr.specs.Bytes.Forms.{nat};
-    ghost use Rattle.pf_store.specs.Snapshots.{empty_form};
-
-    ghost shape = { nat };
-
-    ghost form = { λ version. empty_form };
-
-    ghost plain = { λ nothing. nothing.epoch };
-
-    ghost before = { λ a b. true };
-
-    #[tactic(auto, unfolding(crate::specs::Snapshots::empty_form))]
-    fn read<'a>(_alloc: Global, _version: u8, from: &mut Rest<'a>) -> Result<Nothing, Stop> {
-        let epoch = read_u32(from)?;
-        expect(from, &[0; 12])?;
-        Ok(Nothing { epoch })
-    }
-
-    #[tactic(auto, unfolding(crate::specs::Snapshots::empty_form))]
-    fn write(&self, _version: u8, out: &mut Vec<u8>) -> Result<(), AllocError> {
-        push_u32(out, self.epoch)?;
-        push_bytes(out, &[0; 12])
-    }
-}
-
-// What the snapshot is of.
-fn first_kept(alloc: Global, snapshot: &[u8]) -> Result<Durable, OpenFault>
-    ensures kept { IfOk result (λ d. IsSnapshot d snapshot.now) }
-    ensures refused { IfErr result (λ e. BreaksOff e (NoSnapshot snapshot.now)) }
+// What the snapshot of the bank at this place is of.
+fn first_kept(alloc: Global, bank: usize, snapshot: &[u8]) -> Result<Durable, OpenFault>
+    requires { bank + HEADER < 2 ^ 64 }
+    ensures kept { IfOk result (λ d. IsDurable d snapshot.now) }
+    ensures refused { IfErr result (λ e. BreaksOff e (NoSnapshot bank snapshot.now)) }
 {
-    match decode::<Nothing>(alloc, 1, snapshot) {
-        Ok(nothing) => Ok(Durable::empty(alloc, nothing.epoch)?),
-        Err(Stop::Memory) => Err(OpenFault::Memory),
-        Err(Stop::Fault(_)) => Err(OpenFault::Corrupt { at: HEADER }),
+    match read_durable(alloc, snapshot) {
+        Ok(durable) => Ok(durable),
+        Err(GroupFault::Memory) => Err(OpenFault::Memory),
+        Err(GroupFault::NoForm) => Err(OpenFault::Corrupt { at: bank + HEADER }),
     }
 }
 

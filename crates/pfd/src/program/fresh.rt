@@ -1,8 +1,8 @@
 //! Disks that hold nothing, opened.
 ghost use Rattle.std.specs.Prelude.{◌≡◌, ◌<◌, ◌^◌, length, IfErr, IfOk};
 ghost use Rattle.pf_core.specs.{Durable.Edits.kept_nothing, Worlds.raised};
-ghost use Rattle.pf_store.specs.Banks.{IsSize, bank_end};
-ghost use Rattle.pfd.specs.Program.{Hinders, fresh_gate};
+ghost use Rattle.pf_store.specs.Banks.{IsSize, bank_size};
+ghost use Rattle.pfd.specs.Program.{Hinders};
 
 use pf_book::{MemDisk, Opening};
 use pf_disk::Disk;
@@ -15,8 +15,7 @@ pub fn open_fresh<D: Disk + Drop>(alloc: Global, mut disk: D) -> Result<Opening<
     requires few { D.fault_count disk < 2 ^ 63 }
     ensures size { IfOk result (λ _. IsSize (length (D.seen disk))) }
     ensures given { IfOk result (λ o. o.given ≡ raised (kept_nothing 0)) }
-    ensures end { IfOk result (λ o. o.end ≡ bank_end (length (D.seen disk))) }
-    ensures gate { IfOk result (λ o. o.gate ≡ fresh_gate) }
+    ensures half { IfOk result (λ o. o.size ≡ bank_size (length (D.seen disk))) }
     ensures hindered { IfErr result (λ fault. Hinders (length (D.seen disk)) fault) }
 {
     if !is_size(disk.size()) {
@@ -33,8 +32,7 @@ pub fn open_fresh<D: Disk + Drop>(alloc: Global, mut disk: D) -> Result<Opening<
 pub(crate) fn open_memory(alloc: Global, size: usize) -> Result<Opening<MemDisk>, Fault>
     ensures size { IfOk result (λ _. IsSize size) }
     ensures given { IfOk result (λ o. o.given ≡ raised (kept_nothing 0)) }
-    ensures end { IfOk result (λ o. o.end ≡ bank_end size) }
-    ensures gate { IfOk result (λ o. o.gate ≡ fresh_gate) }
+    ensures half { IfOk result (λ o. o.size ≡ bank_size size) }
     ensures hindered { IfErr result (λ fault. Hinders size fault) }
 {
     if !is_size(size) {

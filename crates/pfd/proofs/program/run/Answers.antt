@@ -3,7 +3,6 @@ use Rattle.pf_core.specs.{Durable.Edits.kept_nothing, Pages.StandsFor, Worlds.op
 use Rattle.pf_store.specs.Rooms.{on_device}
 use Rattle.pf_book.specs.Books.{page}
 use Rattle.pfd_files.specs.Faults.{told_of_views}
-use Rattle.pfd.specs.Program.{fresh_gate}
 use Rattle.pfd.proofs.Begun.{views-hinder}
 use Rattle.pfd.proofs.program.run.Goals as goal
 
@@ -18,9 +17,8 @@ returns g c =
           size_is = size_is;
           old = began.old;
           new = began.new;
-          fresh = subst (λ (k : ℕ). StandsFor (kept_nothing 0) (page began.old) (opened (on_device c.args.history k fresh_gate) ∷ [])) c.in_ok-opening.ensures.end
-              (subst (λ (k : ℕ). StandsFor (kept_nothing 0) (page began.old) (opened (on_device c.args.history c.in_ok-opening.opening.end k) ∷ [])) c.in_ok-opening.ensures.gate
-              (began.worlds (kept_nothing 0) (kept_nothing 0) [] tt refl (lit< tt) c.in_ok-opening.ensures.given));
+          fresh = subst (λ (k : ℕ). StandsFor (kept_nothing 0) (page began.old) (opened (on_device c.args.history k) ∷ [])) c.in_ok-opening.ensures.half
+              (began.worlds (kept_nothing 0) (kept_nothing 0) [] tt refl (lit< tt) c.in_ok-opening.ensures.given);
           session = began.session;
         },
       )

@@ -1,4 +1,4 @@
-use Rattle.pf_store.specs.Rooms.{on_device}
+use Rattle.pf_book.specs.Books.{setting_of}
 use Rattle.pfd_rows.proofs.playing.play_lines.Given as goal
 
 -- the opening is named by what it gave, its history, and what it keeps within
@@ -6,4 +6,4 @@ abbrev pub ghosts-play_in_turn-J-Naming : goal.ghosts-play_in_turn-J-Naming
 ghosts-play_in_turn-J-Naming g a = record { base = a.opening.given }
 
 abbrev pub ghosts-play_in_turn-J-Chapter : goal.ghosts-play_in_turn-J-Chapter
-ghosts-play_in_turn-J-Chapter g a = record { history = a.opening.history; setting = on_device a.history a.opening.end a.opening.gate }
+ghosts-play_in_turn-J-Chapter g a = record { history = a.opening.history; setting = setting_of a.opening a.history }

@@ -1,4 +1,4 @@
-use Rattle.pf_store.specs.Rooms.{on_device}
+use Rattle.pf_book.specs.Books.{setting_of}
 use Rattle.pfd_words.specs.declared.words.TheConstants.{HISTORY_LIMIT}
 use Rattle.pfd_tests.proofs.tables.lists_have_any_number_of_entries.Given as goal
 
@@ -7,4 +7,4 @@ abbrev pub ghosts-play-J-Naming : goal.ghosts-play-J-Naming
 ghosts-play-J-Naming g a = record { base = a.opening.given }
 
 abbrev pub ghosts-play-J-Chapter : goal.ghosts-play-J-Chapter
-ghosts-play-J-Chapter g a = record { history = a.opening.history; setting = on_device HISTORY_LIMIT a.opening.end a.opening.gate }
+ghosts-play-J-Chapter g a = record { history = a.opening.history; setting = setting_of a.opening HISTORY_LIMIT }

@@ -14,7 +14,7 @@ pub returns-then-may_change-clause-any_moment : goal.returns-then-may_change-cla
 returns-then-may_change-clause-any_moment g c =
     let k = c.args.command.now in
     subst (λ (l : Ledger g.row.D.Denot). (h : Held) → IsAt h (page l) → EachMoment g.D.Disk.moment g.D.Disk.left_since l.disk l.disk (HoldsLeft h (calling k))) c.self.view_is
-    (λ h at. still-left g.D.Disk.seen g.D.Disk.unsynced g.D.Disk.moment g.D.Disk.left_since h _ (calling k) c.self.inside.store.bank.journal.disk (g.met.D.Disk.only_now c.self.inside.store.bank.journal.disk) c.self.invariant.images at)
+    (λ h at. still-left g.D.Disk.seen g.D.Disk.unsynced g.D.Disk.moment g.D.Disk.left_since h _ (calling k) c.self.inside.store.disk (g.met.D.Disk.only_now c.self.inside.store.disk) c.self.invariant.images at)
 
 pub make-requires-clause-fits : goal.make-requires-clause-fits
 make-requires-clause-fits g c =
@@ -26,13 +26,13 @@ pub returns-in-Ok-Done-clause-leads : goal.returns-in-Ok-Done-clause-leads
 returns-in-Ok-Done-clause-leads g c =
     let s = c.self.inside in
     let k = c.args.command.now in
-    let disk = s.store.bank.journal.disk in
+    let disk = s.store.disk in
     let log : List Edit = map arc_value s.log.items in
-    let b : Page = page_of g.J.Naming.base s.core log s.acked (on_device s.limit s.store.bank.journal.end s.first_gate) s.shower.shown in
+    let b : Page = page_of g.J.Naming.base s.core log s.acked (on_device s.limit s.store.size) s.shower.shown in
     let counted : c.len.result ≡ length log = grind (arith, common_steps, c.len.ensures) in
     let free : IsFree b k = elim c.else-self-len.branch [
       | else-self-len-via-then-self-len+else-may_change w ↦ unchanging b k (sym w.may_change.ensures ∙ w.if-may_change.false)
-      | else-self-len-via-else-self-len w ↦ none-behind g.J.Naming.base s.core log s.acked (on_device s.limit s.store.bank.journal.end s.first_gate) s.shower.shown k c.self.invariant.low (omega (arith, counted, w.if-self-len.false))
+      | else-self-len-via-else-self-len w ↦ none-behind g.J.Naming.base s.core log s.acked (on_device s.limit s.store.size) s.shower.shown k c.self.invariant.low (omega (arith, counted, w.if-self-len.false))
     ] in
     let e = rw c.in-Ok-Done.field-0-is at c.in-Ok-Done.ensures in
     let f : ℕ = g.D.Disk.fault_count disk in
@@ -43,7 +43,7 @@ returns-in-Ok-Done-clause-leads g c =
 pub returns-in-Ok-Done-clause-any_moment : goal.returns-in-Ok-Done-clause-any_moment
 returns-in-Ok-Done-clause-any_moment g c =
     let k = c.args.command.now in
-    let disk = c.self.inside.store.bank.journal.disk in
+    let disk = c.self.inside.store.disk in
     subst (λ (l : Ledger g.row.D.Denot). (h : Held) → IsAt h (page l) → EachMoment g.D.Disk.moment g.D.Disk.left_since l.disk disk (HoldsLeft h (calling k))) c.self.view_is
     (λ h at. still-left g.D.Disk.seen g.D.Disk.unsynced g.D.Disk.moment g.D.Disk.left_since h _ (calling k) disk (g.met.D.Disk.only_now disk) c.self.invariant.images at)
 
@@ -51,13 +51,13 @@ pub returns-in-Ok-Wants-clause-leads : goal.returns-in-Ok-Wants-clause-leads
 returns-in-Ok-Wants-clause-leads g c =
     let s = c.self.inside in
     let k = c.args.command.now in
-    let disk = s.store.bank.journal.disk in
+    let disk = s.store.disk in
     let log : List Edit = map arc_value s.log.items in
-    let b : Page = page_of g.J.Naming.base s.core log s.acked (on_device s.limit s.store.bank.journal.end s.first_gate) s.shower.shown in
+    let b : Page = page_of g.J.Naming.base s.core log s.acked (on_device s.limit s.store.size) s.shower.shown in
     let counted : c.len.result ≡ length log = grind (arith, common_steps, c.len.ensures) in
     let free : IsFree b k = elim c.else-self-len.branch [
       | else-self-len-via-then-self-len+else-may_change w ↦ unchanging b k (sym w.may_change.ensures ∙ w.if-may_change.false)
-      | else-self-len-via-else-self-len w ↦ none-behind g.J.Naming.base s.core log s.acked (on_device s.limit s.store.bank.journal.end s.first_gate) s.shower.shown k c.self.invariant.low (omega (arith, counted, w.if-self-len.false))
+      | else-self-len-via-else-self-len w ↦ none-behind g.J.Naming.base s.core log s.acked (on_device s.limit s.store.size) s.shower.shown k c.self.invariant.low (omega (arith, counted, w.if-self-len.false))
     ] in
     let e = rw c.in-Ok-Wants.field-0-is at c.in-Ok-Wants.ensures in
     let change = c.in-Ok-Wants.change in
@@ -72,13 +72,13 @@ pub returns-in-Ok-Wants-clause-any_moment : goal.returns-in-Ok-Wants-clause-any_
 returns-in-Ok-Wants-clause-any_moment g c =
     let s = c.self.inside in
     let k = c.args.command.now in
-    let disk = s.store.bank.journal.disk in
+    let disk = s.store.disk in
     let log : List Edit = map arc_value s.log.items in
-    let b : Page = page_of g.J.Naming.base s.core log s.acked (on_device s.limit s.store.bank.journal.end s.first_gate) s.shower.shown in
+    let b : Page = page_of g.J.Naming.base s.core log s.acked (on_device s.limit s.store.size) s.shower.shown in
     let counted : c.len.result ≡ length log = grind (arith, common_steps, c.len.ensures) in
     let free : IsFree b k = elim c.else-self-len.branch [
       | else-self-len-via-then-self-len+else-may_change w ↦ unchanging b k (sym w.may_change.ensures ∙ w.if-may_change.false)
-      | else-self-len-via-else-self-len w ↦ none-behind g.J.Naming.base s.core log s.acked (on_device s.limit s.store.bank.journal.end s.first_gate) s.shower.shown k c.self.invariant.low (omega (arith, counted, w.if-self-len.false))
+      | else-self-len-via-else-self-len w ↦ none-behind g.J.Naming.base s.core log s.acked (on_device s.limit s.store.size) s.shower.shown k c.self.invariant.low (omega (arith, counted, w.if-self-len.false))
     ] in
     let e = rw c.in-Ok-Wants.field-0-is at c.in-Ok-Wants.ensures in
     let change = c.in-Ok-Wants.change in
@@ -93,7 +93,7 @@ pub returns-in-Ok-Wants-clause-refused : goal.returns-in-Ok-Wants-clause-refused
 returns-in-Ok-Wants-clause-refused g c =
     let s = c.self.inside in
     let log : List Edit = map arc_value s.log.items in
-    let b : Page = page_of g.J.Naming.base s.core log s.acked (on_device s.limit s.store.bank.journal.end s.first_gate) s.shower.shown in
+    let b : Page = page_of g.J.Naming.base s.core log s.acked (on_device s.limit s.store.size) s.shower.shown in
     let e = rw c.in-Ok-Wants.field-0-is at c.in-Ok-Wants.ensures in
     let change = c.in-Ok-Wants.change in
     let outcome = c.in-Ok-Wants.outcome in
@@ -106,9 +106,9 @@ pub returns-in-Ok-OfHistory-clause-leads : goal.returns-in-Ok-OfHistory-clause-l
 returns-in-Ok-OfHistory-clause-leads g c =
     let s = c.self.inside in
     let k = c.args.command.now in
-    let disk = s.store.bank.journal.disk in
+    let disk = s.store.disk in
     let log : List Edit = map arc_value s.log.items in
-    let b : Page = page_of g.J.Naming.base s.core log s.acked (on_device s.limit s.store.bank.journal.end s.first_gate) s.shower.shown in
+    let b : Page = page_of g.J.Naming.base s.core log s.acked (on_device s.limit s.store.size) s.shower.shown in
     let e = rw c.in-Ok-OfHistory.field-0-is at c.in-Ok-OfHistory.ensures in
     let x = c.in-Ok-OfHistory.command in
     let new = c.tell.new.self in
@@ -121,7 +121,7 @@ returns-in-Ok-OfHistory-clause-leads g c =
 pub returns-in-Ok-OfHistory-clause-any_moment : goal.returns-in-Ok-OfHistory-clause-any_moment
 returns-in-Ok-OfHistory-clause-any_moment g c =
     let k = c.args.command.now in
-    let disk = c.self.inside.store.bank.journal.disk in
+    let disk = c.self.inside.store.disk in
     subst (λ d. (h : Held) → IsAt h (page c.args.self.now) → EachMoment g.D.Disk.moment g.D.Disk.left_since c.args.self.now.disk d (HoldsLeft h (calling k))) (sym c.tell.ensures.device)
     (subst (λ (l : Ledger g.row.D.Denot). (h : Held) → IsAt h (page l) → EachMoment g.D.Disk.moment g.D.Disk.left_since l.disk disk (HoldsLeft h (calling k))) c.self.view_is
     (λ h at. still-left g.D.Disk.seen g.D.Disk.unsynced g.D.Disk.moment g.D.Disk.left_since h _ (calling k) disk (g.met.D.Disk.only_now disk) c.self.invariant.images at))
@@ -129,22 +129,22 @@ returns-in-Ok-OfHistory-clause-any_moment g c =
 pub returns-in-Err-clause-any_moment : goal.returns-in-Err-clause-any_moment
 returns-in-Err-clause-any_moment g c =
     let k = c.args.command.now in
-    let disk = c.self.inside.store.bank.journal.disk in
+    let disk = c.self.inside.store.disk in
     subst (λ (l : Ledger g.row.D.Denot). (h : Held) → IsAt h (page l) → EachMoment g.D.Disk.moment g.D.Disk.left_since l.disk disk (HoldsLeft h (calling k))) c.self.view_is
     (λ h at. still-left g.D.Disk.seen g.D.Disk.unsynced g.D.Disk.moment g.D.Disk.left_since h _ (calling k) disk (g.met.D.Disk.only_now disk) c.self.invariant.images at)
 
 pub returns-in-Err-clause-faults : goal.returns-in-Err-clause-faults
 returns-in-Err-clause-faults g c =
     let s = c.self.inside in
-    let b : Page = page_of g.J.Naming.base s.core (map arc_value s.log.items) s.acked (on_device s.limit s.store.bank.journal.end s.first_gate) s.shower.shown in
+    let b : Page = page_of g.J.Naming.base s.core (map arc_value s.log.items) s.acked (on_device s.limit s.store.size) s.shower.shown in
     let quiet = err-not-fault b c.args.command.now c.in-Err.refusal c.in-Err.ensures.reply in
-    let same : g.D.Disk.fault_count s.store.bank.journal.disk ≡ g.D.Disk.fault_count c.args.self.now.disk = ap (λ (l : Ledger g.row.D.Denot). g.D.Disk.fault_count l.disk) c.self.view_is in
+    let same : g.D.Disk.fault_count s.store.disk ≡ g.D.Disk.fault_count c.args.self.now.disk = ap (λ (l : Ledger g.row.D.Denot). g.D.Disk.fault_count l.disk) c.self.view_is in
     rw quiet (omega (arith, same))
 
 pub returns-in-Err-clause-refused : goal.returns-in-Err-clause-refused
 returns-in-Err-clause-refused g c =
     let s = c.self.inside in
-    let b : Page = page_of g.J.Naming.base s.core (map arc_value s.log.items) s.acked (on_device s.limit s.store.bank.journal.end s.first_gate) s.shower.shown in
+    let b : Page = page_of g.J.Naming.base s.core (map arc_value s.log.items) s.acked (on_device s.limit s.store.size) s.shower.shown in
     let quiet = err-not-fault b c.args.command.now c.in-Err.refusal c.in-Err.ensures.reply in
     record {
       same = λ is. (ap (with_core b) c.in-Err.ensures.left ∙ ap page c.self.view_is, ap (λ (l : Ledger g.row.D.Denot). l.disk) c.self.view_is);
@@ -155,7 +155,7 @@ pub returns-in-Ok-Wants-clause-given : goal.returns-in-Ok-Wants-clause-given
 returns-in-Ok-Wants-clause-given g c =
     let s = c.self.inside in
     let log : List Edit = map arc_value s.log.items in
-    let b : Page = page_of g.J.Naming.base s.core log s.acked (on_device s.limit s.store.bank.journal.end s.first_gate) s.shower.shown in
+    let b : Page = page_of g.J.Naming.base s.core log s.acked (on_device s.limit s.store.size) s.shower.shown in
     let e = rw c.in-Ok-Wants.field-0-is at c.in-Ok-Wants.ensures in
     let new = c.make.new.self in
     subst (λ (l : Ledger g.row.D.Denot). IsGiven c.make.result.0 (option_map arc_value c.make.result.1) (page l) (page new)) c.self.view_is

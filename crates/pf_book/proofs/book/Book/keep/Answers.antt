@@ -15,9 +15,9 @@ returns-then-len-self-clause-err g c =
     let log : List Edit = map arc_value s.log.items in
     let none : singles (drop s.acked log) ≡ [] = ap (λ (l : Ledger g.row.D.Denot). l.pending) c.self.view_is ∙ c.requires.free in
     let all : s.acked ≡ length log = all-acked log s.acked i.low none in
-    let setting : Setting = on_device s.limit s.store.bank.journal.end s.first_gate in
+    let setting : Setting = on_device s.limit s.store.size in
     let b : Page = page_of g.J.Naming.base s.core log s.acked setting s.shower.shown in
-    let disk = s.store.bank.journal.disk in
+    let disk = s.store.disk in
     let counted : c.len.result ≡ length log = grind (arith, common_steps, c.len.ensures) in
     let full : s.limit ≤ length (flat (singles (take s.acked log))) = subst (λ (n : ℕ). s.limit ≤ n) (counted ∙ ap length (sym (acked-is log s.acked all))) c.if-len-self.true in
     (refl, subst (λ (l : Ledger g.row.D.Denot). l.limit ≤ length (flat l.acked)) c.self.view_is full)
@@ -30,9 +30,9 @@ returns-then-len-self-clause-any_moment g c =
     let log : List Edit = map arc_value s.log.items in
     let none : singles (drop s.acked log) ≡ [] = ap (λ (l : Ledger g.row.D.Denot). l.pending) c.self.view_is ∙ c.requires.free in
     let all : s.acked ≡ length log = all-acked log s.acked i.low none in
-    let setting : Setting = on_device s.limit s.store.bank.journal.end s.first_gate in
+    let setting : Setting = on_device s.limit s.store.size in
     let b : Page = page_of g.J.Naming.base s.core log s.acked setting s.shower.shown in
-    let disk = s.store.bank.journal.disk in
+    let disk = s.store.disk in
     subst (λ (l : Ledger g.row.D.Denot). EachMoment g.D.Disk.moment g.D.Disk.left_since l.disk l.disk (HoldsEither l.whole.durable (applied l.whole.durable e))) c.self.view_is
     (still-either g.D.Disk.seen g.D.Disk.unsynced g.D.Disk.moment g.D.Disk.left_since b e disk (g.met.D.Disk.only_now disk) i.images i.folded none)
 
@@ -44,9 +44,9 @@ returns-in_err-after-clause-any_moment g c =
     let log : List Edit = map arc_value s.log.items in
     let none : singles (drop s.acked log) ≡ [] = ap (λ (l : Ledger g.row.D.Denot). l.pending) c.self.view_is ∙ c.requires.free in
     let all : s.acked ≡ length log = all-acked log s.acked i.low none in
-    let setting : Setting = on_device s.limit s.store.bank.journal.end s.first_gate in
+    let setting : Setting = on_device s.limit s.store.size in
     let b : Page = page_of g.J.Naming.base s.core log s.acked setting s.shower.shown in
-    let disk = s.store.bank.journal.disk in
+    let disk = s.store.disk in
     subst (λ (l : Ledger g.row.D.Denot). EachMoment g.D.Disk.moment g.D.Disk.left_since l.disk l.disk (HoldsEither l.whole.durable (applied l.whole.durable e))) c.self.view_is
     (still-either g.D.Disk.seen g.D.Disk.unsynced g.D.Disk.moment g.D.Disk.left_since b e disk (g.met.D.Disk.only_now disk) i.images i.folded none)
 
@@ -58,9 +58,9 @@ returns-in_default-clause-any_moment g c =
     let log : List Edit = map arc_value s.log.items in
     let none : singles (drop s.acked log) ≡ [] = ap (λ (l : Ledger g.row.D.Denot). l.pending) c.self.view_is ∙ c.requires.free in
     let all : s.acked ≡ length log = all-acked log s.acked i.low none in
-    let setting : Setting = on_device s.limit s.store.bank.journal.end s.first_gate in
+    let setting : Setting = on_device s.limit s.store.size in
     let b : Page = page_of g.J.Naming.base s.core log s.acked setting s.shower.shown in
-    let disk = s.store.bank.journal.disk in
+    let disk = s.store.disk in
     subst (λ (l : Ledger g.row.D.Denot). EachMoment g.D.Disk.moment g.D.Disk.left_since l.disk l.disk (HoldsEither l.whole.durable (applied l.whole.durable e))) c.self.view_is
     (still-either g.D.Disk.seen g.D.Disk.unsynced g.D.Disk.moment g.D.Disk.left_since b e disk (g.met.D.Disk.only_now disk) i.images i.folded none)
 

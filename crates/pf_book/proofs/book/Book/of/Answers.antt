@@ -12,25 +12,25 @@ pub returns-in-Ok-views-clause-worlds : goal.returns-in-Ok-views-clause-worlds
 returns-in-Ok-views-clause-worlds g c = λ first d world legal comes low raised.
     let o = c.args.opening in
     let given : arc_value c.in-Ok.shared ≡ o.given = c.in-Ok.ensures ∙ ap (λ (x : Opened g.row.D.Denot). x.given) c.opening.view_is in
-    stands-by first _ world (opened (on_device c.args.history_limit o.end o.gate)) (down d) (begun (on_device c.args.history_limit o.end o.gate) (raised' d)) legal comes low refl (record {
+    stands-by first _ world (opened (on_device c.args.history_limit o.size)) (down d) (begun (on_device c.args.history_limit o.size) (raised' d)) legal comes low refl (record {
       base = sym c.requires.name.0 ∙ raised;
       tickets = ap (λ (w : Whole). w.tickets) c.new.ensures ∙ ap (λ (k : Kept). fresh k.epoch) (given ∙ raised);
       acked = refl;
       pending = ap (λ xs. singles (map arc_value xs)) c.new-in-Ok-views.ensures.items;
       shown = ap length c.in-Ok-views.ensures.shower.0;
-      setting = ap (λ (x : Opened g.row.D.Denot). on_device c.args.history_limit x.end x.gate) c.opening.view_is;
+      setting = ap (λ (x : Opened g.row.D.Denot). on_device c.args.history_limit x.size) c.opening.view_is;
     })
 
 pub returns-in-Ok-views-clause-reached : goal.returns-in-Ok-views-clause-reached
 returns-in-Ok-views-clause-reached g c =
     let o = c.args.opening in
     let epoch = c.opening.invariant.epoch in
-    let setting : Setting = on_device c.args.history_limit o.end o.gate in
+    let setting : Setting = on_device c.args.history_limit o.size in
     let given : arc_value c.in-Ok.shared ≡ o.given = c.in-Ok.ensures ∙ ap (λ (x : Opened g.row.D.Denot). x.given) c.opening.view_is in
     let raises : o.given ≡ raised' epoch.before = ap (λ (x : Opened g.row.D.Denot). x.given) (sym c.opening.view_is) ∙ epoch.raises in
     record {
       base_is = refl;
-      setting_is = ap (λ (x : Opened g.row.D.Denot). on_device c.args.history_limit x.end x.gate) c.opening.view_is ∙ c.requires.name.2;
+      setting_is = ap (λ (x : Opened g.row.D.Denot). on_device c.args.history_limit x.size) c.opening.view_is ∙ c.requires.name.2;
       first = epoch.before;
       world = opened setting ∷ [];
       stands = stands-opened epoch.before _ setting epoch.low (record {
@@ -39,6 +39,6 @@ returns-in-Ok-views-clause-reached g c =
         acked = refl;
         pending = ap (λ xs. singles (map arc_value xs)) c.new-in-Ok-views.ensures.items;
         shown = ap length c.in-Ok-views.ensures.shower.0;
-        setting = ap (λ (x : Opened g.row.D.Denot). on_device c.args.history_limit x.end x.gate) c.opening.view_is;
+        setting = ap (λ (x : Opened g.row.D.Denot). on_device c.args.history_limit x.size) c.opening.view_is;
       });
     }

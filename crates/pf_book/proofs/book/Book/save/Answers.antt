@@ -3,12 +3,31 @@ use Rattle.std.specs.{Arc.arc_value, Prelude.not}
 use Rattle.pf_disk.specs.Disk.{EachMoment}
 use Rattle.pf_ticket.specs.Mentions.{after as moved_by, switches}
 use Rattle.pf_core.specs.{Durable.Edits.{Kept, Edit, applied, after}, Nexts.Ready, Pages.Page, Wholes.Whole, Worlds.{Setting, flat}}
-use Rattle.pf_store.specs.{Lengths.payload_length, Rooms.{gate_after, group_fits, on_device}, Stores.{Holds, HoldsEither, FindsRoom}, StoreKept.Stands}
-use Rattle.pf_store.specs.declared.groups.change.Recorded.TheVariants as recorded
-use Rattle.pf_store.specs.declared.store.keeping.Store.{Store}
+use Rattle.pf_store.specs.{Rooms.{group_fits, on_device}, Stores.{Holds, HoldsEither, FindsRoom}, StoreKept.{Stands, Storage}}
 use Rattle.pf_book.specs.{Books.{Ledger, page, page_of, singles, IsMore, IsPending, HasRoom}, Pasts.with_change}
-use Rattle.pf_book.proofs.{Calling.still-either, Finding.{device-fits, device-full}, Keeping.{acked-more, goes-on, pending-page, more-book, fault-book}, Parts.{all-acked, left-none}}
+use Rattle.pf_book.proofs.{Calling.still-either, Finding.{device-fits, device-full}, Keeping.{acked-is, acked-more, goes-on, pending-page, more-book, fault-book}, Parts.{all-acked, left-none}}
 use Rattle.pf_book.proofs.book.Book.save.Goals as goal
+
+pub save-requires-clause-stands : goal.save-requires-clause-stands
+save-requires-clause-stands g c going =
+    let s = c.self.inside in
+    subst (λ (k : Kept). Stands g.D.Disk.seen g.D.Disk.unsynced s.store k) (sym c.durable.ensures) (c.self.invariant.stands going)
+
+pub save-requires-clause-leads : goal.save-requires-clause-leads
+save-requires-clause-leads g c =
+    let s = c.self.inside in
+    let left : c.args.next.durable ≡ applied s.core.durable (arc_value c.args.change) = ap (λ (r : Ready). r.durable) c.requires.made ∙ ap (λ (l : Ledger g.row.D.Denot). applied l.whole.durable (arc_value c.args.change)) (sym c.self.view_is) in
+    c.deref-2.ensures ∙ c.requires.after ∙ left ∙ ap (λ (k : Kept). applied k (arc_value c.args.change)) (sym c.durable.ensures) ∙ ap (λ (x : Edit). applied c.durable.result.now x) (sym c.deref.ensures)
+
+pub save-requires-clause-early : goal.save-requires-clause-early
+save-requires-clause-early g c going =
+    let s = c.self.inside in
+    let i = c.self.invariant in
+    let log : List Edit = map arc_value s.log.items in
+    let none : singles (drop s.acked log) ≡ [] = ap (λ (l : Ledger g.row.D.Denot). l.pending) c.self.view_is ∙ c.requires.free in
+    let all : s.acked ≡ length log = all-acked log s.acked i.low none in
+    let few : length (flat (singles (take s.acked log))) < s.limit = subst (λ (l : Ledger g.row.D.Denot). length (flat l.acked) < l.limit) (sym c.self.view_is) c.requires.few in
+    omega (arith, i.early going, i.limit, few, ap length (acked-is log s.acked all))
 
 pub returns-in_err-reserve-clause-any_moment : goal.returns-in_err-reserve-clause-any_moment
 returns-in_err-reserve-clause-any_moment g c =
@@ -18,9 +37,9 @@ returns-in_err-reserve-clause-any_moment g c =
     let log : List Edit = map arc_value s.log.items in
     let none : singles (drop s.acked log) ≡ [] = ap (λ (l : Ledger g.row.D.Denot). l.pending) c.self.view_is ∙ c.requires.free in
     let all : s.acked ≡ length log = all-acked log s.acked i.low none in
-    let setting : Setting = on_device s.limit s.store.bank.journal.end s.first_gate in
+    let setting : Setting = on_device s.limit s.store.size in
     let b : Page = page_of g.J.Naming.base s.core log s.acked setting s.shower.shown in
-    let disk = s.store.bank.journal.disk in
+    let disk = s.store.disk in
     subst (λ (l : Ledger g.row.D.Denot). EachMoment g.D.Disk.moment g.D.Disk.left_since l.disk disk (HoldsEither l.whole.durable (applied l.whole.durable e))) c.self.view_is
     (still-either g.D.Disk.seen g.D.Disk.unsynced g.D.Disk.moment g.D.Disk.left_since b e disk (g.met.D.Disk.only_now disk) i.images i.folded none)
 
@@ -32,28 +51,25 @@ invariant_of-self-in-Ok g c =
     let log : List Edit = map arc_value s.log.items in
     let none : singles (drop s.acked log) ≡ [] = ap (λ (l : Ledger g.row.D.Denot). l.pending) c.self.view_is ∙ c.requires.free in
     let all : s.acked ≡ length log = all-acked log s.acked i.low none in
-    let setting : Setting = on_device s.limit s.store.bank.journal.end s.first_gate in
+    let setting : Setting = on_device s.limit s.store.size in
     let b : Page = page_of g.J.Naming.base s.core log s.acked setting s.shower.shown in
-    let disk = s.store.bank.journal.disk in
+    let disk = s.store.disk in
     let going : s.store.halted ≡ false = goes-on s.store.halted log s.acked i.halted all in
     let before : c.durable.result.now ≡ s.core.durable = c.durable.ensures in
     let left : c.args.next.durable ≡ applied s.core.durable e = ap (λ (r : Ready). r.durable) c.requires.made ∙ ap (λ (l : Ledger g.row.D.Denot). applied l.whole.durable e) (sym c.self.view_is) in
     let next : c.deref-2.result.now ≡ applied s.core.durable e = c.deref-2.ensures ∙ c.requires.after ∙ left in
     let change : c.deref.result.now ≡ e = c.deref.ensures in
-    let was : Stands g.D.Disk.seen g.D.Disk.unsynced s.store c.durable.result.now = subst (λ (k : Kept). Stands g.D.Disk.seen g.D.Disk.unsynced s.store k) (sym before) (i.stands going) in
     let log' : List Edit = map arc_value c.push_reserved.new.self.items in
     let logged : log' ≡ log ++ e ∷ [] = grind (arith, common_steps, c.push_reserved.ensures.items, c.reserve.ensures.items) in
-    let setting' : Setting = on_device s.limit c.save.new.self.bank.journal.end s.first_gate in
+    let setting' : Setting = on_device s.limit c.save.new.self.size in
     let d = c.in-Ok.ensures in
     let whole : c.accept.new.self.durable ≡ applied s.core.durable e = ap (λ (w : Whole). w.durable) c.accept.ensures ∙ left in
     let kept : c.deref-2.result.now ≡ c.accept.new.self.durable = next ∙ sym whole in
-    let low : g.D.Disk.fault_count disk < 2 ^ 63 = i.few going in
-    more-book g.D.Disk.seen g.D.Disk.unsynced g.D.Disk.fault_count s.store c.save.new.self g.J.Naming.base s.core c.accept.new.self (arc_value s.durable) (arc_value c.args.after) log log' e s.acked (s.acked + 1) s.offered s.first_gate setting setting' s.shower s.tip c.add.new.self
+    more-book g.D.Disk.seen g.D.Disk.unsynced s.store c.save.new.self g.J.Naming.base s.core c.accept.new.self (arc_value s.durable) (arc_value c.args.after) log log' e s.acked (s.acked + 1) s.offered setting setting' s.shower s.tip c.add.new.self
     i none refl logged (c.add.ensures ∙ ap (λ (x : Edit). with_change s.tip x true) c.requires.noted) whole (c.requires.after ∙ left ∙ sym whole) going d.goes_on
-    (subst (λ (k : Kept). Stands g.D.Disk.seen g.D.Disk.unsynced c.save.new.self k) kept (d.stands was))
-    (omega (arith, low, d.faults))
-    (d.gate ∙ ap (λ (x : Edit). s.store.bank.journal.gate + 5 + payload_length (recorded.Made x)) change)
-    (λ image is. subst (λ (k : Kept). Holds image k) kept (d.images was image is))
+    (subst (λ (k : Kept). Stands g.D.Disk.seen g.D.Disk.unsynced c.save.new.self k) kept d.stands)
+    d.generation i.limit
+    (λ image is. subst (λ (k : Kept). Holds image k) kept (d.images image is))
 
 pub returns-in-Ok-clause-ok : goal.returns-in-Ok-clause-ok
 returns-in-Ok-clause-ok g c =
@@ -63,31 +79,30 @@ returns-in-Ok-clause-ok g c =
     let log : List Edit = map arc_value s.log.items in
     let none : singles (drop s.acked log) ≡ [] = ap (λ (l : Ledger g.row.D.Denot). l.pending) c.self.view_is ∙ c.requires.free in
     let all : s.acked ≡ length log = all-acked log s.acked i.low none in
-    let setting : Setting = on_device s.limit s.store.bank.journal.end s.first_gate in
+    let setting : Setting = on_device s.limit s.store.size in
     let b : Page = page_of g.J.Naming.base s.core log s.acked setting s.shower.shown in
-    let disk = s.store.bank.journal.disk in
+    let disk = s.store.disk in
     let going : s.store.halted ≡ false = goes-on s.store.halted log s.acked i.halted all in
     let before : c.durable.result.now ≡ s.core.durable = c.durable.ensures in
     let left : c.args.next.durable ≡ applied s.core.durable e = ap (λ (r : Ready). r.durable) c.requires.made ∙ ap (λ (l : Ledger g.row.D.Denot). applied l.whole.durable e) (sym c.self.view_is) in
     let next : c.deref-2.result.now ≡ applied s.core.durable e = c.deref-2.ensures ∙ c.requires.after ∙ left in
     let change : c.deref.result.now ≡ e = c.deref.ensures in
-    let was : Stands g.D.Disk.seen g.D.Disk.unsynced s.store c.durable.result.now = subst (λ (k : Kept). Stands g.D.Disk.seen g.D.Disk.unsynced s.store k) (sym before) (i.stands going) in
     let few : length (flat (singles (take s.acked log))) < s.limit = subst (λ (l : Ledger g.row.D.Denot). length (flat l.acked) < l.limit) (sym c.self.view_is) c.requires.few in
     let log' : List Edit = map arc_value c.push_reserved.new.self.items in
     let logged : log' ≡ log ++ e ∷ [] = grind (arith, common_steps, c.push_reserved.ensures.items, c.reserve.ensures.items) in
     let d = c.in-Ok.ensures in
-    let there : FindsRoom s.store.bank.journal.end s.store.bank.journal.gate s.core.durable (applied s.core.durable e) e =
-    subst (λ (x : Edit). FindsRoom s.store.bank.journal.end s.store.bank.journal.gate s.core.durable (applied s.core.durable e) x) change
-    (subst (λ (k : Kept). FindsRoom s.store.bank.journal.end s.store.bank.journal.gate s.core.durable k c.deref.result.now) next
-    (subst (λ (k : Kept). FindsRoom s.store.bank.journal.end s.store.bank.journal.gate k c.deref-2.result.now c.deref.result.now) before d.room)) in
-    let room : HasRoom b e = record { few = few; device = device-fits s.store.bank.journal.end s.store.bank.journal.gate s.first_gate g.J.Naming.base s.core.durable (applied s.core.durable e) (singles (take s.acked log)) e (i.gate going) i.folded.durable refl there } in
-    subst (λ (l : Ledger g.row.D.Denot). IsMore (page l) (page_of g.J.Naming.base c.accept.new.self log' (s.acked + 1) (on_device s.limit c.save.new.self.bank.journal.end s.first_gate) s.shower.shown) e) c.self.view_is (record {
+    let there : FindsRoom s.store.size s.core.durable (applied s.core.durable e) e =
+    subst (λ (x : Edit). FindsRoom s.store.size s.core.durable (applied s.core.durable e) x) change
+    (subst (λ (k : Kept). FindsRoom s.store.size s.core.durable k c.deref.result.now) next
+    (subst (λ (k : Kept). FindsRoom s.store.size k c.deref-2.result.now c.deref.result.now) before d.room)) in
+    let room : HasRoom b e = record { few = few; device = device-fits s.store.size g.J.Naming.base s.core.durable (applied s.core.durable e) (singles (take s.acked log)) e i.folded.durable refl there } in
+    subst (λ (l : Ledger g.row.D.Denot). IsMore (page l) (page_of g.J.Naming.base c.accept.new.self log' (s.acked + 1) (on_device s.limit c.save.new.self.size) s.shower.shown) e) c.self.view_is (record {
       room = room;
       base = refl;
       tickets = ap (λ (w : Whole). w.tickets) c.accept.ensures ∙ ap (λ (r : Ready). moved_by s.core.tickets (switches r.voided)) c.requires.made;
       acked = ap (λ (l : List Edit). singles (take (s.acked + 1) l)) logged ∙ acked-more log e s.acked all;
       pending = ap (λ (l : List Edit). singles (drop (s.acked + 1) l)) logged ∙ ap singles (left-none log e s.acked all) ∙ sym none;
-      setting = ap (λ (n : ℕ). on_device s.limit n s.first_gate) d.region.1;
+      setting = ap (λ (n : ℕ). on_device s.limit n) d.size;
       shown = refl;
     })
 
@@ -99,19 +114,18 @@ returns-in-Ok-clause-any_moment g c =
     let log : List Edit = map arc_value s.log.items in
     let none : singles (drop s.acked log) ≡ [] = ap (λ (l : Ledger g.row.D.Denot). l.pending) c.self.view_is ∙ c.requires.free in
     let all : s.acked ≡ length log = all-acked log s.acked i.low none in
-    let setting : Setting = on_device s.limit s.store.bank.journal.end s.first_gate in
+    let setting : Setting = on_device s.limit s.store.size in
     let b : Page = page_of g.J.Naming.base s.core log s.acked setting s.shower.shown in
-    let disk = s.store.bank.journal.disk in
+    let disk = s.store.disk in
     let going : s.store.halted ≡ false = goes-on s.store.halted log s.acked i.halted all in
     let before : c.durable.result.now ≡ s.core.durable = c.durable.ensures in
     let left : c.args.next.durable ≡ applied s.core.durable e = ap (λ (r : Ready). r.durable) c.requires.made ∙ ap (λ (l : Ledger g.row.D.Denot). applied l.whole.durable e) (sym c.self.view_is) in
     let next : c.deref-2.result.now ≡ applied s.core.durable e = c.deref-2.ensures ∙ c.requires.after ∙ left in
     let change : c.deref.result.now ≡ e = c.deref.ensures in
-    let was : Stands g.D.Disk.seen g.D.Disk.unsynced s.store c.durable.result.now = subst (λ (k : Kept). Stands g.D.Disk.seen g.D.Disk.unsynced s.store k) (sym before) (i.stands going) in
-    let run : EachMoment g.D.Disk.moment g.D.Disk.left_since disk c.save.new.self.bank.journal.disk (HoldsEither s.core.durable (applied s.core.durable e)) =
-    subst (λ (k : Kept). EachMoment g.D.Disk.moment g.D.Disk.left_since disk c.save.new.self.bank.journal.disk (HoldsEither s.core.durable k)) next
-    (subst (λ (k : Kept). EachMoment g.D.Disk.moment g.D.Disk.left_since disk c.save.new.self.bank.journal.disk (HoldsEither k c.deref-2.result.now)) before (c.save.ensures.any_moment going was)) in
-    subst (λ (l : Ledger g.row.D.Denot). EachMoment g.D.Disk.moment g.D.Disk.left_since l.disk c.save.new.self.bank.journal.disk (HoldsEither l.whole.durable (applied l.whole.durable e))) c.self.view_is run
+    let run : EachMoment g.D.Disk.moment g.D.Disk.left_since disk c.save.new.self.disk (HoldsEither s.core.durable (applied s.core.durable e)) =
+    subst (λ (k : Kept). EachMoment g.D.Disk.moment g.D.Disk.left_since disk c.save.new.self.disk (HoldsEither s.core.durable k)) next
+    (subst (λ (k : Kept). EachMoment g.D.Disk.moment g.D.Disk.left_since disk c.save.new.self.disk (HoldsEither k c.deref-2.result.now)) before (c.save.ensures.any_moment going)) in
+    subst (λ (l : Ledger g.row.D.Denot). EachMoment g.D.Disk.moment g.D.Disk.left_since l.disk c.save.new.self.disk (HoldsEither l.whole.durable (applied l.whole.durable e))) c.self.view_is run
 
 pub returns-in-Err-Memory-clause-any_moment : goal.returns-in-Err-Memory-clause-any_moment
 returns-in-Err-Memory-clause-any_moment g c =
@@ -121,12 +135,12 @@ returns-in-Err-Memory-clause-any_moment g c =
     let log : List Edit = map arc_value s.log.items in
     let none : singles (drop s.acked log) ≡ [] = ap (λ (l : Ledger g.row.D.Denot). l.pending) c.self.view_is ∙ c.requires.free in
     let all : s.acked ≡ length log = all-acked log s.acked i.low none in
-    let setting : Setting = on_device s.limit s.store.bank.journal.end s.first_gate in
+    let setting : Setting = on_device s.limit s.store.size in
     let b : Page = page_of g.J.Naming.base s.core log s.acked setting s.shower.shown in
-    let disk = s.store.bank.journal.disk in
+    let disk = s.store.disk in
     let f = rw c.in-Err-Memory.field-0-is at c.in-Err-Memory.ensures in
     let same : c.save.new.self ≡ s.store = f.unchanged (λ x. cc (x)) in
-    subst (λ (x : Store g.row.D.Denot). EachMoment g.D.Disk.moment g.D.Disk.left_since c.args.self.now.disk x.bank.journal.disk (HoldsEither c.args.self.now.whole.durable (applied c.args.self.now.whole.durable e))) (sym same)
+    subst (λ (x : Storage g.row.D.Denot). EachMoment g.D.Disk.moment g.D.Disk.left_since c.args.self.now.disk x.disk (HoldsEither c.args.self.now.whole.durable (applied c.args.self.now.whole.durable e))) (sym same)
     (subst (λ (l : Ledger g.row.D.Denot). EachMoment g.D.Disk.moment g.D.Disk.left_since l.disk disk (HoldsEither l.whole.durable (applied l.whole.durable e))) c.self.view_is
     (still-either g.D.Disk.seen g.D.Disk.unsynced g.D.Disk.moment g.D.Disk.left_since b e disk (g.met.D.Disk.only_now disk) i.images i.folded none))
 
@@ -138,28 +152,27 @@ returns-in-Err-Full-clause-err g c =
     let log : List Edit = map arc_value s.log.items in
     let none : singles (drop s.acked log) ≡ [] = ap (λ (l : Ledger g.row.D.Denot). l.pending) c.self.view_is ∙ c.requires.free in
     let all : s.acked ≡ length log = all-acked log s.acked i.low none in
-    let setting : Setting = on_device s.limit s.store.bank.journal.end s.first_gate in
+    let setting : Setting = on_device s.limit s.store.size in
     let b : Page = page_of g.J.Naming.base s.core log s.acked setting s.shower.shown in
-    let disk = s.store.bank.journal.disk in
+    let disk = s.store.disk in
     let going : s.store.halted ≡ false = goes-on s.store.halted log s.acked i.halted all in
     let before : c.durable.result.now ≡ s.core.durable = c.durable.ensures in
     let left : c.args.next.durable ≡ applied s.core.durable e = ap (λ (r : Ready). r.durable) c.requires.made ∙ ap (λ (l : Ledger g.row.D.Denot). applied l.whole.durable e) (sym c.self.view_is) in
     let next : c.deref-2.result.now ≡ applied s.core.durable e = c.deref-2.ensures ∙ c.requires.after ∙ left in
     let change : c.deref.result.now ≡ e = c.deref.ensures in
-    let was : Stands g.D.Disk.seen g.D.Disk.unsynced s.store c.durable.result.now = subst (λ (k : Kept). Stands g.D.Disk.seen g.D.Disk.unsynced s.store k) (sym before) (i.stands going) in
     let few : length (flat (singles (take s.acked log))) < s.limit = subst (λ (l : Ledger g.row.D.Denot). length (flat l.acked) < l.limit) (sym c.self.view_is) c.requires.few in
     let f = rw c.in-Err-Full.field-0-is at c.in-Err-Full.ensures in
     let same : c.save.new.self ≡ s.store = f.unchanged (λ x. cc (x)) in
-    let nowhere : FindsRoom s.store.bank.journal.end s.store.bank.journal.gate s.core.durable (applied s.core.durable e) e → ⊥ =
-    subst (λ (x : Edit). FindsRoom s.store.bank.journal.end s.store.bank.journal.gate s.core.durable (applied s.core.durable e) x → ⊥) change
-    (subst (λ (k : Kept). FindsRoom s.store.bank.journal.end s.store.bank.journal.gate s.core.durable k c.deref.result.now → ⊥) next
-    (subst (λ (k : Kept). FindsRoom s.store.bank.journal.end s.store.bank.journal.gate k c.deref-2.result.now c.deref.result.now → ⊥) before f.room)) in
-    let full : not (group_fits s.store.bank.journal.end (gate_after s.first_gate b.acked) (after b.base (flat b.acked)) (after b.base (flat b.acked ++ e ∷ [])) (e ∷ [])) ≡ true =
-    device-full s.store.bank.journal.end s.store.bank.journal.gate s.first_gate g.J.Naming.base s.core.durable (applied s.core.durable e) (singles (take s.acked log)) e (i.gate going) i.folded.durable refl nowhere in (
-      ap (λ xs. page_of g.J.Naming.base s.core (map arc_value xs) s.acked (on_device s.limit c.save.new.self.bank.journal.end s.first_gate) s.shower.shown) c.reserve.ensures.items
-          ∙ ap (λ (x : Store g.row.D.Denot). page_of g.J.Naming.base s.core log s.acked (on_device s.limit x.bank.journal.end s.first_gate) s.shower.shown) same ∙ ap page c.self.view_is,
+    let nowhere : FindsRoom s.store.size s.core.durable (applied s.core.durable e) e → ⊥ =
+    subst (λ (x : Edit). FindsRoom s.store.size s.core.durable (applied s.core.durable e) x → ⊥) change
+    (subst (λ (k : Kept). FindsRoom s.store.size s.core.durable k c.deref.result.now → ⊥) next
+    (subst (λ (k : Kept). FindsRoom s.store.size k c.deref-2.result.now c.deref.result.now → ⊥) before f.room)) in
+    let full : not (group_fits s.store.size (after b.base (flat b.acked)) (after b.base (flat b.acked ++ e ∷ [])) (e ∷ [])) ≡ true =
+    device-full s.store.size g.J.Naming.base s.core.durable (applied s.core.durable e) (singles (take s.acked log)) e i.folded.durable refl nowhere in (
+      ap (λ xs. page_of g.J.Naming.base s.core (map arc_value xs) s.acked (on_device s.limit c.save.new.self.size) s.shower.shown) c.reserve.ensures.items
+          ∙ ap (λ (x : Storage g.row.D.Denot). page_of g.J.Naming.base s.core log s.acked (on_device s.limit x.size) s.shower.shown) same ∙ ap page c.self.view_is,
       subst (λ (l : Ledger g.row.D.Denot). length (flat l.acked) < l.limit) c.self.view_is few,
-      subst (λ (l : Ledger g.row.D.Denot). not (group_fits l.end (gate_after l.gate l.acked) (after l.base (flat l.acked)) (after l.base (flat l.acked ++ e ∷ [])) (e ∷ [])) ≡ true) c.self.view_is full,
+      subst (λ (l : Ledger g.row.D.Denot). not (group_fits l.size (after l.base (flat l.acked)) (after l.base (flat l.acked ++ e ∷ [])) (e ∷ [])) ≡ true) c.self.view_is full,
     )
 
 pub returns-in-Err-Full-clause-any_moment : goal.returns-in-Err-Full-clause-any_moment
@@ -170,12 +183,12 @@ returns-in-Err-Full-clause-any_moment g c =
     let log : List Edit = map arc_value s.log.items in
     let none : singles (drop s.acked log) ≡ [] = ap (λ (l : Ledger g.row.D.Denot). l.pending) c.self.view_is ∙ c.requires.free in
     let all : s.acked ≡ length log = all-acked log s.acked i.low none in
-    let setting : Setting = on_device s.limit s.store.bank.journal.end s.first_gate in
+    let setting : Setting = on_device s.limit s.store.size in
     let b : Page = page_of g.J.Naming.base s.core log s.acked setting s.shower.shown in
-    let disk = s.store.bank.journal.disk in
+    let disk = s.store.disk in
     let f = rw c.in-Err-Full.field-0-is at c.in-Err-Full.ensures in
     let same : c.save.new.self ≡ s.store = f.unchanged (λ x. cc (x)) in
-    subst (λ (x : Store g.row.D.Denot). EachMoment g.D.Disk.moment g.D.Disk.left_since c.args.self.now.disk x.bank.journal.disk (HoldsEither c.args.self.now.whole.durable (applied c.args.self.now.whole.durable e))) (sym same)
+    subst (λ (x : Storage g.row.D.Denot). EachMoment g.D.Disk.moment g.D.Disk.left_since c.args.self.now.disk x.disk (HoldsEither c.args.self.now.whole.durable (applied c.args.self.now.whole.durable e))) (sym same)
     (subst (λ (l : Ledger g.row.D.Denot). EachMoment g.D.Disk.moment g.D.Disk.left_since l.disk disk (HoldsEither l.whole.durable (applied l.whole.durable e))) c.self.view_is
     (still-either g.D.Disk.seen g.D.Disk.unsynced g.D.Disk.moment g.D.Disk.left_since b e disk (g.met.D.Disk.only_now disk) i.images i.folded none))
 
@@ -187,25 +200,24 @@ invariant_of-self-in-Fault-1 g c =
     let log : List Edit = map arc_value s.log.items in
     let none : singles (drop s.acked log) ≡ [] = ap (λ (l : Ledger g.row.D.Denot). l.pending) c.self.view_is ∙ c.requires.free in
     let all : s.acked ≡ length log = all-acked log s.acked i.low none in
-    let setting : Setting = on_device s.limit s.store.bank.journal.end s.first_gate in
+    let setting : Setting = on_device s.limit s.store.size in
     let b : Page = page_of g.J.Naming.base s.core log s.acked setting s.shower.shown in
-    let disk = s.store.bank.journal.disk in
+    let disk = s.store.disk in
     let going : s.store.halted ≡ false = goes-on s.store.halted log s.acked i.halted all in
     let before : c.durable.result.now ≡ s.core.durable = c.durable.ensures in
     let left : c.args.next.durable ≡ applied s.core.durable e = ap (λ (r : Ready). r.durable) c.requires.made ∙ ap (λ (l : Ledger g.row.D.Denot). applied l.whole.durable e) (sym c.self.view_is) in
     let next : c.deref-2.result.now ≡ applied s.core.durable e = c.deref-2.ensures ∙ c.requires.after ∙ left in
     let change : c.deref.result.now ≡ e = c.deref.ensures in
-    let was : Stands g.D.Disk.seen g.D.Disk.unsynced s.store c.durable.result.now = subst (λ (k : Kept). Stands g.D.Disk.seen g.D.Disk.unsynced s.store k) (sym before) (i.stands going) in
-    let run : EachMoment g.D.Disk.moment g.D.Disk.left_since disk c.save.new.self.bank.journal.disk (HoldsEither s.core.durable (applied s.core.durable e)) =
-    subst (λ (k : Kept). EachMoment g.D.Disk.moment g.D.Disk.left_since disk c.save.new.self.bank.journal.disk (HoldsEither s.core.durable k)) next
-    (subst (λ (k : Kept). EachMoment g.D.Disk.moment g.D.Disk.left_since disk c.save.new.self.bank.journal.disk (HoldsEither k c.deref-2.result.now)) before (c.save.ensures.any_moment going was)) in
+    let run : EachMoment g.D.Disk.moment g.D.Disk.left_since disk c.save.new.self.disk (HoldsEither s.core.durable (applied s.core.durable e)) =
+    subst (λ (k : Kept). EachMoment g.D.Disk.moment g.D.Disk.left_since disk c.save.new.self.disk (HoldsEither s.core.durable k)) next
+    (subst (λ (k : Kept). EachMoment g.D.Disk.moment g.D.Disk.left_since disk c.save.new.self.disk (HoldsEither k c.deref-2.result.now)) before (c.save.ensures.any_moment going)) in
     let log' : List Edit = map arc_value c.push_reserved-in-Err-Fault.new.self.items in
     let logged : log' ≡ log ++ e ∷ [] = grind (arith, common_steps, c.push_reserved-in-Err-Fault.ensures.items, c.reserve.ensures.items) in
-    let setting' : Setting = on_device s.limit c.save.new.self.bank.journal.end s.first_gate in
+    let setting' : Setting = on_device s.limit c.save.new.self.size in
     let f = rw c.in-Err-Fault.field-0-is at c.in-Err-Fault.ensures in
-    fault-book g.D.Disk.seen g.D.Disk.unsynced g.D.Disk.fault_count s.store c.save.new.self g.J.Naming.base s.core (arc_value s.durable) log log' e s.acked s.offered s.first_gate setting setting' s.shower s.tip c.add-in-Err-Fault.new.self i none logged
-    (c.add-in-Err-Fault.ensures ∙ ap (λ (x : Edit). with_change s.tip x false) c.requires.noted) (f.halts refl)
-    (λ image is. run.each image (g.met.D.Disk.counts_now c.save.new.self.bank.journal.disk (g.D.Disk.moment disk) image run.later is))
+    fault-book g.D.Disk.seen g.D.Disk.unsynced s.store c.save.new.self g.J.Naming.base s.core (arc_value s.durable) log log' e s.acked s.offered setting setting' s.shower s.tip c.add-in-Err-Fault.new.self i none logged
+    (c.add-in-Err-Fault.ensures ∙ ap (λ (x : Edit). with_change s.tip x false) c.requires.noted) (f.halts refl) i.limit
+    (λ image is. run.each image (g.met.D.Disk.counts_now c.save.new.self.disk (g.D.Disk.moment disk) image run.later is))
 
 pub returns-in-Err-Fault-clause-err : goal.returns-in-Err-Fault-clause-err
 returns-in-Err-Fault-clause-err g c =
@@ -215,27 +227,26 @@ returns-in-Err-Fault-clause-err g c =
     let log : List Edit = map arc_value s.log.items in
     let none : singles (drop s.acked log) ≡ [] = ap (λ (l : Ledger g.row.D.Denot). l.pending) c.self.view_is ∙ c.requires.free in
     let all : s.acked ≡ length log = all-acked log s.acked i.low none in
-    let setting : Setting = on_device s.limit s.store.bank.journal.end s.first_gate in
+    let setting : Setting = on_device s.limit s.store.size in
     let b : Page = page_of g.J.Naming.base s.core log s.acked setting s.shower.shown in
-    let disk = s.store.bank.journal.disk in
+    let disk = s.store.disk in
     let going : s.store.halted ≡ false = goes-on s.store.halted log s.acked i.halted all in
     let before : c.durable.result.now ≡ s.core.durable = c.durable.ensures in
     let left : c.args.next.durable ≡ applied s.core.durable e = ap (λ (r : Ready). r.durable) c.requires.made ∙ ap (λ (l : Ledger g.row.D.Denot). applied l.whole.durable e) (sym c.self.view_is) in
     let next : c.deref-2.result.now ≡ applied s.core.durable e = c.deref-2.ensures ∙ c.requires.after ∙ left in
     let change : c.deref.result.now ≡ e = c.deref.ensures in
-    let was : Stands g.D.Disk.seen g.D.Disk.unsynced s.store c.durable.result.now = subst (λ (k : Kept). Stands g.D.Disk.seen g.D.Disk.unsynced s.store k) (sym before) (i.stands going) in
     let few : length (flat (singles (take s.acked log))) < s.limit = subst (λ (l : Ledger g.row.D.Denot). length (flat l.acked) < l.limit) (sym c.self.view_is) c.requires.few in
     let log' : List Edit = map arc_value c.push_reserved-in-Err-Fault.new.self.items in
     let logged : log' ≡ log ++ e ∷ [] = grind (arith, common_steps, c.push_reserved-in-Err-Fault.ensures.items, c.reserve.ensures.items) in
-    let setting' : Setting = on_device s.limit c.save.new.self.bank.journal.end s.first_gate in
+    let setting' : Setting = on_device s.limit c.save.new.self.size in
     let f = rw c.in-Err-Fault.field-0-is at c.in-Err-Fault.ensures in
-    let there : FindsRoom s.store.bank.journal.end s.store.bank.journal.gate s.core.durable (applied s.core.durable e) e =
-    subst (λ (x : Edit). FindsRoom s.store.bank.journal.end s.store.bank.journal.gate s.core.durable (applied s.core.durable e) x) change
-    (subst (λ (k : Kept). FindsRoom s.store.bank.journal.end s.store.bank.journal.gate s.core.durable k c.deref.result.now) next
-    (subst (λ (k : Kept). FindsRoom s.store.bank.journal.end s.store.bank.journal.gate k c.deref-2.result.now c.deref.result.now) before f.room)) in
-    let room : HasRoom b e = record { few = few; device = device-fits s.store.bank.journal.end s.store.bank.journal.gate s.first_gate g.J.Naming.base s.core.durable (applied s.core.durable e) (singles (take s.acked log)) e (i.gate going) i.folded.durable refl there } in
+    let there : FindsRoom s.store.size s.core.durable (applied s.core.durable e) e =
+    subst (λ (x : Edit). FindsRoom s.store.size s.core.durable (applied s.core.durable e) x) change
+    (subst (λ (k : Kept). FindsRoom s.store.size s.core.durable k c.deref.result.now) next
+    (subst (λ (k : Kept). FindsRoom s.store.size k c.deref-2.result.now c.deref.result.now) before f.room)) in
+    let room : HasRoom b e = record { few = few; device = device-fits s.store.size g.J.Naming.base s.core.durable (applied s.core.durable e) (singles (take s.acked log)) e i.folded.durable refl there } in
     subst (λ (l : Ledger g.row.D.Denot). IsPending (page l) (page_of g.J.Naming.base s.core log' s.acked setting' s.shower.shown) e) c.self.view_is
-    (record { room = room; same = pending-page g.J.Naming.base s.core log log' e s.acked setting setting' s.shower.shown logged all (ap (λ (n : ℕ). on_device s.limit n s.first_gate) f.region.1) })
+    (record { room = room; same = pending-page g.J.Naming.base s.core log log' e s.acked setting setting' s.shower.shown logged all (ap (λ (n : ℕ). on_device s.limit n) f.size) })
 
 pub returns-in-Err-Fault-clause-any_moment : goal.returns-in-Err-Fault-clause-any_moment
 returns-in-Err-Fault-clause-any_moment g c =
@@ -245,16 +256,15 @@ returns-in-Err-Fault-clause-any_moment g c =
     let log : List Edit = map arc_value s.log.items in
     let none : singles (drop s.acked log) ≡ [] = ap (λ (l : Ledger g.row.D.Denot). l.pending) c.self.view_is ∙ c.requires.free in
     let all : s.acked ≡ length log = all-acked log s.acked i.low none in
-    let setting : Setting = on_device s.limit s.store.bank.journal.end s.first_gate in
+    let setting : Setting = on_device s.limit s.store.size in
     let b : Page = page_of g.J.Naming.base s.core log s.acked setting s.shower.shown in
-    let disk = s.store.bank.journal.disk in
+    let disk = s.store.disk in
     let going : s.store.halted ≡ false = goes-on s.store.halted log s.acked i.halted all in
     let before : c.durable.result.now ≡ s.core.durable = c.durable.ensures in
     let left : c.args.next.durable ≡ applied s.core.durable e = ap (λ (r : Ready). r.durable) c.requires.made ∙ ap (λ (l : Ledger g.row.D.Denot). applied l.whole.durable e) (sym c.self.view_is) in
     let next : c.deref-2.result.now ≡ applied s.core.durable e = c.deref-2.ensures ∙ c.requires.after ∙ left in
     let change : c.deref.result.now ≡ e = c.deref.ensures in
-    let was : Stands g.D.Disk.seen g.D.Disk.unsynced s.store c.durable.result.now = subst (λ (k : Kept). Stands g.D.Disk.seen g.D.Disk.unsynced s.store k) (sym before) (i.stands going) in
-    let run : EachMoment g.D.Disk.moment g.D.Disk.left_since disk c.save.new.self.bank.journal.disk (HoldsEither s.core.durable (applied s.core.durable e)) =
-    subst (λ (k : Kept). EachMoment g.D.Disk.moment g.D.Disk.left_since disk c.save.new.self.bank.journal.disk (HoldsEither s.core.durable k)) next
-    (subst (λ (k : Kept). EachMoment g.D.Disk.moment g.D.Disk.left_since disk c.save.new.self.bank.journal.disk (HoldsEither k c.deref-2.result.now)) before (c.save.ensures.any_moment going was)) in
-    subst (λ (l : Ledger g.row.D.Denot). EachMoment g.D.Disk.moment g.D.Disk.left_since l.disk c.save.new.self.bank.journal.disk (HoldsEither l.whole.durable (applied l.whole.durable e))) c.self.view_is run
+    let run : EachMoment g.D.Disk.moment g.D.Disk.left_since disk c.save.new.self.disk (HoldsEither s.core.durable (applied s.core.durable e)) =
+    subst (λ (k : Kept). EachMoment g.D.Disk.moment g.D.Disk.left_since disk c.save.new.self.disk (HoldsEither s.core.durable k)) next
+    (subst (λ (k : Kept). EachMoment g.D.Disk.moment g.D.Disk.left_since disk c.save.new.self.disk (HoldsEither k c.deref-2.result.now)) before (c.save.ensures.any_moment going)) in
+    subst (λ (l : Ledger g.row.D.Denot). EachMoment g.D.Disk.moment g.D.Disk.left_since l.disk c.save.new.self.disk (HoldsEither l.whole.durable (applied l.whole.durable e))) c.self.view_is run

@@ -24,14 +24,14 @@ invariant_of-self-2 g c =
     subst (λ (l : List Edit). IsPrefix s.shower.shown l) (sym offered) (prefix_take log s.shower.shown s.offered s.acked i.offered_low (subst (λ (l : List Edit). IsPrefix s.shower.shown l) i.offered_is i.shown_is)) in
     let still : IsPrefix c.offer_rest.new.shower.shown c.offer_rest.new.shower.offered = subst (λ (l : List Edit). IsPrefix l c.offer_rest.new.shower.offered) (sym c.offer_rest.ensures.shown) before in
     let shown : IsPrefix c.show.new.self.shown c.offer_rest.new.shower.offered = shown_either c.show.result c.offer_rest.new.shower.shown c.show.new.self.shown c.offer_rest.new.shower.offered c.show.ensures.ok c.show.ensures.err still in
-    shown-book g.D.Disk.seen g.D.Disk.unsynced g.D.Disk.fault_count s.store g.J.Naming.base s.core (arc_value s.durable) log s.acked s.offered s.first_gate
-    (on_device s.limit s.store.bank.journal.end s.first_gate) s.shower c.show.new.self s.tip i (c.show.ensures.offered ∙ offered) (subst (λ (l : List Edit). IsPrefix c.show.new.self.shown l) (sym c.show.ensures.offered) shown)
+    shown-book g.D.Disk.seen g.D.Disk.unsynced s.store g.J.Naming.base s.core (arc_value s.durable) log s.acked s.offered
+    (on_device s.limit s.store.size) s.shower c.show.new.self s.tip i (c.show.ensures.offered ∙ offered) (subst (λ (l : List Edit). IsPrefix c.show.new.self.shown l) (sym c.show.ensures.offered) shown)
 
 pub returns-clause-page : goal.returns-clause-page
 returns-clause-page g c =
     let s = c.self.inside in
     let log : List Edit = map arc_value s.log.items in
-    let setting : Setting = on_device s.limit s.store.bank.journal.end s.first_gate in
+    let setting : Setting = on_device s.limit s.store.size in
     let offered : c.offer_rest.new.shower.offered ≡ take s.acked log = c.if-not-offer_rest.ensures.offered ∙ ap (λ xs. take s.acked (map arc_value xs)) c.as_slice.ensures.value in
     elim c.match-show.branch [
       | in-Ok w ↦ rw w.result-is

@@ -1,4 +1,4 @@
-use Rattle.std.proofs.Common.{◌<◌, ◌^◌, ℕ, sym, subst, ◌∙◌}
+use Rattle.std.proofs.Common.{sym, subst, ◌∙◌}
 use Rattle.pf_core.specs.{Durable.Edits.Kept, Laws.Durable.IsWithin}
 use Rattle.pf_store.specs.{Stores.Holds, StoreKept.Stands}
 use Rattle.pf_book.proofs.opening.Opening.open.Goals as goal
@@ -10,7 +10,7 @@ invariant_of-result g c =
     record {
       goes_on = e.fresh;
       stands = subst (λ (k : Kept). Stands g.D.Disk.seen g.D.Disk.unsynced c.in_ok-durable.store k) (sym same) e.stands;
-      few = subst (λ (n : ℕ). n < 2 ^ 63) (sym e.no_fault) c.requires.few;
+      early = e.early;
       images = λ i image. subst (λ (k : Kept). Holds i k) (sym same) (e.images i image);
       within = subst IsWithin (sym same) e.within;
       epoch = record { before = e.opened.0; raises = same ∙ e.opened.2; low = e.opened.3 };
@@ -19,4 +19,4 @@ invariant_of-result g c =
 pub returns-in-Ok-clause-opened : goal.returns-in-Ok-clause-opened
 returns-in-Ok-clause-opened g c =
     let o = c.in_ok-durable.ensures.opened in
-    (o.0, o.1, c.in-Ok.ensures.ok ∙ o.2, o.3, o.4)
+    (o.0, o.1, c.in-Ok.ensures.ok ∙ o.2, o.3)

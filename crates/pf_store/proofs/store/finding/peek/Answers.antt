@@ -1,9 +1,13 @@
-use Rattle.pf_journal.specs.Records.{contents}
-use Rattle.pf_store.proofs.{Limiting.made_within, Saving.found_held}
+use Rattle.std.proofs.Common.{◌≡◌, true}
+use Rattle.pf_snap.specs.Looked.{content_of}
+use Rattle.pf_store.proofs.{Limiting.made_within, Refusing.unopened}
 use Rattle.pf_store.proofs.store.finding.peek.Goals as goal
 
-pub returns-in-Ok-clause-held : goal.returns-in-Ok-clause-held
-returns-in-Ok-clause-held g c = let f = c.in-Ok.field-0 in found_held (g.D.Disk.seen c.args.disk.now) f.looked f.durable c.in-Ok.ensures.found
+pub returns-in-Ok-replay-clause-within : goal.returns-in-Ok-replay-clause-within
+returns-in-Ok-replay-clause-within g c = made_within (content_of c.in-Ok.looked) c.in-Ok-replay.durable c.in-Ok-replay.ensures.made
 
-pub returns-in-Ok-clause-within : goal.returns-in-Ok-clause-within
-returns-in-Ok-clause-within g c = let f = c.in-Ok.field-0 in made_within f.looked.snapshot.items (contents f.looked.payloads.items) f.durable c.in-Ok.ensures.found.makes
+pub returns-in-Ok-clause-refused : goal.returns-in-Ok-clause-refused
+returns-in-Ok-clause-refused g c =
+    let l = c.in-Ok.looked in
+    let found = c.in-Ok.ensures.found in
+    unopened (g.D.Disk.seen c.args.disk.now) l.at l.other (content_of l) (l.broken ≡ true) c.in-Err-replay.fault found.places found.counts found.front found.whole c.in-Ok.ensures.broken c.in-Err-replay.ensures.refused

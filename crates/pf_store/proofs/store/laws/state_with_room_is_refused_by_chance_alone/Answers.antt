@@ -1,5 +1,8 @@
-use Rattle.pf_store.proofs.Refusing.{by_chance}
+use Rattle.pf_store.proofs.Refusing.{by_chance, roomy_is_not_full}
 use Rattle.pf_store.proofs.store.laws.state_with_room_is_refused_by_chance_alone.Goals as goal
 
-pub returns : goal.returns
-returns c image fault d held early room refused = by_chance image fault d held early room refused
+pub returns-clause-chance : goal.returns-clause-chance
+returns-clause-chance c image fault d held early low room refused = by_chance image fault d held early low room refused
+
+pub returns-clause-room : goal.returns-clause-room
+returns-clause-room c image d roomy full = roomy_is_not_full image d roomy full

@@ -1,4 +1,4 @@
-use Rattle.pf_store.specs.Rooms.{on_device}
+use Rattle.pf_book.specs.Books.{setting_of}
 use Rattle.pfd.proofs.program.serving.serve_file.Given as goal
 
 -- the opening is named by what it gave, its history, and what it keeps within
@@ -6,4 +6,4 @@ abbrev pub ghosts-serve_opening-J-Naming : goal.ghosts-serve_opening-J-Naming
 ghosts-serve_opening-J-Naming g a = record { base = a.opening.given }
 
 abbrev pub ghosts-serve_opening-J-Chapter : goal.ghosts-serve_opening-J-Chapter
-ghosts-serve_opening-J-Chapter g a = record { history = a.opening.history; setting = on_device a.service.now.history a.opening.end a.opening.gate }
+ghosts-serve_opening-J-Chapter g a = record { history = a.opening.history; setting = setting_of a.opening a.service.now.history }

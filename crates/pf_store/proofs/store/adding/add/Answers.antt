@@ -1,0 +1,73 @@
+use Rattle.pf_store.specs.Stores.{left_by}
+use Rattle.pf_store.proofs.Saving.{before, have_held, have_more, moved, turned_and_moved, unmoved}
+use Rattle.pf_store.proofs.store.adding.add.Goals as goal
+
+pub returns-then-not-has_room-clause-any_moment : goal.returns-then-not-has_room-clause-any_moment
+returns-then-not-has_room-clause-any_moment g c x is follows =
+    let d = g.D.Disk in
+    let b = c.args.banks.now in
+    let k = c.args.durable.now in
+    before d.seen d.unsynced d.moment d.left_since b.journal.disk b.journal.disk k (left_by k x)
+    (unmoved d.seen d.unsynced d.moment d.left_since b.journal.disk k c.requires.ready.journal.synced (have_held d.seen d.unsynced d.fault_count b k c.requires.kept) (g.met.D.Disk.only_now b.journal.disk))
+
+pub returns-in_err-record-clause-any_moment : goal.returns-in_err-record-clause-any_moment
+returns-in_err-record-clause-any_moment g c x is follows =
+    let d = g.D.Disk in
+    let b = c.args.banks.now in
+    let k = c.args.durable.now in
+    before d.seen d.unsynced d.moment d.left_since b.journal.disk b.journal.disk k (left_by k x)
+    (unmoved d.seen d.unsynced d.moment d.left_since b.journal.disk k c.requires.ready.journal.synced (have_held d.seen d.unsynced d.fault_count b k c.requires.kept) (g.met.D.Disk.only_now b.journal.disk))
+
+pub returns-in_err-append_record-clause-any_moment : goal.returns-in_err-append_record-clause-any_moment
+returns-in_err-append_record-clause-any_moment g c x is follows =
+    let d = g.D.Disk in
+    let k = c.requires.kept in
+    let p = c.args.payload.now in
+    moved d.seen d.unsynced d.moment d.left_since c.args.banks.now.journal.disk c.append_record.new.self.journal.disk k.content c.args.durable.now p x k.makes is follows
+    (c.append_record.ensures.any_moment k.content p k.keeps c.in_ok-record.ensures)
+
+pub returns-then-fits_here-clause-any_moment : goal.returns-then-fits_here-clause-any_moment
+returns-then-fits_here-clause-any_moment g c x is follows =
+    let d = g.D.Disk in
+    let k = c.requires.kept in
+    let p = c.args.payload.now in
+    moved d.seen d.unsynced d.moment d.left_since c.args.banks.now.journal.disk c.append_record.new.self.journal.disk k.content c.args.durable.now p x k.makes is follows
+    (c.append_record.ensures.any_moment k.content p k.keeps c.in_ok-record.ensures)
+
+pub returns-then-fits_here-clause-kept : goal.returns-then-fits_here-clause-kept
+returns-then-fits_here-clause-kept g c x is follows =
+    let d = g.D.Disk in
+    let k = c.requires.kept in
+    let p = c.args.payload.now in
+    have_more d.seen d.unsynced c.args.banks.now c.append_record.new.self c.args.durable.now p x k is follows
+    (c.in_ok-append_record.ensures.kept k.content p k.keeps c.in_ok-record.ensures)
+
+pub returns-in_err-append_record-2-clause-any_moment : goal.returns-in_err-append_record-2-clause-any_moment
+returns-in_err-append_record-2-clause-any_moment g c x is follows =
+    let d = g.D.Disk in
+    let k = c.in_ok-switch.ensures.kept in
+    let p = c.args.payload.now in
+    let e = c.args.durable.now in
+    let mid = c.switch.new.banks.journal.disk in
+    let new = c.append_record-2.new.self.journal.disk in
+    turned_and_moved d.seen d.unsynced d.moment d.left_since c.args.banks.now.journal.disk mid new e (left_by e x) c.switch.ensures.any_moment
+    (moved d.seen d.unsynced d.moment d.left_since mid new k.content e p x k.makes is follows (c.append_record-2.ensures.any_moment k.content p k.keeps c.in_ok-record.ensures))
+
+pub returns-clause-any_moment : goal.returns-clause-any_moment
+returns-clause-any_moment g c x is follows =
+    let d = g.D.Disk in
+    let k = c.in_ok-switch.ensures.kept in
+    let p = c.args.payload.now in
+    let e = c.args.durable.now in
+    let mid = c.switch.new.banks.journal.disk in
+    let new = c.append_record-2.new.self.journal.disk in
+    turned_and_moved d.seen d.unsynced d.moment d.left_since c.args.banks.now.journal.disk mid new e (left_by e x) c.switch.ensures.any_moment
+    (moved d.seen d.unsynced d.moment d.left_since mid new k.content e p x k.makes is follows (c.append_record-2.ensures.any_moment k.content p k.keeps c.in_ok-record.ensures))
+
+pub returns-clause-kept : goal.returns-clause-kept
+returns-clause-kept g c x is follows =
+    let d = g.D.Disk in
+    let k = c.in_ok-switch.ensures.kept in
+    let p = c.args.payload.now in
+    have_more d.seen d.unsynced c.switch.new.banks c.append_record-2.new.self c.args.durable.now p x k is follows
+    (c.in_ok-append_record-2.ensures.kept k.content p k.keeps c.in_ok-record.ensures)

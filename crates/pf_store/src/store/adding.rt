@@ -1,0 +1,95 @@
+//! Adding a record, behind a switch to the other bank where it has no room.
+ghost use Rattle.std.specs.Prelude.{◌≡◌, ◌↔◌, ◌+◌, ◌^◌, ◌<◌, ◌≤◌, List, ℕ, length, OnOk, IsErrOf, if◌then◌else◌};
+ghost use Rattle.pf_disk.specs.Disk.{EachMoment};
+ghost use Rattle.pf_snap.specs.{Banks.bank_size, Faults.is_switch_fault, Ready.IsReady};
+ghost use Rattle.pf_core.specs.Durable.Edits.{Kept};
+ghost use Rattle.pf_store.specs.declared.groups.change.Recorded.{Recorded};
+ghost use Rattle.pf_store.specs.{Groups.IsRecorded, Lengths.snapshot_length, StoreFaults.is_add_fault, StoreKept.HaveKept, Stores.{Follows, left_by, Holds, HoldsEither}};
+
+use crate::groups::GroupFault;
+use crate::snapshots::write_durable;
+use crate::store::fault::AddFault;
+use crate::store::lengths::has_room;
+use pf_core::Durable;
+use pf_disk::Disk;
+use pf_journal::Record;
+use pf_snap::{Banks, HEADER, SwitchFault};
+use std::alloc::Global;
+
+/// Bytes that a record takes beside its payload: its gate, the payload's length, and the gate behind it.
+const AROUND: usize = 6;
+
+/// Adds a record of what follows what is kept, with this payload, in ten moments of the device at most. Where the bank that counts has no
+/// room for it, the other one is begun before with a snapshot of what is kept. All memory is taken before the device's first call.
+///
+/// The banks are ready and hold what is kept. `Full`: the record has no room, and wouldn't have it behind such a snapshot either.
+pub(crate) fn add<D: Disk>(
+    alloc: Global,
+    banks: &mut Banks<D>,
+    durable: &Durable,
+    payload: &[u8],
+) -> Result<(), AddFault>
+    requires ready { IsReady D.seen D.unsynced banks.old }
+    requires kept { HaveKept D.seen banks.old durable.now }
+    requires early { banks.old.generation + 1 < 2 ^ 64 }
+    requires few { D.fault_count banks.old.journal.disk < 2 ^ 63 }
+    requires small { length payload.now + 6 < 2 ^ 64 }
+    ensures any_moment { (x : Recorded) → IsRecorded x payload.now → Follows durable.now x
+        → EachMoment D.moment D.left_since banks.old.journal.disk banks.new.journal.disk (HoldsEither durable.now (left_by durable.now x)) }
+    ensures kept { OnOk result ((x : Recorded) → IsRecorded x payload.now → Follows durable.now x
+        → HaveKept D.seen banks.new (left_by durable.now x)) }
+    ensures ready { OnOk result (IsReady D.seen D.unsynced banks.new) }
+    ensures full { IsErrOf result AddFault.Full ↔ ((banks.old.journal.end < banks.old.journal.gate + (length payload.now + 6))
+        × (bank_size (length (D.seen banks.old.journal.disk)) < HEADER + snapshot_length durable.now + (length payload.now + 6))) }
+    ensures unchanged_where_full { IsErrOf result AddFault.Full → banks.new ≡ banks.old }
+    ensures unchanged_without_memory { IsErrOf result AddFault.Memory → banks.new ≡ banks.old }
+    ensures generation { OnOk result (banks.new.generation ≤ banks.old.generation + 1) }
+    ensures same_size { length (D.seen banks.new.journal.disk) ≡ length (D.seen banks.old.journal.disk) }
+    ensures moments { D.moment banks.new.journal.disk ≤ D.moment banks.old.journal.disk + 10 }
+    ensures faults { D.fault_count banks.new.journal.disk
+        ≡ D.fault_count banks.old.journal.disk + (if is_add_fault result then 1 else 0) }
+{
+    let needed = payload.len() + AROUND;
+    let fits_here = needed <= banks.room();
+    if !fits_here && !has_room(durable, banks.size(), needed) {
+        return Err(AddFault::Full);
+    }
+    let record = Record::of(alloc, payload)?;
+    if fits_here {
+        banks.append_record(&record)?;
+        return Ok(());
+    }
+    switch(alloc, banks, durable)?;
+    banks.append_record(&record)?;
+    Ok(())
+}
+
+// Begins the other bank with a snapshot of what is kept.
+fn switch<D: Disk>(
+    alloc: Global,
+    banks: &mut Banks<D>,
+    durable: &Durable,
+) -> Result<(), SwitchFault>
+    requires ready { IsReady D.seen D.unsynced banks.old }
+    requires kept { HaveKept D.seen banks.old durable.now }
+    requires fits { HEADER + snapshot_length durable.now + 1 ≤ bank_size (length (D.seen banks.old.journal.disk)) }
+    requires early { banks.old.generation + 1 < 2 ^ 64 }
+    requires few { D.fault_count banks.old.journal.disk < 2 ^ 63 }
+    ensures any_moment { EachMoment D.moment D.left_since banks.old.journal.disk banks.new.journal.disk (λ image. Holds image durable.now) }
+    ensures kept { OnOk result (HaveKept D.seen banks.new durable.now) }
+    ensures ready { OnOk result (IsReady D.seen D.unsynced banks.new) }
+    ensures gate { OnOk result (banks.new.journal.gate ≡ banks.new.at + HEADER + snapshot_length durable.now) }
+    ensures generation { OnOk result (banks.new.generation ≡ banks.old.generation + 1) }
+    ensures unchanged_without_memory { IsErrOf result SwitchFault.Memory → banks.new ≡ banks.old }
+    ensures same_size { length (D.seen banks.new.journal.disk) ≡ length (D.seen banks.old.journal.disk) }
+    ensures moments { D.moment banks.new.journal.disk ≤ D.moment banks.old.journal.disk + 6 }
+    ensures faults { D.fault_count banks.new.journal.disk
+        ≡ D.fault_count banks.old.journal.disk + (if is_switch_fault result then 1 else 0) }
+{
+    let snapshot = match write_durable(alloc, durable) {
+        Ok(snapshot) => snapshot,
+        Err(GroupFault::Memory) => return Err(SwitchFault::Memory),
+        Err(GroupFault::NoForm) => unreachable!(),
+    };
+    banks.switch(alloc, &snapshot)
+}
