@@ -14,7 +14,8 @@
 //! Read first `specs/Books.antt`: what a Book is to contracts, then `specs/Receipts.antt`. What a Book keeps to is in the words of `pf_core`'s
 //! worlds.
 //!
-//! What its users need of the devices and of the store is given out again: [`MemDisk`], [`FileDisk`], [`FuseDisk`], [`format`], [`peek`].
+//! What its users need of the devices and of the store is given out again: [`MemDisk`], [`FileDisk`], [`FuseDisk`], [`format`], and [`Store`] for
+//! its `peek`.
 #![tactic(auto)]
 
 mod book;
@@ -31,7 +32,7 @@ pub use history::Chapter;
 pub use opening::Opening;
 pub use pf_core::Reply;
 pub use pf_disk::{Disk, FileDisk, FileFault, FuseDisk, MemDisk};
-pub use pf_store::{OpenFault, format, peek};
+pub use pf_store::{OpenFault, Store, format};
 pub use pf_view::{Gone, Naming, Seer, Token, ViewFault};
 pub use receipt::Receipt;
 pub use shared::Shared;

@@ -1,5 +1,5 @@
 // A device over a file.
-ghost use Rattle.std.specs.Prelude.{◌≡◌, ◌+◌, ◌^◌, ◌<◌, ◌≤◌, ◌++◌, [], ◌∷◌, true, ℕ, length, replicate, IfOk, OnOk, OnErr, take, drop};
+ghost use Rattle.std.specs.Prelude.{◌≡◌, ◌+◌, ◌^◌, ◌<◌, ◌≤◌, ◌++◌, [], ◌∷◌, true, false, ℕ, length, replicate, IfOk, OnOk, OnErr, take, drop};
 ghost use Rattle.pf_disk.specs.{Calls.{at_rest, after, all_fit, LeftSince}, Disk.{IsImage, IsSynced, AreIn, is_within, with_range, overwritten, Elapses, CountsFault}, Past.{now_counts, now_only}};
 ghost use Rattle.pf_disk.specs.declared.file.FileFault.TheVariants.{Memory};
 
@@ -32,13 +32,18 @@ impl From<AllocError> for FileFault {
 /// A device over a file of fixed length, by positioned reads and writes; a sync reaches the file's own device.
 ///
 /// The bytes that a read has to give are kept in memory too, and a read that finds others in the file is a fault. No clause
-/// can say what a file holds: that its bytes after a crash are as a `Disk` says is a premise, and no promise. Own.
+/// can say what a file holds: that its bytes after a crash are as a `Disk` says is a premise, and no promise.
+///
+/// After a write that failed the file may hold any bytes in that range, so the device is broken: each later call is a fault,
+/// and the file isn't touched any more. Only a new device over the file, which reads it again, goes on. Own.
 #[derive(Drop)]
 pub struct FileDisk {
     file: File,
     size: usize,
     bytes: Vec<u8>,
     fault_count: u64,
+    // A write failed.
+    is_broken: bool,
     history: History,
     ghost seen_is: { (after (at_rest (replicate size 0)) history.events).seen ≡ bytes.items },
     ghost size_is: { length bytes.items ≡ size },
@@ -69,6 +74,7 @@ impl FileDisk {
             size,
             bytes,
             fault_count: 0,
+            is_broken: false,
             history,
         };
         if disk.sync().is_err() {
@@ -113,9 +119,22 @@ impl Disk for FileDisk {
         self.fault_count
     }
 
-    fn read_at(&mut self, at: usize, buf: &mut [u8]) -> Result<(), DiskFault> {
+    fn read_at(&mut self, at: usize, buf: &mut [u8]) -> Result<(), DiskFault>
+        requires within { at + length buf.old ≤ length (seen_of self.old) }
+        requires few { self.old.fault_count < 2 ^ 63 }
+        ensures refused { OnOk result (self.old.is_broken ≡ false) }
+        ensures broken { self.new.is_broken ≡ self.old.is_broken }
+        ensures read { OnOk result (buf.new ≡ take (length buf.old) (drop at (seen_of self.old))) }
+        ensures seen { seen_of self.new ≡ seen_of self.old }
+        ensures unsynced { AreIn (unsynced_of self.new) (unsynced_of self.old) }
+        ensures still { AreIn (unsynced_of self.old) (unsynced_of self.new) }
+        ensures time { Elapses (length (events_of self.old)) (length (events_of self.new))
+            (LeftSince (replicate self.old.size 0) (events_of self.old)) (LeftSince (replicate self.new.size 0) (events_of self.new))
+            (seen_of self.new) (unsynced_of self.new) }
+        ensures faults { CountsFault result self.old.fault_count self.new.fault_count }
+    {
         let expected = &self.bytes[at..at + buf.len()];
-        let found = self.file.read_exact_at(buf, at as u64).is_ok();
+        let found = !self.is_broken && self.file.read_exact_at(buf, at as u64).is_ok();
         if !found || *buf != *expected {
             self.fault_count += 1;
             return Err(DiskFault);
@@ -126,6 +145,9 @@ impl Disk for FileDisk {
     fn write_at(&mut self, at: usize, bytes: &[u8]) -> Result<(), DiskFault>
         requires within { at + length bytes.now ≤ length (seen_of self.old) }
         requires few { self.old.fault_count < 2 ^ 63 }
+        ensures refused { OnOk result (self.old.is_broken ≡ false) }
+        ensures broken { OnErr result (self.new.is_broken ≡ true) }
+        ensures whole { OnOk result (self.new.is_broken ≡ false) }
         ensures written { OnOk result (seen_of self.new ≡ overwritten (seen_of self.old) at bytes.now) }
         ensures unwritten { OnErr result (seen_of self.new ≡ seen_of self.old) }
         ensures elsewhere { IsImage (seen_of self.old) (is_within at (length bytes.now)) (seen_of self.new) }
@@ -137,9 +159,10 @@ impl Disk for FileDisk {
             (seen_of self.new) (unsynced_of self.new) }
         ensures faults { CountsFault result self.old.fault_count self.new.fault_count }
     {
-        if self.file.write_all_at(bytes, at as u64).is_err() {
-            // Some of it may have been written: the range is unsynced.
+        if self.is_broken || self.file.write_all_at(bytes, at as u64).is_err() {
+            // Some of it may have been written: the range is unsynced, and what a read would find there isn't known.
             self.history.note(&[at], &self.bytes[at..at + bytes.len()]);
+            self.is_broken = true;
             self.fault_count += 1;
             return Err(DiskFault);
         }
@@ -148,8 +171,20 @@ impl Disk for FileDisk {
         Ok(())
     }
 
-    fn sync(&mut self) -> Result<(), DiskFault> {
-        if self.file.sync_data().is_err() {
+    fn sync(&mut self) -> Result<(), DiskFault>
+        requires few { self.old.fault_count < 2 ^ 63 }
+        ensures refused { OnOk result (self.old.is_broken ≡ false) }
+        ensures broken { self.new.is_broken ≡ self.old.is_broken }
+        ensures synced { OnOk result (IsSynced (unsynced_of self.new)) }
+        ensures seen { seen_of self.new ≡ seen_of self.old }
+        ensures unsynced { AreIn (unsynced_of self.new) (unsynced_of self.old) }
+        ensures still { OnErr result (AreIn (unsynced_of self.old) (unsynced_of self.new)) }
+        ensures time { Elapses (length (events_of self.old)) (length (events_of self.new))
+            (LeftSince (replicate self.old.size 0) (events_of self.old)) (LeftSince (replicate self.new.size 0) (events_of self.new))
+            (seen_of self.new) (unsynced_of self.new) }
+        ensures faults { CountsFault result self.old.fault_count self.new.fault_count }
+    {
+        if self.is_broken || self.file.sync_data().is_err() {
             self.fault_count += 1;
             return Err(DiskFault);
         }

@@ -14,4 +14,4 @@ pub mod store;
 pub use groups::{GroupFault, Recorded, read_group, write_group};
 pub use pf_snap::FormatFault;
 pub use snapshots::{read_durable, write_durable};
-pub use store::{OpenFault, SaveFault, Store, format, peek};
+pub use store::{OpenFault, SaveFault, Store, format};

@@ -6,7 +6,7 @@
 //!
 //! - `keeping`: [`Store`], which saves a change, and [`Store::open`].
 //! - `adding`: a record more, behind a switch where it has no room.
-//! - `finding`: [`peek`], what a device holds.
+//! - `finding`: [`Store::peek`], what a device holds.
 //! - `formatting`: [`format`], which makes a device hold nothing.
 //! - `replaying`: what a snapshot and payloads make.
 //! - `lengths`: how long a snapshot would be.
@@ -23,7 +23,6 @@ mod lengths;
 mod replaying;
 
 pub use fault::{OpenFault, SaveFault};
-pub use finding::peek;
 pub use formatting::format;
 pub use keeping::Store;
 pub use laws::{

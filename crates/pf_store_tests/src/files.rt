@@ -141,14 +141,21 @@ fn tell_other_bytes(rt: &HostRuntime, told: &mut String) -> Result<(), ReadFault
     Ok(())
 }
 
-/// A file that is open for reading alone takes no write.
+/// A file that is open for reading alone takes no write, and then nothing more.
 fn tell_read_only(rt: &HostRuntime, told: &mut String) -> Result<(), ReadFault> {
     let Ok(file) = File::open(rt, "journal") else {
         return Err(ReadFault::Fault);
     };
     let mut disk = device(rt.alloc(), file)?;
+    let mut buffer = [0u8; 8];
+    let before = disk.read_at(8, &mut buffer);
     let answer = disk.write_at(8, b"2");
+    let after = disk.read_at(8, &mut buffer);
+    let synced = disk.sync();
     let faults = disk.faults();
-    write!(told, "a write: {answer:?}, {faults} faults\n")?;
+    write!(
+        told,
+        "a read: {before:?}, a write: {answer:?}, then a read: {after:?}, a sync: {synced:?}, {faults} faults\n"
+    )?;
     Ok(())
 }

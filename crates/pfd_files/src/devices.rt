@@ -13,7 +13,7 @@ use pf_anchor::Config;
 use pf_core::{Answer, Durable, Reply};
 use pf_disk::Disk;
 use pf_line::write_reply;
-use pf_store::{format, peek};
+use pf_store::{Store, format};
 use std::alloc::Global;
 use std::io::{self, Write};
 
@@ -50,7 +50,7 @@ pub fn show_on<D: Disk, W: Write>(alloc: Global, disk: &mut D, writer: &mut W) -
     ensures seen { D.seen disk.new ≡ D.seen disk.old }
     ensures faults { D.fault_count disk.new ≡ D.fault_count disk.old + (if is_device_fault result then 1 else 0) }
 {
-    let durable = peek(alloc, disk)?;
+    let durable = Store::peek(alloc, disk)?;
     match write_shown(writer, &durable) {
         Ok(()) => Ok(()),
         Err(_) => Err(Fault::Output),

@@ -1,5 +1,6 @@
 //! Disks that lie on files. What a file holds no clause can say, so this is only tested.
-ghost use Rattle.std.specs.Prelude.{◌≡◌, IfErr, IfOk};
+ghost use Rattle.std.specs.Prelude.{◌≡◌, ◌⊎◌, Err, Ok, IfErr, IfOk, IsErrOf};
+ghost use Rattle.pf_store.specs.Banks.IsSize;
 ghost use Rattle.pfd_files.specs.Showing.{IsOfFile, ShownOfFile};
 
 use crate::devices::{format_on, is_size, show_on};
@@ -9,18 +10,21 @@ use std::alloc::Global;
 use std::fs::{File, Files, OpenOptions, TryLockError};
 use std::io::Write;
 
-/// Makes the file so many bytes long, whether it was there or not, and a disk that holds nothing. A size that no disk may have is refused
-/// before the file's length changes.
+/// Makes the file so many bytes long, whether it was there or not, and a disk that holds nothing.
+///
+/// What is wrong comes in this order. `Input`: the file can't be opened or made, or is locked, whatever the size is. `BadSize`: no disk has so
+/// many bytes; the file's length isn't set, so that one that was there is as it was, and one that wasn't is there and empty. `Input`: it can't be
+/// brought to its length. Then the faults of [`FileDisk::of`] and [`format_on`]: the file has its new length, and may hold what it held. Own.
 pub fn format_file<S: Files<File = File>>(
     alloc: Global,
     files: &S,
     path: &str,
     size: usize,
-) -> Result<(), Fault> {
-    let file = open_to_write(files, path, true)?;
-    if !is_size(size) {
-        return Err(Fault::BadSize);
-    }
+) -> Result<(), Fault>
+    ensures bad_size { IsErrOf result Fault.BadSize → ¬ IsSize size }
+    ensures refused { ¬ IsSize size → (result ≡ Err Fault.Input) ⊎ (result ≡ Err Fault.BadSize) }
+{
+    let file = of_size(open_to_write(files, path, true), size)?;
     if file.set_len(size as u64).is_err() {
         return Err(Fault::Input);
     }
@@ -87,6 +91,20 @@ fn open_to_write<S: Files<File = File>>(
         Err(TryLockError::WouldBlock) => Err(Fault::Input),
         // where files have no locks it goes without
         _ => Ok(file),
+    }
+}
+
+// The file, once it may be given so many bytes: what kept it from being opened comes before what is wrong with the size.
+fn of_size(opened: Result<File, Fault>, size: usize) -> Result<File, Fault>
+    ensures unopened { IfErr opened (λ fault. result ≡ Err fault) }
+    ensures given { IsSize size → result ≡ opened }
+    ensures refused { ¬ IsSize size → IfOk opened (λ _. result ≡ Err Fault.BadSize) }
+{
+    let file = opened?;
+    if is_size(size) {
+        Ok(file)
+    } else {
+        Err(Fault::BadSize)
     }
 }
 

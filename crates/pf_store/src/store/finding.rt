@@ -6,33 +6,36 @@ ghost use Rattle.pf_store.specs.declared.store.fault.OpenFault.TheVariants as op
 ghost use Rattle.pf_store.specs.{Stores.Holds, StoreFaults.{is_open_fault, unlooked}, Openings.IsUnopened};
 
 use crate::store::fault::OpenFault;
+use crate::store::keeping::Store;
 use crate::store::replaying::replay;
 use pf_core::Durable;
 use pf_disk::Disk;
 use pf_snap::{LookFault, look};
 use std::alloc::Global;
 
-/// What a device holds, as it reads, in four moments of the device at most. It writes and syncs nothing. It is never `EpochsExhausted` or
-/// `Full`. Own.
-pub fn peek<D: Disk>(alloc: Global, disk: &mut D) -> Result<Durable, OpenFault>
-    requires few { D.fault_count disk.old < 2 ^ 63 }
-    ensures held { IfOk result (λ d. Holds (D.seen disk.old) d) }
-    ensures within { IfOk result (λ d. IsWithin d) }
-    ensures refused { IfErr result (λ e. IsUnopened e (D.seen disk.old)) }
-    ensures by_reading { IfErr result (λ e. (e ≢ opening.EpochsExhausted) × (e ≢ opening.Full)) }
-    ensures seen { D.seen disk.new ≡ D.seen disk.old }
-    ensures unsynced { AreIn (D.unsynced disk.new) (D.unsynced disk.old) }
-    ensures still { AreIn (D.unsynced disk.old) (D.unsynced disk.new) }
-    ensures any_moment { EachMoment D.moment D.left_since disk.old disk.new (IsImage (D.seen disk.old) (D.unsynced disk.old)) }
-    ensures moments { D.moment disk.new ≤ D.moment disk.old + 4 }
-    ensures faults { D.fault_count disk.new ≡ D.fault_count disk.old + (if is_open_fault result then 1 else 0) }
-{
-    match look(alloc, disk) {
-        Ok(looked) => match replay(alloc, &looked) {
-            Ok(durable) => Ok(durable),
-            Err(fault) => Err(fault),
-        },
-        Err(fault) => Err(unlooked(fault)),
+impl<D: Disk> Store<D> {
+    /// What a device holds, as it reads, in four moments of the device at most. It writes and syncs nothing. It is never `EpochsExhausted` or
+    /// `Full`. Own.
+    pub fn peek(alloc: Global, disk: &mut D) -> Result<Durable, OpenFault>
+        requires few { D.fault_count disk.old < 2 ^ 63 }
+        ensures held { IfOk result (λ d. Holds (D.seen disk.old) d) }
+        ensures within { IfOk result (λ d. IsWithin d) }
+        ensures refused { IfErr result (λ e. IsUnopened e (D.seen disk.old)) }
+        ensures by_reading { IfErr result (λ e. (e ≢ opening.EpochsExhausted) × (e ≢ opening.Full)) }
+        ensures seen { D.seen disk.new ≡ D.seen disk.old }
+        ensures unsynced { AreIn (D.unsynced disk.new) (D.unsynced disk.old) }
+        ensures still { AreIn (D.unsynced disk.old) (D.unsynced disk.new) }
+        ensures any_moment { EachMoment D.moment D.left_since disk.old disk.new (IsImage (D.seen disk.old) (D.unsynced disk.old)) }
+        ensures moments { D.moment disk.new ≤ D.moment disk.old + 4 }
+        ensures faults { D.fault_count disk.new ≡ D.fault_count disk.old + (if is_open_fault result then 1 else 0) }
+    {
+        match look(alloc, disk) {
+            Ok(looked) => match replay(alloc, &looked) {
+                Ok(durable) => Ok(durable),
+                Err(fault) => Err(fault),
+            },
+            Err(fault) => Err(unlooked(fault)),
+        }
     }
 }
 

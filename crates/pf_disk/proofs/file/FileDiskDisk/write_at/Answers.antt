@@ -29,17 +29,17 @@ invariant_of-self-2 c =
     let it = noted c.args.self.now c.args.at (length c.args.bytes.now) c.args.bytes.now _ _ c.requires.within refl c.note-2.ensures c.overwrite.ensures in
     record { seen_is = it.keeps.seen; size_is = it.keeps.same_size; calls_fit = it.keeps.fit }
 
-pub returns-then-is_err-clause-unsynced : goal.returns-then-is_err-clause-unsynced
-returns-then-is_err-clause-unsynced c i out = (again c.args.self.now c.args.at (length c.args.bytes.now) c.deref.result.now _ c.requires.within c.deref.ensures.value c.note.ensures).unsynced i out
+pub returns-then-self-clause-unsynced : goal.returns-then-self-clause-unsynced
+returns-then-self-clause-unsynced c i out = (again c.args.self.now c.args.at (length c.args.bytes.now) c.deref.result.now _ c.requires.within c.deref.ensures.value c.note.ensures).unsynced i out
 
-pub returns-then-is_err-clause-still : goal.returns-then-is_err-clause-still
-returns-then-is_err-clause-still c i out = (again c.args.self.now c.args.at (length c.args.bytes.now) c.deref.result.now _ c.requires.within c.deref.ensures.value c.note.ensures).still i out
+pub returns-then-self-clause-still : goal.returns-then-self-clause-still
+returns-then-self-clause-still c i out = (again c.args.self.now c.args.at (length c.args.bytes.now) c.deref.result.now _ c.requires.within c.deref.ensures.value c.note.ensures).still i out
 
-pub returns-then-is_err-clause-marked : goal.returns-then-is_err-clause-marked
-returns-then-is_err-clause-marked c i out = (again c.args.self.now c.args.at (length c.args.bytes.now) c.deref.result.now _ c.requires.within c.deref.ensures.value c.note.ensures).marked i out
+pub returns-then-self-clause-marked : goal.returns-then-self-clause-marked
+returns-then-self-clause-marked c i out = (again c.args.self.now c.args.at (length c.args.bytes.now) c.deref.result.now _ c.requires.within c.deref.ensures.value c.note.ensures).marked i out
 
-pub returns-then-is_err-clause-time : goal.returns-then-is_err-clause-time
-returns-then-is_err-clause-time c = (again c.args.self.now c.args.at (length c.args.bytes.now) c.deref.result.now _ c.requires.within c.deref.ensures.value c.note.ensures).time
+pub returns-then-self-clause-time : goal.returns-then-self-clause-time
+returns-then-self-clause-time c = (again c.args.self.now c.args.at (length c.args.bytes.now) c.deref.result.now _ c.requires.within c.deref.ensures.value c.note.ensures).time
 
 pub returns-clause-unsynced : goal.returns-clause-unsynced
 returns-clause-unsynced c i out = (noted c.args.self.now c.args.at (length c.args.bytes.now) c.args.bytes.now _ _ c.requires.within refl c.note-2.ensures c.overwrite.ensures).unsynced i out

@@ -1,7 +1,7 @@
 use Rattle.std.proofs.Common.{◌≡◌, true}
 use Rattle.pf_snap.specs.Looked.{content_of}
 use Rattle.pf_store.proofs.{Limiting.made_within, Refusing.unopened}
-use Rattle.pf_store.proofs.store.finding.peek.Goals as goal
+use Rattle.pf_store.proofs.store.keeping.Store.peek.Goals as goal
 
 pub returns-in-Ok-replay-clause-within : goal.returns-in-Ok-replay-clause-within
 returns-in-Ok-replay-clause-within g c = made_within (content_of c.in-Ok.looked) c.in-Ok-replay.durable c.in-Ok-replay.ensures.made
