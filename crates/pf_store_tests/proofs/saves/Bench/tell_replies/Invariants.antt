@@ -1,4 +1,4 @@
-use Rattle.pf_store.specs.Rooms.{on_device}
+use Rattle.pf_book.specs.Books.{setting_of}
 use Rattle.pf_store_tests.specs.declared.books.TheConstants.{HISTORY_LIMIT}
 use Rattle.pf_store_tests.proofs.saves.Bench.tell_replies.Given as goal
 
@@ -7,4 +7,4 @@ abbrev pub ghosts-replies_over-J-Naming : goal.ghosts-replies_over-J-Naming
 ghosts-replies_over-J-Naming g a = record { base = a.opening.given }
 
 abbrev pub ghosts-replies_over-J-Chapter : goal.ghosts-replies_over-J-Chapter
-ghosts-replies_over-J-Chapter g a = record { history = a.opening.history; setting = on_device HISTORY_LIMIT a.opening.end a.opening.gate }
+ghosts-replies_over-J-Chapter g a = record { history = a.opening.history; setting = setting_of a.opening HISTORY_LIMIT }
