@@ -3,7 +3,7 @@ ghost use Rattle.std.specs.Prelude.{◌≡◌, ◌+◌, ◌^◌, ◌<◌, ◌≤
 ghost use Rattle.pf_disk.specs.Disk.{EachMoment, IsImage};
 ghost use Rattle.pf_core.specs.{Durable.Edits.Kept, Laws.Durable.IsWithin, Worlds.{last_epoch, raised}};
 ghost use Rattle.pf_store.specs.declared.store.fault.OpenFault.TheVariants.{BadSize, Memory};
-ghost use Rattle.pf_store.specs.{Banks.bank_size, Stores.{Holds, IsOfOpening}, StoreFaults.is_fault, Openings.IsUnopened};
+ghost use Rattle.pf_store.specs.{Banks.bank_size, Stores.{Holds, IsOfOpening}, StoreFaults.is_fault, Openings.{IsFull, IsUnopened}};
 
 use crate::history::NewHistory;
 use pf_core::Durable;
@@ -47,6 +47,7 @@ impl<D: Disk> Opening<D> {
         ensures images { IfOk result (λ o. (c : List ℕ) → IsImage (D.seen o.disk) (D.unsynced o.disk) c → Holds c o.given) }
         ensures within { IfOk result (λ o. IsWithin o.given) }
         ensures size { IfOk result (λ o. o.size ≡ bank_size (length (D.seen o.disk))) }
+        ensures room { IfOk result (λ o. (d : Kept) → ¬ IsFull (D.seen disk) d) }
 
         // At each moment an image is one from the start, or holds what was read, its epoch perhaps one greater.
         ensures any_moment { IfOk result (λ o. EachMoment D.moment D.left_since disk o.disk (IsOfOpening (D.seen disk) (D.unsynced disk))) }

@@ -73,27 +73,28 @@ torn_as A B bank content place tell (inl none) = inl none
 torn_as A B bank content place tell (inr (inl none)) = inr (inl none)
 torn_as A B bank content place tell (inr (inr t)) = inr (inr (record { d = t.d; makes = t.makes; open_gate = tell t.open_gate; at = t.at }))
 
-pub unopened : (seen : List ℕ) (bank other : ℕ) (content : Content) (torn : Type 0) (e : OpenFault) → AreBanks (length seen) bank other → Counts seen bank other
+pub unopened : (seen : List ℕ) (bank other : ℕ) (content : Content) (torn : Type 0) (e : OpenFault) → AreBanks (length seen) bank other → Counts seen bank other → content.generation < 2 ^ 63
     → HasSnapshot seen bank content.version content.generation content.snapshot
     → IsFront (region (records_start bank content.snapshot) (bank + bank_size (length seen)) seen) content.payloads
     → (torn → (c : Content) → ¬ snap.Holds seen c) → BreaksOff e (MakesNone torn bank content) → IsUnopened e seen
-unopened seen bank other content torn BadSize places counts has front none off = absurd off
-unopened seen bank other content torn NoBank places counts has front none off = absurd off
-unopened seen bank other content torn (Corrupt at) places counts has front none off =
+unopened seen bank other content torn BadSize places counts early has front none off = absurd off
+unopened seen bank other content torn NoBank places counts early has front none off = absurd off
+unopened seen bank other content torn (Corrupt at) places counts early has front none off =
     inr (record {
       bank = bank;
       other = other;
       content = content;
       places = places;
       counts = counts;
+      early = early;
       has = has;
       front = front;
       none = torn_as torn ((c : Content) → ¬ snap.Holds seen c) bank content at none off;
     })
-unopened seen bank other content torn Memory places counts has front none off = tt
-unopened seen bank other content torn Fault places counts has front none off = tt
-unopened seen bank other content torn EpochsExhausted places counts has front none off = absurd off
-unopened seen bank other content torn Full places counts has front none off = absurd off
+unopened seen bank other content torn Memory places counts early has front none off = tt
+unopened seen bank other content torn Fault places counts early has front none off = tt
+unopened seen bank other content torn EpochsExhausted places counts early has front none off = absurd off
+unopened seen bank other content torn Full places counts early has front none off = absurd off
 
 -- and it isn't for an epoch or for room
 pub by_reading : (e : OpenFault) (P : ℕ → Type 0) → BreaksOff e P → (e ≢ EpochsExhausted) × (e ≢ Full)
@@ -130,5 +131,5 @@ by_chance image (Corrupt at) d held early low room refused = absurd (held_is_fou
 by_chance image Memory d held early low room refused = inl refl
 by_chance image Fault d held early low room refused = inr refl
 by_chance image EpochsExhausted d held early low room refused =
-    absurd (omega (arith, ap (λ (k : Kept). k.epoch) (one_held image d refused.0 held refused.1), refused.2, low))
+    absurd (omega (arith, ap (λ (k : Kept). k.epoch) (one_held image d refused.0 held refused.1), refused.3, low))
 by_chance image Full d held early low room refused = absurd (room (subst (IsFull image) (one_held image refused.0 d refused.1.held held) refused.1))

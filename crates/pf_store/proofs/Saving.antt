@@ -1,5 +1,5 @@
 -- What a record more, or a switch, leaves of what is held.
-use Rattle.std.proofs.Common.{◌≡◌, inl, inr, ℕ, ◌+◌, ◌^◌, ◌<◌, ◌≤◌, Bool, List, [], ◌∷◌, ◌++◌, length, refl, sym, ◌∙◌, ap, subst, arith}
+use Rattle.std.proofs.Common.{◌≡◌, inl, inr, ℕ, ◌+◌, ◌^◌, ◌<◌, ◌≤◌, Bool, List, length, refl, sym, ap, subst, arith}
 use Rattle.std.specs.Prelude.{Result, Ok, Err, IfOk, IfErr}
 use Rattle.pf_disk.specs.Disk.{EachMoment, IsImage, IsSynced}
 use Rattle.pf_disk.proofs.{Images.only_read, Moments.{started, weakened, and_then}}
@@ -86,10 +86,11 @@ module _ {D : Type 0} (seen : D → List ℕ) (unsynced : D → ℕ → Bool) wh
           let same : snapshot_length e ≡ snapshot_length d = ap (λ (x : Kept). snapshot_length x) (one_held old e d full.held mine) in
           (omega (arith, full.here, at, gate, k.keeps.start, k.keeps.gate, ready.end, six), omega (arith, full.there, same, six))
 
-      pub is_full : d.epoch < last_epoch → (banks.journal.end < banks.journal.gate + (n + 6)) × (bank_size (length (seen banks.journal.disk)) < HEADER + snapshot_length d + (n + 6))
+      pub is_full : banks.generation < 2 ^ 63 → d.epoch < last_epoch → (banks.journal.end < banks.journal.gate + (n + 6)) × (bank_size (length (seen banks.journal.disk)) < HEADER + snapshot_length d + (n + 6))
           → IsFull (seen banks.journal.disk) d
-      is_full low full = record {
+      is_full early low full = record {
         held = have_held k;
+        early = omega (arith, early, k.keeps.generation);
         low = low;
         here = omega (arith, full.0, k.keeps.start, k.keeps.gate, ready.end, six);
         there = omega (arith, full.1, six);

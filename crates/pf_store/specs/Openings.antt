@@ -1,5 +1,5 @@
 -- Why a device isn't opened. Own.
-use Rattle.std.specs.Prelude.{◌≡◌, ◌⊎◌, ◌<◌, ℕ, ◌+◌, List, ◌∷◌, ◌++◌, length}
+use Rattle.std.specs.Prelude.{◌≡◌, ◌⊎◌, ◌<◌, ℕ, ◌+◌, ◌^◌, List, ◌∷◌, ◌++◌, length}
 use Rattle.pf_journal.specs.Records.{records, region, IsFront}
 use Rattle.pf_snap.specs.{Banks.{AreBanks, Content, Counts, HasSnapshot, bank_size, records_start}, Faults.IsRefused, declared.header.TheConstants.HEADER}
 use Rattle.pf_snap.specs.Banks as snap
@@ -41,13 +41,14 @@ abbrev pub MakesNone : Type 0 → (bank : ℕ) → Content → ℕ → Type 0
 MakesNone torn bank content place =
     NoSnapshot bank content.snapshot place ⊎ (NoGroup bank content place ⊎ IsTorn torn bank content place)
 
--- Behind the header of the bank that counts, which is one, snapshot and records break off at this place.
+-- Behind the header of the bank that counts, which is one that is read, snapshot and records break off at this place.
 pub record BreaksBehind (seen : List ℕ) (place : ℕ) : Type 0 where
   pub bank : ℕ
   pub other : ℕ
   pub content : Content
   pub places : AreBanks (length seen) bank other
   pub counts : Counts seen bank other
+  pub early : content.generation < 2 ^ 63
   pub has : HasSnapshot seen bank content.version content.generation content.snapshot
   pub front : IsFront (region (records_start bank content.snapshot) (bank + bank_size (length seen)) seen) content.payloads
   pub none : MakesNone ((c : Content) → ¬ snap.Holds seen c) bank content place
@@ -64,6 +65,7 @@ generation_of seen d held = held.content.generation
 -- gate behind it.
 pub record IsFull (seen : List ℕ) (d : Kept) : Type 0 where
   pub held : Holds seen d
+  pub early : generation_of seen d held < 2 ^ 63
   pub low : d.epoch < last_epoch
   pub here : held.bank.at + bank_size (length seen) < gate_of seen d held + 12
   pub there : bank_size (length seen) < HEADER + snapshot_length d + 12
@@ -75,5 +77,5 @@ IsUnopened NoBank seen = IsRefused looking.NoBank seen
 IsUnopened (Corrupt at) seen = IsRefused (looking.Corrupt at) seen ⊎ BreaksBehind seen at
 IsUnopened Memory seen = Unit {0}
 IsUnopened Fault seen = Unit {0}
-IsUnopened EpochsExhausted seen = (d : Kept) × Holds seen d × (d.epoch ≡ last_epoch)
+IsUnopened EpochsExhausted seen = (d : Kept) × (held : Holds seen d) × (generation_of seen d held < 2 ^ 63) × (d.epoch ≡ last_epoch)
 IsUnopened Full seen = (d : Kept) × IsFull seen d

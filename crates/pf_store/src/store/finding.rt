@@ -3,7 +3,7 @@ ghost use Rattle.std.specs.Prelude.{◌≡◌, ◌≢◌, ◌+◌, ◌^◌, ◌<
 ghost use Rattle.pf_disk.specs.Disk.{AreIn, EachMoment, IsImage};
 ghost use Rattle.pf_core.specs.Laws.Durable.{IsWithin};
 ghost use Rattle.pf_store.specs.declared.store.fault.OpenFault.TheVariants as opening;
-ghost use Rattle.pf_store.specs.{Stores.Holds, StoreFaults.{is_open_fault, unlooked}, Openings.IsUnopened};
+ghost use Rattle.pf_store.specs.{Stores.Holds, StoreFaults.{is_open_fault, unlooked}, Openings.{IsUnopened, generation_of}};
 
 use crate::store::fault::OpenFault;
 use crate::store::keeping::Store;
@@ -18,7 +18,7 @@ impl<D: Disk> Store<D> {
     /// `Full`. Own.
     pub fn peek(alloc: Global, disk: &mut D) -> Result<Durable, OpenFault>
         requires few { D.fault_count disk.old < 2 ^ 63 }
-        ensures held { IfOk result (λ d. Holds (D.seen disk.old) d) }
+        ensures held { IfOk result (λ d. (held : Holds (D.seen disk.old) d) × (generation_of (D.seen disk.old) d held < 2 ^ 63)) }
         ensures within { IfOk result (λ d. IsWithin d) }
         ensures refused { IfErr result (λ e. IsUnopened e (D.seen disk.old)) }
         ensures by_reading { IfErr result (λ e. (e ≢ opening.EpochsExhausted) × (e ≢ opening.Full)) }

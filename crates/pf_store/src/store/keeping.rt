@@ -107,7 +107,7 @@ impl<D: Disk> Store<D> {
 
         // What the device held, with the next epoch: the store stands for it, and each image holds it.
         ensures opened { IfOk result (λ r. (d : Kept) × (held : Holds (D.seen disk) d) × (r.0 ≡ raised d) × (d.epoch < last_epoch)
-            × (r.1.generation ≤ generation_of (D.seen disk) d held + 1)) }
+            × (r.1.generation ≤ generation_of (D.seen disk) d held + 1) × (generation_of (D.seen disk) d held < 2 ^ 63)) }
         ensures stands { IfOk result (λ r. Stands D.seen D.unsynced r.1 r.0) }
         ensures images { IfOk result (λ r. (c : List ℕ) → IsImage (D.seen r.1.disk) (D.unsynced r.1.disk) c → Holds c r.0) }
         ensures fresh { IfOk result (λ r. r.1.halted ≡ false) }

@@ -1,7 +1,7 @@
-use Rattle.std.proofs.Common.{◌≡◌, ◌+◌, length, Err, refl, sym, ◌∙◌, ap, subst}
+use Rattle.std.proofs.Common.{◌≡◌, ◌+◌, ⊎_elim, length, Err, refl, sym, ◌∙◌, ap, subst, arith}
 use Rattle.pf_disk.specs.Disk.{EachMoment}
 use Rattle.pf_core.specs.{Durable.Edits.Kept, Worlds.raised}
-use Rattle.pf_store.specs.{Groups.IsRecorded, Stores.{Holds, HoldsEither}}
+use Rattle.pf_store.specs.{Groups.IsRecorded, Openings.IsUnopened, Stores.{Holds, HoldsEither}}
 use Rattle.pf_store.specs.declared.groups.change.Recorded.TheVariants.{Opens as opens}
 use Rattle.pf_store.proofs.Saving.{before, have_held, is_full, tells_full, unmoved}
 use Rattle.pf_store.proofs.store.keeping.raise_on.Goals as goal
@@ -35,6 +35,17 @@ returns-in-Err-Full-clause-refused g c =
     let d = g.D.Disk in
     let six : length c.deref.result.now ≡ 6 = ap length c.deref.ensures.value ∙ c.in-Ok.ensures.length in (
       c.args.durable.now,
-      is_full d.seen d.unsynced d.fault_count c.args.banks c.args.durable.now c.requires.ready c.requires.kept (length c.deref.result.now) six c.in-Ok.ensures.next
+      is_full d.seen d.unsynced d.fault_count c.args.banks c.args.durable.now c.requires.ready c.requires.kept (length c.deref.result.now) six c.requires.early c.in-Ok.ensures.next
           (c.in-Err-Full.ensures.full.0 (ap Err c.in-Err-Full.field-0-is)),
     )
+
+pub returns-in-Err-clause-refused : goal.returns-in-Err-clause-refused
+returns-in-Err-clause-refused g c =
+    let d = g.D.Disk in
+    let seen = d.seen c.args.banks.journal.disk in
+    let k = c.requires.kept in
+    let mine = have_held d.seen d.unsynced d.fault_count c.args.banks c.args.durable.now k in
+    ⊎_elim
+    (λ is. subst (λ e. IsUnopened e seen) (sym is) tt)
+    (λ last. subst (λ e. IsUnopened e seen) (sym last.0) (c.args.durable.now, mine, omega (arith, c.requires.early, k.keeps.generation), last.1))
+    c.in-Err.ensures.refused

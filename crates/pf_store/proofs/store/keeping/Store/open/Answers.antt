@@ -1,7 +1,7 @@
-use Rattle.std.proofs.Common.{◌≡◌, ◌≤◌, ◌+◌, ℕ, true, List, sym, subst, arith}
+use Rattle.std.proofs.Common.{◌≡◌, ℕ, true, List, sym, subst, arith}
 use Rattle.pf_snap.specs.{Looked.content_of}
 use Rattle.pf_snap.specs.Banks as snap
-use Rattle.pf_store.specs.{Openings.IsFull, Stores.Holds, StoreKept.HaveKept}
+use Rattle.pf_store.specs.{Openings.IsFull, Stores.Holds}
 use Rattle.pf_store.proofs.{Limiting.made_within, Refusing.unopened, Saving.{on_ok, on_both, opened, standing}}
 use Rattle.pf_store.proofs.store.keeping.Store.open.Goals as goal
 
@@ -17,7 +17,7 @@ returns-in-Ok-replay-clause-opened g c =
       bank = subst (λ (x : List ℕ). snap.Holds x (content_of l)) c.in-Ok.ensures.seen (record { at = b.at; other = b.other; holds = keeps.holds });
       makes = c.in-Ok-replay.ensures.made;
     } in
-    on_both c.raise_on.result _ _ _ (λ r is up. (k, held, is.0, is.1, omega (arith, up, keeps.generation))) c.raise_on.ensures.raised c.raise_on.ensures.generation
+    on_both c.raise_on.result _ _ _ (λ r is up. (k, held, is.0, is.1, omega (arith, up, keeps.generation), c.in-Ok.ensures.found.early)) c.raise_on.ensures.raised c.raise_on.ensures.generation
 
 pub returns-in-Ok-replay-clause-images : goal.returns-in-Ok-replay-clause-images
 returns-in-Ok-replay-clause-images g c =
@@ -49,4 +49,4 @@ pub returns-in-Ok-clause-refused : goal.returns-in-Ok-clause-refused
 returns-in-Ok-clause-refused g c =
     let l = c.in-Ok.looked in
     let found = c.in-Ok.ensures.found in
-    unopened (g.D.Disk.seen c.args.disk) l.at l.other (content_of l) (l.broken ≡ true) c.in-Err-replay.fault found.places found.counts found.front found.whole c.in-Ok.ensures.broken c.in-Err-replay.ensures.refused
+    unopened (g.D.Disk.seen c.args.disk) l.at l.other (content_of l) (l.broken ≡ true) c.in-Err-replay.fault found.places found.counts found.early found.front found.whole c.in-Ok.ensures.broken c.in-Err-replay.ensures.refused
