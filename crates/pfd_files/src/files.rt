@@ -1,6 +1,6 @@
 //! Disks that lie on files. What a file holds no clause can say, so this is only tested.
 ghost use Rattle.std.specs.Prelude.{◌≡◌, ◌⊎◌, Err, Ok, IfErr, IfOk, IsErrOf};
-ghost use Rattle.pf_store.specs.Banks.IsSize;
+ghost use Rattle.pf_store.specs.Banks.{IsSize};
 ghost use Rattle.pfd_files.specs.Showing.{IsOfFile, ShownOfFile};
 
 use crate::devices::{format_on, is_size, show_on};
