@@ -1,5 +1,5 @@
 -- A snapshot is of something within all limits.
-use Rattle.std.proofs.{Common.{◌≡◌, ◌≢◌, ◌≤◌, ◌&&◌, ◌||◌, not, cond, ℕ, Bool, true, false, List, [], ◌∷◌, length, map, Option, Some, None, refl, sym, ap, ◌∙◌, subst, true≢false, arith}, lemmas.{List.length-map, Bool.{and_parts, Decides.nat_tests}, Cmp.nat_list_cmp_total}}
+use Rattle.std.proofs.{Common.{◌≡◌, ◌≢◌, ◌≤◌, ◌&&◌, ◌||◌, not, cond, ℕ, Bool, true, false, List, [], ◌∷◌, length, map, Some, refl, sym, ap, ◌∙◌, subst, true≢false, arith}, lemmas.{List.length-map, Bool.{and_parts, Decides.nat_tests}, Cmp.nat_list_cmp_total}}
 use Rattle.std.specs.{Prelude.nat_le, declared.cmp.Ordering.Ordering, FinMap.find, List.{list_all, list_any, AllByRecursion}, Option.unwrap_or, Ordering.{eq_by_cmp, is_lt}}
 use Rattle.pf_addr.specs.{Bytes.{Forms.{Value, Fits}, Lists.in_order}, Path.Paths.path_order}
 use Rattle.pf_anchor.specs.{declared.limits.TheConstants.{RULE_LIMIT, RULESET_LIMIT, TABLE_COUNT_LIMIT}, Rulesets.IsMap, Tables.{table_order, IsTableMap}}
@@ -12,7 +12,7 @@ use Rattle.pf_table.specs.{EntryForms.{EntryShape, entry_of, entry_before}, Tabl
 use Rattle.pf_map.specs.{ListMaps.{list_at, list_in}, Networks.net_order, NetworkLaws.net_total}
 use Rattle.pf_map.proofs.Ordered.{sorted_of}
 use Rattle.pf_store.specs.{Groups.{at_most, RulesShape, rules_form, rule_list_form, named_form, entries_form}, Durables.{has_some, rulesets_form, PlacedShape, placed_form, kept_tables_form, ruled_in, tabled_in, DurableShape, durable_form, durable_in, IsDurable}}
-use Rattle.pf_store.proofs.Durables.{few, some_mapped, seen_in_order}
+use Rattle.pf_store.proofs.Durables.{some_mapped, seen_in_order}
 
 -- ---- what is found in a map of lists
 

@@ -1,7 +1,7 @@
 -- What is held is within all limits.
-use Rattle.std.proofs.{Common.{◌≡◌, ◌≤◌, ◌&&◌, ℕ, Bool, true, false, List, [], ◌∷◌, ◌++◌, length, map, refl, sym, subst, inl, inr, arith}, lemmas.{List.length-map, Bool.Decides.nat_tests}}
-use Rattle.std.specs.{List.AllByRecursion, Ordering.is_lt}
-use Rattle.pf_addr.specs.Bytes.{Forms.{Value, Fits}, Lists.in_order}
+use Rattle.std.proofs.{Common.{◌≤◌, ℕ, List, [], ◌∷◌, ◌++◌, length, map, sym, subst, inl, inr, arith}, lemmas.{List.length-map, Bool.Decides.nat_tests}}
+use Rattle.std.specs.{List.AllByRecursion}
+use Rattle.pf_addr.specs.Bytes.{Forms.{Value, Fits}}
 use Rattle.pf_anchor.specs.declared.limits.TheConstants.{RULE_LIMIT}
 use Rattle.pf_core.specs.{Durable.Edits.{Kept, placed, rulesets_in, tables_in}, Laws.Durable.{AreFew, IsWithin}}
 use Rattle.pf_core.proofs.Within.{keeps_within}
@@ -11,7 +11,7 @@ use Rattle.pf_table.specs.{EntryForms.entry_of, Tables.AreEntries}
 use Rattle.pf_snap.specs.Banks.{Content}
 use Rattle.pf_store.specs.declared.groups.change.Recorded.{Recorded}
 use Rattle.pf_store.proofs.DurablesWithin.{durable_within, entries_few}
-use Rattle.pf_store.specs.{Groups.{ChangeShape, ItemShape, NamedShape, change_form, defined_form, entries_form, group_form, item_form, item_in, items_form, named_form, named_in, record_in, rule_list_form, rules_form, tables_form, IsRecorded}, Stores.{Follows, left_by, Leads, Makes}}
+use Rattle.pf_store.specs.{Groups.{ChangeShape, ItemShape, NamedShape, change_form, defined_form, group_form, item_form, item_in, items_form, named_form, named_in, record_in, rule_list_form, rules_form, tables_form, IsRecorded}, Stores.{Follows, left_by, Leads, Makes}}
 
 -- ---- what a commit's bytes tell
 

@@ -1,5 +1,5 @@
 -- What a record more, or a switch, leaves of what is held.
-use Rattle.std.proofs.Common.{◌≡◌, inl, inr, ℕ, ◌+◌, ◌^◌, ◌<◌, ◌≤◌, Bool, List, [], ◌∷◌, ◌++◌, length, refl, sym, ◌∙◌, ap, subst, arith}
+use Rattle.std.proofs.Common.{◌≡◌, inl, inr, ℕ, ◌+◌, ◌^◌, ◌<◌, ◌≤◌, Bool, List, length, refl, sym, ap, subst, arith}
 use Rattle.std.specs.Prelude.{Result, Ok, Err, IfOk, IfErr}
 use Rattle.pf_disk.specs.Disk.{EachMoment, IsImage, IsSynced}
 use Rattle.pf_disk.proofs.{Images.only_read, Moments.{started, weakened, and_then}}

@@ -1,5 +1,5 @@
 -- A store over a device. Own.
-use Rattle.std.specs.Prelude.{◌≡◌, ℕ, ◌^◌, ◌<◌, Bool, List, length}
+use Rattle.std.specs.Prelude.{ℕ, ◌^◌, ◌<◌, Bool, List, length}
 use Rattle.pf_disk.specs.Disk.{IsSynced}
 use Rattle.pf_snap.specs.{Banks.{bank_size, Content}, Ready.{IsReady, Keeps}, declared.banks.Banks.Banks}
 use Rattle.pf_core.specs.Durable.Edits.{Kept}

@@ -1,4 +1,4 @@
-use Rattle.std.proofs.Common.{◌≡◌, ◌∙◌, true≢false, sym, subst}
+use Rattle.std.proofs.Common.{◌∙◌, true≢false, sym, subst}
 use Rattle.std.specs.Prelude.{Result, Ok, Err, OnOk}
 use Rattle.pf_store.specs.Durables.{IsDurable}
 use Rattle.pf_store.proofs.{Durables.within_formed, Limiting.made_within, Saving.{have_held, have_switched, turned, unmoved}}

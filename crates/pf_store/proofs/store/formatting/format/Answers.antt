@@ -1,4 +1,4 @@
-use Rattle.std.proofs.Common.{◌≡◌, List, ℕ, ap, refl, replicate, length}
+use Rattle.std.proofs.Common.{List, ℕ, ap, refl, replicate, length}
 use Rattle.std.specs.Prelude.{Result, Ok, Err, OnOk}
 use Rattle.pf_core.specs.Durable.Edits.{kept_nothing}
 use Rattle.pf_snap.specs.{Banks.{Content, HoldsAt, bank_size, begun}, declared.header.TheConstants.NEWEST}

@@ -1,4 +1,4 @@
-use Rattle.std.proofs.Common.{◌≡◌, ℕ, List, Vec, Global, length, ap, arith}
+use Rattle.std.proofs.Common.{ℕ, List, Vec, Global, length, ap, arith}
 use Rattle.pf_journal.specs.Records.{records, contents}
 use Rattle.pf_store.proofs.store.replaying.replay_from.Goals as goal
 

@@ -1,7 +1,7 @@
-use Rattle.std.proofs.Common.{◌≡◌, ◌≤◌, ◌+◌, ℕ, true, List, sym, subst, arith}
+use Rattle.std.proofs.Common.{◌≡◌, ℕ, true, List, sym, subst, arith}
 use Rattle.pf_snap.specs.{Looked.content_of}
 use Rattle.pf_snap.specs.Banks as snap
-use Rattle.pf_store.specs.{Openings.IsFull, Stores.Holds, StoreKept.HaveKept}
+use Rattle.pf_store.specs.{Openings.IsFull, Stores.Holds}
 use Rattle.pf_store.proofs.{Limiting.made_within, Refusing.unopened, Saving.{on_ok, on_both, opened, standing}}
 use Rattle.pf_store.proofs.store.keeping.Store.open.Goals as goal
 
