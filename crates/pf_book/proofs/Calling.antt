@@ -11,7 +11,7 @@ use Rattle.pf_store.specs.Stores.{Holds, HoldsEither}
 use Rattle.pf_disk.specs.Disk.{EachMoment, IsImage}
 use Rattle.pf_disk.proofs.Moments.{started, weakened}
 use Rattle.pf_book.proofs.{Parts.halted-is, Steps.never-fault}
-use Rattle.pf_book.specs.Books.{Ledger, page, page_of, StaysIfRefused, judging, log_in, HasRoom, HoldsFront, HoldsLeft, IsMore, IsKept, IsPending, IsUnkept, IsMade, IsTold, is_fault_reply, shows_all}
+use Rattle.pf_book.specs.Books.{Ledger, page, page_of, StaysUnlessKept, judging, log_in, HasRoom, HoldsFront, HoldsLeft, IsMore, IsKept, IsPending, IsUnkept, IsMade, IsTold, is_fault_reply, shows_all}
 
 -- a page with another core
 abbrev pub with_core : Page → Whole → Page
@@ -362,8 +362,8 @@ err-not-fault b c Memory steps = refl
 err-not-fault b c e steps = never-fault b.whole.tickets b.whole.durable c e (sym (steps.0 (λ m. cc (m))))
 
 -- what a change that is wanted leaves where it is refused
-pub made-stays : {D : Type 0} (now new : Ledger D) (r : Reply) (o : Outcome) (e : Edit) → IsMade r o e (page now) (page new) → ((why : Refusal) → r ≡ Refused why → is_fault why ≡ false → new.disk ≡ now.disk) → StaysIfRefused r now new
-made-stays now new (Answered a) o e made device = tt
+pub made-stays : {D : Type 0} (now new : Ledger D) (r : Reply) (o : Outcome) (e : Edit) → IsMade r o e (page now) (page new) → ((why : Refusal) → r ≡ Refused why → is_fault why ≡ false → new.disk ≡ now.disk) → StaysUnlessKept r now new
+made-stays now new (Answered a) o e made device = absurd made
 made-stays now new (Applied n p) o e made device = tt
 made-stays now new (Stored n p) o e made device = tt
 made-stays now new (Refused Fault) o e made device = record { same = λ is. absurd (cc (is)); pending = λ is. (e ∷ [], made.same) }

@@ -206,11 +206,12 @@ pub record Stays {D : Type 0} (e : Refusal) (old new : Ledger D) : Type 0 where
   pub same : is_fault e ≡ false → (page new ≡ page old) × (new.disk ≡ old.disk)
   pub pending : is_fault e ≡ true → (group : List Edit) × (page new ≡ record (page old) { pending = group ∷ [] })
 
-abbrev pub StaysIfRefused : {D : Type 0} → Reply → Ledger D → Ledger D → Type 0
-StaysIfRefused (Answer a) old new = ⊤
-StaysIfRefused (Applied seq outcome) old new = ⊤
-StaysIfRefused (Stored seq outcome) old new = ⊤
-StaysIfRefused (Refused e) old new = Stays e old new
+-- No call of the device is made for what is answered without a change, nor where a command is refused but for a fault.
+abbrev pub StaysUnlessKept : {D : Type 0} → Reply → Ledger D → Ledger D → Type 0
+StaysUnlessKept (Answer a) old new = new.disk ≡ old.disk
+StaysUnlessKept (Applied seq outcome) old new = ⊤
+StaysUnlessKept (Stored seq outcome) old new = ⊤
+StaysUnlessKept (Refused e) old new = Stays e old new
 
 -- ---- what a change comes to, and what the history is asked
 

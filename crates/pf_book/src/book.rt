@@ -7,7 +7,7 @@ ghost use Rattle.pf_core.specs.{Calls.call, Commands.may_change, Durable.Edits.{
 ghost use Rattle.pf_store.specs.Stores.{HoldsEither};
 ghost use Rattle.pf_view.specs.Known.{IsNewSeer};
 ghost use Rattle.pf_book.specs.Receipts.{IsGiven, IsReached};
-ghost use Rattle.pf_book.specs.Books.{page, HoldsLeft, IsMore, IsUnkept, IsMade, IsTold, Stays, StaysIfRefused, shows_all, change_in, log_in, is_fault_reply, is_fault_result, IsNumbered, IsJudged, IsNamed, setting_of, judging};
+ghost use Rattle.pf_book.specs.Books.{page, HoldsLeft, IsMore, IsUnkept, IsMade, IsTold, Stays, StaysUnlessKept, shows_all, change_in, log_in, is_fault_reply, is_fault_result, IsNumbered, IsJudged, IsNamed, setting_of, judging};
 
 mod receipts;
 
@@ -316,7 +316,7 @@ impl<D: Disk + Drop, J: Chapter, R: Wait + Drop> Book<D, J, R> {
         ensures faults { D.fault_count self.new.disk ≡ D.fault_count self.old.disk + (if is_fault_reply result.0 then 1 else 0) }
         ensures base { self.new.base ≡ self.old.base }
         ensures setting { (page self.new).setting ≡ (page self.old).setting }
-        ensures refused { StaysIfRefused result.0 self.old self.new }
+        ensures stays { StaysUnlessKept result.0 self.old self.new }
     {
         if self.acked < self.log.len() && may_change(command) {
             return (Reply::Refused(Refusal::Halted), None);
@@ -337,8 +337,8 @@ impl<D: Disk + Drop, J: Chapter, R: Wait + Drop> Book<D, J, R> {
     /// for the change; `Fault`, where a call of the device failed. `Memory` may come instead of any reply but that to a judge, a test, a
     /// sum, a rollback and a `log`; all growths but those for showing come before the device is written.
     ///
-    /// After every refusal but `Fault` all is as before. After `Fault` the change stands in the history, not acknowledged, all else is as
-    /// before, and each later command that may change something is `Halted`. Own.
+    /// For an answer no call of the device is made. After every refusal but `Fault` all is as before. After `Fault` the change stands in the
+    /// history, not acknowledged, all else is as before, and each later command that may change something is `Halted`. Own.
     pub fn run(&mut self, command: Command) -> Reply
         // The reply is legal in each world that the Book stood for, and it stands for that with this call at its end.
         ensures worlds { (first : Kept) (world : List Event) → StandsFor first (page self.old) world →
@@ -359,7 +359,7 @@ impl<D: Disk + Drop, J: Chapter, R: Wait + Drop> Book<D, J, R> {
         ensures shown { self.new.shown ≡ shown_by result self.old.shown }
         ensures numbered { IsNumbered result (page self.new) }
         ensures judged { IsJudged self.old.whole.durable command result }
-        ensures refused { StaysIfRefused result self.old self.new }
+        ensures stays { StaysUnlessKept result self.old self.new }
         ensures base { self.new.base ≡ self.old.base }
         ensures setting { (page self.new).setting ≡ (page self.old).setting }
         ensures moments { D.moment self.new.disk ≤ D.moment self.old.disk + 10 }

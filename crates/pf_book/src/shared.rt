@@ -2,7 +2,7 @@
 ghost use Rattle.std.specs.{Option.option_copied, Prelude.{ℕ, List}};
 ghost use Rattle.pf_disk.specs.Disk.{EachMoment, IsImage};
 ghost use Rattle.pf_core.specs.{Pages.IsAt, Worlds.{Held, idle, calling}};
-ghost use Rattle.pf_book.specs.{Books.{HoldsLeft, page}, Receipts.{IsReached, IsAnswered}};
+ghost use Rattle.pf_book.specs.{Books.{HoldsLeft, StaysUnlessKept, page}, Receipts.{IsReached, IsAnswered}};
 
 use crate::book::Book;
 use crate::history::Chapter;
@@ -34,6 +34,7 @@ impl<D: Disk + Drop, J: Chapter, R: Wait + Drop> Desk<D, J, R> {
         ensures answered { IsAnswered J.base J.setting command.now result.0 result.1 (option_copied last.entry) }
         ensures any_moment { (h : Held) → IsAt h (page self.old)
             → EachMoment D.moment D.left_since self.old.disk self.new.disk (HoldsLeft h (calling command.now)) }
+        ensures stays { StaysUnlessKept result.0 self.old self.new }
     {
         self.book.answer(command, last)
     }

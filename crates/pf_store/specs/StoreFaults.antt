@@ -20,10 +20,10 @@ abbrev pub is_save_fault : {T : Type 0} → Result T SaveFault → Bool
 is_save_fault (Ok x) = false
 is_save_fault (Err e) = is_saving_fault e
 
--- It was done, or the device failed, only where this holds; and it is refused as full only where it doesn't.
+-- It was done, or the device or memory failed, only where this holds; and it is refused as full only where it doesn't.
 abbrev pub TellsRoom : {T : Type 0} → Result T SaveFault → Type 0 → Type 0
 TellsRoom (Ok x) P = P
-TellsRoom (Err saving.Memory) P = Unit {0}
+TellsRoom (Err saving.Memory) P = P
 TellsRoom (Err saving.Full) P = ¬ P
 TellsRoom (Err saving.Fault) P = P
 TellsRoom (Err saving.Halted) P = Unit {0}
@@ -42,7 +42,7 @@ abbrev pub is_open_fault : {T : Type 0} → Result T OpenFault → Bool
 is_open_fault (Ok x) = false
 is_open_fault (Err e) = is_fault e
 
--- it says that nothing that can be kept is held
+-- it says that nothing that can be kept is held by a generation below 2^63
 abbrev pub SaysNone : OpenFault → Type 0
 SaysNone BadSize = Unit {0}
 SaysNone NoBank = Unit {0}

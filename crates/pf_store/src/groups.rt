@@ -16,7 +16,7 @@ mod laws;
 mod tables;
 mod telling;
 
-pub(crate) use change::write_opening;
+pub(crate) use change::{has_change_form, write_opening};
 pub use change::{Recorded, read_group, write_group};
 pub use fault::GroupFault;
 pub(crate) use items::{push_rules, read_rules};

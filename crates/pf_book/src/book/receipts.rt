@@ -4,7 +4,7 @@ ghost use Rattle.pf_disk.specs.Disk.{EachMoment};
 ghost use Rattle.std.specs.{Arc.arc_value, Option.{ForSome, option_copied, option_map}};
 ghost use mathlib.Core.List.{IsPrefix};
 ghost use Rattle.pf_core.specs.{Calls.call, Pages.{IsAt, Leads}, Worlds.{Held, calling, flat, upshot}};
-ghost use Rattle.pf_book.specs.{Books.{HoldsLeft, page, log_in}, Receipts.{token_of, Confirms, EndsIn, Follows, IsGiven, ShownFits}};
+ghost use Rattle.pf_book.specs.{Books.{HoldsLeft, StaysUnlessKept, page, log_in}, Receipts.{token_of, Confirms, EndsIn, Follows, IsGiven, ShownFits}};
 
 use crate::book::Book;
 use crate::history::Chapter;
@@ -28,6 +28,7 @@ impl<D: Disk + Drop, J: Chapter, R: Wait + Drop> Book<D, J, R> {
         ensures acked { result.1.acked ≡ length (flat self.new.acked) }
         ensures given { IsGiven result.0 result.1.change (page self.old) (page self.new) }
         ensures token { result.1.token ≡ token_of result.0 }
+        ensures stays { StaysUnlessKept result.0 self.old self.new }
         ensures follows { Follows (option_copied last.entry) (log_in (page self.old)) (length (flat self.old.acked)) }
         ensures base { self.new.base ≡ self.old.base }
         ensures setting { (page self.new).setting ≡ (page self.old).setting }

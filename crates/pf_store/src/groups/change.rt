@@ -199,8 +199,8 @@ fn push_change(out: &mut Vec<u8>, change: &Change) -> Result<(), AllocError>
     }
 }
 
-// Whether it has bytes.
-fn has_change_form(change: &Change) -> bool
+/// Whether it has bytes.
+pub(crate) fn has_change_form(change: &Change) -> bool
     ensures { result ≡ has_form (Recorded.Made change.now) }
 {
     match change.kind() {

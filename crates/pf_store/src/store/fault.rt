@@ -11,7 +11,7 @@ use std::alloc::AllocError;
 /// Why a change wasn't saved. Own.
 #[derive(Clone, Copy, Debug, PartialEq, Eq)]
 pub enum SaveFault {
-    /// Memory was refused. All is as before, and the device wasn't called.
+    /// Memory was refused, and there is room for the change. All is as before, and the device wasn't called.
     Memory,
     /// There is no room for the change. All is as before, and the device wasn't called.
     Full,

@@ -1,23 +1,23 @@
 //! A store over a device: opening it, and saving changes.
-ghost use Rattle.std.specs.Prelude.{◌≡◌, ◌⊎◌, ◌↔◌, ◌+◌, ◌^◌, ◌<◌, ◌≤◌, true, false, ℕ, List, length, IfOk, IfErr, IfSome, OnOk, OnErr, IsErrOf, Ok, if◌then◌else◌};
+ghost use Rattle.std.specs.Prelude.{◌≡◌, ◌⊎◌, ◌↔◌, ◌+◌, ◌^◌, ◌<◌, ◌≤◌, true, false, ℕ, List, length, IfOk, IfErr, IsTrue, OnOk, OnErr, IsErrOf, Ok, if◌then◌else◌};
 ghost use Rattle.pf_disk.specs.Disk.{EachMoment, IsImage};
 ghost use Rattle.pf_snap.specs.{Banks.bank_size, Ready.IsReady};
 ghost use Rattle.pf_core.specs.{Durable.Edits.{Kept, applied, fits}, Laws.Durable.IsWithin, Worlds.{last_epoch, raised}};
 ghost use Rattle.pf_store.specs.declared.store.fault.SaveFault.TheVariants as saving;
 ghost use Rattle.pf_store.specs.declared.store.fault.OpenFault.TheVariants as opening;
 ghost use Rattle.pf_store.specs.declared.groups.change.Recorded.TheVariants as recorded;
-ghost use Rattle.pf_store.specs.{Groups.IsRecorded, Stores.{Holds, HoldsEither, IsOfOpening, FindsRoom}, StoreKept.{Stands, HaveKept}, Lengths.payload_length, StoreFaults.{is_save_fault, TellsRoom, is_fault}, Openings.{IsUnopened, IsFull, generation_of}};
+ghost use Rattle.pf_store.specs.{Groups.IsRecorded, Stores.{Holds, HoldsEither, IsOfOpening, FindsRoom}, StoreKept.{Stands, HaveKept}, StoreFaults.{is_save_fault, TellsRoom, is_fault}, Openings.{IsUnopened, IsFull, generation_of}};
 
 use crate::groups::{GroupFault, write_group, write_opening};
 use crate::store::adding::add;
 use crate::store::fault::{AddFault, OpenFault, SaveFault};
 use crate::store::finding::unlooked;
-use crate::store::lengths::has_room;
+use crate::store::lengths::finds_room;
 use crate::store::replaying::replay;
 use pf_core::{Change, Durable};
 use pf_disk::Disk;
 use pf_snap::Banks;
-use std::alloc::{AllocError, Global};
+use std::alloc::Global;
 use std::marker::Model;
 
 /// A device that holds what is kept. It lives here, and `into_disk` hands it back. Contracts see it as a `Storage`. Own.
@@ -40,12 +40,19 @@ impl<D: Disk> Model for Store<D> {
 }
 
 impl<D: Disk> Store<D> {
+    /// Whether a change that leaves this finds room. It doesn't where the store is halted. It takes no memory. Own.
+    pub fn has_room(&self, before: &Durable, change: &Change, after: &Durable) -> bool
+        ensures { IsTrue result ↔ ((self.now.halted ≡ false) × FindsRoom self.now.size before.now after.now change.now) }
+    {
+        !self.halted && finds_room(before, change, after, self.banks.size())
+    }
+
     /// Saves a change, in ten moments of the device at most. At `Ok` a crash keeps it.
     ///
     /// The store stands for what was kept before, unless it is halted; the change fits that, and `after` is what it leaves. Where its record
     /// has no room in the bank that counts, the other one is begun first, with a snapshot of what was kept before. `Full` comes exactly where
     /// the change has no bytes, where a bank has no room for its record behind a snapshot of what was kept before, or where one behind a
-    /// snapshot of what is kept then has less than 64 bytes left. Own.
+    /// snapshot of what is kept then has less than 64 bytes left. So `Memory` comes only where it finds room. Own.
     pub fn save(
         &mut self,
         alloc: Global,
@@ -82,11 +89,13 @@ impl<D: Disk> Store<D> {
         if self.halted {
             return Err(SaveFault::Halted);
         }
-        let size = self.banks.size();
-        let payload = match fitting_payload(alloc, before, change, after, size) {
-            Ok(Some(payload)) => payload,
-            Ok(None) => return Err(SaveFault::Full),
-            Err(_) => return Err(SaveFault::Memory),
+        if !self.has_room(before, change, after) {
+            return Err(SaveFault::Full);
+        }
+        let payload = match write_group(alloc, change) {
+            Ok(payload) => payload,
+            Err(GroupFault::Memory) => return Err(SaveFault::Memory),
+            Err(GroupFault::NoForm) => unreachable!(),
         };
         match add(alloc, &mut self.banks, before, &payload) {
             Ok(()) => Ok(()),
@@ -154,34 +163,6 @@ impl<D: Disk> Store<D> {
         let Store { banks, halted: _ } = self;
         banks.into_disk()
     }
-}
-
-// The payload of a change that leaves this. `None`: it has none, or a bank of so many bytes hasn't room for it behind a snapshot of what was
-// kept before, or for 64 bytes behind one of what is kept then.
-fn fitting_payload(
-    alloc: Global,
-    before: &Durable,
-    change: &Change,
-    after: &Durable,
-    size: usize,
-) -> Result<Option<Vec<u8>>, AllocError>
-    ensures recorded { IfOk result (λ found. IfSome found (λ payload. IsRecorded (recorded.Made change.now) payload.items)) }
-    ensures room { IfOk result (λ found. IfSome found (λ payload. FindsRoom size before.now after.now change.now)) }
-    ensures length { IfOk result (λ found. IfSome found (λ payload. length payload.items ≡ payload_length (recorded.Made change.now))) }
-    ensures none { IfOk result (λ found. found ≡ None → ¬ FindsRoom size before.now after.now change.now) }
-{
-    let payload = match write_group(alloc, change) {
-        Ok(payload) => payload,
-        Err(GroupFault::Memory) => return Err(AllocError),
-        Err(GroupFault::NoForm) => return Ok(None),
-    };
-    if !has_room(after, size, 64) {
-        return Ok(None);
-    }
-    if !has_room(before, size, payload.len() + 6) {
-        return Ok(None);
-    }
-    Ok(Some(payload))
 }
 
 // Gives what banks hold the next epoch, by a record more.

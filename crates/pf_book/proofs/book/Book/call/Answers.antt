@@ -89,8 +89,8 @@ returns-in-Ok-Wants-clause-any_moment g c =
     (λ h at. made-moment g.D.Disk.seen g.D.Disk.unsynced g.D.Disk.moment g.D.Disk.left_since h b (page new) k change outcome at c.self.invariant.folded free e.reply disk new.disk (g.met.D.Disk.only_now disk) c.self.invariant.images
     (rw e.left at c.make.ensures.any_moment) c.make.result.0 made c.make.ensures.still)
 
-pub returns-in-Ok-Wants-clause-refused : goal.returns-in-Ok-Wants-clause-refused
-returns-in-Ok-Wants-clause-refused g c =
+pub returns-in-Ok-Wants-clause-stays : goal.returns-in-Ok-Wants-clause-stays
+returns-in-Ok-Wants-clause-stays g c =
     let s = c.self.inside in
     let log : List Edit = map arc_value s.log.items in
     let b : Page = page_of g.J.Naming.base s.core log s.acked (on_device s.limit s.store.size) s.shower.shown in
@@ -141,8 +141,8 @@ returns-in-Err-clause-faults g c =
     let same : g.D.Disk.fault_count s.store.disk ≡ g.D.Disk.fault_count c.args.self.now.disk = ap (λ (l : Ledger g.row.D.Denot). g.D.Disk.fault_count l.disk) c.self.view_is in
     rw quiet (omega (arith, same))
 
-pub returns-in-Err-clause-refused : goal.returns-in-Err-clause-refused
-returns-in-Err-clause-refused g c =
+pub returns-in-Err-clause-stays : goal.returns-in-Err-clause-stays
+returns-in-Err-clause-stays g c =
     let s = c.self.inside in
     let b : Page = page_of g.J.Naming.base s.core (map arc_value s.log.items) s.acked (on_device s.limit s.store.size) s.shower.shown in
     let quiet = err-not-fault b c.args.command.now c.in-Err.refusal c.in-Err.ensures.reply in
