@@ -8,7 +8,7 @@ use Rattle.pf_snap.specs.Banks as snap
 use Rattle.pf_snap.proofs.Holding.{one_content}
 use Rattle.pf_core.specs.{Durable.Edits.{Kept}, Worlds.{last_epoch, raised}}
 use Rattle.pf_store.specs.declared.groups.change.Recorded.{Recorded}
-use Rattle.pf_store.specs.{Durables.IsDurable, Groups.IsRecorded, Lengths.snapshot_length, Openings.{IsFull, gate_of}, Stores.{Follows, left_by, Holds, HoldsEither, IsOfOpening, Makes}, StoreKept.{Stands, Storage, IsStore, HaveKept}}
+use Rattle.pf_store.specs.{Durables.IsDurable, Groups.IsRecorded, Lengths.snapshot_length, Openings.{IsFull, IsNoLaterThan, gate_of}, Stores.{Follows, left_by, Holds, HoldsEither, IsOfOpening, Makes}, StoreKept.{Stands, Storage, IsStore, HaveKept}}
 use Rattle.pf_store.proofs.{Leading.{leads-push}, Refusing.{one_at, one_gate, one_held}}
 
 pub not_less : (a b : ℕ) → (a < b → ⊥) → b ≤ a
@@ -46,6 +46,14 @@ either content d p x makes is follows c (inr bank) = inr (held (with_payload con
 pub still : (content : Content) (d : Kept) (snapshot : List ℕ) → Makes content d → IsDurable d snapshot → (c : List ℕ) → snap.HoldsEither content (switched content NEWEST snapshot) c → Holds c d
 still content d snapshot makes is c (inl bank) = held content d c makes bank
 still content d snapshot makes is c (inr bank) = held (switched content NEWEST snapshot) d c (makes_switched content d snapshot is) bank
+
+-- an image of one content by its generation, or one of two
+pub no_later : (g : ℕ) (content : Content) → content.generation ≤ g → (c : List ℕ) → snap.Holds c content → IsNoLaterThan g c
+no_later g content low c has d h = subst (λ (k : Content). k.generation ≤ g) (one_content c content h.content has h.bank) low
+
+pub neither_later : (g : ℕ) (a b : Content) → a.generation ≤ g → b.generation ≤ g → (c : List ℕ) → snap.HoldsEither a b c → IsNoLaterThan g c
+neither_later g a b one other c (inl has) = no_later g a one c has
+neither_later g a b one other c (inr has) = no_later g b other c has
 
 -- each image of a device that reads as it, where nothing is unsynced
 pub held_synced : (seen : List ℕ) (unsynced : ℕ → Bool) (d : Kept) → IsSynced unsynced → Holds seen d → (c : List ℕ) → IsImage seen unsynced c → Holds c d
@@ -106,6 +114,19 @@ module _ {D : Type 0} (seen : D → List ℕ) (unsynced : D → ℕ → Bool) wh
     -- no call was made
     pub unmoved : (disk : D) (d : Kept) → IsSynced (unsynced disk) → Holds (seen disk) d → ((c : List ℕ) → left_since disk (moment disk) c → IsImage (seen disk) (unsynced disk) c) → EachMoment moment left_since disk disk (λ c. Holds c d)
     unmoved disk d synced holds only = started moment left_since disk (λ c. Holds c d) (λ c left. held_synced (seen disk) (unsynced disk) d synced holds c (only c left))
+
+    pub unmoved_generations : (disk : D) (g : ℕ) (content : Content) → content.generation ≤ g → IsSynced (unsynced disk) → snap.Holds (seen disk) content
+        → ((c : List ℕ) → left_since disk (moment disk) c → IsImage (seen disk) (unsynced disk) c) → EachMoment moment left_since disk disk (IsNoLaterThan g)
+    unmoved_generations disk g content low synced holds only =
+        started moment left_since disk (IsNoLaterThan g)
+        (λ c left. no_later g content low c (subst (λ (l : List ℕ). snap.Holds l content) (sym (only_read (seen disk) (unsynced disk) c synced (only c left))) holds))
+
+    -- each image holds one of two contents
+    pub run_generations : (old new : D) (g : ℕ) (a b : Content) → a.generation ≤ g → b.generation ≤ g → EachMoment moment left_since old new (snap.HoldsEither a b) → EachMoment moment left_since old new (IsNoLaterThan g)
+    run_generations old new g a b one other run = weakened moment left_since old new (snap.HoldsEither a b) (IsNoLaterThan g) run (neither_later g a b one other)
+
+    pub both_generations : (old mid new : D) (g : ℕ) → EachMoment moment left_since old mid (IsNoLaterThan g) → EachMoment moment left_since mid new (IsNoLaterThan g) → EachMoment moment left_since old new (IsNoLaterThan g)
+    both_generations old mid new g first second = and_then moment left_since old mid new (IsNoLaterThan g) first second
 
     -- nothing has become of it yet
     pub before : (old new : D) (d e : Kept) → EachMoment moment left_since old new (λ c. Holds c d) → EachMoment moment left_since old new (HoldsEither d e)

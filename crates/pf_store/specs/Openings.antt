@@ -1,5 +1,5 @@
 -- Why a device isn't opened. Own.
-use Rattle.std.specs.Prelude.{◌≡◌, ◌⊎◌, ◌<◌, ℕ, ◌+◌, ◌^◌, List, ◌∷◌, ◌++◌, length}
+use Rattle.std.specs.Prelude.{◌≡◌, ◌⊎◌, ◌<◌, ◌≤◌, ℕ, ◌+◌, ◌^◌, List, ◌∷◌, ◌++◌, length}
 use Rattle.pf_journal.specs.Records.{records, region, IsFront}
 use Rattle.pf_snap.specs.{Banks.{AreBanks, Content, Counts, HasSnapshot, bank_size, records_start}, Faults.IsRefused, declared.header.TheConstants.HEADER}
 use Rattle.pf_snap.specs.Banks as snap
@@ -60,6 +60,10 @@ gate_of seen d held = records_start held.bank.at held.content.snapshot + length 
 -- the generation of the bank that counts
 abbrev pub generation_of : (seen : List ℕ) (d : Kept) → Holds seen d → ℕ
 generation_of seen d held = held.content.generation
+
+-- what the image holds, it holds by a generation of so many at most
+abbrev pub IsNoLaterThan : ℕ → List ℕ → Type 0
+IsNoLaterThan g seen = (d : Kept) (held : Holds seen d) → generation_of seen d held ≤ g
 
 -- The record of an opening has room neither behind the others nor in a bank behind a snapshot of what is held: it takes 12 bytes with the
 -- gate behind it.

@@ -4,7 +4,7 @@ ghost use Rattle.pf_disk.specs.Disk.{EachMoment};
 ghost use Rattle.pf_snap.specs.{Banks.bank_size, Faults.is_switch_fault, Ready.IsReady};
 ghost use Rattle.pf_core.specs.Durable.Edits.{Kept};
 ghost use Rattle.pf_store.specs.declared.groups.change.Recorded.{Recorded};
-ghost use Rattle.pf_store.specs.{Groups.IsRecorded, Lengths.snapshot_length, StoreFaults.is_add_fault, StoreKept.HaveKept, Stores.{Follows, left_by, Holds, HoldsEither}};
+ghost use Rattle.pf_store.specs.{Groups.IsRecorded, Lengths.snapshot_length, StoreFaults.is_add_fault, StoreKept.HaveKept, Openings.IsNoLaterThan, Stores.{Follows, left_by, Holds, HoldsEither}};
 
 use crate::groups::GroupFault;
 use crate::snapshots::write_durable;
@@ -36,6 +36,8 @@ pub(crate) fn add<D: Disk>(
     requires small { length payload.now + 6 < 2 ^ 64 }
     ensures any_moment { (x : Recorded) → IsRecorded x payload.now → Follows durable.now x
         → EachMoment D.moment D.left_since banks.old.journal.disk banks.new.journal.disk (HoldsEither durable.now (left_by durable.now x)) }
+    ensures generations { EachMoment D.moment D.left_since banks.old.journal.disk banks.new.journal.disk
+        (IsNoLaterThan (banks.old.generation + 1)) }
     ensures kept { OnOk result ((x : Recorded) → IsRecorded x payload.now → Follows durable.now x
         → HaveKept D.seen banks.new (left_by durable.now x)) }
     ensures ready { OnOk result (IsReady D.seen D.unsynced banks.new) }
@@ -76,6 +78,8 @@ fn switch<D: Disk>(
     requires early { banks.old.generation + 1 < 2 ^ 64 }
     requires few { D.fault_count banks.old.journal.disk < 2 ^ 63 }
     ensures any_moment { EachMoment D.moment D.left_since banks.old.journal.disk banks.new.journal.disk (λ image. Holds image durable.now) }
+    ensures generations { EachMoment D.moment D.left_since banks.old.journal.disk banks.new.journal.disk
+        (IsNoLaterThan (banks.old.generation + 1)) }
     ensures kept { OnOk result (HaveKept D.seen banks.new durable.now) }
     ensures ready { OnOk result (IsReady D.seen D.unsynced banks.new) }
     ensures gate { OnOk result (banks.new.journal.gate ≡ banks.new.at + HEADER + snapshot_length durable.now) }

@@ -6,7 +6,7 @@ ghost use Rattle.pf_core.specs.{Durable.Edits.{Kept, applied, fits}, Laws.Durabl
 ghost use Rattle.pf_store.specs.declared.store.fault.SaveFault.TheVariants as saving;
 ghost use Rattle.pf_store.specs.declared.store.fault.OpenFault.TheVariants as opening;
 ghost use Rattle.pf_store.specs.declared.groups.change.Recorded.TheVariants as recorded;
-ghost use Rattle.pf_store.specs.{Groups.IsRecorded, Stores.{Holds, HoldsEither, IsOfOpening, FindsRoom}, StoreKept.{Stands, HaveKept}, StoreFaults.{is_save_fault, TellsRoom, is_fault}, Openings.{IsUnopened, IsFull, generation_of}};
+ghost use Rattle.pf_store.specs.{Groups.IsRecorded, Stores.{Holds, HoldsEither, IsOfOpening, FindsRoom}, StoreKept.{Stands, HaveKept}, StoreFaults.{is_save_fault, TellsRoom, is_fault}, Openings.{IsUnopened, IsFull, IsNoLaterThan, generation_of}};
 
 use crate::groups::{GroupFault, write_group, write_opening};
 use crate::store::adding::add;
@@ -69,6 +69,10 @@ impl<D: Disk> Store<D> {
         ensures any_moment { self.old.halted ≡ false
             → EachMoment D.moment D.left_since self.old.disk self.new.disk (HoldsEither before.now after.now) }
 
+        // It holds that by this generation, or the next one.
+        ensures generations { self.old.halted ≡ false
+            → EachMoment D.moment D.left_since self.old.disk self.new.disk (IsNoLaterThan (self.old.generation + 1)) }
+
         // At `Ok` each image holds what is kept after it, and the store stands for it.
         ensures images { OnOk result ((c : List ℕ) → IsImage (D.seen self.new.disk) (D.unsynced self.new.disk) c → Holds c after.now) }
         ensures stands { OnOk result (Stands D.seen D.unsynced self.new after.now) }
@@ -120,7 +124,12 @@ impl<D: Disk> Store<D> {
         ensures stands { IfOk result (λ r. Stands D.seen D.unsynced r.1 r.0) }
         ensures images { IfOk result (λ r. (c : List ℕ) → IsImage (D.seen r.1.disk) (D.unsynced r.1.disk) c → Holds c r.0) }
         ensures fresh { IfOk result (λ r. r.1.halted ≡ false) }
+
+        // By the generation that was found, which is below 2^63, or the next one.
         ensures early { IfOk result (λ r. r.1.generation ≤ 2 ^ 63) }
+        ensures generations { IfOk result (λ r. (c : List ℕ) → IsImage (D.seen r.1.disk) (D.unsynced r.1.disk) c
+            → IsNoLaterThan r.1.generation c) }
+
         ensures within { IfOk result (λ r. IsWithin r.0) }
         ensures room { IfOk result (λ r. (d : Kept) → ¬ IsFull (D.seen disk) d) }
 
@@ -180,6 +189,8 @@ fn raise_on<D: Disk>(
     ensures stands { IfOk result (λ r. Stands D.seen D.unsynced r.1 r.0) }
     ensures fresh { IfOk result (λ r. r.1.halted ≡ false) }
     ensures generation { IfOk result (λ r. r.1.generation ≤ banks.generation + 1) }
+    ensures generations { IfOk result (λ r. (c : List ℕ) → IsImage (D.seen r.1.disk) (D.unsynced r.1.disk) c
+        → IsNoLaterThan r.1.generation c) }
     ensures any_moment { IfOk result (λ r. EachMoment D.moment D.left_since banks.journal.disk r.1.disk
         (HoldsEither durable.now (raised durable.now))) }
     ensures any_moment_err { IfErr result (λ e. EachMoment D.moment D.left_since banks.journal.disk e.1

@@ -1,5 +1,7 @@
+use Rattle.std.proofs.Common.{◌+◌, ◌≤◌, arith}
+use Rattle.pf_snap.specs.Banks.{with_payload}
 use Rattle.pf_store.specs.Stores.{left_by}
-use Rattle.pf_store.proofs.Saving.{before, have_held, have_more, moved, turned_and_moved, unmoved}
+use Rattle.pf_store.proofs.Saving.{before, both_generations, have_held, have_more, moved, run_generations, turned_and_moved, unmoved, unmoved_generations}
 use Rattle.pf_store.proofs.store.adding.add.Goals as goal
 
 pub returns-then-not-has_room-clause-any_moment : goal.returns-then-not-has_room-clause-any_moment
@@ -71,3 +73,69 @@ returns-clause-kept g c x is follows =
     let p = c.args.payload.now in
     have_more d.seen d.unsynced c.switch.new.banks c.append_record-2.new.self c.args.durable.now p x k is follows
     (c.in_ok-append_record-2.ensures.kept k.content p k.keeps c.in_ok-record.ensures)
+
+pub returns-then-not-has_room-clause-generations : goal.returns-then-not-has_room-clause-generations
+returns-then-not-has_room-clause-generations g c =
+    let d = g.D.Disk in
+    let b = c.args.banks.now in
+    let k = c.requires.kept in
+    unmoved_generations d.seen d.unsynced d.moment d.left_since b.journal.disk (b.generation + 1) k.content (omega (arith, k.keeps.generation)) c.requires.ready.journal.synced
+    (record { at = b.at; other = b.other; holds = k.keeps.holds }) (g.met.D.Disk.only_now b.journal.disk)
+
+pub returns-in_err-record-clause-generations : goal.returns-in_err-record-clause-generations
+returns-in_err-record-clause-generations g c =
+    let d = g.D.Disk in
+    let b = c.args.banks.now in
+    let k = c.requires.kept in
+    unmoved_generations d.seen d.unsynced d.moment d.left_since b.journal.disk (b.generation + 1) k.content (omega (arith, k.keeps.generation)) c.requires.ready.journal.synced
+    (record { at = b.at; other = b.other; holds = k.keeps.holds }) (g.met.D.Disk.only_now b.journal.disk)
+
+pub returns-in_err-append_record-clause-generations : goal.returns-in_err-append_record-clause-generations
+returns-in_err-append_record-clause-generations g c =
+    let d = g.D.Disk in
+    let b = c.args.banks.now in
+    let k = c.requires.kept in
+    let p = c.args.payload.now in
+    run_generations d.seen d.unsynced d.moment d.left_since b.journal.disk c.append_record.new.self.journal.disk (b.generation + 1) k.content (with_payload k.content p)
+    (omega (arith, k.keeps.generation)) (omega (arith, k.keeps.generation)) (c.append_record.ensures.any_moment k.content p k.keeps c.in_ok-record.ensures)
+
+pub returns-then-fits_here-clause-generations : goal.returns-then-fits_here-clause-generations
+returns-then-fits_here-clause-generations g c =
+    let d = g.D.Disk in
+    let b = c.args.banks.now in
+    let k = c.requires.kept in
+    let p = c.args.payload.now in
+    run_generations d.seen d.unsynced d.moment d.left_since b.journal.disk c.append_record.new.self.journal.disk (b.generation + 1) k.content (with_payload k.content p)
+    (omega (arith, k.keeps.generation)) (omega (arith, k.keeps.generation)) (c.append_record.ensures.any_moment k.content p k.keeps c.in_ok-record.ensures)
+
+pub returns-in_err-append_record-2-clause-generations : goal.returns-in_err-append_record-2-clause-generations
+returns-in_err-append_record-2-clause-generations g c =
+    let d = g.D.Disk in
+    let b = c.args.banks.now in
+    let k = c.in_ok-switch.ensures.kept in
+    let p = c.args.payload.now in
+    let mid = c.switch.new.banks.journal.disk in
+    let new = c.append_record-2.new.self.journal.disk in
+    let low : k.content.generation ≤ b.generation + 1 = omega (arith, k.keeps.generation, c.in_ok-switch.ensures.generation) in
+    both_generations d.seen d.unsynced d.moment d.left_since b.journal.disk mid new (b.generation + 1) c.switch.ensures.generations
+    (run_generations d.seen d.unsynced d.moment d.left_since mid new (b.generation + 1) k.content (with_payload k.content p) low low
+    (c.append_record-2.ensures.any_moment k.content p k.keeps c.in_ok-record.ensures))
+
+pub returns-clause-generations : goal.returns-clause-generations
+returns-clause-generations g c =
+    let d = g.D.Disk in
+    let b = c.args.banks.now in
+    let k = c.in_ok-switch.ensures.kept in
+    let p = c.args.payload.now in
+    let mid = c.switch.new.banks.journal.disk in
+    let new = c.append_record-2.new.self.journal.disk in
+    let low : k.content.generation ≤ b.generation + 1 = omega (arith, k.keeps.generation, c.in_ok-switch.ensures.generation) in
+    both_generations d.seen d.unsynced d.moment d.left_since b.journal.disk mid new (b.generation + 1) c.switch.ensures.generations
+    (run_generations d.seen d.unsynced d.moment d.left_since mid new (b.generation + 1) k.content (with_payload k.content p) low low
+    (c.append_record-2.ensures.any_moment k.content p k.keeps c.in_ok-record.ensures))
+
+pub returns-in_err-switch-clause-any_moment : goal.returns-in_err-switch-clause-any_moment
+returns-in_err-switch-clause-any_moment g c x is follows =
+    let d = g.D.Disk in
+    let k = c.args.durable.now in
+    before d.seen d.unsynced d.moment d.left_since c.args.banks.now.journal.disk c.switch.new.banks.journal.disk k (left_by k x) c.switch.ensures.any_moment

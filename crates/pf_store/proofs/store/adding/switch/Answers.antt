@@ -1,7 +1,8 @@
-use Rattle.std.proofs.Common.{◌∙◌, true≢false, sym, subst}
+use Rattle.std.proofs.Common.{◌+◌, ◌∙◌, arith, subst, sym, true≢false}
 use Rattle.std.specs.Prelude.{Result, Ok, Err, OnOk}
+use Rattle.pf_snap.specs.{Banks.switched, declared.header.TheConstants.NEWEST}
 use Rattle.pf_store.specs.Durables.{IsDurable}
-use Rattle.pf_store.proofs.{Durables.within_formed, Limiting.made_within, Saving.{have_held, have_switched, turned, unmoved}}
+use Rattle.pf_store.proofs.{Durables.within_formed, Limiting.made_within, Saving.{have_held, have_switched, run_generations, turned, unmoved, unmoved_generations}}
 use Rattle.pf_store.proofs.store.adding.switch.Goals as goal
 
 mapped : {A E P Q : Type 0} (r : Result A E) → (P → Q) → OnOk r P → OnOk r Q
@@ -36,3 +37,19 @@ returns-clause-kept g c =
     let is = subst (IsDurable c.args.durable.now) (sym c.deref.ensures.value) c.in-Ok.ensures.written in
     mapped c.switch.result (λ keeps. have_switched d.seen d.unsynced c.args.banks.now c.switch.new.self c.args.durable.now c.deref.result.now k is (keeps k.content k.keeps))
     c.switch.ensures.kept
+
+pub returns-in-Err-Memory-clause-generations : goal.returns-in-Err-Memory-clause-generations
+returns-in-Err-Memory-clause-generations g c =
+    let d = g.D.Disk in
+    let b = c.args.banks.now in
+    let k = c.requires.kept in
+    unmoved_generations d.seen d.unsynced d.moment d.left_since b.journal.disk (b.generation + 1) k.content (omega (arith, k.keeps.generation)) c.requires.ready.journal.synced
+    (record { at = b.at; other = b.other; holds = k.keeps.holds }) (g.met.D.Disk.only_now b.journal.disk)
+
+pub returns-clause-generations : goal.returns-clause-generations
+returns-clause-generations g c =
+    let d = g.D.Disk in
+    let b = c.args.banks.now in
+    let k = c.requires.kept in
+    run_generations d.seen d.unsynced d.moment d.left_since b.journal.disk c.switch.new.self.journal.disk (b.generation + 1) k.content (switched k.content NEWEST c.deref.result.now)
+    (omega (arith, k.keeps.generation)) (omega (arith, k.keeps.generation)) (c.switch.ensures.any_moment k.content k.keeps)

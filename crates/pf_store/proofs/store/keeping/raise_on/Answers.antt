@@ -1,9 +1,11 @@
-use Rattle.std.proofs.Common.{◌≡◌, ◌+◌, ⊎_elim, length, Err, refl, sym, ◌∙◌, ap, subst, arith}
+use Rattle.std.proofs.Common.{◌≡◌, ◌+◌, ⊎_elim, ℕ, List, arith, length, Err, refl, sym, ◌∙◌, ap, subst}
 use Rattle.pf_disk.specs.Disk.{EachMoment}
+use Rattle.pf_disk.proofs.Images.{only_read}
+use Rattle.pf_snap.specs.Banks as snap
 use Rattle.pf_core.specs.{Durable.Edits.Kept, Worlds.raised}
 use Rattle.pf_store.specs.{Groups.IsRecorded, Openings.IsUnopened, Stores.{Holds, HoldsEither}}
 use Rattle.pf_store.specs.declared.groups.change.Recorded.TheVariants.{Opens as opens}
-use Rattle.pf_store.proofs.Saving.{before, have_held, is_full, tells_full, unmoved}
+use Rattle.pf_store.proofs.Saving.{before, have_held, is_full, no_later, tells_full, unmoved}
 use Rattle.pf_store.proofs.store.keeping.raise_on.Goals as goal
 
 pub returns-in-Err-clause-any_moment_err : goal.returns-in-Err-clause-any_moment_err
@@ -49,3 +51,14 @@ returns-in-Err-clause-refused g c =
     (λ is. subst (λ e. IsUnopened e seen) (sym is) tt)
     (λ last. subst (λ e. IsUnopened e seen) (sym last.0) (c.args.durable.now, mine, omega (arith, c.requires.early, k.keeps.generation), last.1))
     c.in-Err.ensures.refused
+
+pub returns-in-Ok-add-clause-generations : goal.returns-in-Ok-add-clause-generations
+returns-in-Ok-add-clause-generations g c image is_image =
+    let d = g.D.Disk in
+    let k = c.args.durable.now in
+    let new = c.add.new.banks in
+    let is = subst (IsRecorded (opens (k.epoch + 1))) (sym c.deref.ensures.value) c.in-Ok.ensures.payload in
+    let kept = c.in-Ok-add.ensures.kept (opens (k.epoch + 1)) is refl in
+    let same = only_read (d.seen new.journal.disk) (d.unsynced new.journal.disk) image c.in-Ok-add.ensures.ready.journal.synced is_image in
+    no_later new.generation kept.content (omega (arith, kept.keeps.generation)) image
+    (subst (λ (l : List ℕ). snap.Holds l kept.content) (sym same) (record { at = new.at; other = new.other; holds = kept.keeps.holds }))
