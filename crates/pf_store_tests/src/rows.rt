@@ -81,3 +81,14 @@ pub fn put_bytes(bytes: &mut Vec<u8>, changes: &str) {
         }
     }
 }
+
+/// Bytes at random, the same ones each time for a number.
+pub fn fill_at_random(bytes: &mut Vec<u8>, seed: u64) {
+    let mut random = seed;
+    for byte in bytes.iter_mut() {
+        random = random
+            .wrapping_mul(6_364_136_223_846_793_005)
+            .wrapping_add(1_442_695_040_888_963_407);
+        *byte = (random >> 56) as u8;
+    }
+}

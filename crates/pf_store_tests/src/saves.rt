@@ -5,7 +5,9 @@ ghost use Rattle.pf_store_tests.specs.declared.books.TheConstants.{HISTORY_LIMIT
 
 use crate::books::{HISTORY_LIMIT, closed_gate, replies, replies_over, reply};
 use crate::crashes::fill;
-use crate::rows::{Segment, cut_bar, cut_word, lines_of, number, put_bytes, segments, tell_row};
+use crate::rows::{
+    Segment, cut_bar, cut_word, fill_at_random, lines_of, number, put_bytes, segments, tell_row,
+};
 use pf_book::{Book, Chapter, Disk, FuseDisk, MemDisk, OpenFault, Opening, format};
 use pf_disk::Fill;
 use pf_store::{read_durable, write_durable};
@@ -20,6 +22,9 @@ const QUESTIONS: &str =
 /// The calls of an opening and of a save, and one more.
 const CALLS: u64 = 14;
 
+/// How many fills a crash is looked at with.
+const FILLS: u32 = 7;
+
 /// A device between two rows, and what is known of the last opening of it.
 #[derive(Drop)]
 struct Bench<H: Wait + Drop + Copy> {
@@ -31,12 +36,13 @@ struct Bench<H: Wait + Drop + Copy> {
     kept: Vec<String>,
 }
 
-/// What a device is opened as.
+/// What a device is opened as, and that device behind it.
 #[derive(Drop)]
 struct Opened {
     epoch: u32,
     gate: usize,
     kept: String,
+    disk: MemDisk,
 }
 
 /// Plays the rows of a text, and tells each with what it comes to.
@@ -124,6 +130,7 @@ impl<H: Wait + Drop + Copy> Bench<H> {
             "put" => self.put(told, rest),
             "bytes" => self.tell_bytes(told, rest),
             "with" => self.tell_changed(told, rest),
+            "openings" => self.open_often(told, number(rest)),
             "faults" => self.tell_faults(told, rest),
             "failing" => self.tell_failing(told, rest),
             _ => Ok(()),
@@ -138,10 +145,11 @@ impl<H: Wait + Drop + Copy> Bench<H> {
     ) -> Result<(), AllocError> {
         let (word, rest) = cut_word(row);
         match word {
-            "bytes" | "with" | "faults" | "failing" => self.play_device(told, row),
+            "bytes" | "with" | "openings" | "faults" | "failing" => self.play_device(told, row),
             "snapshot" => self.tell_snapshot(told, book),
             "crash" => self.tell_crash(told, book.disk(), rest),
             "crashes" => self.tell_crashes(told, book.disk()),
+            "each" => self.tell_each_byte(told, book.disk(), number(rest)),
             _ => self.call(told, book, row),
         }
     }
@@ -158,6 +166,21 @@ impl<H: Wait + Drop + Copy> Bench<H> {
         self.bytes = disk.image(self.alloc, u64::MAX, Fill::Old)?;
         write!(told, "{answer:?}, {} calls", disk.calls())?;
         Ok(())
+    }
+
+    /// Opens the device so many times in turn, until an opening is refused.
+    fn open_often(&mut self, told: &mut String, times: usize) -> Result<(), AllocError> {
+        let mut epoch = 0;
+        for number in 0..times {
+            match Opening::open(self.alloc, self.device()?) {
+                Ok(opening) => {
+                    epoch = opening.durable().epoch();
+                    self.bytes = opening.into_disk().image(self.alloc, u64::MAX, Fill::New)?;
+                }
+                Err((fault, _disk)) => return write!(told, "{number} times, then {fault:?}"),
+            }
+        }
+        write!(told, "epoch {epoch}")
     }
 
     /// The device with its bytes, before its first call.
@@ -271,28 +294,64 @@ impl<H: Wait + Drop + Copy> Bench<H> {
         self.tell_replies(told, image, lines)
     }
 
-    /// After how many saves what a crash leaves was kept, by call and by fill.
-    fn tell_crashes(&self, told: &mut String, disk: &MemDisk) -> Result<(), AllocError> {
+    /// What the device is opened as after a crash in each call, with each byte in turn at a place where the crash may leave any. It is told
+    /// behind the first of the bytes that it stands for.
+    fn tell_each_byte(
+        &self,
+        told: &mut String,
+        disk: &MemDisk,
+        place: usize,
+    ) -> Result<(), AllocError> {
         for moment in 1..disk.calls().saturating_add(2) {
             write!(told, "\n  in call {moment}:")?;
-            self.tell_moment(told, disk, moment)?;
+            self.tell_bytes_in_turn(told, disk, moment, place)?;
         }
         Ok(())
     }
 
-    fn tell_moment(
+    fn tell_bytes_in_turn(
         &self,
         told: &mut String,
         disk: &MemDisk,
         moment: u64,
+        place: usize,
     ) -> Result<(), AllocError> {
-        let bytes = vec![in self.alloc; 0x3Cu8; disk.size()]?;
-        for number in 0..6u32 {
-            let image = disk.image(self.alloc, moment, fill(number, &bytes))?;
-            told.push(' ')?;
-            self.tell_place(told, image)?;
+        let mut last = String::new(self.alloc);
+        for byte in 0..256u32 {
+            let how = format!(in self.alloc; "{moment} {place}={byte:02x}")?;
+            let mut text = String::new(self.alloc);
+            self.tell_crash(&mut text, disk, &how)?;
+            if text != last {
+                write!(told, " {byte:02x} {text};")?;
+                last = text;
+            }
         }
         Ok(())
+    }
+
+    /// After how many saves what a crash leaves was kept, by call and by fill.
+    fn tell_crashes(&self, told: &mut String, disk: &MemDisk) -> Result<(), AllocError> {
+        for moment in 1..disk.calls().saturating_add(2) {
+            write!(told, "\n  in call {moment}:")?;
+            for number in 0..FILLS {
+                let image = self.left(disk, moment, number)?;
+                told.push(' ')?;
+                self.tell_place(told, image)?;
+            }
+        }
+        Ok(())
+    }
+
+    /// What a crash in this call leaves under one of the fills: the six of the journal's crashes, and bytes at random.
+    fn left(&self, disk: &MemDisk, moment: u64, number: u32) -> Result<Vec<u8>, AllocError> {
+        let mut bytes = vec![in self.alloc; 0x3Cu8; disk.size()]?;
+        if number + 1 == FILLS {
+            fill_at_random(&mut bytes, moment);
+        }
+        if bytes.len() != disk.size() {
+            return Ok(bytes);
+        }
+        disk.image(self.alloc, moment, fill(number, &bytes))
     }
 
     /// An opening and twice the same line, on devices of which calls fail.
@@ -373,25 +432,65 @@ impl<H: Wait + Drop + Copy> Bench<H> {
         )?;
         let bytes = disk.image(self.alloc, u64::MAX, Fill::New)?;
         let gate = closed_gate(self.alloc, &bytes)?;
-        Ok(Ok(Opened { epoch, gate, kept }))
+        Ok(Ok(Opened {
+            epoch,
+            gate,
+            kept,
+            disk,
+        }))
     }
 
     /// What a device with these bytes is opened as.
     fn tell_opened(&self, told: &mut String, bytes: Vec<u8>) -> Result<(), AllocError> {
         match self.opened(bytes)? {
-            Ok(Opened { epoch, gate, kept }) => {
+            Ok(opened) => {
+                let Opened { epoch, gate, .. } = &opened;
                 write!(told, "epoch {epoch}, gate {gate}, saves ")?;
-                self.tell_saves(told, &kept)
+                self.tell_saves(told, &opened.kept)
             }
             Err(fault) => write!(told, "{fault:?}"),
         }
     }
 
-    /// After how many saves what a device with these bytes holds was kept.
+    /// After how many saves what a device with these bytes holds was kept. Where its opening switches to the other bank, also how many
+    /// crashes in the calls of that opening leave the same, of how many.
     fn tell_place(&self, told: &mut String, bytes: Vec<u8>) -> Result<(), AllocError> {
+        let (gate, half) = (closed_gate(self.alloc, &bytes)?, bytes.len() / 2);
         match self.opened(bytes)? {
-            Ok(opened) => self.tell_saves(told, &opened.kept),
+            Ok(opened) => {
+                self.tell_saves(told, &opened.kept)?;
+                if (gate < half) != (opened.gate < half) {
+                    self.tell_stops(told, &opened)?;
+                }
+                Ok(())
+            }
             Err(fault) => write!(told, "{fault:?}"),
+        }
+    }
+
+    /// How many crashes in the calls of an opening leave what it gave, in its epoch or the next, of how many.
+    fn tell_stops(&self, told: &mut String, opened: &Opened) -> Result<(), AllocError> {
+        let (mut same, mut all) = (0u64, 0u64);
+        for moment in 1..opened.disk.calls().saturating_add(2) {
+            for number in 0..FILLS {
+                let image = self.left(&opened.disk, moment, number)?;
+                all = all.saturating_add(1);
+                if self.opens_as(image, opened)? {
+                    same = same.saturating_add(1);
+                }
+            }
+        }
+        write!(told, "({same} of {all})")
+    }
+
+    /// Whether a device with these bytes is opened as what an opening before it gave, in that epoch or the next.
+    fn opens_as(&self, bytes: Vec<u8>, before: &Opened) -> Result<bool, AllocError> {
+        match self.opened(bytes)? {
+            Ok(opened) => {
+                let later = opened.epoch.checked_sub(before.epoch);
+                Ok(opened.kept == before.kept && matches!(later, Some(0 | 1)))
+            }
+            Err(_) => Ok(false),
         }
     }
 
