@@ -198,7 +198,10 @@ impl<H: Wait + Drop + Copy> Bench<H> {
     ) -> Result<(), AllocError> {
         self.kept = Vec::new(self.alloc);
         self.keep(book)?;
-        let (epoch, gate) = (book.durable().epoch(), closed_gate(self.alloc, &self.bytes)?);
+        let (epoch, gate) = (
+            book.durable().epoch(),
+            closed_gate(self.alloc, &self.bytes)?,
+        );
         write!(
             told,
             "epoch {epoch}, gate {gate}, {} calls\n",
