@@ -345,7 +345,7 @@ impl<H: Wait + Drop + Copy> Bench<H> {
     /// What a crash in this call leaves under one of the fills: the six of the journal's crashes, and bytes at random.
     fn left(&self, disk: &MemDisk, moment: u64, number: u32) -> Result<Vec<u8>, AllocError> {
         let mut bytes = vec![in self.alloc; 0x3Cu8; disk.size()]?;
-        if number + 1 == FILLS {
+        if number == FILLS - 1 {
             fill_at_random(&mut bytes, moment);
         }
         if bytes.len() != disk.size() {
