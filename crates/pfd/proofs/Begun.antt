@@ -26,7 +26,7 @@ module _ (seen : List ℕ) (size : ℕ) (is : IsSize size) (same : length seen �
   unopened-hinders (Corrupt at) why = absurd (held_is_found seen (Corrupt at) (kept_nothing 0) held (omega (arith, first)) why tt)
   unopened-hinders Memory why = is
   unopened-hinders Fault why = is
-  unopened-hinders EpochsExhausted (d, other, last) = absurd (omega (arith, ap (λ (k : Kept). k.epoch) (one_held seen d (kept_nothing 0) other held), last))
+  unopened-hinders EpochsExhausted (d, other, early, last) = absurd (omega (arith, ap (λ (k : Kept). k.epoch) (one_held seen d (kept_nothing 0) other held), last))
   unopened-hinders Full (d, full) =
       absurd (roomy_is_not_full seen (kept_nothing 0) (omega (arith, roomy size is, ap bank_size same)) (subst (IsFull seen) (one_held seen d (kept_nothing 0) full.held held) full))
 
