@@ -1,5 +1,5 @@
 -- Rules eight at a time: what a block gives, and what is left behind it.
-use Rattle.std.proofs.Common.{◌≡◌, ◌<◌, ◌≤◌, ℕ, zero, suc, ◌+◌, ◌*◌, Bool, true, false, cond, ◌&&◌, ◌||◌, List, [], ◌∷◌, length, take, drop, get_or, Option, Some, None, refl, sym, ap, ◌∙◌, arith, ⊎_elim}
+use Rattle.std.proofs.Common.{◌≡◌, ◌<◌, ◌≤◌, ℕ, zero, suc, ◌+◌, ◌-◌, ◌*◌, Bool, true, false, cond, ◌&&◌, ◌||◌, List, [], ◌∷◌, length, take, drop, get_or, Option, Some, None, refl, sym, ap, ◌∙◌, arith, ⊎_elim}
 use Rattle.std.specs.{Prelude.{slice_get, bit_and}, Option.option_or}
 use Rattle.std.proofs.lemmas.{Bool.cases_lt, List.drop-drop, Option.slice_get-get_or}
 use Rattle.pf_addr.specs.Path.References.{PlainReference}
@@ -195,3 +195,25 @@ pub lane_says : (test : PlainRule → Bool) (rules eight : List PlainRule) (bloc
     r ≡ get_or eight lane r → block_mark test rules block lane ≡ test r
 lane_says test rules eight block lane r same lt small is =
     ap (bit_by test) (sym (eight_get rules (8 * block) lane small) ∙ there_at eight (eight_from (8 * block) rules) lane r same lt is)
+
+-- ---- blocks that are passed over
+
+so_many_passed : {M : Type 0} (effect : ℕ → PlainRule → Evaluated M) (test : PlainRule → Bool) (rules : List PlainRule) (block n : ℕ) →
+    ((k i : ℕ) → block ≤ k → k < block + n → i < 8 → block_mark test rules k i ≡ false) →
+    rules_give effect test (8 * block) (drop (8 * block) rules) ≡ rules_give effect test (8 * (block + n)) (drop (8 * (block + n)) rules)
+so_many_passed effect test rules block zero none =
+    ap (λ (k : ℕ). rules_give effect test (8 * k) (drop (8 * k) rules)) (let z : block ≡ block + 0 = omega arith in z)
+so_many_passed {M} effect test rules block (suc n) none =
+    let behind : Evaluated M = rules_give effect test (8 * (block + 1)) (drop (8 * (block + 1)) rules) in
+    block_apart effect test block rules
+    ∙ ap (λ (x : Evaluated M). and_then x behind) (none_found effect test rules block 0 (record { each = λ i lt. none_set i ∙ sym (none block i (omega arith) (omega arith) lt) }) refl)
+    ∙ none_and_then behind
+    ∙ so_many_passed effect test rules (block + 1) n (λ k i le lt. none k i (omega (arith, le)) (omega (arith, lt)))
+    ∙ ap (λ (k : ℕ). rules_give effect test (8 * k) (drop (8 * k) rules)) (let z : block + 1 + n ≡ block + suc n = omega arith in z)
+
+pub blocks_passed : {M : Type 0} (effect : ℕ → PlainRule → Evaluated M) (test : PlainRule → Bool) (rules : List PlainRule) (from to : ℕ) → from ≤ to →
+    ((k i : ℕ) → from ≤ k → k < to → i < 8 → block_mark test rules k i ≡ false) →
+    rules_give effect test (8 * from) (drop (8 * from) rules) ≡ rules_give effect test (8 * to) (drop (8 * to) rules)
+blocks_passed effect test rules from to le none =
+    so_many_passed effect test rules from (to - from) (λ k i low lt. none k i low (omega (arith, le, lt)))
+    ∙ ap (λ (k : ℕ). rules_give effect test (8 * k) (drop (8 * k) rules)) (let z : from + (to - from) ≡ to = omega (arith, le) in z)

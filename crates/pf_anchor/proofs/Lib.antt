@@ -10,3 +10,4 @@ pub mod Unreached
 pub mod Entries
 pub mod Leading
 pub mod Blocks
+pub mod Lengths

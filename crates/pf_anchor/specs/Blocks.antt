@@ -1,7 +1,7 @@
 -- Eight rules of a ruleset together. Own.
-use Rattle.std.specs.Prelude.{◌≡◌, ℕ, ◌*◌, ◌<◌, true, false, List, Option}
-use Rattle.pf_rule.specs.Rules.{PlainRule}
-use Rattle.pf_lanes.specs.{Masks.is_set, Answered.{block_mark, eight_from, stops}}
+use Rattle.std.specs.Prelude.{◌≡◌, ℕ, ◌*◌, ◌<◌, ◌≤◌, true, false, List, Option}
+use Rattle.pf_rule.specs.{Host.Hosts.TableTest, Rules.PlainRule}
+use Rattle.pf_lanes.specs.{Masks.is_set, Answered.{block_mark, block_match, eight_from, stops}, Probes.Asking}
 use Rattle.pf_anchor.specs.{declared.{evaluated.Evaluated.Evaluated, evaluated.Evaluated.TheVariants.Open}, Matches.PlainMatch, Rulesets.Ruled, Evaluation.{Tests, rules_at_path}}
 
 -- these bits tell quick and anchor rules among those of a mask: where such a bit isn't set, its rule is neither
@@ -14,3 +14,7 @@ GivesLast e block mask last = (f : Ruled → Evaluated PlainMatch) (c : List Rul
     ((i : ℕ) → i < 8 → is_set mask i ≡ block_mark (tests e.0) e.1 block i) →
     ((i : ℕ) → i < 8 → is_set mask i ≡ true → block_mark stops e.1 block i ≡ false) →
     Open last ≡ rules_at_path f c tests e.0 (8 * block) (eight_from (8 * block) e.1)
+
+-- no rule of the blocks from one on and before another matches, whatever tables say
+abbrev pub NoneBetween : Asking → ℕ → ℕ → Type 0
+NoneBetween a from to = (says : TableTest) (block i : ℕ) → from ≤ block → block < to → i < 8 → block_match says a.rules a.packet block i ≡ false

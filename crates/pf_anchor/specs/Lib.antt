@@ -1,6 +1,7 @@
 pub mod Rulesets
 pub mod Tables
 pub mod Configurations
+pub mod Forms
 pub mod Limits
 pub mod Matches
 pub mod Evaluation

@@ -1,6 +1,6 @@
 //! What is active: rulesets and tables.
-ghost use Rattle.std.specs.{Prelude.{◌≡◌, [], ◌∷◌, length, IfOk, nat_lt}, Option.{MatchOption, option_map}};
-ghost use Rattle.pf_anchor.specs.{Tables.{tabled, table_found, tables_at, named_table, IsTableMap}, Rulesets.{ruled, rules_at, children, IsMap}, Configurations.{nothing, with_rulesets, with_tables}, Limits.{ruleset_refusal, table_refusal}, Evaluation.judged};
+ghost use Rattle.std.specs.{Prelude.{◌≡◌, ◌<◌, ◌^◌, ℕ, [], ◌∷◌, length, IfOk, nat_lt}, Option.{MatchOption, option_map}};
+ghost use Rattle.pf_anchor.specs.{Forms.config_length, Tables.{tabled, table_found, tables_at, named_table, IsTableMap}, Rulesets.{ruled, rules_at, children, IsMap}, Configurations.{nothing, with_rulesets, with_tables}, Limits.{ruleset_refusal, table_refusal}, Evaluation.judged};
 ghost use Rattle.pf_addr.specs.Refusing.{Refuses};
 ghost use Rattle.pf_anchor.specs.declared.fault.ConfigFault.TheVariants.{Memory};
 
@@ -207,6 +207,15 @@ impl Config {
         ensures map { IsMap self.now.rulesets }
     {
         self.rulesets.get(path)
+    }
+
+    /// How many bytes the rulesets and the tables take where they are kept, behind their numbers, in each version. It looks at none of them.
+    #[tactic(auto, using(crate::proofs::Lengths::rulesets_long, crate::proofs::Lengths::tables_long))]
+    pub fn byte_length(&self) -> u128
+        ensures exact { (version : ℕ) → result ≡ config_length version self.now }
+        ensures light { result < 2 ^ 98 }
+    {
+        8 + self.rulesets.weight() + self.tables.weight()
     }
 
     /// The rulesets, in the order of their paths. It takes no memory.

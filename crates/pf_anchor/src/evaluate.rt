@@ -1,8 +1,8 @@
 //! Evaluation of rulesets that lead to one another, with tables as their rules name them.
 ghost use Rattle.std.specs.Prelude.{◌≡◌, ◌<◌, ◌≤◌, ◌*◌, ℕ, filter, length, IfSome};
 ghost use Rattle.pf_addr.specs.Path.Nested.{is_child};
-ghost use Rattle.pf_lanes.specs.{Masks.is_set, Answered.{block_match, eight_from}, Probes.asked};
-ghost use Rattle.pf_anchor.specs.{Rulesets.targets, Tables.tables_say, Blocks.{AreStops, GivesLast}, Evaluation.{evaluation, effected, in_turn, matching, rules_at_path}};
+ghost use Rattle.pf_lanes.specs.{Masks.is_set, Answered.{block_match, eight_from}, Probes.{Asking, asked}};
+ghost use Rattle.pf_anchor.specs.{Rulesets.targets, Tables.tables_say, Blocks.{AreStops, GivesLast, NoneBetween}, Evaluation.{evaluation, effected, in_turn, matching, rules_at_path}};
 
 use crate::config::Config;
 use crate::evaluated::{Evaluated, Match};
@@ -31,6 +31,29 @@ fn matching_in(
     match probe {
         Some(probe) => probe.matching(&tables, block),
         None => match_one_by_one(placed.value().as_slice(), &tables, packet, block),
+    }
+}
+
+// A packet among the rules of a ruleset, where these have columns.
+#[inline(always)]
+fn prepared<'a>(placed: &'a Placed, packet: &'a Packet) -> Option<Probe<'a>>
+    ensures { IfSome result (λ p. p ≡ asked placed.now.1 packet.now) }
+{
+    match placed.value().columns() {
+        Some(columns) => Some(columns.probe(packet)),
+        None => None,
+    }
+}
+
+// The first block from this one on in which a rule may match.
+#[inline(always)]
+fn next_near(probe: &Option<Probe<'_>>, from: usize) -> usize
+    ensures later { from ≤ result }
+    ensures none { (a : Asking) → IfSome probe.now (λ p. p ≡ a) → NoneBetween a from result }
+{
+    match probe {
+        Some(probe) => probe.next_near(from),
+        None => from,
     }
 }
 
@@ -71,8 +94,8 @@ fn last_match<'a>(placed: &'a Placed, block: usize, mask: u8) -> Option<Match<'a
 /// What a ruleset gives for a packet: its rules in order, and at each place where an anchor rule matches what it leads to
 /// (pf.conf(5), Packet Filtering and Anchors). It takes no memory, and calls itself no deeper than a path has components.
 ///
-/// Eight rules are looked at together. The last one that matches stands, and those before it are looked at only where a quick or an anchor
-/// rule is among them.
+/// Eight rules are looked at together, and blocks in which none can match are passed over. The last rule that matches stands, and those
+/// before it are looked at only where a quick or an anchor rule is among them.
 #[cycle(evaluate)]
 #[tactic(auto, using(crate::proofs::Evaluations::none_and_then))]
 pub(crate) fn evaluate<'a>(
@@ -82,12 +105,11 @@ pub(crate) fn evaluate<'a>(
 ) -> Evaluated<Match<'a>>
     ensures { result ≡ evaluation config.now.rulesets (matching config.now.tables packet.now) placed.now }
 {
-    let probe = match placed.value().columns() {
-        Some(columns) => Some(columns.probe(packet)),
-        None => None,
-    };
+    let probe = prepared(placed, packet);
+    let blocks = placed.value().as_slice().len().div_ceil(LANES);
     let mut last = None;
-    for block in 0..placed.value().as_slice().len().div_ceil(LANES) {
+    let mut block = next_near(&probe, 0);
+    while block < blocks {
         let mask = matching_in(config, placed, &probe, packet, block);
         if stopping(placed, block, mask) == 0 {
             last = last_match(placed, block, mask).or(last);
@@ -97,6 +119,7 @@ pub(crate) fn evaluate<'a>(
                 Evaluated::Ended(end) => return Evaluated::Ended(end),
             }
         }
+        block = next_near(&probe, block + 1);
     }
     Evaluated::Open(last)
 }

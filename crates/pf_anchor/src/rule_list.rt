@@ -1,6 +1,7 @@
 //! Rules that are shared.
-ghost use Rattle.std.specs.{Prelude.{◌≡◌, ◌<◌, ◌≤◌, [], ◌∷◌, ◌++◌, length, IfOk, IfSome, OnOk, OnErr}, Arc.arc_value};
+ghost use Rattle.std.specs.{Prelude.{◌≡◌, ◌<◌, ◌≤◌, [], ◌∷◌, ◌++◌, All, length, IfOk, IfSome, OnOk, OnErr}, Arc.arc_value, Option.{option_map, option_map_or}, Vec.vec_items};
 ghost use Rattle.pf_map.specs.ListMaps.{unless_empty, kept_again};
+ghost use Rattle.pf_rule.specs.Rules.{IsRule};
 
 use crate::limits::RULE_LIMIT;
 use pf_lanes::{LANES, RuleCols};
@@ -21,8 +22,8 @@ pub struct RuleList {
 }
 
 impl Model for RuleList {
-    ghost use Rattle.std.specs.Prelude.{◌≡◌, List, [], length, ◌≤◌, IfSome};
-    ghost use Rattle.pf_rule.specs.Rules.{PlainRule};
+    ghost use Rattle.std.specs.Prelude.{◌≡◌, List, [], length, ◌≤◌, All, IfSome};
+    ghost use Rattle.pf_rule.specs.Rules.{PlainRule, IsRule};
     ghost use Rattle.pf_anchor.specs.declared.limits.TheConstants.{RULE_LIMIT};
     ghost use Rattle.std.specs.Arc.{arc_value};
     ghost use Rattle.std.specs.Option.{option_map, option_map_or};
@@ -33,6 +34,7 @@ impl Model for RuleList {
     ghost view = { λ l. option_map_or vec_items (option_map arc_value l.rules) [] };
 
     ghost invariant = { λ l. (length (option_map_or vec_items (option_map arc_value l.rules) []) ≤ RULE_LIMIT)
+        × All IsRule (option_map_or vec_items (option_map arc_value l.rules) [])
         × IfSome l.columns (λ c. arc_value c ≡ option_map_or vec_items (option_map arc_value l.rules) []) };
 }
 
@@ -48,6 +50,35 @@ fn add_own(rules: &mut Arc<Vec<Rule>>, alloc: Global, rule: Rule) -> Result<(), 
     let mut copy = Vec::from_slice(alloc, rules.as_slice())?;
     copy.push(rule)?;
     *rules = Arc::new(alloc, copy)?;
+    Ok(())
+}
+
+// What each rule keeps.
+fn are_rules(rules: &[Rule])
+    ensures { All IsRule rules.now }
+{
+    for rule in rules {
+        let _effect = rule.effect();
+    }
+}
+
+// Appends a rule to those that there are, if any. On an error they stay.
+fn push_rule(
+    rules: &mut Option<Arc<Vec<Rule>>>,
+    alloc: Global,
+    rule: Rule,
+) -> Result<(), AllocError>
+    ensures ok { OnOk result (option_map_or vec_items (option_map arc_value rules.new) []
+        ≡ option_map_or vec_items (option_map arc_value rules.old) [] ++ rule ∷ []) }
+    ensures err { OnErr result (option_map_or vec_items (option_map arc_value rules.new) []
+        ≡ option_map_or vec_items (option_map arc_value rules.old) []) }
+{
+    if let Some(rules) = rules {
+        return add_own(rules, alloc, rule);
+    }
+    let mut own = Vec::new(alloc);
+    own.push(rule)?;
+    *rules = Some(Arc::new(alloc, own)?);
     Ok(())
 }
 
@@ -67,6 +98,7 @@ impl RuleList {
         requires { length rules.items ≤ RULE_LIMIT }
         ensures { IfOk result (λ l. l ≡ rules.items) }
     {
+        are_rules(rules.as_slice());
         Ok(RuleList {
             rules: Some(Arc::new(alloc, rules)?),
             columns: None,
@@ -118,6 +150,8 @@ impl RuleList {
     pub fn as_slice(&self) -> &[Rule]
         ensures value { result.now ≡ self.now }
         ensures few { length self.now ≤ RULE_LIMIT }
+        // what each of them keeps
+        ensures rules { All IsRule self.now }
     {
         match &self.rules {
             Some(rules) => rules.as_slice(),
@@ -132,13 +166,8 @@ impl RuleList {
         ensures ok { OnOk result (self.new ≡ self.old ++ rule ∷ []) }
         ensures err { OnErr result (self.new ≡ self.old) }
     {
-        if let Some(rules) = &mut self.rules {
-            add_own(rules, alloc, rule)?;
-        } else {
-            let mut own = Vec::new(alloc);
-            own.push(rule)?;
-            self.rules = Some(Arc::new(alloc, own)?);
-        }
+        let _effect = rule.effect();
+        push_rule(&mut self.rules, alloc, rule)?;
         self.columns = None;
         Ok(())
     }

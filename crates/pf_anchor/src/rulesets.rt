@@ -3,14 +3,31 @@ ghost use Rattle.std.specs.Prelude.{◌≡◌, IfOk};
 
 use crate::rule_list::RuleList;
 use pf_addr::path::Path;
-use pf_map::{Entries, Entry, PagedMap};
+use pf_map::{Entries, Entry, PagedMap, Weigher};
+use pf_rule::sum::RULE_FORM;
 use std::alloc::{AllocError, Global};
 
 /// A ruleset at its path, shared by all that hold it: path and rules stand once. Contracts see it as a `Ruled`.
 pub type Placed = Entry<Path, RuleList>;
 
-/// The rulesets that have rules, in the order of their paths. Contracts see it as the list.
-pub(crate) type Rulesets = PagedMap<Path, RuleList>;
+/// How many bytes a ruleset takes where it is kept, in each version: a path behind its length, and rules behind their number.
+pub(crate) struct RulesetBytes;
+
+impl Weigher<Path, RuleList> for RulesetBytes {
+    ghost use Rattle.pf_anchor.specs.Forms.{ruled_length};
+
+    ghost weight = { ruled_length 1 };
+
+    #[tactic(auto, using(crate::proofs::Lengths::ruled_long, crate::proofs::Lengths::path_short))]
+    fn weigh(placed: &Placed) -> u32 {
+        let path = placed.key().as_bytes();
+        let rules = placed.value().as_slice();
+        (5 + path.len() + RULE_FORM * rules.len()) as u32
+    }
+}
+
+/// The rulesets that have rules, in the order of their paths, and how many bytes they take. Contracts see it as the list.
+pub(crate) type Rulesets = PagedMap<Path, RuleList, RulesetBytes>;
 
 /// Rulesets in the order of their paths, one after the other. Contracts see those that are left to come.
 pub type EachRuleset<'a> = Entries<'a, Path, RuleList, Placed>;

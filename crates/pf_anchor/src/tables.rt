@@ -1,15 +1,39 @@
 //! The active tables.
 
 use pf_addr::path::{Path, TableName};
-use pf_map::{Entries, Entry, Key, PagedMap, Probe};
+use pf_map::{Entries, Entry, Key, PagedMap, Probe, Weigher};
 use pf_table::Table;
 use std::cmp::Ordering;
 
 /// A table where it is: its path, its name, and its entries, shared by all that hold it. Contracts see it as a `Tabled`.
 pub type PlacedTable = Entry<(Path, TableName), Table>;
 
-/// The tables that have entries, in the order of their paths, at one path in that of their names. Contracts see it as the list.
-pub(crate) type Tables = PagedMap<(Path, TableName), Table>;
+// How many bytes an entry takes.
+const ENTRY_BYTES: usize = 20;
+
+/// How many bytes a table takes where it is kept: a path and a name behind their lengths, and entries behind their number.
+pub(crate) struct TableBytes;
+
+impl Weigher<(Path, TableName), Table> for TableBytes {
+    ghost use Rattle.pf_anchor.specs.Forms.{tabled_length};
+
+    ghost weight = { tabled_length };
+
+    #[tactic(auto, using(crate::proofs::Lengths::tabled_long, crate::proofs::Lengths::path_short))]
+    fn weigh(placed: &PlacedTable) -> u32 {
+        let (path, name) = placed.key();
+        let path = path.as_bytes();
+        let name = name.as_bytes();
+        let table = placed.value();
+        // what each table keeps of how many entries there are
+        let _entries = table.entries();
+        (6 + path.len() + name.len() + ENTRY_BYTES * table.len()) as u32
+    }
+}
+
+/// The tables that have entries, in the order of their paths, at one path in that of their names, and how many bytes they take.
+/// Contracts see it as the list.
+pub(crate) type Tables = PagedMap<(Path, TableName), Table, TableBytes>;
 
 /// Tables in order, at one path in that of their names, one after the other. Contracts see those that are left to come.
 pub type EachTable<'a> = Entries<'a, (Path, TableName), Table, PlacedTable>;

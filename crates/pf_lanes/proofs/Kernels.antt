@@ -1,10 +1,10 @@
 -- What the kernel's masks say together.
-use Rattle.std.proofs.Common.{◌≡◌, ◌≤◌, ℕ, Bool, true, false, ◌&&◌, refl, sym, ap, ◌∙◌, arith}
+use Rattle.std.proofs.Common.{◌≡◌, ◌≤◌, ℕ, Bool, true, false, not, nat_eq, ◌&&◌, ◌||◌, refl, sym, ap, ◌∙◌, arith}
 use Rattle.std.specs.Prelude.{bit_and, bit_or, if◌then◌else◌}
-use Rattle.std.proofs.lemmas.Nat.{le_or_l, le_or_r}
+use Rattle.std.proofs.lemmas.{Bool.Decides.nat_tests, Nat.{le_or_l, le_or_r}}
 use Rattle.pf_lanes.specs.declared.{columns.Columns.Columns, columns.Marks.Marks, kernel.PacketWords.PacketWords}
-use Rattle.pf_lanes.specs.{Masks.is_set, Words.host_bit, Columns.{masked_holds, special_of}, Asked.{addresses_hold, words_hold, hosts_hold}}
-use Rattle.pf_lanes.proofs.Bits.{is_set-and, none_set}
+use Rattle.pf_lanes.specs.{Masks.is_set, Words.host_bit, Columns.{masked_holds, special_of}, Asked.{addresses_hold, words_hold, hosts_hold, rest_of, near_or_special}}
+use Rattle.pf_lanes.proofs.Bits.{is_set-and, is_set-or, none_set}
 
 plain_bit : (words answer : Bool) → host_bit words answer false false ≡ words
 plain_bit words answer = grind arith
@@ -73,3 +73,52 @@ whole_v6 v6 a b both i s r p q is e = ap (λ n. is_set n i) is ∙ is_set-and a 
 
 pub whole_v4 : (v6 : Bool) (a both i : ℕ) (s r : Bool) → is_set a i ≡ s → both ≡ a → v6 ≡ false → is_set both i ≡ (s && (if v6 then r else true))
 whole_v4 v6 a both i s r p is e = ap (λ n. is_set n i) is ∙ p ∙ true_last s ∙ sym (ap (λ (x : Bool). s && (if x then r else true)) e)
+
+-- ---- where neither is near, nothing holds
+
+apart : (f g r q : Bool) → (f && g) ≡ false → ((f && r) && (g && q)) ≡ false
+apart false g r q e = refl
+apart true false true q e = refl
+apart true false false q e = refl
+apart true true r q e = absurd (cc e)
+
+far : (h t1 i1 t2 i2 f g r q x y : Bool) → (h && ((((t1 || i1) || t2) || i2) || (f && g))) ≡ false →
+    (h && (host_bit (f && r) x t1 i1 && host_bit (g && q) y t2 i2)) ≡ false
+far false t1 i1 t2 i2 f g r q x y e = refl
+far true true i1 t2 i2 f g r q x y e = absurd (cc e)
+far true false true t2 i2 f g r q x y e = absurd (cc e)
+far true false false true i2 f g r q x y e = absurd (cc e)
+far true false false false true f g r q x y e = absurd (cc e)
+far true false false false false f g r q x y e = (λ j. plain_bit (f && r) x j && plain_bit (g && q) y j) ∙ apart f g r q e
+
+four : (m : Marks) (i : ℕ) →
+    is_set (special_of m) i ≡ (((is_set m.sources.tabled i || is_set m.sources.inverted i) || is_set m.destinations.tabled i) || is_set m.destinations.inverted i)
+four m i =
+    let ab = bit_or m.sources.tabled m.sources.inverted in
+    let abc = bit_or ab m.destinations.tabled in
+    is_set-or abc m.destinations.inverted i
+    ∙ (λ j. (is_set-or ab m.destinations.tabled i ∙ (λ k. is_set-or m.sources.tabled m.sources.inverted i k || is_set m.destinations.tabled i)) j || is_set m.destinations.inverted i)
+
+pub far_hosts : (c : Columns) (p : PacketWords) (k : ℕ) (m : Marks) (source destination : Bool) (i : ℕ) → near_or_special c p k (special_of m) i ≡ false →
+    hosts_hold c p k m source destination i ≡ false
+far_hosts c p k m source destination i e =
+    let f = masked_holds p.source.first c.sources.first k in
+    let g = masked_holds p.destination.first c.destinations.first k in
+    far (masked_holds p.head c.heads k) (is_set m.sources.tabled i) (is_set m.sources.inverted i) (is_set m.destinations.tabled i) (is_set m.destinations.inverted i) f g
+    (if p.is_v6 then rest_of p.source c.sources k else true) (if p.is_v6 then rest_of p.destination c.destinations k else true) source destination
+    (sym (ap (λ (b : Bool). masked_holds p.head c.heads k && (b || (f && g))) (four m i)) ∙ e)
+
+neither : (h s t sp : Bool) → (h && (s && t)) ≡ false → (h && sp) ≡ false → (h && (sp || (s && t))) ≡ false
+neither false s t sp d e = refl
+neither true s t false d e = d
+neither true s t true d e = absurd (cc e)
+
+-- masks that have no bit in common with the heads
+pub none_near : (near heads special i : ℕ) (h s t : Bool) → is_set heads i ≡ h → is_set near i ≡ (h && (s && t)) → near ≡ 0 → bit_and heads special ≡ 0 →
+    (h && (is_set special i || (s && t))) ≡ false
+none_near near heads special i h s t is all none apart =
+    neither h s t (is_set special i) (sym all ∙ unset near i none)
+    (ap (λ (b : Bool). b && is_set special i) (sym is) ∙ sym (is_set-and heads special i) ∙ unset (bit_and heads special) i apart)
+
+pub is_zero : (n : ℕ) → not (nat_eq n 0) ≡ false → n ≡ 0
+is_zero n e = grind (arith, nat_tests)

@@ -4,10 +4,10 @@ use Rattle.std.specs.Prelude.{bit_and, bit_or, bit_xor, slice_get}
 use Rattle.std.proofs.lemmas.Option.{slice_get_cases}
 use Rattle.pf_addr.specs.declared.addr.Addr.{Addr}
 use Rattle.pf_rule.specs.declared.{host.host.Host.Host, host.host.Host.TheVariants.{Any, Net, Table}}
-use Rattle.pf_rule.specs.{Value.Tests.holds, Value.Ports.port_holds, Host.Hosts.{TableTest, inverted, host_holds}, Packets.PlainPacket, Rules.{PlainRule, matches, ends_hold}}
+use Rattle.pf_rule.specs.{Value.Tests.holds, Value.Ports.port_holds, Host.Hosts.{TableTest, inverted, host_holds}, Packets.{PlainPacket, IsPacket}, Rules.{PlainRule, matches, ends_hold}}
 use Rattle.pf_lanes.specs.declared.{columns.Marks.Marks, columns.Columns.Columns, marks.Mark.TheVariants.{TabledSource, InvertedSource, TabledDestination, InvertedDestination}}
-use Rattle.pf_lanes.specs.{Masks.is_set, Answered.{answered, matches_answered, answered_bit, bit_by, block_bit, block_match, eight_from}, Words.{is_tabled, is_inverted}, Columns.{AreMarks, AreColumns, is_marked}}
-use Rattle.pf_lanes.proofs.{Bits.{is_set-and, is_set-or, is_set-xor}, Kernels.unset, Handed.matches_front, Places.mark_at}
+use Rattle.pf_lanes.specs.{Masks.is_set, Answered.{answered, matches_answered, answered_bit, bit_by, block_bit, block_match, eight_from}, Words.{is_tabled, is_inverted}, Columns.{AreMarks, AreColumns, is_marked, special_of}, Asked.{near_or_special, ports_hold}, KeptProbes.packet_words}
+use Rattle.pf_lanes.proofs.{Bits.{is_set-and, is_set-or, is_set-xor, none_set}, Kernels.{unset, far_hosts}, Handed.matches_front, Places.{mark_at, lanes_match}}
 
 -- without a table what is near matches, and what isn't near never does
 pub record Settles (near tabled match : Bool) : Type 0 where
@@ -117,3 +117,19 @@ near_and_told near tabled left answers i m s is asked =
     is_set-or (bit_xor near left) answers i
     ∙ (λ j. (is_set-xor near left i ∙ (λ k. inverted (opened k) (is_set near i))) j || (asked ∙ (λ k. opened k && m)) j)
     ∙ told (is_set near i) (is_set tabled i) m s
+
+-- ---- a block in which nothing is near
+
+pub far_block : (says : TableTest) (rules : List PlainRule) (c : Columns) (p : PlainPacket) (b i : ℕ) (m : Marks) →
+    AreColumns rules c → IsPacket p → b < length c.marks.items → i < 8 → m ≡ get_or c.marks.items b m →
+    near_or_special c (packet_words c.interfaces.items p) (8 * b + i) m.special i ≡ false →
+    block_match says rules p b i ≡ false
+far_block says rules c p b i m are packet block lt marked none =
+    let s = bit_xor m.sources.inverted 255 in
+    let d = bit_xor m.destinations.inverted 255 in
+    let ps = packet_words c.interfaces.items p in
+    let special : m.special ≡ special_of m = (subst (AreMarks (eight_from (8 * b) rules)) (sym marked) (are.marks b m block)).special in
+    let far = far_hosts c ps (8 * b + i) m (is_set s i) (is_set d i) i (ap (λ n. near_or_special c ps (8 * b + i) n i) (sym special) ∙ none) in
+    let out : block_bit rules p b s d i ≡ false =
+    sym (lanes_match rules c p b s d i m are packet block lt marked) ∙ ap (λ (x : Bool). x && ports_hold c ps (8 * b + i) m i) far in
+    (lane_settles says rules c p b i 0 m are block lt marked (none_set i ∙ sym out)).gone (none_set i)

@@ -1,9 +1,10 @@
 //! A packet among rules in columns.
-ghost use Rattle.std.specs.Prelude.{◌≡◌, ◌<◌, ℕ};
+ghost use Rattle.std.specs.Prelude.{◌≡◌, ◌<◌, ◌≤◌, ℕ, false};
+ghost use Rattle.pf_rule.specs.Host.Hosts.{TableTest};
 ghost use Rattle.pf_lanes.specs.{Masks.is_set, Answered.{block_bit, block_match}, Columns.AreColumns, Probes.asked};
 
 use crate::columns::Columns;
-use crate::kernel::{PacketWords, heads_and_hosts, ports};
+use crate::kernel::{PacketWords, heads_and_hosts, may_match, ports};
 use crate::lanes::{ALL_LANES, LANES};
 use crate::plain::{asked_in, matching_in};
 use crate::words::{address_words, is_v6, packet_head};
@@ -73,6 +74,24 @@ impl<'a> Probe<'a> {
             return 0;
         }
         hosts & ports(columns, &self.words, at, &marks)
+    }
+
+    /// The first block from this one on in which a rule may match, or where the rules begin that have no columns: no rule of the
+    /// blocks before it matches, whatever tables say. It takes no memory.
+    pub fn next_near(&self, from: usize) -> usize
+        ensures later { from ≤ result }
+        ensures none { (says : TableTest) (block i : ℕ) → from ≤ block → block < result → i < 8 →
+            block_match says self.now.rules self.now.packet block i ≡ false }
+    {
+        let columns = self.columns;
+        let end = columns.marks.len();
+        for block in from..end {
+            let mark = columns.marks[block];
+            if may_match(columns, &self.words, LANES * block, mark.special) {
+                return block;
+            }
+        }
+        from.max(end)
     }
 
     /// Which rules of a block match by what tables say: bit i is set where rule `8 * block + i` is there and matches. A table is asked

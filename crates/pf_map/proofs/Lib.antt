@@ -1,7 +1,9 @@
 pub mod Tests
 pub mod Maps
+pub mod Weights
 pub mod Parts
 pub mod Fronts
 pub mod ListMaps
 pub mod Indexes
 pub mod Ordered
+pub mod Gathered

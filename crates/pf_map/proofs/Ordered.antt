@@ -1,6 +1,6 @@
 -- Maps that are made of lists in order, one entry after the other.
-use Rattle.std.proofs.{Common.{◌≡◌, ℕ, ◌+◌, ◌<◌, T, Bool, true, false, ◌&&◌, List, [], ◌∷◌, ◌++◌, length, Some, None, refl, sym, ap, ◌∙◌, subst, true≢false, get_or, take, drop, map}, lemmas.List.{map-append, take_more, take-append-drop}}
-use Rattle.std.specs.{declared.{cmp.Ordering.Ordering, cmp.Ordering.TheVariants.Less, cmp.Ordering.TheVariants.Greater}, Cmp.IsTotalOrder, FinMap.{find, put, is_sorted}, FinMap.Entries.{below_all}, Ordering.{is_lt, ordering_reverse}}
+use Rattle.std.proofs.{Common.{◌≡◌, T, Bool, true, false, ◌&&◌, List, [], ◌∷◌, ◌++◌, Some, refl, sym, ap, ◌∙◌, subst, true≢false}}
+use Rattle.std.specs.{declared.{cmp.Ordering.Ordering, cmp.Ordering.TheVariants.Less, cmp.Ordering.TheVariants.Greater}, Cmp.IsTotalOrder, FinMap.{put, is_sorted}, FinMap.Entries.{below_all}, Ordering.{is_lt, ordering_reverse}}
 use Rattle.pf_addr.specs.Bytes.Lists.{in_order}
 use Rattle.pf_map.specs.Maps.{without, with_value}
 use Rattle.pf_map.proofs.Tests.{first_of, second_of, less_of}
@@ -22,11 +22,6 @@ module _ {K X : Type 0} {R : K → K → Ordering} (o : IsTotalOrder R) where
   below_last e [] k v h = o.antisymm k e.0 ∙ ap ordering_reverse (less_of _ (first_of _ _ h))
   below_last e (f ∷ es) k v h = below_last e es k v (second_of _ _ h)
 
-  -- an entry behind all others is new
-  pub none_last : (es : List (K × X)) (k : K) (v : X) → T (is_sorted R (es ++ (k, v) ∷ [])) → find R k es ≡ None
-  none_last [] k v is = refl
-  none_last (e ∷ es) k v is = rw (below_last e es k v (first_of _ _ is)) (none_last es k v (second_of _ _ is))
-
   without_last : (es : List (K × X)) (k : K) (v : X) → T (is_sorted R (es ++ (k, v) ∷ [])) → without R es k ≡ es
   without_last [] k v is = refl
   without_last (e ∷ es) k v is = rw (below_last e es k v (first_of _ _ is)) (ap (λ l. e ∷ l) (without_last es k v (second_of _ _ is)))
@@ -35,7 +30,7 @@ module _ {K X : Type 0} {R : K → K → Ordering} (o : IsTotalOrder R) where
   put_behind [] k v is = refl
   put_behind (e ∷ es) k v is = rw (below_last e es k v (first_of _ _ is)) (ap (λ l. e ∷ l) (put_behind es k v (second_of _ _ is)))
 
-  -- and stands behind them
+  -- an entry behind all others stands behind them
   pub put_last : (es : List (K × X)) (k : K) (v : X) → T (is_sorted R (es ++ (k, v) ∷ [])) → with_value R es k (Some v) ≡ es ++ (k, v) ∷ []
   put_last es k v is = ap (put R k v) (without_last es k v is) ∙ put_behind es k v is
 
@@ -69,15 +64,3 @@ module _ {K X : Type 0} {R : K → K → Ordering} (o : IsTotalOrder R) where
   in_order_of [] is = refl
   in_order_of (e ∷ []) is = refl
   in_order_of (e ∷ f ∷ es) is = holds _ (both_of (before e f) (in_order before (f ∷ es)) (first_of _ _ (first_of _ _ is)) (tells _ (in_order_of (f ∷ es) (second_of _ _ is))))
-
-  -- ---- a list that is gone over
-
-  module _ {E : Type 0} (pair : E → K × X) (es : List E) (i : ℕ) (e : E) (low : i < length es) (at : e ≡ get_or es i e) where
-    pub one_more : map pair (take (i + 1) es) ≡ map pair (take i es) ++ pair e ∷ []
-    one_more = ap (map pair) (take_more es i e low ∙ ap (λ x. take i es ++ x ∷ []) (sym at)) ∙ map-append pair (take i es) (e ∷ [])
-
-    -- what comes next stands behind all so far
-    pub next_is_last : T (is_sorted R (map pair es)) → T (is_sorted R (map pair (take i es) ++ pair e ∷ []))
-    next_is_last is =
-        let whole : map pair es ≡ map pair (take (i + 1) es) ++ map pair (drop (i + 1) es) = ap (map pair) (sym (take-append-drop (i + 1) es)) ∙ map-append pair (take (i + 1) es) (drop (i + 1) es) in
-        subst (λ l. T (is_sorted R l)) one_more (sorted_front (map pair (take (i + 1) es)) (map pair (drop (i + 1) es)) (subst (λ l. T (is_sorted R l)) whole is))

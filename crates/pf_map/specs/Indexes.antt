@@ -1,5 +1,5 @@
 -- Values with two keys: the list of them in the order of names, and that of the same values under their flows. Own.
-use Rattle.std.specs.{Prelude.{◌≡◌, T, Bool, not, false, List, Option, Some, None}, FinMap.{find, is_sorted}, List.find as first_where, Option.option_map_or, Ordering.eq_by_cmp}
+use Rattle.std.specs.{Prelude.{◌≡◌, ◌&&◌, T, Bool, not, true, false, List, [], ◌∷◌, Option, Some, None}, FinMap.{find, is_sorted}, List.{list_any}, List.find as first_where, Option.option_map_or, Ordering.eq_by_cmp}
 use Rattle.std.specs.declared.{cmp.Ordering.Ordering, cmp.Ordering.TheVariants.Equal}
 use Rattle.pf_map.specs.Maps.{without}
 
@@ -12,6 +12,16 @@ module _ {N F V : Type 0} (S : F → F → Ordering) (flow : V → F) where
   abbrev pub unflowed : Option V → List (F × (N × V)) → List (F × (N × V))
   unflowed None fs = fs
   unflowed (Some old) fs = without S fs (flow old)
+
+  -- whether no two values have one flow
+  abbrev pub no_flow_twice : List (N × V) → Bool
+  no_flow_twice [] = true
+  no_flow_twice (e ∷ es) = not (list_any (λ t. eq_by_cmp S (flow e.1) (flow t.1)) es) && no_flow_twice es
+
+  -- an index of just these values, or none where two of them have one flow
+  abbrev pub IsIndexOf : List (N × V) → Option (List (N × V)) → Type 0
+  IsIndexOf es (Some index) = (index ≡ es) × (no_flow_twice es ≡ true)
+  IsIndexOf es None = no_flow_twice es ≡ false
 
 module _ {N F V : Type 0} (R : N → N → Ordering) (S : F → F → Ordering) (flow : V → F) where
   -- whether a value of another name has the flow of this one

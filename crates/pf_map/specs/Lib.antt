@@ -1,4 +1,5 @@
 pub mod Maps
+pub mod Weights
 pub mod Pairs
 pub mod Hints
 pub mod Fronts

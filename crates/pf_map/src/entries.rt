@@ -4,19 +4,19 @@ ghost use Rattle.pf_map.specs.Parts.{joined};
 
 use crate::entry::Held;
 use crate::key::Key;
-use crate::part::Single;
+use crate::part::{Page, Single};
 use crate::slot::Slot;
 use crate::tree_map::{Leaf, Middle};
 use std::marker::Model;
 
 /// The entries of a map that are left to come, in order: what is left of one page in each level. Contracts see it as the list.
-pub struct Entries<'a, K: Key, V: Drop, E: Held<K, V>> {
-    middles: &'a [Slot<K, V, E, Middle<K, V, E>>],
-    leaves: &'a [Slot<K, V, E, Leaf<K, V, E>>],
+pub struct Entries<'a, K: Key, V: Drop, E: Held<K, V>, L: Page<K, V, E> = Leaf<K, V, E>> {
+    middles: &'a [Slot<K, V, E, Middle<K, V, E, L>>],
+    leaves: &'a [Slot<K, V, E, L>],
     entries: &'a [Slot<K, V, E, Single<K, V, E>>],
 }
 
-impl<'a, K: Key, V: Drop, E: Held<K, V>> Drop for Entries<'a, K, V, E> {
+impl<'a, K: Key, V: Drop, E: Held<K, V>, L: Page<K, V, E>> Drop for Entries<'a, K, V, E, L> {
     fn drop(self) {
         let Entries {
             middles: _,
@@ -26,7 +26,7 @@ impl<'a, K: Key, V: Drop, E: Held<K, V>> Drop for Entries<'a, K, V, E> {
     }
 }
 
-impl<'a, K: Key, V: Drop, E: Held<K, V>> Model for Entries<'a, K, V, E> {
+impl<'a, K: Key, V: Drop, E: Held<K, V>, L: Page<K, V, E>> Model for Entries<'a, K, V, E, L> {
     ghost use Rattle.std.specs.Prelude.{List, ◌++◌};
     ghost use Rattle.pf_map.specs.Parts.{joined};
 
@@ -36,14 +36,14 @@ impl<'a, K: Key, V: Drop, E: Held<K, V>> Model for Entries<'a, K, V, E> {
 }
 
 // The next page of entries, and what is left behind it.
-fn next_leaf<'a, K: Key, V: Drop, E: Held<K, V>>(
-    leaves: &'a [Slot<K, V, E, Leaf<K, V, E>>],
-    middles: &'a [Slot<K, V, E, Middle<K, V, E>>],
+fn next_leaf<'a, K: Key, V: Drop, E: Held<K, V>, L: Page<K, V, E>>(
+    leaves: &'a [Slot<K, V, E, L>],
+    middles: &'a [Slot<K, V, E, Middle<K, V, E, L>>],
 ) -> Option<
     (
-        &'a Slot<K, V, E, Leaf<K, V, E>>,
-        &'a [Slot<K, V, E, Leaf<K, V, E>>],
-        &'a [Slot<K, V, E, Middle<K, V, E>>],
+        &'a Slot<K, V, E, L>,
+        &'a [Slot<K, V, E, L>],
+        &'a [Slot<K, V, E, Middle<K, V, E, L>>],
     ),
 >
     ensures { MatchOption result (joined leaves.now ++ joined middles.now ≡ []) (λ p. joined leaves.now ++ joined middles.now ≡ p.0.now ++ (joined p.1.now ++ joined p.2.now)) }
@@ -56,9 +56,9 @@ fn next_leaf<'a, K: Key, V: Drop, E: Held<K, V>>(
     Some((leaf, more, others))
 }
 
-impl<'a, K: Key, V: Drop, E: Held<K, V>> Entries<'a, K, V, E> {
+impl<'a, K: Key, V: Drop, E: Held<K, V>, L: Page<K, V, E>> Entries<'a, K, V, E, L> {
     /// Those of these pages.
-    pub(crate) fn over(middles: &'a [Slot<K, V, E, Middle<K, V, E>>]) -> Entries<'a, K, V, E>
+    pub(crate) fn over(middles: &'a [Slot<K, V, E, Middle<K, V, E, L>>]) -> Entries<'a, K, V, E, L>
         ensures { result ≡ joined middles.now }
     {
         Entries {
@@ -69,7 +69,7 @@ impl<'a, K: Key, V: Drop, E: Held<K, V>> Entries<'a, K, V, E> {
     }
 }
 
-impl<'a, K: Key, V: Drop, E: Held<K, V>> Iterator for Entries<'a, K, V, E> {
+impl<'a, K: Key, V: Drop, E: Held<K, V>, L: Page<K, V, E>> Iterator for Entries<'a, K, V, E, L> {
     type Item = &'a E;
 
     ghost next_gives = { YieldsFirstBy (λ e. E.pair e.now) (λ s. s) };

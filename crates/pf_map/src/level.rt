@@ -1,11 +1,12 @@
 //! A level of the tree: parts that follow one another, in one page.
-ghost use Rattle.std.specs.{Prelude.{◌≡◌, ◌<◌, ◌≤◌, T, [], ◌++◌, length, take, drop, IfOk, OnOk, IfSome}, FinMap.is_sorted, Option.{option_map, option_map_or}};
-ghost use Rattle.pf_map.specs.{Maps.{with_value, entry_at, at_or_before}, Parts.{joined, IsPlace}, Pieces.all_of};
+ghost use Rattle.std.specs.{Prelude.{◌≡◌, ◌<◌, ◌≤◌, T, [], ◌++◌, length, take, drop, IfOk, OnOk, IfSome, None, MatchOption}, FinMap.is_sorted, Option.{option_map, option_map_or}};
+ghost use Rattle.pf_map.specs.{Maps.{with_value, entry_at, at_or_before}, Parts.{joined, IsPlace, IsUpTo}, Pieces.all_of};
 
 use crate::entry::Held;
 use crate::key::{Key, Probe};
-use crate::part::Part;
+use crate::part::{Page, Part, Single};
 use crate::pieces::Pieces;
+use crate::raised::each_alone;
 use crate::slot::Slot;
 use std::alloc::{AllocError, Global};
 use std::marker::Model;
@@ -93,6 +94,27 @@ pub(crate) fn last_up_to_in<'a, K: Key, V: Drop, E: Held<K, V>, P: Part<K, V, E>
         return None;
     }
     slots[place - 1].part().last_up_to(hint, sought)
+}
+
+/// The part with the last entry that isn't behind a key among parts that follow one another; None where all entries are.
+pub(crate) fn part_up_to<'a, K: Key, V: Drop, E: Held<K, V>, P: Part<K, V, E>, Q: Probe<K>>(
+    slots: &'a [Slot<K, V, E, P>],
+    hint: u64,
+    sought: &Q,
+) -> Option<&'a P>
+    requires hinted { hint ≡ K.hint (Q.key sought.now) }
+    requires sorted { T (is_sorted K.order (joined slots.now)) }
+    ensures { MatchOption result (at_or_before K.order (Q.key sought.now) (joined slots.now) ≡ None) (λ p. IsUpTo K.order (Q.key sought.now) (P.entries p.now) (joined slots.now)) }
+{
+    let place = place_in(slots, hint, sought);
+    if place == 0 {
+        return None;
+    }
+    let slot = &slots[place - 1];
+    if slot.starts_behind(hint, sought) {
+        return None;
+    }
+    Some(slot.part())
 }
 
 // The same parts in a page of their own.
@@ -206,6 +228,19 @@ impl<K: Key, V: Drop, E: Held<K, V>, P: Part<K, V, E>> Level<K, V, E, P> {
         }
     }
 
+    /// A page of these parts. `AllocError`: nothing is left of them.
+    pub(crate) fn of(
+        alloc: Global,
+        slots: Vec<Slot<K, V, E, P>>,
+    ) -> Result<Level<K, V, E, P>, AllocError>
+        requires { 0 < length slots.items }
+        ensures { IfOk result (λ l. l ≡ joined slots.items) }
+    {
+        Ok(Level {
+            slots: Arc::new(alloc, slots)?,
+        })
+    }
+
     /// A page of all these parts, however many; none where there are none. `AllocError`: nothing is made.
     pub(crate) fn whole(
         alloc: Global,
@@ -260,5 +295,18 @@ impl<K: Key, V: Drop, E: Held<K, V>, P: Part<K, V, E>> Part<K, V, E> for Level<K
     ) -> Result<Pieces<Level<K, V, E, P>>, AllocError> {
         let slots = self.into_slots(alloc)?;
         cut(alloc, replaced_in(alloc, slots, hint, sought, new)?)
+    }
+}
+
+impl<K: Key, V: Drop, E: Held<K, V>> Page<K, V, E> for Level<K, V, E, Single<K, V, E>> {
+    fn of_entries(
+        alloc: Global,
+        page: &[E],
+    ) -> Result<Level<K, V, E, Single<K, V, E>>, AllocError> {
+        Level::of(alloc, each_alone(alloc, page)?)
+    }
+
+    fn slots(&self) -> &[Slot<K, V, E, Single<K, V, E>>] {
+        Level::slots(self)
     }
 }

@@ -8,6 +8,7 @@
 //! way to what it changes (`level`, `part`, `slot`). `laws` has what follows from the definitions.
 #![tactic(auto)]
 
+mod beside;
 mod entries;
 mod entry;
 mod index;
@@ -19,12 +20,16 @@ mod networks;
 mod paged_map;
 mod part;
 mod pieces;
+mod raised;
 mod slot;
 mod tree_map;
+mod weight;
 
+pub use beside::{Beside, PageBeside};
 pub use entries::Entries;
 pub use entry::{Content, Entry, Held};
 pub use index::{Flowed, Index};
 pub use key::{Key, Probe};
 pub use paged_map::PagedMap;
 pub use tree_map::TreeMap;
+pub use weight::Weigher;

@@ -1,37 +1,82 @@
 //! Maps of values some of which stand for none.
-ghost use Rattle.std.specs.{Prelude.{◌≡◌, [], length, IfOk, fold, nat_lt}, Option.option_map};
-ghost use Rattle.pf_map.specs.Maps.{with_entry, entry_at, IsMap};
+ghost use Rattle.std.specs.{Prelude.{◌≡◌, ◌<◌, ◌^◌, T, [], length, IfOk, fold, nat_lt}, FinMap.is_sorted, List.sum_by, Option.option_map};
+ghost use Rattle.pf_map.specs.{Maps.{with_entry, entry_at, IsMap}, Weights.{weight_of, IsWeighed}};
 
 use crate::entries::Entries;
 use crate::entry::{Content, Entry};
 use crate::key::{Key, Probe};
 use crate::tree_map::TreeMap;
+use crate::weight::Weigher;
 use std::alloc::{AllocError, Global};
-use std::marker::Model;
+use std::marker::{Model, PhantomData};
 
 /// A finite map: entries in the order of their keys, no key twice, and no value that stands for none. Contracts see it as the
 /// list.
 ///
-/// The entries stand in pages, so that a changed map shares with the old one all pages but those in which an entry changed.
-pub struct PagedMap<K: Key, V: Content> {
+/// The entries stand in pages, so that a changed map shares with the old one all pages but those in which an entry changed. What
+/// they weigh together is kept, and changes with each that is replaced.
+pub struct PagedMap<K: Key, V: Content, W: Weigher<K, V>> {
     map: TreeMap<K, V, Entry<K, V>>,
+    weight: u128,
+    of: PhantomData<W>,
 }
 
-impl<K: Key, V: Content> Drop for PagedMap<K, V> {
+impl<K: Key, V: Content, W: Weigher<K, V>> Drop for PagedMap<K, V, W> {
     fn drop(self) {
-        let PagedMap { map: _ } = self;
+        let PagedMap {
+            map: _,
+            weight: _,
+            of: _,
+        } = self;
     }
 }
 
-impl<K: Key, V: Content> Model for PagedMap<K, V> {
+impl<K: Key, V: Content, W: Weigher<K, V>> Model for PagedMap<K, V, W> {
     ghost use Rattle.std.specs.Prelude.{List};
-    ghost use Rattle.pf_map.specs.Maps.{IsMap};
+    ghost use Rattle.pf_map.specs.{Maps.{IsMap}, Weights.{IsWeighed}};
 
     ghost Value = { List (K × V) };
 
     ghost view = { λ m. m.map };
 
-    ghost invariant = { λ m. IsMap K.order V.kept m.map };
+    ghost invariant = { λ m. IsMap K.order V.kept m.map × IsWeighed W.weight m.map m.weight };
+}
+
+// What the entry at a key weighs; nothing where there is none.
+fn weight_at<K: Key, V: Content, W: Weigher<K, V>>(map: &TreeMap<K, V, Entry<K, V>>, key: &K) -> u32
+    ensures weight { result ≡ weight_of W.weight (entry_at K.order key.now map.now) }
+    ensures sorted { T (is_sorted K.order map.now) }
+{
+    match map.get(key) {
+        Some(entry) => W::weigh(entry),
+        None => 0,
+    }
+}
+
+// What an entry weighs where it is kept; nothing where its value stands for none.
+fn weight_kept<K: Key, V: Content, W: Weigher<K, V>>(entry: &Entry<K, V>) -> u32
+    ensures { result ≡ weight_of W.weight (option_map (λ v. (entry.now.0, v)) (V.kept entry.now.1)) }
+{
+    if entry.value().is_none() {
+        0
+    } else {
+        W::weigh(entry)
+    }
+}
+
+// What entries that weigh so much weigh once the value at one entry's key is replaced.
+fn reweighed<K: Key, V: Content, W: Weigher<K, V>>(
+    map: &TreeMap<K, V, Entry<K, V>>,
+    weight: u128,
+    change: &Entry<K, V>,
+) -> u128
+    requires { IsWeighed W.weight map.now weight }
+    ensures { IsWeighed W.weight (with_entry K.order V.kept map.now change.now) result }
+{
+    let _count = map.len();
+    let had = weight_at::<K, V, W>(map, change.key());
+    let has = weight_kept::<K, V, W>(change);
+    weight - u128::from(had) + u128::from(has)
 }
 
 // The map with the value at one entry's key replaced, or taken out where the new one stands for none.
@@ -49,14 +94,42 @@ fn with_change<K: Key, V: Content>(
     }
 }
 
-impl<K: Key, V: Content> PagedMap<K, V> {
+impl<K: Key, V: Content, W: Weigher<K, V>> PagedMap<K, V, W> {
     /// The map of nothing. It takes no memory.
-    pub fn empty() -> PagedMap<K, V>
+    pub fn empty() -> PagedMap<K, V, W>
         ensures { result ≡ [] }
     {
         PagedMap {
             map: TreeMap::empty(),
+            weight: 0,
+            of: PhantomData,
         }
+    }
+
+    /// What its entries weigh together. It looks at none of them.
+    pub fn weight(&self) -> u128
+        ensures exact { result ≡ sum_by W.weight self.now }
+        ensures light { result < 2 ^ 96 }
+    {
+        let _count = self.map.len();
+        self.weight
+    }
+
+    // The map with the value at one entry's key replaced, or taken out where the new one stands for none.
+    fn with_change(
+        self,
+        alloc: Global,
+        change: &Entry<K, V>,
+    ) -> Result<PagedMap<K, V, W>, AllocError>
+        ensures { IfOk result (λ m. m ≡ with_entry K.order V.kept self change.now) }
+    {
+        let PagedMap { map, weight, of: _ } = self;
+        let weight = reweighed::<K, V, W>(&map, weight, change);
+        Ok(PagedMap {
+            map: with_change(map, alloc, change)?,
+            weight,
+            of: PhantomData,
+        })
     }
 
     /// The entry at a key; None where it has no value.
@@ -70,22 +143,28 @@ impl<K: Key, V: Content> PagedMap<K, V> {
 
     /// The map with the values at these entries' keys replaced in turn, or taken out where a new one stands for none. All other
     /// entries are shared, and no key and no value is copied. `AllocError`: nothing is made.
-    pub fn with(&self, alloc: Global, changes: &[Entry<K, V>]) -> Result<PagedMap<K, V>, AllocError>
+    pub fn with(
+        &self,
+        alloc: Global,
+        changes: &[Entry<K, V>],
+    ) -> Result<PagedMap<K, V, W>, AllocError>
         ensures { IfOk result (λ m. m ≡ fold (with_entry K.order V.kept) self.now changes.now) }
     {
-        let mut map = self.map.shared()?;
+        let mut map = self.shared()?;
         for change in changes {
-            map = with_change(map, alloc, change)?;
+            map = map.with_change(alloc, change)?;
         }
-        Ok(PagedMap { map })
+        Ok(map)
     }
 
     /// The same map. No page is copied. `AllocError`: nothing is made.
-    pub fn shared(&self) -> Result<PagedMap<K, V>, AllocError>
+    pub fn shared(&self) -> Result<PagedMap<K, V, W>, AllocError>
         ensures { IfOk result (λ m. m ≡ self.now) }
     {
         Ok(PagedMap {
             map: self.map.shared()?,
+            weight: self.weight,
+            of: PhantomData,
         })
     }
 

@@ -1,12 +1,13 @@
 //! Maps in trees.
-ghost use Rattle.std.specs.{Prelude.{◌≡◌, ◌+◌, ◌<◌, T, [], length, map, cond, true, Some, None, is_some, IfOk, IfSome, nat_lt}, Option.option_map, FinMap.{find, is_sorted}};
-ghost use Rattle.pf_map.specs.{Maps.{with_value, without, entry_at, at_or_before}, Parts.joined};
+ghost use Rattle.std.specs.{Prelude.{◌≡◌, ◌+◌, ◌<◌, T, [], length, map, cond, true, Some, None, is_some, IfOk, IfSome, MatchOption, nat_lt}, Option.option_map, FinMap.{find, is_sorted}};
+ghost use Rattle.pf_map.specs.{Maps.{with_value, without, entry_at, at_or_before}, Parts.{joined, IsUpTo}};
 
 use crate::entries::Entries;
 use crate::entry::Held;
 use crate::key::{Key, Probe};
-use crate::level::{Level, find_in, last_up_to_in, replaced_in};
-use crate::part::{Part, Single};
+use crate::level::{Level, find_in, last_up_to_in, part_up_to, replaced_in};
+use crate::part::{Page, Part, Single};
+use crate::raised::{leaves, middles};
 use crate::slot::Slot;
 use std::alloc::{AllocError, Global};
 use std::marker::Model;
@@ -15,10 +16,10 @@ use std::marker::Model;
 pub type Leaf<K, V, E> = Level<K, V, E, Single<K, V, E>>;
 
 /// A page of pages of entries.
-pub type Middle<K, V, E> = Level<K, V, E, Leaf<K, V, E>>;
+pub type Middle<K, V, E, L> = Level<K, V, E, L>;
 
 // The page above all others.
-type Top<K, V, E> = Level<K, V, E, Middle<K, V, E>>;
+type Top<K, V, E, L> = Level<K, V, E, Middle<K, V, E, L>>;
 
 // A count of entries, once the value at a key was replaced where there was one or none.
 fn recount(count: usize, had: bool, has: bool) -> Result<usize, AllocError>
@@ -36,19 +37,20 @@ fn recount(count: usize, had: bool, has: bool) -> Result<usize, AllocError>
 /// A finite map: entries in the order of their keys, no key twice. Contracts see it as the list.
 ///
 /// The entries stand in a tree of three levels, so that a changed map shares with an old one all pages but the three on the way to
-/// the entry that changed; pages that no other map holds are changed in place.
-pub struct TreeMap<K: Key, V: Drop, E: Held<K, V>> {
-    top: Option<Top<K, V, E>>,
+/// the entry that changed; pages that no other map holds are changed in place. A page of entries may keep beside them what follows
+/// from them (`PageBeside`).
+pub struct TreeMap<K: Key, V: Drop, E: Held<K, V>, L: Page<K, V, E> = Leaf<K, V, E>> {
+    top: Option<Top<K, V, E, L>>,
     count: usize,
 }
 
-impl<K: Key, V: Drop, E: Held<K, V>> Drop for TreeMap<K, V, E> {
+impl<K: Key, V: Drop, E: Held<K, V>, L: Page<K, V, E>> Drop for TreeMap<K, V, E, L> {
     fn drop(self) {
         let TreeMap { top: _, count: _ } = self;
     }
 }
 
-impl<K: Key, V: Drop, E: Held<K, V>> Model for TreeMap<K, V, E> {
+impl<K: Key, V: Drop, E: Held<K, V>, L: Page<K, V, E>> Model for TreeMap<K, V, E, L> {
     ghost use Rattle.std.specs.{Prelude.{◌≡◌, T, List, [], length}, Option.option_map_or, FinMap.is_sorted};
 
     ghost Value = { List (K × V) };
@@ -58,9 +60,9 @@ impl<K: Key, V: Drop, E: Held<K, V>> Model for TreeMap<K, V, E> {
     ghost invariant = { λ m. T (is_sorted K.order (option_map_or (λ l. l) m.top [])) × (m.count ≡ length (option_map_or (λ l. l) m.top [])) };
 }
 
-impl<K: Key, V: Drop, E: Held<K, V>> TreeMap<K, V, E> {
+impl<K: Key, V: Drop, E: Held<K, V>, L: Page<K, V, E>> TreeMap<K, V, E, L> {
     /// The map of nothing. It takes no memory.
-    pub fn empty() -> TreeMap<K, V, E>
+    pub fn empty() -> TreeMap<K, V, E, L>
         ensures { result ≡ [] }
     {
         TreeMap {
@@ -69,16 +71,17 @@ impl<K: Key, V: Drop, E: Held<K, V>> TreeMap<K, V, E> {
         }
     }
 
-    /// The map of these entries, which stand in the order of their keys, no key twice. `AllocError`: nothing is made.
-    pub fn of(alloc: Global, entries: &[E]) -> Result<TreeMap<K, V, E>, AllocError>
+    /// The map of these entries, which stand in the order of their keys, no key twice. Its pages are full but for the last ones.
+    /// `AllocError`: nothing is made.
+    pub fn of(alloc: Global, entries: &[E]) -> Result<TreeMap<K, V, E, L>, AllocError>
         requires { T (is_sorted K.order (map E.pair entries.now)) }
         ensures { IfOk result (λ m. m ≡ map E.pair entries.now) }
     {
-        let mut map = TreeMap::empty();
-        for entry in entries {
-            map = map.with_new(alloc, entry)?;
-        }
-        Ok(map)
+        let middles = middles(alloc, leaves::<K, V, E, L>(alloc, entries)?)?;
+        Ok(TreeMap {
+            top: Level::whole(alloc, middles)?,
+            count: entries.len(),
+        })
     }
 
     /// How many entries it has.
@@ -96,7 +99,7 @@ impl<K: Key, V: Drop, E: Held<K, V>> TreeMap<K, V, E> {
     }
 
     // The parts below its top.
-    fn slots(&self) -> &[Slot<K, V, E, Middle<K, V, E>>]
+    fn slots(&self) -> &[Slot<K, V, E, Middle<K, V, E, L>>]
         ensures value { joined result.now ≡ self.now }
         ensures sorted { T (is_sorted K.order self.now) }
     {
@@ -122,8 +125,17 @@ impl<K: Key, V: Drop, E: Held<K, V>> TreeMap<K, V, E> {
         last_up_to_in(self.slots(), sought.hint(), sought)
     }
 
+    /// The page with the last entry that isn't behind a key; None where all entries are.
+    pub fn page_up_to<Q: Probe<K>>(&self, sought: &Q) -> Option<&L>
+        ensures { MatchOption result (at_or_before K.order (Q.key sought.now) self.now ≡ None) (λ p. IsUpTo K.order (Q.key sought.now) (L.entries p.now) self.now) }
+    {
+        let hint = sought.hint();
+        let middle = part_up_to(self.slots(), hint, sought)?;
+        part_up_to(middle.slots(), hint, sought)
+    }
+
     /// The same map, with one owner more. No page is copied. `AllocError`: nothing is made.
-    pub fn shared(&self) -> Result<TreeMap<K, V, E>, AllocError>
+    pub fn shared(&self) -> Result<TreeMap<K, V, E, L>, AllocError>
         ensures { IfOk result (λ m. m ≡ self.now) }
     {
         let top = match &self.top {
@@ -137,7 +149,7 @@ impl<K: Key, V: Drop, E: Held<K, V>> TreeMap<K, V, E> {
     }
 
     // The parts below its top, to be changed.
-    fn into_slots(self, alloc: Global) -> Result<Vec<Slot<K, V, E, Middle<K, V, E>>>, AllocError>
+    fn into_slots(self, alloc: Global) -> Result<Vec<Slot<K, V, E, Middle<K, V, E, L>>>, AllocError>
         ensures value { IfOk result (λ v. joined v.items ≡ self) }
         ensures sorted { T (is_sorted K.order self) }
     {
@@ -162,7 +174,7 @@ impl<K: Key, V: Drop, E: Held<K, V>> TreeMap<K, V, E> {
         sought: &'a Q,
         had: bool,
         new: Option<&'a E>,
-    ) -> Result<TreeMap<K, V, E>, AllocError>
+    ) -> Result<TreeMap<K, V, E, L>, AllocError>
         requires had { had ≡ is_some (find K.order (Q.key sought.now) self) }
         requires named { IfSome new (λ e. (E.pair e.now).0 ≡ Q.key sought.now) }
         ensures { IfOk result (λ m. m ≡ with_value K.order self (Q.key sought.now) (option_map (λ e. (E.pair e.now).1) new.entry)) }
@@ -177,7 +189,7 @@ impl<K: Key, V: Drop, E: Held<K, V>> TreeMap<K, V, E> {
 
     /// The map with an entry, in the place of the one at its key if there is one. Pages on the way to it that other maps hold are
     /// copied, three at most, and all else is shared. `AllocError`: nothing is left of this map; what shares its pages stays.
-    pub fn with(self, alloc: Global, new: &E) -> Result<TreeMap<K, V, E>, AllocError>
+    pub fn with(self, alloc: Global, new: &E) -> Result<TreeMap<K, V, E, L>, AllocError>
         ensures { IfOk result (λ m. m ≡ with_value K.order self (E.pair new.now).0 (Some (E.pair new.now).1)) }
     {
         let had = self.has(new.held_key());
@@ -185,7 +197,7 @@ impl<K: Key, V: Drop, E: Held<K, V>> TreeMap<K, V, E> {
     }
 
     /// The same, where it has no entry at the key: a look-up less.
-    pub fn with_new(self, alloc: Global, new: &E) -> Result<TreeMap<K, V, E>, AllocError>
+    pub fn with_new(self, alloc: Global, new: &E) -> Result<TreeMap<K, V, E, L>, AllocError>
         requires { find K.order (E.pair new.now).0 self ≡ None }
         ensures { IfOk result (λ m. m ≡ with_value K.order self (E.pair new.now).0 (Some (E.pair new.now).1)) }
     {
@@ -198,7 +210,7 @@ impl<K: Key, V: Drop, E: Held<K, V>> TreeMap<K, V, E> {
         self,
         alloc: Global,
         sought: &Q,
-    ) -> Result<TreeMap<K, V, E>, AllocError>
+    ) -> Result<TreeMap<K, V, E, L>, AllocError>
         ensures { IfOk result (λ m. m ≡ without K.order self (Q.key sought.now)) }
     {
         let had = self.has(sought);
@@ -206,7 +218,7 @@ impl<K: Key, V: Drop, E: Held<K, V>> TreeMap<K, V, E> {
     }
 
     /// Its entries, in order. It takes no memory.
-    pub fn entries(&self) -> Entries<'_, K, V, E>
+    pub fn entries(&self) -> Entries<'_, K, V, E, L>
         ensures { result ≡ self.now }
     {
         Entries::over(self.slots())

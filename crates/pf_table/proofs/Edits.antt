@@ -3,7 +3,7 @@ use Rattle.std.proofs.{Common.{◌≡◌, ℕ, ◌<◌, ◌≤◌, nat_lt, true,
 use Rattle.pf_addr.specs.Address.{IsNetwork}
 use Rattle.pf_table.specs.declared.limits.TheConstants.{TABLE_LIMIT}
 use Rattle.pf_table.specs.declared.refusal.TableRefusal.TheVariants as refusal
-use Rattle.pf_table.specs.{Entries.Row, Tables.IsTable, Edits.{added, deleted, replaced, conflict_in, edit_refusal}, Laws.Edits.{sorted_added, sorted_deleted, added_all, deleted_all, deleted_fewer}}
+use Rattle.pf_table.specs.{Entries.Row, Tables.IsTable, Searches.NoneShorter, Edits.{added, deleted, replaced, conflict_in, edit_refusal}, Laws.Edits.{sorted_added, sorted_deleted, added_all, deleted_all, deleted_fewer}}
 
 more_than : (n limit : ℕ) → limit < n → nat_lt limit n ≡ true
 more_than n limit lt = grind (arith, nat_tests)
@@ -46,3 +46,18 @@ delete_leaves_table es xs after table is = record {
   where
     no_more : (a b c : ℕ) → a ≤ b → b ≤ c → a ≤ c
     no_more a b c p q = omega arith
+
+-- ---- how short networks are
+
+pub shorter_bound : (m n : ℕ) (es : List Row) → m ≤ n → NoneShorter n es → NoneShorter m es
+shorter_bound m n es le all = λ k d lt. let low = all k d lt in omega (arith, le, low)
+
+pub add_leaves_shortest : (es xs after : List Row) (n : ℕ) → NoneShorter n es → NoneShorter n xs → after ≡ added es xs → NoneShorter n after
+add_leaves_shortest es xs after n old new is =
+    rw is (All-from_recursion _ _ (added_all (λ net. n ≤ net.len) es xs (recursion_from_All _ es old) (recursion_from_All _ xs new)))
+
+pub replace_leaves_shortest : (xs after : List Row) (n : ℕ) → NoneShorter n xs → after ≡ replaced xs → NoneShorter n after
+replace_leaves_shortest xs after n new = add_leaves_shortest [] xs after n (All-nil (λ e. n ≤ e.0.len)) new
+
+pub delete_leaves_shortest : (es xs after : List Row) (n : ℕ) → NoneShorter n es → after ≡ deleted es xs → NoneShorter n after
+delete_leaves_shortest es xs after n old is = rw is (All-from_recursion _ _ (deleted_all (λ net. n ≤ net.len) es xs (recursion_from_All _ es old)))

@@ -1,11 +1,16 @@
 -- Of the entries that contain an address the one with the longest front decides.
-use Rattle.std.proofs.{Common.{◌≡◌, ◌≢◌, ℕ, zero, suc, ◌-◌, ◌*◌, ◌/◌, ◌^◌, ◌<◌, ◌≤◌, ◌==◌, bit_xor, nat_lt, Bool, true, false, not, cond, ◌&&◌, List, [], ◌∷◌, Option, Some, None, is_some, refl, sym, ap, ◌∙◌, subst, true≢false, arith, ◌⊎◌, inl, inr}, lemmas.{Bool.Decides.{nat_tests, Decides-eqb}, Cmp.{nat_cmp_total, ranked}, Map.Keys.ge_from_not_lt, Nat.shl-shr, List.Elements.All-contains}, Math.Nat.div-mul-le_self}
+use Rattle.std.proofs.{Common.{append_assoc, append-nil, ◌≡◌, ◌≢◌, ℕ, zero, suc, ◌-◌, ◌*◌, ◌/◌, ◌^◌, ◌<◌, ◌≤◌, ◌==◌, bit_xor, nat_lt, Bool, true, false, not, cond, ◌&&◌, List, [], ◌∷◌, ◌++◌, length, get_or, map, Option, Some, None, is_some, refl, sym, ap, ◌∙◌, subst, true≢false, arith, ◌⊎◌, inl, inr}, lemmas.{Bool.Decides.{nat_tests, Decides-eqb}, Cmp.{nat_cmp_total, ranked}, Map.Keys.ge_from_not_lt, Nat.shl-shr, List.Elements.{All-contains, Contains-append_left, Contains-append_right, Contains-append_cases}}, Math.Nat.div-mul-le_self}
 use Rattle.std.specs.{List.{Contains, All}, Ordering.{is_eq, is_lt, nat_cmp, ordering_then, ordering_reverse}, Cmp.tied_itself, Int.Count.count_leading_zeros}
 use Rattle.pf_addr.specs.{declared.{addr.Addr.Addr, addr.Family.Family, addr.Family.TheVariants.V4, addr.Family.TheVariants.V6}, Address.{Network, IsNetwork, contains, same_family, family_of, width, number_in, first_bits, network_from}, Spelling.{addr_in, first_addr}, NetForms.first_number}
 use Rattle.pf_addr.specs.declared.addr.Addr.TheVariants as addr
 use Rattle.pf_table.specs.{Entries.Row, Shared.Share, Tables.{sign_of, Decides, longer, deciding}}
 use Rattle.pf_map.specs.{Networks.{rank, net_order}, NetworkLaws.net_total}
-use Rattle.pf_map.specs.Maps.{at_or_before, last_where}
+use Rattle.pf_map.specs.{Maps.{at_or_before, last_where}, Parts.{joined, starts_behind, first_of as first_of_page, IsUpTo, FollowsFrom}}
+use Rattle.pf_map.proofs.Parts.{sorted_up_to}
+use Rattle.pf_lanes.specs.Longest.{FindsLongest}
+use Rattle.std.specs.Prelude.{slice_get, MatchOption}
+use Rattle.std.proofs.lemmas.{List.map-id, List.Concat.flat_map-append}
+use Rattle.pf_table.specs.{declared.columns.PageColumns.PageColumns, PageColumns.AreOf, Searches.{NoneShorter, NoneContains, IsLongest, IsLast}}
 use Rattle.std.specs.declared.cmp.Ordering.{Ordering, TheVariants.Less, TheVariants.Equal, TheVariants.Greater}
 use Rattle.pf_table.proofs.{Prefixes.{cut_off, cut_less, between, share_fewer, shared_bits}, Sorted.{sorted, below_at}}
 use Rattle.pf_map.proofs.Tests.{first_of, second_of}
@@ -175,7 +180,7 @@ abbrev up_to : Network → Row → Bool
 up_to net e = not (is_lt (net_order net e.0))
 
 -- where an entry isn't behind a network, it isn't by family, first address and length, in this order
-record IsUpTo (net f : Network) : Type 0 where
+record IsNotBehind (net f : Network) : Type 0 where
   family : rank f.family ≤ rank net.family
   first : rank f.family ≡ rank net.family → first_number f ≤ first_number net
   len : rank f.family ≡ rank net.family → first_number f ≡ first_number net → f.len ≤ net.len
@@ -188,7 +193,7 @@ not_less Greater s e = (refl, λ tied. absurd (true≢false (sym (ap is_eq tied)
 tied_numbers : (m n : ℕ) → m ≡ n → nat_cmp n m ≡ Equal
 tied_numbers m n same = subst (λ (k : ℕ). nat_cmp n k ≡ Equal) (sym same) (tied_itself nat_cmp_total n)
 
-by_parts : (net f : Network) → is_lt (net_order net f) ≡ false → IsUpTo net f
+by_parts : (net f : Network) → is_lt (net_order net f) ≡ false → IsNotBehind net f
 unfolding net_order
 by_parts net f is =
     let (family, behind) = not_less _ _ is in
@@ -215,12 +220,6 @@ from_parts net f family first len = rw (tied_numbers _ _ family) (by (nat_cmp (f
   by Equal is = not_before net.len f.len len (nat_cmp net.len f.len) refl
   by Greater is = refl
 
--- what stands before an entry that isn't behind a network isn't either
-record IsLastUpTo (net : Network) (es : List Row) (e : Row) : Type 0 where
-  member : Contains es e
-  up_to : is_lt (net_order net e.0) ≡ false
-  last : (f : Row) → Contains es f → is_lt (net_order net f.0) ≡ false → is_lt (net_order e.0 f.0) ≡ false
-
 none_up_to : (net : Network) (es : List Row) → at_or_before net_order net es ≡ None → (f : Row) → Contains es f →
     is_lt (net_order net f.0) ≡ true
 none_up_to net [] is f (k, lt, at) = absurd (omega arith)
@@ -233,45 +232,17 @@ none_up_to net (e ∷ es) is f there = by (last_where (up_to net) es) refl (is_l
   by None none true here rest (zero, lt, at) = ap (λ (x : Row). is_lt (net_order net x.0)) (sym at) ∙ here
   by None none true here rest (suc k, lt, at) = rest none f (k, omega arith, at)
 
-last_up_to : (net : Network) (es : List Row) (e : Row) → sorted es → at_or_before net_order net es ≡ Some e → IsLastUpTo net es e
-last_up_to net [] e order is = absurd (true≢false (sym (ap is_some is)))
-last_up_to net (x ∷ es) e order is =
-    by (last_where (up_to net) es) refl (is_lt (net_order net x.0)) refl (last_up_to net es e (second_of _ _ order)) where
-      before : IsLastUpTo net es e → (f : Row) → Contains (x ∷ es) f → is_lt (net_order net f.0) ≡ false → is_lt (net_order e.0 f.0) ≡ false
-      before behind f (zero, lt, at) holds =
-          let (k, within, there) = behind.member in
-          let less : net_order x.0 e.0 ≡ Less = ap (λ (y : Row). net_order x.0 y.0) (sym there)
-          ∙ below_at x.0 es k e (first_of _ _ order) within in
-          subst (λ (y : Row). is_lt (net_order e.0 y.0) ≡ false) at (ap is_lt (net_total.antisymm e.0 x.0 ∙ ap ordering_reverse less))
-      before behind f (suc k, lt, at) holds = behind.last f (k, omega arith, at) holds
-
-      alone : last_where (up_to net) es ≡ None → x ≡ e → (f : Row) → Contains (x ∷ es) f → is_lt (net_order net f.0) ≡ false →
-          is_lt (net_order e.0 f.0) ≡ false
-      alone none same f (zero, lt, at) holds =
-          subst (λ (y : Row). is_lt (net_order e.0 y.0) ≡ false) (sym same ∙ at) (ap is_lt (tied_itself net_total e.0))
-      alone none same f (suc k, lt, at) holds = absurd (true≢false (sym (none_up_to net es none f (k, omega arith, at)) ∙ holds))
-
-      by : (o : Option Row) → last_where (up_to net) es ≡ o → (t : Bool) → is_lt (net_order net x.0) ≡ t →
-          (last_where (up_to net) es ≡ Some e → IsLastUpTo net es e) → IsLastUpTo net (x ∷ es) e
-      by (Some y) found t here rest =
-          let same : Some y ≡ Some e = rw found at is in
-          let behind = rest (found ∙ same) in
-          record { member = later x e es behind.member; up_to = behind.up_to; last = λ f at_ holds. before behind f at_ holds }
-      by None none true here rest = let gone : None ≡ Some e = rw (none, here) at is in absurd (true≢false (sym (ap is_some gone)))
-      by None none false here rest =
-          let same : x ≡ e = let own : Some x ≡ Some e = rw (none, here) at is in inside x e own in
-          record {
-            member = (0, omega arith, same);
-            up_to = subst (λ (y : Row). is_lt (net_order net y.0) ≡ false) same here;
-            last =
-                λ f at_ holds. alone none same f at_ holds;
-          }
-
 -- ---- looking for the entry that decides, from the longest front down
 
 -- no entry that contains the address has a longer front than this
 abbrev pub NoneLonger : List Row → Addr → ℕ → Type 0
 NoneLonger es a len = (f : Row) → Contains es f → contains f.0 a ≡ true → f.0.len ≤ len
+
+-- an entry that isn't behind the network of an address's first bits, and that those that contain the address aren't behind
+pub record Passes (a : Addr) (len : ℕ) (es : List Row) (e : Row) : Type 0 where
+  pub up_to : is_lt (net_order (network_from a len) e.0) ≡ false
+  pub other : contains e.0 a ≡ false
+  pub last : (f : Row) → Contains es f → contains f.0 a ≡ true → is_lt (net_order e.0 f.0) ≡ false
 
 -- a network that contains an address is of its family, and its first address is the address cut to its front
 record Holds (n : Network) (a : Addr) : Type 0 where
@@ -330,46 +301,92 @@ none_left es a len most is = by (deciding es a) refl where
       let (there, holds) = is_there es a e found in
       absurd (true≢false (sym (none_up_to (network_from a len) es is e there) ∙ contains_up_to e.0 a len holds (most e there holds)))
 
-pub longest_holds : (es : List Row) (a : Addr) (len : ℕ) (e : Row) → sorted es → NoneLonger es a len →
-    at_or_before net_order (network_from a len) es ≡ Some e → contains e.0 a ≡ true → deciding es a ≡ Some e
-longest_holds es a len e order most is holds =
-    let last = last_up_to (network_from a len) es e order is in
-    decided es a e order (record {
-      member = last.member;
-      holds = holds;
-      longest =
-          λ f there of_f other. shorter_front last f there of_f other (nat_lt f.0.len e.0.len) refl;
-    })
-  where
-    shorter_front : IsLastUpTo (network_from a len) es e → (f : Row) → Contains es f → contains f.0 a ≡ true → f ≢ e → (t : Bool) →
-        nat_lt f.0.len e.0.len ≡ t → f.0.len < e.0.len
-    shorter_front last f there of_f other true lt = grind (arith, nat_tests)
-    shorter_front last f there of_f other false ge =
-        let more : e.0.len ≤ f.0.len = grind (arith, nat_tests) in
-        let mine = holds_of e.0 a holds in
-        let own = holds_of f.0 a of_f in
-        let parts = by_parts e.0 f.0 (last.last f there (contains_up_to f.0 a len of_f (most f there of_f))) in
-        let family : rank f.0.family ≡ rank e.0.family = ap rank (own.family ∙ sym mine.family) in
-        let up : first_number e.0 ≤ first_number f.0 =
-        subst (λ (m : ℕ). m ≤ first_number f.0) (sym mine.first)
-        (subst (λ (m : ℕ). cut_off (width (family_of a) - e.0.len) (number_in a) ≤ m) (sym own.first)
-        (cut_less (width (family_of a) - f.0.len) (width (family_of a) - e.0.len) (number_in a) (omega (arith, more)))) in
-        let first : first_number f.0 ≡ first_number e.0 = omega (arith, up, parts.first family) in
-        let same : f.0.len ≡ e.0.len = omega (arith, more, parts.len family first) in
-        absurd (other (one_entry es f e order there last.member (one_network f.0 e.0 a of_f holds same)))
+-- of two entries that contain the address the one that isn't behind has the shorter front
+shorter_front : (es : List Row) (a : Addr) (e f : Row) → sorted es → Contains es e → Contains es f → contains e.0 a ≡ true → contains f.0 a ≡ true →
+    is_lt (net_order e.0 f.0) ≡ false → f ≢ e → f.0.len < e.0.len
+shorter_front es a e f order at_e at_f holds of_f up_to other = by (nat_lt f.0.len e.0.len) refl where
+  by : (t : Bool) → nat_lt f.0.len e.0.len ≡ t → f.0.len < e.0.len
+  by true lt = grind (arith, nat_tests)
+  by false ge =
+      let more : e.0.len ≤ f.0.len = grind (arith, nat_tests) in
+      let mine = holds_of e.0 a holds in
+      let own = holds_of f.0 a of_f in
+      let parts = by_parts e.0 f.0 up_to in
+      let family : rank f.0.family ≡ rank e.0.family = ap rank (own.family ∙ sym mine.family) in
+      let up : first_number e.0 ≤ first_number f.0 =
+      subst (λ (m : ℕ). m ≤ first_number f.0) (sym mine.first)
+      (subst (λ (m : ℕ). cut_off (width (family_of a) - e.0.len) (number_in a) ≤ m) (sym own.first)
+      (cut_less (width (family_of a) - f.0.len) (width (family_of a) - e.0.len) (number_in a) (omega (arith, more)))) in
+      let first : first_number f.0 ≡ first_number e.0 = omega (arith, up, parts.first family) in
+      let same : f.0.len ≡ e.0.len = omega (arith, more, parts.len family first) in
+      absurd (other (one_entry es f e order at_f at_e (one_network f.0 e.0 a of_f holds same)))
 
-pub other_family : (es : List Row) (a : Addr) (len : ℕ) (e : Row) → sorted es → NoneLonger es a len →
-    at_or_before net_order (network_from a len) es ≡ Some e → e.0.family ≢ family_of a → deciding es a ≡ None
-other_family es a len e order most is other = by (deciding es a) refl where
+-- ---- the page of the last entry that isn't behind a network
+
+-- what stands in front isn't behind what comes later
+in_front : (front page back : List Row) (e f : Row) → sorted (front ++ (page ++ back)) → Contains front f → Contains page e → is_lt (net_order e.0 f.0) ≡ false
+in_front [] page back e f order (k, lt, at) at_e = absurd (omega arith)
+in_front (x ∷ front) page back e f order (zero, lt, at) at_e =
+    let (k, within, there) = Contains-append_right front (page ++ back) e (Contains-append_left page back e at_e) in
+    let less : net_order x.0 e.0 ≡ Less = ap (λ (y : Row). net_order x.0 y.0) (sym there)
+    ∙ below_at x.0 (front ++ (page ++ back)) k e (first_of _ _ order) within in
+    subst (λ (y : Row). is_lt (net_order e.0 y.0) ≡ false) at (ap is_lt (net_total.antisymm e.0 x.0 ∙ ap ordering_reverse less))
+in_front (x ∷ front) page back e f order (suc k, lt, at) at_e = in_front front page back e f (second_of _ _ order) (k, omega arith, at) at_e
+
+module _ (es page : List Row) (a : Addr) (len : ℕ) (order : sorted es) (most : NoneLonger es a len) (at : IsUpTo net_order (network_from a len) page es) where
+  -- an entry that contains the address stands in front of the page or in it
+  in_front_or_in : (f : Row) → Contains es f → contains f.0 a ≡ true → Contains at.front f ⊎ Contains page f
+  in_front_or_in f there holds = elim (Contains-append_cases at.front (page ++ at.back) f (subst (λ l. Contains l f) at.around there)) [
+    | inl front ↦ inl front
+    | inr later_ ↦ elim (Contains-append_cases page at.back f later_) [
+      | inl own ↦ inr own
+      | inr back ↦ absurd (true≢false (sym (none_up_to (network_from a len) at.back at.behind f back) ∙ contains_up_to f.0 a len holds (most f there holds)))
+    ]
+  ]
+
+  of_page : (e : Row) → Contains page e → Contains es e
+  of_page e at_e = subst (λ l. Contains l e) (sym at.around) (Contains-append_right at.front (page ++ at.back) e (Contains-append_left page at.back e at_e))
+
+  front_order : sorted (at.front ++ (page ++ at.back))
+  front_order = subst sorted at.around order
+
+  -- the longest of the page decides
+  page_decides : (e : Row) → Contains page e → contains e.0 a ≡ true → ((f : Row) → Contains page f → contains f.0 a ≡ true → f.0.len ≤ e.0.len) →
+      deciding es a ≡ Some e
+  page_decides e at_e holds longest = decided es a e order (record {
+    member = of_page e at_e;
+    holds = holds;
+    longest = λ f there of_f other. elim (in_front_or_in f there of_f) [
+      | inl front ↦ shorter_front es a e f order (of_page e at_e) there holds of_f (in_front at.front page at.back e f (front_order) front at_e) other
+      | inr own ↦ elim (lower_or_same f.0.len e.0.len (longest f own of_f)) [
+        | inl lt ↦ lt
+        | inr same ↦ absurd (other (one_entry es f e order there (of_page e at_e) (one_network f.0 e.0 a of_f holds same)))
+      ]
+    ];
+  })
+
+  -- where no entry of the page contains the address, those that do stand in front of its first entry
+  page_passes : (e : Row) (rest : List Row) → page ≡ e ∷ rest → ((f : Row) → Contains page f → contains f.0 a ≡ false) → Passes a len es e
+  page_passes e rest is none = record {
+    up_to = subst (λ l. starts_behind net_order (network_from a len) l ≡ false) is at.starts;
+    other = none e first;
+    last = λ f there holds. elim (in_front_or_in f there holds) [
+      | inl front ↦ in_front at.front page at.back e f (front_order) front first
+      | inr own ↦ absurd (true≢false (sym holds ∙ none f own))
+    ];
+  } where
+    first : Contains page e
+    first = subst (λ l. Contains l e) (sym is) (0, omega arith, refl)
+
+pub other_family : (es : List Row) (a : Addr) (len : ℕ) (e : Row) → NoneLonger es a len → Passes a len es e → e.0.family ≢ family_of a → deciding es a ≡ None
+other_family es a len e most passes other = by (deciding es a) refl where
   by : (o : Option Row) → deciding es a ≡ o → o ≡ None
   by None none = refl
   by (Some f) found =
       let (there, holds) = is_there es a f found in
-      let last = last_up_to (network_from a len) es e order is in
       let own = holds_of f.0 a holds in
-      let low : rank f.0.family ≤ rank e.0.family =
-      (by_parts e.0 f.0 (last.last f there (contains_up_to f.0 a len holds (most f there holds)))).family in
-      let high : rank e.0.family ≤ rank (family_of a) = (by_parts (network_from a len) e.0 last.up_to).family in
+      let low : rank f.0.family ≤ rank e.0.family = (by_parts e.0 f.0 (passes.last f there holds)).family in
+      let high : rank e.0.family ≤ rank (family_of a) = (by_parts (network_from a len) e.0 passes.up_to).family in
       let same : rank f.0.family ≡ rank (family_of a) = ap rank own.family in
       absurd (other (same_rank e.0.family (family_of a) (omega (arith, low, high, same))))
 
@@ -381,18 +398,14 @@ first_number_in : (f : Family) (n : ℕ) → number_in (addr_in f n) ≡ n
 first_number_in V4 n = refl
 first_number_in V6 n = refl
 
-pub shorter : (es : List Row) (a : Addr) (len : ℕ) (e : Row) (n : ℕ) → sorted es → All (λ f. IsNetwork f.0) es →
-    len ≤ width (family_of a) → NoneLonger es a len → at_or_before net_order (network_from a len) es ≡ Some e → contains e.0 a ≡ false →
+pub shorter : (es : List Row) (a : Addr) (len : ℕ) (e : Row) (n : ℕ) → All (λ f. IsNetwork f.0) es → len ≤ width (family_of a) → Passes a len es e →
     Share a (first_addr e.0) n → NoneLonger es a n × (n < len)
-shorter es a len e n order networks le most is other share = (none_more, fewer (nat_lt n len) refl) where
-  found : IsLastUpTo (network_from a len) es e
-  found = last_up_to (network_from a len) es e order is
-
+shorter es a len e n networks le passes share = (none_more, fewer (nat_lt n len) refl) where
   family : e.0.family ≡ family_of a
   family = sym (share.family ∙ first_family e.0.family (first_number e.0))
 
-  parts : IsUpTo (network_from a len) e.0
-  parts = by_parts (network_from a len) e.0 (found).up_to
+  parts : IsNotBehind (network_from a len) e.0
+  parts = by_parts (network_from a len) e.0 passes.up_to
 
   w : ℕ
   w = width (family_of a)
@@ -409,7 +422,7 @@ shorter es a len e n order networks le most is other share = (none_more, fewer (
       let own = holds_of f.0 a holds in
       let within : f.0.len ≤ w =
       subst (λ (g : Family). f.0.len ≤ width g) own.family (All-contains (λ g. IsNetwork g.0) es f networks there).len in
-      let behind = by_parts e.0 f.0 ((found).last f there (contains_up_to f.0 a len holds (most f there holds))) in
+      let behind = by_parts e.0 f.0 (passes.last f there holds) in
       let up : cut_off (w - f.0.len) (number_in a) ≤ first_number e.0 =
       subst (λ (m : ℕ). m ≤ first_number e.0) own.first (behind.first (ap rank (own.family ∙ sym family))) in
       let whole : first_number e.0 ≤ number_in a = omega (arith, low, div-mul-le_self (number_in a) (2 ^ (w - len))) in
@@ -428,7 +441,133 @@ shorter es a len e n order networks le most is other share = (none_more, fewer (
       let front : number_in a / 2 ^ (w - e.0.len) ≡ e.0.front =
       share_fewer (w - n) (w - e.0.len) (number_in a) (first_number e.0) (omega (arith, more, short)) (share.shared ∙ shared n)
       ∙ ap (λ (f : Family). e.0.front * 2 ^ (width f - e.0.len) / 2 ^ (w - e.0.len)) family ∙ shl-shr e.0.front (w - e.0.len) in
-      absurd (true≢false (sym (holds_from e.0 a family front) ∙ other))
+      absurd (true≢false (sym (holds_from e.0 a family front) ∙ passes.other))
+
+-- ---- what is found in a page
+
+get_net : (es : List Row) (i : ℕ) (n : Network) (e : Row) → slice_get (map (λ x. x.0) es) i ≡ Some n → e ≡ get_or es i e → Contains es e × (e.0 ≡ n)
+get_net [] i n e is at = absurd (cc (is))
+get_net (x ∷ es) zero n e is at = let same : x.0 ≡ n = cc (is) in ((0, omega arith, sym at), ap (λ (y : Row). y.0) at ∙ same)
+get_net (x ∷ es) (suc i) n e is at = let (there, same) = get_net es i n e is at in (later x e es there, same)
+
+contains_net : (es : List Row) (e : Row) → Contains es e → Contains (map (λ x. x.0) es) e.0
+contains_net [] e (k, lt, at) = absurd (omega arith)
+contains_net (x ∷ es) e (zero, lt, at) = (0, omega arith, ap (λ (y : Row). y.0) at)
+contains_net (x ∷ es) e (suc k, lt, at) = let (i, within, there) = contains_net es e (k, omega arith, at) in (suc i, omega arith, there)
+
+-- what is found has a place in the page
+pub place_within : (es : List Row) (a : Addr) (i : ℕ) → FindsLongest (map (λ x. x.0) es) a (Some i) → i < length es
+place_within es a i found = within es i found.here where
+  within : (es : List Row) (i : ℕ) → slice_get (map (λ x. x.0) es) i ≡ Some found.net → i < length es
+  within [] i is = absurd (cc (is))
+  within (x ∷ es) zero is = omega arith
+  within (x ∷ es) (suc i) is = let rest = within es i is in omega arith
+
+pub longest_found : (es : List Row) (a : Addr) (i : ℕ) (e : Row) → FindsLongest (map (λ x. x.0) es) a (Some i) → e ≡ get_or es i e → IsLongest es a e
+longest_found es a i e found is =
+    let (there, same) = get_net es i found.net e found.here is in
+    record {
+      member = there;
+      holds = ap (λ n. contains n a) same ∙ found.holds;
+      longest = λ f at_f of_f. subst (λ (n : Network). f.0.len ≤ n.len) (sym same)
+          (All-contains (λ n. contains n a ≡ true → n.len ≤ found.net.len) (map (λ x. x.0) es) f.0 found.longest (contains_net es f at_f) of_f);
+    }
+
+pub none_found : (es : List Row) (a : Addr) → FindsLongest (map (λ x. x.0) es) a None → NoneContains es a
+none_found es a none f at_f = All-contains (λ n. contains n a ≡ false) (map (λ x. x.0) es) f.0 none (contains_net es f at_f)
+
+-- a page of which the entries behind a front don't contain the address
+pub record Behind (page front : List Row) (a : Addr) : Type 0 where
+  pub back : List Row
+  pub around : page ≡ front ++ back
+  pub none_behind : NoneContains back a
+
+pub behind_nothing : (page front : List Row) (a : Addr) → front ≡ page → Behind page front a
+behind_nothing page front a is = record { back = []; around = sym is ∙ sym (append-nil front); none_behind = λ e (k, lt, at). absurd (omega arith) }
+
+pub behind_all : (page front : List Row) (a : Addr) → Behind page front a → front ≡ [] → NoneContains page a
+behind_all page front a behind is = subst (λ l. NoneContains l a) (sym (behind.around ∙ ap (λ l. l ++ behind.back) is)) behind.none_behind
+
+module _ (page : List Row) (front : List (List Row)) (slot : List Row) (a : Addr) (e : Row) (one : e ∷ [] ≡ slot) (behind : Behind page (joined (front ++ slot ∷ [])) a) where
+  last_out : page ≡ joined front ++ (e ∷ behind.back)
+  last_out =
+      behind.around ∙ ap (λ s. joined (front ++ s ∷ []) ++ behind.back) (sym one)
+      ∙ ap (λ z. z ++ behind.back) (flat_map-append (λ part. part) front ((e ∷ []) ∷ []))
+      ∙ append_assoc (joined front) (e ∷ []) behind.back
+
+  pub is_last : contains e.0 a ≡ true → IsLast page a e
+  is_last holds = record { front = joined front; back = behind.back; around = last_out; holds = holds; none_behind = behind.none_behind }
+
+  pub one_more_behind : contains e.0 a ≡ false → Behind page (joined front) a
+  one_more_behind other = record { back = e ∷ behind.back; around = last_out; none_behind = none } where
+    none : NoneContains (e ∷ behind.back) a
+    none f (zero, lt, at) = ap (λ (x : Row). contains x.0 a) (sym at) ∙ other
+    none f (suc k, lt, at) = behind.none_behind f (k, omega arith, at)
+
+-- the last is the longest
+pub last_longest : (es : List Row) (a : Addr) (e : Row) → sorted es → IsLast es a e → IsLongest es a e
+last_longest es a e order last = record { member = member; holds = last.holds; longest = longest } where
+  member : Contains es e
+  member = subst (λ l. Contains l e) (sym last.around) (Contains-append_right last.front (e ∷ last.back) e (0, omega arith, refl))
+
+  own : (f : Row) → Contains (e ∷ last.back) f → contains f.0 a ≡ true → f.0.len ≤ e.0.len
+  own f (zero, lt, at) of_f = subst (λ (x : Row). x.0.len ≤ e.0.len) at (omega arith)
+  own f (suc k, lt, at) of_f = absurd (true≢false (sym of_f ∙ last.none_behind f (k, omega arith, at)))
+
+  no_longer : (f : Row) → Contains es f → Contains last.front f → contains f.0 a ≡ true → (t : Bool) → nat_lt e.0.len f.0.len ≡ t → f.0.len ≤ e.0.len
+  no_longer f there front of_f false ge = grind (arith, nat_tests)
+  no_longer f there front of_f true lt =
+      let more : e.0.len < f.0.len = grind (arith, nat_tests) in
+      let up_to = in_front last.front (e ∷ []) last.back e f (subst sorted last.around order) front (0, omega arith, refl) in
+      let less = shorter_front es a e f order member there last.holds of_f up_to (λ same. absurd (omega (arith, more, ap (λ (x : Row). x.0.len) same))) in
+      omega (arith, less)
+
+  longest : (f : Row) → Contains es f → contains f.0 a ≡ true → f.0.len ≤ e.0.len
+  longest f there of_f = elim (Contains-append_cases last.front (e ∷ last.back) f (subst (λ l. Contains l f) last.around there)) [
+    | inl front ↦ no_longer f there front of_f (nat_lt e.0.len f.0.len) refl
+    | inr later_ ↦ own f later_ of_f
+  ]
+
+pub longest_of_last : (es : List Row) (a : Addr) (found : Option Row) → sorted es → MatchOption found (NoneContains es a) (IsLast es a) →
+    MatchOption found (NoneContains es a) (IsLongest es a)
+longest_of_last es a None order none = none
+longest_of_last es a (Some e) order last = last_longest es a e order last
+
+-- what stands beside a page is of its entries
+pub beside_is : (cols : PageColumns) (page : List Row) → FollowsFrom {E = Row} {K = Network} {X = Bool} (λ e. e) AreOf cols page → AreOf cols page
+beside_is cols page beside = subst (AreOf cols) (sym (map-id beside.entries) ∙ beside.pairs) beside.follows_from
+
+module _ (es page : List Row) (a : Addr) (len : ℕ) (key : Network) (order : sorted es) (most : NoneLonger es a len) (key_is : key ≡ network_from a len)
+    (at : IsUpTo net_order key page es) where
+  here : IsUpTo net_order (network_from a len) page es
+  here = subst (λ (n : Network). IsUpTo net_order n page es) key_is at
+
+  pub page_sorted : sorted page
+  page_sorted = sorted_up_to net_order key page es at order
+
+  pub longest_decides : (e : Row) → IsLongest page a e → deciding es a ≡ Some e
+  longest_decides e is = page_decides es page a len order most here e is.member is.holds is.longest
+
+  pub first_passes : (e : Row) → first_of_page page ≡ Some e → NoneContains page a → Passes a len es e
+  first_passes e first none = page_passes es page a len order most here e (rest page) (begins page first) none where
+    rest : List Row → List Row
+    rest [] = []
+    rest (x ∷ xs) = xs
+
+    begins : (p : List Row) → first_of_page p ≡ Some e → p ≡ e ∷ rest p
+    begins [] is = absurd (cc (is))
+    begins (x ∷ xs) is = ap (λ y. y ∷ xs) (inside x e is)
+
+-- where each entry that contains the address has fewer bits than any entry has, there is none
+pub none_so_short : (es : List Row) (a : Addr) (len n : ℕ) → NoneLonger es a len → NoneShorter n es → len < n → deciding es a ≡ None
+none_so_short es a len n most short lt = by (deciding es a) refl where
+  by : (o : Option Row) → deciding es a ≡ o → o ≡ None
+  by None none = refl
+  by (Some e) found =
+      let (there, holds) = is_there es a e found in
+      let low : e.0.len ≤ len = most e there holds in
+      let high : n ≤ e.0.len = All-contains (λ e. n ≤ e.0.len) es e short there in
+      absurd (omega (arith, low, high, lt))
 
 -- ---- how many first bits two addresses share
 

@@ -1,6 +1,6 @@
 -- Entries in order.
-use Rattle.std.proofs.Common.{◌≡◌, ℕ, zero, suc, T, Bool, true, false, ◌&&◌, List, [], ◌∷◌, length, refl, ◌<◌, get_or, arith}
-use Rattle.std.specs.{declared.{cmp.Ordering.Ordering, cmp.Ordering.TheVariants.Less, cmp.Ordering.TheVariants.Equal, cmp.Ordering.TheVariants.Greater}, FinMap.is_sorted, FinMap.Entries.below_all, Ordering.is_lt}
+use Rattle.std.proofs.Common.{◌≡◌, ℕ, zero, suc, T, List, [], ◌∷◌, length, ◌<◌, get_or, arith}
+use Rattle.std.specs.{declared.{cmp.Ordering.TheVariants.Less}, FinMap.is_sorted, FinMap.Entries.below_all}
 use Rattle.pf_addr.specs.Address.{Network}
 use Rattle.pf_table.specs.Entries.{Row}
 use Rattle.pf_map.specs.Networks.{net_order}

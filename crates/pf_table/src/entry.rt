@@ -3,12 +3,9 @@ ghost use Rattle.std.specs.Prelude.{◌≡◌};
 ghost use Rattle.pf_addr.specs.Address.{IsNetwork};
 
 use pf_addr::Net;
-use pf_map::{Held, TreeMap};
+use pf_map::Held;
 use std::alloc::AllocError;
 use std::marker::Model;
-
-/// Entries in the order of their networks, each by itself in its page.
-pub(crate) type EntryMap = TreeMap<Net, bool, Entry>;
 
 /// A network in a table, plain or negated. Contracts see the pair of the network and whether it is negated.
 #[derive(Clone, Copy)]

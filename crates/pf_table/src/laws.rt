@@ -1,6 +1,6 @@
 //! What follows from the definitions that contracts cite: functions that do nothing, whose contracts are the laws.
 ghost use Rattle.std.specs.{Prelude.{◌≡◌, T, true, List, map}, Cmp.IsTotalOrder, FinMap.{IsAntisymmetric, is_sorted}};
-ghost use Rattle.pf_addr.specs.{Address.IsNetwork, Bytes.Forms.Fits, Bytes.Lists.{ordered, in_order}};
+ghost use Rattle.pf_addr.specs.{Address.IsNetwork, Bytes.Forms.{Fits, length_of}, Bytes.Lists.{ordered, in_order}};
 ghost use Rattle.pf_table.specs.declared.limits.TheConstants.{TABLE_LIMIT};
 ghost use Rattle.pf_table.specs.{Entries.Row, Tables.IsTable, EntryForms.{entry, plain_entry, entry_of, entry_before}, Laws.Tables.{TableDecides, TableMatches, FamiliesApart, OneTable, AddsWhatIsNamed, DeletesWhatIsNamed, HoldsTheList, AllElseStays, StaysTable, OneAnswerEach, AnswersInOrder, CountsWhatChanged, RepeatsChangeNothing, TellsTheFirstConflict}};
 ghost use Rattle.pf_map.specs.Networks.{net_order};
@@ -61,11 +61,12 @@ pub fn the_first_conflict_is_told()
 {}
 
 /// Each entry can be written in bytes, and they tell it. So can a table's entries in their order behind their number, and entries that
-/// are read in that order are a table's.
-#[tactic(auto, using(crate::specs::Laws::EntryForms::entry_fits, crate::specs::Laws::EntryForms::entry_again, crate::proofs::TableRows::in_order_is))]
+/// are read in that order are a table's. An entry takes 20 bytes.
+#[tactic(auto, using(crate::specs::Laws::EntryForms::entry_fits, crate::specs::Laws::EntryForms::entry_again, crate::specs::Laws::EntryForms::entry_long, crate::proofs::TableRows::in_order_is))]
 pub fn entries_have_bytes_of_their_own()
     ensures fits { (e : Row) → IsNetwork e.0 → Fits entry (plain_entry e) }
     ensures again { (e : Row) → entry_of (plain_entry e) ≡ e }
+    ensures length { (e : Row) → length_of entry (plain_entry e) ≡ 20 }
     ensures table { (es : List Row) → IsTable es → Fits (ordered entry_before 4 entry) (map plain_entry es) }
     ensures sorted { (es : List Row) → in_order entry_before (map plain_entry es) ≡ true → T (is_sorted net_order es) }
 {}

@@ -14,6 +14,7 @@
 mod answer;
 mod batch;
 mod change;
+mod columns;
 mod content;
 mod entry;
 mod entry_form;
@@ -24,6 +25,7 @@ mod refusal;
 mod table;
 
 pub use answer::{Addition, Deletion};
+pub use columns::{PageColumns, TablePage};
 pub use entry::Entry;
 pub use limits::TABLE_LIMIT;
 pub use refusal::TableRefusal;

@@ -1,10 +1,13 @@
 //! Which entry decides about an address.
-ghost use Rattle.std.specs.Prelude.{◌≡◌, ◌≢◌, MatchOption};
+ghost use Rattle.std.specs.{Prelude.{◌≡◌, ◌≢◌, T, map, MatchOption}, FinMap.is_sorted};
 ghost use Rattle.pf_addr.specs.Address.{family_of};
-ghost use Rattle.pf_table.specs.{Tables.{IsTable, deciding}, Shared.Share};
+ghost use Rattle.pf_map.specs.Networks.{net_order};
+ghost use Rattle.pf_table.specs.{Tables.{IsTable, deciding}, Searches.{NoneShorter, NoneContains, IsLongest, IsLast}, Shared.Share};
 
-use crate::entry::{Entry, EntryMap};
+use crate::columns::{EntryMap, PageColumns, TablePage};
+use crate::entry::Entry;
 use pf_addr::{Addr, Net};
+use pf_lanes::longest;
 
 // How many first bits two addresses share. None: they are of different families.
 fn shared_bits(one: Addr, other: Addr) -> Option<u8>
@@ -17,21 +20,61 @@ fn shared_bits(one: Addr, other: Addr) -> Option<u8>
     }
 }
 
+// Of the entries of a page's columns that contain an address a longest one.
+fn in_columns(columns: &PageColumns, addr: Addr) -> Option<Entry>
+    requires { columns.now.nets ≡ map (λ e. e.0) columns.now.entries.items }
+    ensures { MatchOption result (NoneContains columns.now.entries.items addr) (IsLongest columns.now.entries.items addr) }
+{
+    let place = longest(&columns.nets, addr)?;
+    Some(columns.entries[place])
+}
+
+// Of a page's entries that contain an address the last one.
+fn from_the_end(page: &TablePage, addr: Addr) -> Option<Entry>
+    ensures { MatchOption result (NoneContains page.now addr) (IsLast page.now addr) }
+{
+    let mut rest = page.entries();
+    while let Some((slot, front)) = rest.split_last() {
+        let entry = slot.part().entry();
+        if entry.net().contains(addr) {
+            return Some(*entry);
+        }
+        rest = front;
+    }
+    None
+}
+
+// Of a page's entries that contain an address one with the longest prefix, by its columns or else from the end on: of networks that
+// contain an address the longer stands behind.
+fn longest_in(page: &TablePage, addr: Addr) -> Option<Entry>
+    requires { T (is_sorted net_order page.now) }
+    ensures { MatchOption result (NoneContains page.now addr) (IsLongest page.now addr) }
+{
+    match page.beside() {
+        Some(columns) => in_columns(columns, addr),
+        None => from_the_end(page, addr),
+    }
+}
+
 /// The entry that decides about an address: of those that contain it the one with the longest prefix. It takes no memory.
 ///
-/// The last entry that isn't behind the address decides if it contains it, since of networks that contain an address the longer
-/// stands behind. If it doesn't, each network that contains the address stands before it, and so has no more bits than that entry's
-/// first address shares with it: the search goes on with so many.
-pub(crate) fn decider(entries: &EntryMap, addr: Addr) -> Option<Entry>
-    requires { IsTable entries.now }
+/// The page of the last entry that isn't behind the address decides if an entry of it contains it, since of networks that contain an
+/// address the longer stands behind. If none does, each network that contains the address stands before the page, and so has no more
+/// bits than the first address of the page's first entry shares with it: the search goes on with so many, as long as an entry may
+/// have so few.
+pub(crate) fn decider(entries: &EntryMap, shortest: u8, addr: Addr) -> Option<Entry>
+    requires table { IsTable entries.now }
+    requires shortest { NoneShorter shortest entries.now }
     ensures { result ≡ deciding entries.now addr }
 {
     let mut len = addr.family().width();
-    'shorter: loop {
-        let entry = *entries.at_or_before(&Net::new(addr, len))?;
-        if entry.net().contains(addr) {
+    'shorter: while len >= shortest {
+        let page = entries.page_up_to(&Net::new(addr, len))?;
+        if let Some(entry) = longest_in(page, addr) {
             return Some(entry);
         }
-        len = shared_bits(addr, entry.net().addr())?;
+        let first = page.first_entry().net();
+        len = shared_bits(addr, first.addr())?;
     }
+    None
 }

@@ -2,12 +2,13 @@
 ghost use Rattle.std.specs.Prelude.{◌≡◌, ◌==◌, false, [], cond, length, is_ok, All, Contains, IfOk, IfSome, None};
 ghost use Rattle.pf_addr.specs.{Refusing.Refuses, Address.{contains, IsNetwork}};
 ghost use Rattle.pf_table.specs.declared.refusal.TableRefusal.TheVariants.{Memory};
-ghost use Rattle.pf_table.specs.{Entries.Row, Tables.{AreEntries, IsTable, Decides, deciding, table_holds}, Edits.{added, additions, deleted, deletions, replaced, conflict_refusal, edit_refusal}};
+ghost use Rattle.pf_table.specs.{Entries.Row, Tables.{AreEntries, IsTable, Decides, deciding, table_holds}, Searches.NoneShorter, Edits.{added, additions, deleted, deletions, replaced, conflict_refusal, edit_refusal}};
 
 use crate::answer::{Addition, Deletion};
 use crate::batch::gather;
 use crate::change::{add_all, delete_all};
-use crate::entry::{Entry, EntryMap};
+use crate::columns::{EntryMap, TablePage};
+use crate::entry::Entry;
 use crate::limits::TABLE_LIMIT;
 use crate::lookup::decider;
 use crate::refusal::TableRefusal;
@@ -20,11 +21,16 @@ use std::marker::Model;
 /// before V6, then by the first address, then the shorter prefix before the longer.
 pub struct Table {
     entries: EntryMap,
+    /// No entry's network has fewer bits.
+    shortest: u8,
 }
 
 impl Drop for Table {
     fn drop(self) {
-        let Table { entries: _ } = self;
+        let Table {
+            entries: _,
+            shortest: _,
+        } = self;
     }
 }
 
@@ -32,21 +38,25 @@ impl Model for Table {
     ghost use Rattle.std.specs.Prelude.{List};
     ghost use Rattle.pf_table.specs.Entries.{Row};
     ghost use Rattle.pf_table.specs.Tables.{IsTable};
+    ghost use Rattle.pf_table.specs.Searches.{NoneShorter};
 
     ghost Value = { List Row };
 
     ghost view = { λ t. t.entries };
 
-    ghost invariant = { λ t. IsTable t.entries };
+    ghost invariant = { λ t. IsTable t.entries × NoneShorter t.shortest t.entries };
 }
 
-// What keeps each entry's network a network is what its entry tells.
-fn are_networks(entries: &[Entry])
-    ensures { All (λ e. IsNetwork e.0) entries.now }
+// The fewest bits that a network of these entries has. What keeps each of them a network is what its entry tells.
+fn shortest_of(entries: &[Entry]) -> u8
+    ensures networks { All (λ e. IsNetwork e.0) entries.now }
+    ensures shortest { NoneShorter result entries.now }
 {
+    let mut shortest = u8::MAX;
     for entry in entries {
-        let _net = entry.net();
+        shortest = shortest.min(entry.net().prefix_len());
     }
+    shortest
 }
 
 impl Table {
@@ -56,6 +66,7 @@ impl Table {
     {
         Table {
             entries: EntryMap::empty(),
+            shortest: u8::MAX,
         }
     }
 
@@ -64,9 +75,10 @@ impl Table {
         requires { AreEntries entries.now }
         ensures { IfOk result (λ t. t ≡ entries.now) }
     {
-        are_networks(entries);
+        let shortest = shortest_of(entries);
         Ok(Table {
             entries: EntryMap::of(alloc, entries)?,
+            shortest,
         })
     }
 
@@ -76,6 +88,7 @@ impl Table {
     {
         Ok(Table {
             entries: self.entries.shared()?,
+            shortest: self.shortest,
         })
     }
 
@@ -94,7 +107,7 @@ impl Table {
     }
 
     /// The entries in order. It takes no memory.
-    pub fn entries(&self) -> Entries<'_, Net, bool, Entry>
+    pub fn entries(&self) -> Entries<'_, Net, bool, Entry, TablePage>
         ensures value { result ≡ self.now }
         // what each table keeps
         ensures table { IsTable self.now }
@@ -108,7 +121,7 @@ impl Table {
         ensures decides { IfSome result (λ e. Decides self.now addr e) }
         ensures none { result ≡ None → (e : Row) → Contains self.now e → contains e.0 addr ≡ false }
     {
-        decider(&self.entries, addr)
+        decider(&self.entries, self.shortest, addr)
     }
 
     /// Whether the table matches an address: an entry decides about it and isn't negated. It takes no memory.
@@ -136,7 +149,10 @@ impl Table {
         if after.is_more_than(TABLE_LIMIT) {
             return Err(TableRefusal::TableFull);
         }
-        *self = Table { entries: after };
+        *self = Table {
+            entries: after,
+            shortest: self.shortest.min(shortest_of(entries)),
+        };
         Ok(answers)
     }
 
@@ -155,7 +171,10 @@ impl Table {
     {
         gather(alloc, entries)?;
         let (after, answers) = delete_all(alloc, self.entries.shared()?, entries)?;
-        *self = Table { entries: after };
+        *self = Table {
+            entries: after,
+            shortest: self.shortest,
+        };
         Ok(answers)
     }
 
@@ -168,7 +187,10 @@ impl Table {
         if named.is_more_than(TABLE_LIMIT) {
             return Err(TableRefusal::TableFull);
         }
-        *self = Table { entries: named };
+        *self = Table {
+            entries: named,
+            shortest: shortest_of(entries),
+        };
         Ok(())
     }
 }

@@ -1,20 +1,30 @@
-use Rattle.std.proofs.{Common.{◌≡◌, ◌<◌, ℕ, ◌+◌, ◌*◌, List, ◌∷◌, Bool, Option, None, drop, ap, true, false, sym, ◌∙◌, arith}, lemmas.Grind.common_steps}
+use Rattle.std.proofs.{Common.{◌≡◌, ◌<◌, ℕ, ◌≤◌, ◌+◌, ◌*◌, List, ◌∷◌, Bool, Option, None, drop, ap, true, false, sym, ◌∙◌, arith}, lemmas.Grind.common_steps}
 use Rattle.std.specs.Option.{option_or}
-use Rattle.pf_lanes.specs.Answered.{eight_from}
+use Rattle.pf_lanes.specs.{Answered.eight_from, Probes.asked}
 use Rattle.std.specs.Prelude.{filter}
 use Rattle.pf_addr.specs.Path.Nested.{depth, path_within, is_child}
 use Rattle.pf_addr.proofs.Nesting.{leads_deeper}
-use Rattle.pf_rule.specs.Rules.{PlainRule}
-use Rattle.pf_anchor.specs.{declared.{evaluated.Evaluated.Evaluated, evaluated.Evaluated.TheVariants.Open, evaluated.Evaluated.TheVariants.Ended}, Matches.PlainMatch, Rulesets.{Ruled, ruled}, Evaluation.{and_then, settled, rules_give, effected, in_turn, evaluation, evaluate_with, matching}}
+use Rattle.pf_rule.specs.{Packets.PlainPacket, Rules.PlainRule}
+use Rattle.pf_anchor.specs.{declared.{evaluated.Evaluated.Evaluated, evaluated.Evaluated.TheVariants.Open, evaluated.Evaluated.TheVariants.Ended}, Matches.PlainMatch, Rulesets.{Ruled, ruled}, Tables.{Tabled, tables_say}, Blocks.NoneBetween, Evaluation.{and_then, settled, rules_give, rules_at_path, effected, in_turn, evaluation, evaluate_with, matching}}
 use Rattle.pf_anchor.proofs.{Evaluations.{unrolled, none_and_then, no_rules}, Turns.{rule_goes_on, rule_passed, child_deeper, then_open, child_step, no_child_step, no_targets, targets_from, plain_turn}}
-use Rattle.pf_anchor.proofs.Blocks.{block_goes_on, block_ends, rule_ends, none_stops, lane_says}
+use Rattle.pf_anchor.proofs.Blocks.{block_goes_on, block_ends, rule_ends, none_stops, lane_says, blocks_passed}
 use Rattle.pf_anchor.proofs.evaluate.+evaluate.Goals.{evaluate-then-stopping-eq0, evaluate-else-stopping-eq0+in-Open, each_match-then-is_set+in-Open, each_match-else-is_set}
 use Rattle.pf_anchor.proofs.evaluate.+evaluate.Goals as goal
+
+-- the blocks that a step passes over
+passes : (rulesets : List Ruled) (tables : List Tabled) (packet : PlainPacket) (placed : Ruled) (last : Option PlainMatch) (from to : ℕ) → from ≤ to → NoneBetween (asked placed.1 packet) from to →
+    and_then (Open last) (rules_at_path (evaluation rulesets (matching tables packet)) rulesets (matching tables packet) placed.0 (8 * from) (drop (8 * from) placed.1))
+    ≡ and_then (Open last) (rules_at_path (evaluation rulesets (matching tables packet)) rulesets (matching tables packet) placed.0 (8 * to) (drop (8 * to) placed.1))
+passes rulesets tables packet placed last from to le none =
+    let tests = matching tables packet in
+    ap (and_then (Open last)) (blocks_passed (λ n r. effected (evaluation rulesets tests) rulesets placed.0 n r.effect) (tests placed.0) placed.1 from to le (none (tables_say tables placed.0)))
 
 pub evaluate-loop-block-init : goal.evaluate-loop-block-init
 evaluate-loop-block-init t c =
     unrolled c.args.config.now.rulesets (matching c.args.config.now.tables c.args.packet.now) c.args.placed.now
     ∙ sym (none_and_then (evaluate_with (evaluation c.args.config.now.rulesets (matching c.args.config.now.tables c.args.packet.now)) c.args.config.now.rulesets (matching c.args.config.now.tables c.args.packet.now) c.args.placed.now))
+    ∙ passes c.args.config.now.rulesets c.args.config.now.tables c.args.packet.now c.args.placed.now None 0 c.next_near-block.result c.next_near-block.ensures.later
+    (c.next_near-block.ensures.none (asked c.args.placed.now.1 c.args.packet.now) c.prepared-probe.ensures)
 
 pub evaluate-returns-in-Ended : goal.evaluate-returns-in-Ended
 evaluate-returns-in-Ended t c =
@@ -41,6 +51,8 @@ evaluate-loop-block-preserved t c =
       | evaluate-else-stopping-eq0+in-Open w ↦ block_goes_on effect test c.loop-block.last w.in-Open.latest b rules w.in-Open.ensures
           ∙ ap later (sym (w.last-is ∙ w.or-last-in-Open.ensures))
     ]
+    ∙ passes c.args.config.now.rulesets c.args.config.now.tables c.args.packet.now c.args.placed.now c.if-stopping-eq0.last (b + 1) c.next_near-block-in-loop-block.result c.next_near-block-in-loop-block.ensures.later
+    (c.next_near-block-in-loop-block.ensures.none (asked c.args.placed.now.1 c.args.packet.now) c.prepared-probe.ensures)
 
 pub each_match-loop-lane-init : goal.each_match-loop-lane-init
 each_match-loop-lane-init t c =

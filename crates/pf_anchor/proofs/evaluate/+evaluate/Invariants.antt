@@ -29,6 +29,9 @@ invariant-evaluate-loop-block l =
     evaluation l.config.rulesets (matching l.config.tables l.packet) l.placed
     ≡ and_then (Open l.last) (rules_give (λ n r. effected (evaluation l.config.rulesets (matching l.config.tables l.packet)) l.config.rulesets l.placed.0 n r.effect) (matching l.config.tables l.packet l.placed.0) (8 * l.block) (drop (8 * l.block) l.placed.1))
 
+abbrev pub decreases-evaluate-loop-block : goal.decreases-evaluate-loop-block
+decreases-evaluate-loop-block l = l.blocks - l.block
+
 abbrev pub invariant-each_match-loop-lane : goal.invariant-each_match-loop-lane
 invariant-each_match-loop-lane l =
     rules_at_path (evaluation l.config.rulesets (matching l.config.tables l.packet)) l.config.rulesets (matching l.config.tables l.packet) l.placed.0 (8 * l.block) (eight_from (8 * l.block) l.placed.1)

@@ -11,7 +11,7 @@ pub returns-clause-decides : goal.returns-clause-decides
 returns-clause-decides c = by c.decider.result (value c) where
   by : (o : Option Row) → deciding c.args.self.now c.args.addr ≡ o → IfSome o (λ e. Decides c.args.self.now c.args.addr e)
   by None is = tt
-  by (Some e) is = decides c.args.self.now c.args.addr e (subst IsTable c.self.view_is c.self.invariant).sorted is
+  by (Some e) is = decides c.args.self.now c.args.addr e (subst IsTable c.self.view_is c.self.invariant.0).sorted is
 
 pub returns-clause-none : goal.returns-clause-none
 returns-clause-none c = λ is. none_contains c.args.self.now c.args.addr (value c ∙ is)

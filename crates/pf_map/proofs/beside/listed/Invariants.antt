@@ -1,0 +1,6 @@
+use Rattle.std.proofs.Common.{◌≡◌, take, map}
+use Rattle.pf_map.specs.Parts.{joined}
+use Rattle.pf_map.proofs.beside.listed.Given as goal
+
+abbrev pub invariant-loop-slot : goal.invariant-loop-slot
+invariant-loop-slot g l = map g.E.Held.pair l.list.items ≡ joined (take l.slot-index l.slots)

@@ -1,0 +1,166 @@
+//! Pages that keep beside their entries what follows from them.
+ghost use Rattle.std.specs.{Prelude.{◌≡◌, ◌<◌, List, length, map, Some, IfOk, IfSome}};
+ghost use Rattle.pf_map.specs.{Parts.{first_of, joined, FollowsFrom}, Pieces.all_of};
+
+use crate::entry::Held;
+use crate::key::{Key, Probe};
+use crate::part::{Page, Part, Single};
+use crate::pieces::Pieces;
+use crate::slot::Slot;
+use crate::tree_map::Leaf;
+use std::alloc::{AllocError, Global};
+use std::marker::Model;
+use std::sync::Arc;
+
+/// What a page keeps beside its entries, such as a form of them that is faster to search.
+pub trait Beside<E: Drop>: Drop {
+    /// Whether it is what follows from these entries.
+    ghost follows: { Self → List E → Type 0 };
+
+    /// What follows from these entries, which are those of a page. `AllocError`: nothing is made.
+    fn beside(alloc: Global, entries: Vec<E>) -> Result<Self, AllocError>
+        ensures { IfOk result (λ b. follows b entries.items) };
+}
+
+// The entries of a page in a list, each with one owner more.
+fn listed<K: Key, V: Drop, E: Held<K, V>>(
+    alloc: Global,
+    slots: &[Slot<K, V, E, Single<K, V, E>>],
+) -> Result<Vec<E>, AllocError>
+    ensures { IfOk result (λ v. map E.pair v.items ≡ joined slots.now) }
+{
+    let mut list = Vec::with_capacity(alloc, slots.len())?;
+    for slot in slots {
+        list.push(slot.part().entry().share()?)?;
+    }
+    Ok(list)
+}
+
+/// A page of entries, and if it was made whole what follows from them, which all maps share that hold the page. A page that is
+/// changed lets it go, so that a change costs no more than that of a page. Contracts see it as the entries.
+pub struct PageBeside<K: Key, V: Drop, E: Held<K, V>, B: Beside<E>> {
+    page: Leaf<K, V, E>,
+    beside: Option<Arc<B>>,
+}
+
+impl<K: Key, V: Drop, E: Held<K, V>, B: Beside<E>> Drop for PageBeside<K, V, E, B> {
+    fn drop(self) {
+        let PageBeside { page: _, beside: _ } = self;
+    }
+}
+
+impl<K: Key, V: Drop, E: Held<K, V>, B: Beside<E>> Model for PageBeside<K, V, E, B> {
+    ghost use Rattle.std.specs.Prelude.{List, IfSome};
+    ghost use Rattle.std.specs.Arc.{arc_value};
+    ghost use Rattle.pf_map.specs.Parts.{FollowsFrom};
+
+    ghost Value = { List (K × V) };
+
+    ghost view = { λ p. p.page };
+
+    ghost invariant = { λ p. IfSome p.beside (λ b. FollowsFrom E.pair B.follows (arc_value b) p.page) };
+}
+
+impl<K: Key, V: Drop, E: Held<K, V>, B: Beside<E>> PageBeside<K, V, E, B> {
+    // This page, with what follows from it. `AllocError`: nothing is left of this owner's page.
+    fn of(alloc: Global, page: Leaf<K, V, E>) -> Result<PageBeside<K, V, E, B>, AllocError>
+        ensures { IfOk result (λ p. p ≡ page) }
+    {
+        let beside = B::beside(alloc, listed(alloc, page.slots())?)?;
+        Ok(PageBeside {
+            page,
+            beside: Some(Arc::new(alloc, beside)?),
+        })
+    }
+
+    // This page, with nothing beside it.
+    fn bare(page: Leaf<K, V, E>) -> PageBeside<K, V, E, B>
+        ensures { result ≡ page }
+    {
+        PageBeside { page, beside: None }
+    }
+
+    /// What follows from its entries, where it keeps that.
+    pub fn beside(&self) -> Option<&B>
+        ensures { IfSome result (λ b. FollowsFrom E.pair B.follows b.now self.now) }
+    {
+        match &self.beside {
+            Some(beside) => Some(beside),
+            None => None,
+        }
+    }
+
+    /// Its first entry.
+    pub fn first_entry(&self) -> &E
+        ensures { first_of self.now ≡ Some (E.pair result.now) }
+    {
+        self.page.first()
+    }
+
+    /// Its entries, in order.
+    pub fn entries(&self) -> &[Slot<K, V, E, Single<K, V, E>>]
+        ensures value { joined result.now ≡ self.now }
+        ensures some { 0 < length result.now }
+    {
+        self.page.slots()
+    }
+}
+
+impl<K: Key, V: Drop, E: Held<K, V>, B: Beside<E>> Part<K, V, E> for PageBeside<K, V, E, B> {
+    ghost entries = { λ p. p };
+
+    fn of_entry(alloc: Global, entry: &E) -> Result<PageBeside<K, V, E, B>, AllocError> {
+        Ok(PageBeside::bare(Leaf::of_entry(alloc, entry)?))
+    }
+
+    fn share(&self) -> Result<PageBeside<K, V, E, B>, AllocError> {
+        let beside = match &self.beside {
+            Some(beside) => Some(Arc::try_clone(beside)?),
+            None => None,
+        };
+        Ok(PageBeside {
+            page: self.page.share()?,
+            beside,
+        })
+    }
+
+    fn first(&self) -> &E {
+        self.page.first()
+    }
+
+    fn find<Q: Probe<K>>(&self, hint: u64, sought: &Q) -> Option<&E> {
+        self.page.find(hint, sought)
+    }
+
+    fn last_up_to<Q: Probe<K>>(&self, hint: u64, sought: &Q) -> Option<&E> {
+        self.page.last_up_to(hint, sought)
+    }
+
+    fn replaced<Q: Probe<K>>(
+        self,
+        alloc: Global,
+        hint: u64,
+        sought: &Q,
+        new: Option<&E>,
+    ) -> Result<Pieces<PageBeside<K, V, E, B>>, AllocError> {
+        let PageBeside { page, beside: _ } = self;
+        match page.replaced(alloc, hint, sought, new)? {
+            Pieces::Gone => Ok(Pieces::Gone),
+            Pieces::One(page) => Ok(Pieces::One(PageBeside::bare(page))),
+            Pieces::Two(front, back) => Ok(Pieces::Two(
+                PageBeside::bare(front),
+                PageBeside::bare(back),
+            )),
+        }
+    }
+}
+
+impl<K: Key, V: Drop, E: Held<K, V>, B: Beside<E>> Page<K, V, E> for PageBeside<K, V, E, B> {
+    fn of_entries(alloc: Global, page: &[E]) -> Result<PageBeside<K, V, E, B>, AllocError> {
+        PageBeside::of(alloc, Leaf::of_entries(alloc, page)?)
+    }
+
+    fn slots(&self) -> &[Slot<K, V, E, Single<K, V, E>>] {
+        self.page.slots()
+    }
+}

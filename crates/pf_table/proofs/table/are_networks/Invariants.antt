@@ -1,7 +1,0 @@
-use Rattle.std.proofs.Common.{take}
-use Rattle.std.specs.Prelude.{All}
-use Rattle.pf_addr.specs.Address.{IsNetwork}
-use Rattle.pf_table.proofs.table.are_networks.Given as goal
-
-abbrev pub invariant-loop-entry : goal.invariant-loop-entry
-invariant-loop-entry l = All (λ e. IsNetwork e.0) (take l.entry-index l.entries)
