@@ -1,3 +1,4 @@
 pub mod Refusals
 pub mod Edits
 pub mod EditViews
+pub mod Forms

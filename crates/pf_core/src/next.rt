@@ -36,6 +36,13 @@ impl Next {
         Ok(Next { durable, voided })
     }
 
+    /// What the change leaves. It takes no memory.
+    pub fn after(&self) -> &Durable
+        ensures { result.now ≡ self.now.durable }
+    {
+        &self.durable
+    }
+
     /// What the change leaves, shared. `AllocError`: it can't have another owner, and nothing changes.
     pub fn durable(&self) -> Result<Arc<Durable>, AllocError>
         ensures { IfOk result (λ d. arc_value d ≡ self.now.durable) }

@@ -3,7 +3,7 @@ use Rattle.std.proofs.{Common.{◌≡◌, ◌-◌, ◌<◌, ◌≤◌, ◌==◌,
 use Rattle.std.specs.{Prelude.{unwrap_or, IfSome, not, if◌then◌else◌}, List.{AllByRecursion, list_all}}
 use Rattle.byteorder.specs.Endian.{big_bytes}
 use Rattle.pf_addr.specs.declared.{addr.Family.{Family, TheVariants.V4, TheVariants.V6}, path.limits.TheConstants.TABLE_NAME_LIMIT}
-use Rattle.pf_addr.specs.{Address.{Network}, Bytes.Parts.{Bytes, number_bytes, begins_otherwise, constant_at}, Bytes.Forms.{Shape, nat, both, Value, Form, Fits, Spells, number, front, pair, pair_by, writes, reads, onto}, Bytes.Codes.{below, flag, flag_byte}, Bytes.Names.padded, NetForms.{family, family_byte, address_in, first_number}, Path.Names.{is_name_byte, IsName}, Path.PathForms.{name_field, ReferenceShape, reference_form}, Spelling.first_addr, Laws.NetForms.{family_fits, length_fits, address_fits, network_is, network_again}, Laws.Bytes.{Codes.{flag_fits, flag_again}, Onto.onto_is, Steps.leaves, Texts.one_value}}
+use Rattle.pf_addr.specs.{Address.{Network}, Bytes.Parts.{Bytes, number_bytes, begins_otherwise, constant_at}, Bytes.Forms.{Shape, nat, both, Value, Form, Fits, Spells, number, front, pair, pair_by, writes, reads, onto, length_of}, Bytes.Codes.{below, flag, flag_byte}, Bytes.Names.padded, NetForms.{family, family_byte, address_in, first_number}, Path.Names.{is_name_byte, IsName}, Path.PathForms.{name_field, ReferenceShape, reference_form}, Spelling.first_addr, Laws.NetForms.{family_fits, length_fits, address_fits, network_is, network_again}, Laws.Bytes.{Codes.{flag_fits, flag_again}, Lengths.length_is, Onto.onto_is, Steps.leaves, Texts.one_value}}
 use Rattle.pf_addr.specs.Bytes.Names as fields
 use Rattle.pf_addr.proofs.{BytesRead.written_bytes, PathBytes.{name_fits, name_again, reference_fits, reference_again}}
 use Rattle.pf_rule.specs.Sum.Forms as forms
@@ -245,9 +245,9 @@ fitting (Some n) s d source destination = by (has_ports n) refl where
 
 -- ---- a rule
 
-pub layout_is : (r : PlainRule) → IsRule r → writes rule_layout (plain_rule r) ≡ rule_form r
+pub layout_is : (version : ℕ) (r : PlainRule) → IsRule r → writes (rule_layout version) (plain_rule r) ≡ rule_form r
 unfolding rule_layout rule_form
-layout_is r is =
+layout_is version r is =
     rw (
       below_written 3 (effect_byte r.effect) (effect_low r.effect),
       below_written 3 (direction_byte r.direction) (direction_low r.direction),
@@ -261,12 +261,12 @@ layout_is r is =
       named_written r.effect is.effect,
     ) refl
 
-pub form_pushed : (r : PlainRule) → IsRule r → (out : List ℕ) → onto rule_layout (plain_rule r) out ≡ out ++ rule_form r
-form_pushed r is out = onto_is rule_layout (plain_rule r) out ∙ ap (λ (m : List ℕ). out ++ m) (layout_is r is)
+pub form_pushed : (version : ℕ) (r : PlainRule) → IsRule r → (out : List ℕ) → onto (rule_layout version) (plain_rule r) out ≡ out ++ rule_form r
+form_pushed version r is out = onto_is (rule_layout version) (plain_rule r) out ∙ ap (λ (m : List ℕ). out ++ m) (layout_is version r is)
 
-pub rule_fits : (r : PlainRule) → IsRule r → Fits rule_layout (plain_rule r)
+pub rule_fits : (version : ℕ) (r : PlainRule) → IsRule r → Fits (rule_layout version) (plain_rule r)
 unfolding rule_layout
-rule_fits r is =
+rule_fits version r is =
     let none = none_without r.protocol r.source_port r.destination_port is.ports in (
       effect_fits r.effect,
       (
@@ -312,12 +312,12 @@ rule_again r is =
       protocol_again r.protocol is.protocol,
     ) refl
 
-pub rule_spelled : (r : PlainRule) → IsRule r → Spells rule_layout (plain_rule r) (rule_form r)
-rule_spelled r is = record { fits = rule_fits r is; written = sym (layout_is r is) }
+pub rule_spelled : (version : ℕ) (r : PlainRule) → IsRule r → Spells (rule_layout version) (plain_rule r) (rule_form r)
+rule_spelled version r is = record { fits = rule_fits version r is; written = sym (layout_is version r is) }
 
 pub same_form : (r s : PlainRule) → IsRule r → IsRule s → rule_form r ≡ rule_form s → r ≡ s
 same_form r s p q e =
-    let same : plain_rule r ≡ plain_rule s = one_value rule_layout (rule_form s) (plain_rule r) (plain_rule s) (subst (Spells rule_layout (plain_rule r)) e (rule_spelled r p)) (rule_spelled s q) in
+    let same : plain_rule r ≡ plain_rule s = one_value (rule_layout 1) (rule_form s) (plain_rule r) (plain_rule s) (subst (Spells (rule_layout 1) (plain_rule r)) e (rule_spelled 1 r p)) (rule_spelled 1 s q) in
     sym (rule_again r p) ∙ ap rule_of same ∙ rule_again s q
 
 -- ---- reading a rule, part by part
@@ -362,14 +362,14 @@ behind_direction kind = pair flag (behind_quick kind)
 abbrev behind_kind : ℕ → Form (both nat (both nat (both nat (both FamilyShape (both nat BodyShape)))))
 behind_kind kind = pair (below 3) (behind_direction kind)
 
-pub rule_read : (r : PlainRule) (kind keeps limit : ℕ) (b1 b2 b3 b4 b5 b6 b7 b8 b9 : List ℕ) → effect_byte r.effect ≡ kind → keeps_state r.effect ≡ (keeps == 1) → keeps < limit → limit ≤ 2 → limit ≡ (if kind == 1 then 2 else 1)
+pub rule_read : (version : ℕ) (r : PlainRule) (kind keeps limit : ℕ) (b1 b2 b3 b4 b5 b6 b7 b8 b9 : List ℕ) → effect_byte r.effect ≡ kind → keeps_state r.effect ≡ (keeps == 1) → keeps < limit → limit ≤ 2 → limit ≡ (if kind == 1 then 2 else 1)
     → reads (below 3) b1 ≡ leaves kind b2 → reads (below 3) b2 ≡ leaves (direction_byte r.direction) b3 → reads flag b3 ≡ leaves (flag_byte r.quick) b4
     → reads (below limit) b4 ≡ leaves keeps b5 → reads some_family b5 ≡ leaves (plain_family r.family) b6 → reads (number 1) b6 ≡ leaves (unwrap_or r.protocol 0) b7
     → constant_at (0 ∷ 0 ∷ []) b7 ≡ leaves tt b8
     → reads (body (kind == 2) (has_ports (unwrap_or r.protocol 0)) (plain_family r.family)) b8 ≡ leaves (plain_interface r.interface, (plain_end r.source r.source_port, (plain_end r.destination r.destination_port, plain_named r.effect))) b9
-    → reads rule_layout b1 ≡ leaves (plain_rule r) b9
+    → reads (rule_layout version) b1 ≡ leaves (plain_rule r) b9
 unfolding rule_layout
-rule_read r kind keeps limit b1 b2 b3 b4 b5 b6 b7 b8 b9 e k lt le is at_kind at_direction at_quick at_keeps at_family at_protocol at_zeros at_body =
+rule_read version r kind keeps limit b1 b2 b3 b4 b5 b6 b7 b8 b9 e k lt le is at_kind at_direction at_quick at_keeps at_family at_protocol at_zeros at_body =
     let same = plain_is r kind keeps e (ap flag_byte k ∙ flag_of keeps limit lt le) in
     let keeping = rw is at at_keeps in
     next (below 3) behind_kind b1 b2 b9 kind _ at_kind
@@ -421,3 +421,7 @@ form_long r is =
       host_long r.family r.destination r.destination_port is.destination,
       filled_long 64 (names r.effect) (names_short r.effect is.effect),
     )
+
+-- so has its layout
+pub layout_long : (version : ℕ) (r : PlainRule) → IsRule r → length_of (rule_layout version) (plain_rule r) ≡ 204
+layout_long version r is = sym (length_is (rule_layout version) (plain_rule r)) ∙ ap length (layout_is version r is) ∙ form_long r is

@@ -1,5 +1,5 @@
 //! Opening a device, adding records to the bank that counts, and switching to the other one.
-ghost use Rattle.std.specs.Prelude.{◌≡◌, ◌↔◌, ◌+◌, ◌^◌, ◌<◌, ◌≤◌, true, false, List, ℕ, length, IfOk, IfErr, OnOk, IsErrOf, MatchResult, if◌then◌else◌};
+ghost use Rattle.std.specs.Prelude.{◌≡◌, ◌↔◌, ◌+◌, ◌^◌, ◌<◌, ◌≤◌, true, false, List, ℕ, length, IfOk, IfErr, OnOk, OnErr, IsErrOf, MatchResult, if◌then◌else◌};
 ghost use Rattle.pf_disk.specs.Disk.{CountsFault, EachMoment, IsImage, IsSynced, is_within};
 ghost use Rattle.pf_journal.specs.{Faults.is_append_fault, Journal.IsOf};
 ghost use Rattle.pf_snap.specs.{Banks.{bank_size, Content, with_payload, switched, Holds, HoldsAt, HoldsEither}, Ready.{IsReady, IsNext, Keeps}, Looked.{IsFound, content_of}, Faults.{IsRefused, is_fault, is_switch_fault}};
@@ -118,6 +118,7 @@ impl<D: Disk> Banks<D> {
 
         ensures turned { OnOk result ((self.new.at ≡ self.old.other) × (self.new.other ≡ self.old.at)) }
         ensures generation { OnOk result (self.new.generation ≡ self.old.generation + 1) }
+        ensures same_generation { OnErr result (self.new.generation ≡ self.old.generation) }
         ensures version { OnOk result (self.new.version ≡ NEWEST) }
         ensures gate { OnOk result (self.new.journal.gate ≡ self.old.other + HEADER + next.now.length) }
         ensures end { OnOk result (self.new.journal.end ≡ self.old.other + bank_size (length (D.seen self.old.journal.disk))) }
@@ -173,6 +174,7 @@ impl<D: Disk> Banks<D> {
 
         ensures turned { OnOk result ((self.new.at ≡ self.old.other) × (self.new.other ≡ self.old.at)) }
         ensures generation { OnOk result (self.new.generation ≡ self.old.generation + 1) }
+        ensures same_generation { OnErr result (self.new.generation ≡ self.old.generation) }
         ensures version { OnOk result (self.new.version ≡ NEWEST) }
         ensures gate { OnOk result (self.new.journal.gate ≡ self.old.other + HEADER + length snapshot.now) }
         ensures end { OnOk result (self.new.journal.end ≡ self.old.other + bank_size (length (D.seen self.old.journal.disk))) }

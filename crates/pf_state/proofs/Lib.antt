@@ -25,3 +25,4 @@ pub mod Counting
 pub mod Batches
 pub mod Indexed
 pub mod Computed
+pub mod Widths

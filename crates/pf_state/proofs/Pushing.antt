@@ -19,8 +19,8 @@ pushed_one f plain x rest all begun out new e fits so_far = record {
 }
 
 -- a table's states fit their form where each fits its own
-pub states_fit : (es : List Stated) → IsStates es → AllByRecursion (Fits state_form) (plain_states es) → Fits states_form (plain_states es)
-states_fit es is each =
+pub states_fit : (version : ℕ) (es : List Stated) → IsStates es → AllByRecursion (Fits (state_form version)) (plain_states es) → Fits (states_form version) (plain_states es)
+states_fit version es is each =
     let few = is.few in
     let short : nat_le (length (plain_states es)) STATE_LIMIT ≡ true = grind (arith, nat_tests, few, length-map es plain_state) in
     let once : no_flow_twice (map state_in (plain_states es)) ≡ true = rw (states_back es) (once_each es is.names) in

@@ -1,10 +1,11 @@
 -- Rows of states make a table, one after the other.
-use Rattle.std.proofs.{Common.{◌≡◌, ◌&&◌, ◌||◌, not, ◌≤◌, ◌<◌, ℕ, Bool, true, false, T, List, [], ◌∷◌, ◌++◌, length, map, get_or, drop, ◌+◌, Some, ◌⊎◌, inl, inr, None, refl, sym, ap, ◌∙◌, append_assoc, subst, true≢false, arith}, lemmas.List.{append-nil, length-map, drop_more, drop_all}, lemmas.Bool.and_parts, lemmas.Bool.Decides.nat_tests}
-use Rattle.std.specs.{Prelude.nat_le, declared.{cmp.Ordering.Ordering, cmp.Ordering.TheVariants.Less}, FinMap.{is_sorted, put}, FinMap.Entries.below_all, List.list_any, Ordering.{is_eq, is_lt}}
+use Rattle.std.proofs.{Common.{◌≡◌, ◌&&◌, ◌||◌, not, ◌≤◌, Bool, true, false, T, List, [], ◌∷◌, ◌++◌, length, map, Some, ◌⊎◌, inl, inr, None, refl, sym, ap, ◌∙◌, append_assoc, subst, true≢false, arith}, lemmas.List.{append-nil, length-map}, lemmas.Bool.and_parts, lemmas.Bool.Decides.nat_tests}
+use Rattle.std.specs.{Prelude.nat_le, declared.{cmp.Ordering.Ordering, cmp.Ordering.TheVariants.Less}, FinMap.{is_sorted, put}, FinMap.Entries.below_all, List.list_any, Ordering.{eq_by_cmp, is_eq, is_lt}}
 use Rattle.pf_addr.specs.Bytes.Lists.{in_order}
 use Rattle.pf_map.specs.Maps.{with_value}
-use Rattle.pf_state.specs.{declared.{limits.TheConstants.STATE_LIMIT, layouts.state.StoredState.StoredState}, Flows.same_flow, Orders.name_total, States.{Stated, name_order, NamesFlows, IsStates}, Steps.is_clash, Peer.Written.Each, Layouts.{Rows.{plain_row, IsTableOf}, States.{plain_state, state_in, plain_states, state_before, no_flow_twice}}}
-use Rattle.pf_state.proofs.{LayoutsBack.state_back, TakenOver.{Before, Apart, all_kept, put_last, less_of, all_held, apart_of}, Tables.{first_of, second_of, front_within, rest_within, names_put}}
+use Rattle.pf_map.specs.Indexes.{no_flow_twice as none_twice_in}
+use Rattle.pf_state.specs.{declared.{limits.TheConstants.STATE_LIMIT, layouts.state.StoredState.StoredState}, FlowKeys.{key_of, key_order}, Flows.same_flow, Orders.name_total, States.{Stated, name_order, NamesFlows, IsStates}, Steps.is_clash, Peer.Written.Each, Layouts.{Rows.{plain_row, IsTableOf}, States.{plain_state, state_in, plain_states, state_before, no_flow_twice}}}
+use Rattle.pf_state.proofs.{FlowKeys.same_flow_is, LayoutsBack.state_back, TakenOver.{Before, Apart, all_kept, put_last, less_of, all_held, apart_of}, Tables.{first_of, second_of, front_within, rest_within, names_put}}
 
 holds : (a : Bool) → T a → a ≡ true
 holds true h = refl
@@ -26,7 +27,7 @@ below_later e s (f ∷ es) less low =
     rw later (below_later e s es less (second_of (is_lt (name_order s.0 f.0)) _ low))
 
 -- states of which each comes before the next are sorted
-pub sorted_of : (es : List Stated) → in_order state_before (plain_states es) ≡ true → T (is_sorted name_order es)
+sorted_of : (es : List Stated) → in_order state_before (plain_states es) ≡ true → T (is_sorted name_order es)
 sorted_of [] turn = tt
 sorted_of (s ∷ []) turn = tt
 sorted_of (s ∷ t ∷ es) turn =
@@ -91,7 +92,7 @@ before_it (p ∷ ps) s fs sorted none =
       before_it ps s fs (second_of (below_all name_order p.0 (ps ++ s ∷ fs)) _ sorted) (rest_within (not (is_eq (name_order p.0 s.0)) && same_flow p.1.flow s.1.flow) _ none),
     )
 
--- ---- the loop over rows
+-- ---- rows
 
 abbrev pub of_row : StoredState → Stated
 of_row r = r.state
@@ -105,18 +106,14 @@ plain_rows [] = refl
 plain_rows (r ∷ rows) = ap (λ l. plain_row r ∷ l) (plain_rows rows)
 
 -- these states were made of the rows before the ones that are left
-pub record Made (rows rest : List StoredState) (es : List Stated) : Type 0 where
+record Made (rows rest : List StoredState) (es : List Stated) : Type 0 where
   pub split : es ++ map of_row rest ≡ map of_row rows
   pub names : NamesFlows es
 
-pub made_none : (rows : List StoredState) → Made rows rows []
+made_none : (rows : List StoredState) → Made rows rows []
 made_none rows = record { split = refl; names = record { sorted = tt; one_flow = λ a b x y held other same. absurd cc } }
 
-pub next_row : (rows : List StoredState) (i : ℕ) (r : StoredState) (es : List Stated) → i < length rows → r ≡ get_or rows i r → Made rows (drop i rows) es
-    → Made rows (r ∷ drop (i + 1) rows) es
-next_row rows i r es lt is made = subst (λ (rest : List StoredState). Made rows rest es) (drop_more rows i r lt ∙ ap (λ (x : StoredState). x ∷ drop (i + 1) rows) (sym is)) made
-
-pub made_one : (rows rest : List StoredState) (es new : List Stated) (r : StoredState) → in_order state_before (map plain_row rows) ≡ true → Made rows (r ∷ rest) es
+made_one : (rows rest : List StoredState) (es new : List Stated) (r : StoredState) → in_order state_before (map plain_row rows) ≡ true → Made rows (r ∷ rest) es
     → is_clash es r.state ≡ false → new ≡ with_value name_order es r.state.0 (Some r.state.1) → Made rows rest new
 made_one rows rest es new r turn made none is_new =
     let s = r.state in
@@ -128,17 +125,43 @@ made_one rows rest es new r turn made none is_new =
       names = rw is_new (names_put es s made.names none);
     }
 
-pub made_clash : (rows rest : List StoredState) (es : List Stated) (r : StoredState) → Made rows (r ∷ rest) es → is_clash es r.state ≡ true → IsTableOf rows None
-made_clash rows rest es r made clash =
-    let once : no_flow_twice (map state_in (map plain_row rows)) ≡ false = rw (rows_back rows, ← made.split) (twice es r.state (map of_row rest) clash) in
+-- in order, and with no flow twice, they are all made
+made_of : (rows rest : List StoredState) (es : List Stated) → in_order state_before (map plain_row rows) ≡ true → no_flow_twice (map of_row rows) ≡ true → Made rows rest es → NamesFlows (map of_row rows)
+made_of rows [] es turn once made = subst NamesFlows (sym (append-nil es) ∙ made.split) made.names
+made_of rows (r ∷ rest) es turn once made =
+    let none : is_clash es r.state ≡ false = free (is_clash es r.state) (λ clash. sym (ap no_flow_twice made.split) ∙ twice es r.state (map of_row rest) clash) in
+    made_of rows rest (with_value name_order es r.state.0 (Some r.state.1)) turn once (made_one rows rest es (with_value name_order es r.state.0 (Some r.state.1)) r turn made none refl) where
+      free : (b : Bool) → (b ≡ true → no_flow_twice (map of_row rows) ≡ false) → b ≡ false
+      free true clash = absurd (true≢false (sym once ∙ clash refl))
+      free false clash = refl
+
+any_is : (e : Stated) (es : List Stated) → list_any (λ t. eq_by_cmp key_order (key_of e.1.flow) (key_of t.1.flow)) es ≡ list_any (λ t. same_flow e.1.flow t.1.flow) es
+any_is e es = λ i. list_any (λ (t : Stated). sym (same_flow_is e.1.flow t.1.flow) i) es
+
+once_is : (es : List Stated) → none_twice_in key_order (λ held. key_of held.flow) es ≡ no_flow_twice es
+once_is [] = refl
+once_is (e ∷ es) =
+    ap (λ (b : Bool). not b && none_twice_in key_order (λ held. key_of held.flow) es) (any_is e es)
+    ∙ ap (λ (b : Bool). not (list_any (λ t. same_flow e.1.flow t.1.flow) es) && b) (once_is es)
+
+pub rows_sorted : (rows : List StoredState) → in_order state_before (map plain_row rows) ≡ true → T (is_sorted name_order (map of_row rows))
+rows_sorted rows turn = sorted_of (map of_row rows) (ap (in_order state_before) (plain_rows rows) ∙ turn)
+
+pub no_table : (rows : List StoredState) → none_twice_in key_order (λ held. key_of held.flow) (map of_row rows) ≡ false → IsTableOf rows None
+no_table rows twice =
+    let once : no_flow_twice (map state_in (map plain_row rows)) ≡ false = ap no_flow_twice (rows_back rows) ∙ sym (once_is (map of_row rows)) ∙ twice in
     none_true (nat_le (length (map plain_row rows)) STATE_LIMIT) _ (none_true (in_order state_before (map plain_row rows)) _ once)
 
-pub made_all : (rows : List StoredState) (i : ℕ) (es : List Stated) → in_order state_before (map plain_row rows) ≡ true → length rows ≤ STATE_LIMIT → length rows ≤ i
-    → Made rows (drop i rows) es → IsTableOf rows (Some es) × IsStates es
-made_all rows i es turn few end made =
-    let all : es ≡ map of_row rows = sym (append-nil es) ∙ (rw (drop_all i rows end) at made.split) in
+pub are_states : (rows : List StoredState) (es : List Stated) → in_order state_before (map plain_row rows) ≡ true → length rows ≤ STATE_LIMIT → es ≡ map of_row rows
+    → none_twice_in key_order (λ held. key_of held.flow) (map of_row rows) ≡ true → IsStates es
+are_states rows es turn few all once = record {
+  names = rw all (made_of rows rows [] turn (sym (once_is (map of_row rows)) ∙ once) (made_none rows));
+  few = rw all (omega (arith, few, length-map rows of_row));
+}
+
+pub is_table : (rows : List StoredState) (es : List Stated) → in_order state_before (map plain_row rows) ≡ true → length rows ≤ STATE_LIMIT → es ≡ map of_row rows
+    → none_twice_in key_order (λ held. key_of held.flow) (map of_row rows) ≡ true → IsTableOf rows (Some es)
+is_table rows es turn few all is =
     let short : nat_le (length (map plain_row rows)) STATE_LIMIT ≡ true = grind (arith, nat_tests, few, length-map rows plain_row) in
-    let once : no_flow_twice (map state_in (map plain_row rows)) ≡ true = rw (rows_back rows, ← all) (once_each es made.names) in (
-      (rw (short, turn, once) refl, rw (all, plain_rows rows) refl),
-      record { names = made.names; few = rw all (omega (arith, few, length-map rows of_row)) },
-    )
+    let once : no_flow_twice (map state_in (map plain_row rows)) ≡ true = ap no_flow_twice (rows_back rows) ∙ sym (once_is (map of_row rows)) ∙ is in
+    (rw (short, turn, once) refl, rw (all, plain_rows rows) refl)

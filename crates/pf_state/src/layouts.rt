@@ -7,7 +7,7 @@ mod state;
 mod step;
 
 pub(crate) use flow::push_flow;
-pub use laws::layouts_tell_states_and_steps;
+pub use laws::{layouts_tell_states_and_steps, states_take_so_many_bytes};
 pub use lists::{push_states, push_steps, read_states, read_steps};
 pub use state::{StoredState, push_name, push_state, read_name, read_state};
 pub use step::push_step;

@@ -13,7 +13,9 @@ use Rattle.pf_table.specs.EntryForms.{entry, plain_entry}
 use Rattle.pf_map.specs.ListMaps.{with_list}
 use Rattle.pf_map.proofs.{Ordered.{in_order_of, sorted_of, sorted_front, put_last}, Tests.{first_of, second_of, less_of}}
 use Rattle.pf_store.specs.declared.snapshots.{rulesets.StoredRuleset.StoredRuleset, tables.StoredPlaced.StoredPlaced}
-use Rattle.pf_store.specs.{Groups.{at_most, RulesShape, rules_form, named_form, entries_form}, Durables.{has_some, ruleset_before, are_rulesets, rulesets_form, plain_ruled, PlacedShape, placed_before, are_tables, placed_form, kept_tables_form, plain_tabled, DurableShape, durable_form, plain_durable, ruled_in, tabled_in, configured, durable_in, durable_has_form, IsDurable, example_kept, example_bytes}, Snapshots.empty_form}
+use Rattle.pf_anchor.specs.Forms.{at_most, RulesShape, rules_form, named_form, entries_form, has_some, ruleset_before, are_rulesets, rulesets_form, plain_ruled, PlacedShape, placed_before, are_tables, placed_form, kept_tables_form, plain_tabled, ruled_in, tabled_in, configured}
+use Rattle.pf_core.specs.Durable.Forms.{DurableShape, durable_form, plain_durable, durable_in}
+use Rattle.pf_store.specs.{Durables.{durable_has_form, IsDurable, example_kept, example_bytes}, Snapshots.empty_form}
 use Rattle.pf_store.proofs.Told.{entries_told}
 
 -- ---- lists
@@ -96,10 +98,10 @@ rules_kept : (rs : List Ruled) → list_all (λ v. has_some v.1) (map plain_rule
 rules_kept [] = refl
 rules_kept (r ∷ rs) = rw (some_mapped plain_rule r.1, rules_kept rs) refl
 
-pub rulesets_fit : (rs : List Ruled) → IsMap rs → length rs ≤ RULESET_LIMIT → AllByRecursion (Fits rules_form) (map plain_ruled rs)
-    → Fits rulesets_form (map plain_ruled rs)
+pub rulesets_fit : (version : ℕ) (rs : List Ruled) → IsMap rs → length rs ≤ RULESET_LIMIT → AllByRecursion (Fits (rules_form version)) (map plain_ruled rs)
+    → Fits (rulesets_form version) (map plain_ruled rs)
 unfolding rulesets_form
-rulesets_fit rs is le each =
+rulesets_fit version rs is le each =
     let some : list_all (λ r. has_some r.1) rs ≡ true = all_some nat_list_cmp_total rs is.sorted is.filled in (
       (
         (omega (arith, le, length-map rs plain_ruled), each),
@@ -138,14 +140,14 @@ rulesets_filled rows is = seen rows ∙ (and_parts (nat_le (length rows) RULESET
   seen [] = refl
   seen (r ∷ rs) = rw (seen rs) refl
 
-pub rulesets_read : (rows : List StoredRuleset) (before rest : List ℕ)
-    → reads (ordered ruleset_before 4 rules_form) before ≡ Ok (map (λ r. plain_ruled r.placed) rows, rest)
+pub rulesets_read : (version : ℕ) (rows : List StoredRuleset) (before rest : List ℕ)
+    → reads (ordered ruleset_before 4 (rules_form version)) before ≡ Ok (map (λ r. plain_ruled r.placed) rows, rest)
     → (nat_le (length rows) RULESET_LIMIT && list_all (λ r. has_some r.placed.1) rows) ≡ true
-    → reads rulesets_form before ≡ Ok (map plain_ruled (map (λ r. r.placed) rows), rest)
+    → reads (rulesets_form version) before ≡ Ok (map plain_ruled (map (λ r. r.placed) rows), rest)
 unfolding rulesets_form
-rulesets_read rows before rest read is =
+rulesets_read version rows before rest read is =
     let placed : StoredRuleset → Ruled = λ r. r.placed in
-    that_read are_rulesets (ordered ruleset_before 4 rules_form) before rest
+    that_read are_rulesets (ordered ruleset_before 4 (rules_form version)) before rest
     (map (λ r. plain_ruled (placed r)) rows) read (rulesets_are rows ∙ is)
     ∙ ap (λ (vs : List (Value RulesShape)). Ok (vs, rest)) (seen_again placed plain_ruled rows)
 
@@ -237,18 +239,18 @@ durable_told d rulesets = λ i. kept d.epoch (configured (rulesets i) (tables_to
 -- ---- what has bytes
 
 -- what data tell has bytes where the data fit
-formed_of : (v : Value DurableShape) → Fits durable_form v → durable_has_form (durable_in v) ≡ true
+formed_of : (version : ℕ) (v : Value DurableShape) → Fits (durable_form version) v → durable_has_form (durable_in v) ≡ true
 unfolding durable_form rulesets_form kept_tables_form
-formed_of v fits =
+formed_of version v fits =
     let rulesets : at_most RULESET_LIMIT v.1.0 ≡ true =
     (and_parts (at_most RULESET_LIMIT v.1.0) (list_all (λ r. has_some r.1) v.1.0) fits.1.0.1).0 in
     let tables : at_most TABLE_COUNT_LIMIT v.1.1.0 ≡ true =
     (and_parts (at_most TABLE_COUNT_LIMIT v.1.1.0) (list_all (λ t. has_some t.1.1) v.1.1.0) fits.1.1.0.1).0 in
     rw (few RULESET_LIMIT v.1.0 ruled_in, rulesets, few TABLE_COUNT_LIMIT v.1.1.0 tabled_in, tables) refl
 
-pub durable_formed : (d : Kept) → Fits durable_form (plain_durable d) → durable_has_form d ≡ true
+pub durable_formed : (version : ℕ) (d : Kept) → Fits (durable_form version) (plain_durable d) → durable_has_form d ≡ true
 unfolding durable_form rulesets_form kept_tables_form
-durable_formed d fits =
+durable_formed version d fits =
     let rs : List (Value RulesShape) = map plain_ruled d.config.rulesets in
     let ts : List (Value PlacedShape) = map plain_tabled d.config.tables in
     let rulesets : at_most RULESET_LIMIT rs ≡ true =
@@ -262,29 +264,29 @@ durable_formed d fits =
 pub within_formed : (d : Kept) → length d.config.rulesets ≤ RULESET_LIMIT → length d.config.tables ≤ TABLE_COUNT_LIMIT → durable_has_form d ≡ true
 within_formed d rulesets tables = rw (at_most_is RULESET_LIMIT d.config.rulesets rulesets, at_most_is TABLE_COUNT_LIMIT d.config.tables tables) refl
 
-pub durable_formless : (d : Kept) (bytes : List ℕ) → durable_has_form d ≡ false → IsDurable d bytes → ⊥
-durable_formless d bytes none is =
-    true≢false (sym (subst (λ x. durable_has_form x ≡ true) (sym is.told) (formed_of is.plain is.spelled.fits)) ∙ none)
+pub durable_formless : (version : ℕ) (d : Kept) (bytes : List ℕ) → durable_has_form d ≡ false → IsDurable version d bytes → ⊥
+durable_formless version d bytes none is =
+    true≢false (sym (subst (λ x. durable_has_form x ≡ true) (sym is.told) (formed_of version is.plain is.spelled.fits)) ∙ none)
 
 -- ---- its bytes
 
-pub durable_spelled : (d : Kept) (bytes : List ℕ) → durable_in (plain_durable d) ≡ d → Spells durable_form (plain_durable d) bytes
-    → IsDurable d bytes
-durable_spelled d bytes told is = record { plain = plain_durable d; spelled = is; told = sym told }
+pub durable_spelled : (version : ℕ) (d : Kept) (bytes : List ℕ) → durable_in (plain_durable d) ≡ d → Spells (durable_form version) (plain_durable d) bytes
+    → IsDurable version d bytes
+durable_spelled version d bytes told is = record { plain = plain_durable d; spelled = is; told = sym told }
 
-pub durable_pushed : (d : Kept) (out : List ℕ) → durable_in (plain_durable d) ≡ d → Fits durable_form (plain_durable d)
-    → out ≡ onto durable_form (plain_durable d) [] → IsDurable d out
-durable_pushed d out told fits is =
-    durable_spelled d out told (record { fits = fits; written = is ∙ onto_is durable_form (plain_durable d) [] })
+pub durable_pushed : (version : ℕ) (d : Kept) (out : List ℕ) → durable_in (plain_durable d) ≡ d → Fits (durable_form version) (plain_durable d)
+    → out ≡ onto (durable_form version) (plain_durable d) [] → IsDurable version d out
+durable_pushed version d out told fits is =
+    durable_spelled version d out told (record { fits = fits; written = is ∙ onto_is (durable_form version) (plain_durable d) [] })
 
 -- bytes are those of one thing kept at most
-pub one_durable : (d e : Kept) (bytes : List ℕ) → IsDurable d bytes → IsDurable e bytes → d ≡ e
-one_durable d e bytes a b = a.told ∙ ap durable_in (one_value durable_form bytes a.plain b.plain a.spelled b.spelled) ∙ sym b.told
+pub one_durable : (version : ℕ) (d e : Kept) (bytes : List ℕ) → IsDurable version d bytes → IsDurable version e bytes → d ≡ e
+one_durable version d e bytes a b = a.told ∙ ap durable_in (one_value (durable_form version) bytes a.plain b.plain a.spelled b.spelled) ∙ sym b.told
 
 -- and what is kept has the bytes of some data that tell it
-pub none_told : {A : Type 0} (d : Kept) (bytes : List ℕ) → ((v : Value DurableShape) → Spells durable_form v bytes → A)
-    → IsDurable d bytes → A
-none_told d bytes refuses is = refuses is.plain is.spelled
+pub none_told : {A : Type 0} (version : ℕ) (d : Kept) (bytes : List ℕ) → ((v : Value DurableShape) → Spells (durable_form version) v bytes → A)
+    → IsDurable version d bytes → A
+none_told version d bytes refuses is = refuses is.plain is.spelled
 
 -- ---- the snapshot of nothing
 
@@ -303,24 +305,24 @@ plain_nothing epoch v told =
     let same : epoch ≡ v.0 = ap (λ (d : Kept). d.epoch) told in
     λ i. (sym same i, (rulesets i, (tables i, states i)))
 
-nothing_written : (epoch : ℕ) → writes durable_form (nothing_plain epoch) ≡ writes empty_form epoch
+nothing_written : (version epoch : ℕ) → writes (durable_form version) (nothing_plain epoch) ≡ writes (empty_form version) epoch
 unfolding durable_form rulesets_form kept_tables_form empty_form number_bytes
-nothing_written epoch = refl
+nothing_written version epoch = refl
 
-pub nothing_is_empty : (epoch : ℕ) (bytes : List ℕ) → IsDurable (kept_nothing epoch) bytes → Spells empty_form epoch bytes
+pub nothing_is_empty : (version epoch : ℕ) (bytes : List ℕ) → IsDurable version (kept_nothing epoch) bytes → Spells (empty_form version) epoch bytes
 unfolding durable_form empty_form
-nothing_is_empty epoch bytes is =
-    let spelled : Spells durable_form (nothing_plain epoch) bytes =
-    subst (λ (v : Value DurableShape). Spells durable_form v bytes) (plain_nothing epoch is.plain is.told) is.spelled in
-    record { fits = spelled.fits.0; written = spelled.written ∙ nothing_written epoch }
+nothing_is_empty version epoch bytes is =
+    let spelled : Spells (durable_form version) (nothing_plain epoch) bytes =
+    subst (λ (v : Value DurableShape). Spells (durable_form version) v bytes) (plain_nothing epoch is.plain is.told) is.spelled in
+    record { fits = spelled.fits.0; written = spelled.written ∙ nothing_written version epoch }
 
-pub empty_is_nothing : (epoch : ℕ) (bytes : List ℕ) → Spells empty_form epoch bytes → IsDurable (kept_nothing epoch) bytes
+pub empty_is_nothing : (version epoch : ℕ) (bytes : List ℕ) → Spells (empty_form version) epoch bytes → IsDurable version (kept_nothing epoch) bytes
 unfolding durable_form rulesets_form kept_tables_form empty_form
-empty_is_nothing epoch bytes is = record {
+empty_is_nothing version epoch bytes is = record {
   plain = nothing_plain epoch;
   spelled = record {
     fits = (is.fits, ((((omega arith, tt), refl), refl), ((((omega arith, tt), refl), refl), ((omega arith, tt), refl))));
-    written = is.written ∙ sym (nothing_written epoch);
+    written = is.written ∙ sym (nothing_written version epoch);
   };
   told = refl;
 }
@@ -339,25 +341,25 @@ unfolding placed_form path_form named_form table_name_form entries_form
 example_fits =
     (((omega arith, tt), refl), (((omega arith, (omega arith, tt)), refl), (((omega arith, (entry_of_example_fits, tt)), refl), refl)))
 
-example_written : example_bytes ≡ writes durable_form (plain_durable example_kept)
+example_written : (version : ℕ) → example_bytes ≡ writes (durable_form version) (plain_durable example_kept)
 unfolding durable_form rulesets_form kept_tables_form placed_form path_form named_form table_name_form entries_form entry family below number_bytes
-example_written = refl
+example_written version = refl
 
-pub example_is : IsDurable example_kept example_bytes
+pub example_is : (version : ℕ) → IsDurable version example_kept example_bytes
 unfolding durable_form rulesets_form kept_tables_form
-example_is = record {
+example_is version = record {
   plain = plain_durable example_kept;
   spelled = record {
     fits =
         (omega arith, ((((omega arith, tt), refl), refl), ((((omega arith, (example_fits, tt)), refl), refl), ((omega arith, tt), refl))));
-    written = example_written;
+    written = (example_written version);
   };
   told = refl;
 }
 
-pub zeros_are : IsDurable (kept_nothing 0) (replicate 16 0)
+pub zeros_are : (version : ℕ) → IsDurable version (kept_nothing 0) (replicate 16 0)
 unfolding durable_form rulesets_form kept_tables_form number_bytes
-zeros_are = record {
+zeros_are version = record {
   plain = nothing_plain 0;
   spelled = record {
     fits = (omega arith, ((((omega arith, tt), refl), refl), ((((omega arith, tt), refl), refl), ((omega arith, tt), refl))));

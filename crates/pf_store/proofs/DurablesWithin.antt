@@ -11,7 +11,9 @@ use Rattle.pf_state.proofs.{Flows.same_back, Names.one_name, Tables.nothing_is}
 use Rattle.pf_table.specs.{EntryForms.{EntryShape, entry_of, entry_before}, Tables.AreEntries}
 use Rattle.pf_map.specs.{ListMaps.{list_at, list_in}, Networks.net_order, NetworkLaws.net_total}
 use Rattle.pf_map.proofs.Ordered.{sorted_of}
-use Rattle.pf_store.specs.{Groups.{at_most, RulesShape, rules_form, rule_list_form, named_form, entries_form}, Durables.{has_some, rulesets_form, PlacedShape, placed_form, kept_tables_form, ruled_in, tabled_in, DurableShape, durable_form, durable_in, IsDurable}}
+use Rattle.pf_anchor.specs.Forms.{at_most, RulesShape, rules_form, rule_list_form, named_form, entries_form, has_some, rulesets_form, PlacedShape, placed_form, kept_tables_form, ruled_in, tabled_in}
+use Rattle.pf_core.specs.Durable.Forms.{DurableShape, durable_form, durable_in}
+use Rattle.pf_store.specs.Durables.{IsDurable}
 use Rattle.pf_store.proofs.Durables.{some_mapped, seen_in_order}
 
 -- ---- what is found in a map of lists
@@ -41,25 +43,25 @@ some_rules : (vs : List (Value RulesShape)) → list_all (λ r. has_some r.1) (m
 some_rules [] = refl
 some_rules (v ∷ vs) = rw (some_mapped rule_of v.1, some_rules vs) refl
 
-are_rulesets_map : (vs : List (Value RulesShape)) → Fits rulesets_form vs → IsMap (map ruled_in vs)
+are_rulesets_map : (version : ℕ) (vs : List (Value RulesShape)) → Fits (rulesets_form version) vs → IsMap (map ruled_in vs)
 unfolding rulesets_form
-are_rulesets_map vs fits = record {
+are_rulesets_map version vs fits = record {
   sorted = sorted_of nat_list_cmp_total (map ruled_in vs) (seen_in_order (λ a b. is_lt (path_order a.0 b.0)) ruled_in vs ∙ fits.0.1);
   filled = filled path_order (map ruled_in vs) (some_rules vs ∙ (and_parts (at_most RULESET_LIMIT vs) (list_all (λ r. has_some r.1) vs) fits.1).1);
 }
 
-rules_each : (vs : List (Value RulesShape)) → AllByRecursion (Fits rules_form) vs → AllByRecursion (λ r. length r.1 ≤ RULE_LIMIT) (map ruled_in vs)
+rules_each : (version : ℕ) (vs : List (Value RulesShape)) → AllByRecursion (Fits (rules_form version)) vs → AllByRecursion (λ r. length r.1 ≤ RULE_LIMIT) (map ruled_in vs)
 unfolding rules_form rule_list_form
-rules_each [] each = tt
-rules_each (v ∷ vs) each = (grind (arith, nat_tests, length-map v.1 rule_of, each.0.1.1), rules_each vs each.1)
+rules_each version [] each = tt
+rules_each version (v ∷ vs) each = (grind (arith, nat_tests, length-map v.1 rule_of, each.0.1.1), rules_each version vs each.1)
 
-rulesets_few : (vs : List (Value RulesShape)) → Fits rulesets_form vs → length (map ruled_in vs) ≤ RULESET_LIMIT
+rulesets_few : (version : ℕ) (vs : List (Value RulesShape)) → Fits (rulesets_form version) vs → length (map ruled_in vs) ≤ RULESET_LIMIT
 unfolding rulesets_form
-rulesets_few vs fits = grind (arith, nat_tests, length-map vs ruled_in, (and_parts (at_most RULESET_LIMIT vs) (list_all (λ r. has_some r.1) vs) fits.1).0)
+rulesets_few version vs fits = grind (arith, nat_tests, length-map vs ruled_in, (and_parts (at_most RULESET_LIMIT vs) (list_all (λ r. has_some r.1) vs) fits.1).0)
 
-rules_few_at : (vs : List (Value RulesShape)) → Fits rulesets_form vs → (p : List ℕ) → length (list_at path_order p (map ruled_in vs)) ≤ RULE_LIMIT
+rules_few_at : (version : ℕ) (vs : List (Value RulesShape)) → Fits (rulesets_form version) vs → (p : List ℕ) → length (list_at path_order p (map ruled_in vs)) ≤ RULE_LIMIT
 unfolding rulesets_form
-rules_few_at vs fits p = listed path_order (λ (rs : List PlainRule). length rs ≤ RULE_LIMIT) (map ruled_in vs) p (rules_each vs fits.0.0.1) (omega arith)
+rules_few_at version vs fits p = listed path_order (λ (rs : List PlainRule). length rs ≤ RULE_LIMIT) (map ruled_in vs) p (rules_each version vs fits.0.0.1) (omega arith)
 
 -- ---- tables
 
@@ -139,8 +141,8 @@ one_flow (s ∷ es) once a b x y at_a at_b same =
           absurd (elsewhere es s.1 a x parts.0 here (subst (λ (h : Held). same_flow h.flow x.flow ≡ true) (sym held) (same_back x.flow y.flow same)))
       by false is_a false is_b here there rest = rest here there
 
-are_states : (vs : List (Value StateShape)) → Fits states_form vs → IsStates (map state_in vs)
-are_states vs fits =
+are_states : (version : ℕ) (vs : List (Value StateShape)) → Fits (states_form version) vs → IsStates (map state_in vs)
+are_states version vs fits =
     let ordered = and_parts (nat_le (length vs) STATE_LIMIT) (in_order state_before vs && no_flow_twice (map state_in vs)) fits.1 in
     let apart = and_parts (in_order state_before vs) (no_flow_twice (map state_in vs)) ordered.1 in
     record {
@@ -153,16 +155,16 @@ are_states vs fits =
 
 -- ---- all of it
 
-data_within : (v : Value DurableShape) → Fits durable_form v → IsWithin (durable_in v)
+data_within : (version : ℕ) (v : Value DurableShape) → Fits (durable_form version) v → IsWithin (durable_in v)
 unfolding durable_form
-data_within v fits = record {
-  maps = record { rulesets = are_rulesets_map v.1.0 fits.1.0; tables = are_tables_map v.1.1.0 fits.1.1.0 };
-  rulesets = rulesets_few v.1.0 fits.1.0;
-  rules = rules_few_at v.1.0 fits.1.0;
+data_within version v fits = record {
+  maps = record { rulesets = are_rulesets_map version v.1.0 fits.1.0; tables = are_tables_map v.1.1.0 fits.1.1.0 };
+  rulesets = rulesets_few version v.1.0 fits.1.0;
+  rules = rules_few_at version v.1.0 fits.1.0;
   tables = tables_few v.1.1.0 fits.1.1.0;
   entries = entries_few_at v.1.1.0 fits.1.1.0;
-  states = are_states v.1.1.1 fits.1.1.1;
+  states = are_states version v.1.1.1 fits.1.1.1;
 }
 
-pub durable_within : (d : Kept) (bytes : List ℕ) → IsDurable d bytes → IsWithin d
-durable_within d bytes is = subst IsWithin (sym is.told) (data_within is.plain is.spelled.fits)
+pub durable_within : (version : ℕ) (d : Kept) (bytes : List ℕ) → IsDurable version d bytes → IsWithin d
+durable_within version d bytes is = subst IsWithin (sym is.told) (data_within version is.plain is.spelled.fits)

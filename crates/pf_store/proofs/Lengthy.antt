@@ -140,9 +140,9 @@ body_long : (anchors ports : Bool) (f : Value FamilyShape) → Long (body anchor
 body_long anchors ports f =
     pair_long 16 180 interface_long (pair_long 56 124 (end_long ports f) (pair_long 56 68 (end_long ports f) (named_long anchors)))
 
-pub rule_long : Long rule_layout 204
+pub rule_long : (version : ℕ) → Long (rule_layout version) 204
 unfolding rule_layout
-rule_long =
+rule_long version =
     pair_by_long 1 203 (below_long 3) (λ effect is. pair_long 1 202 (below_long 3) (pair_long 1 201 (below_long 2)
     (pair_long 1 200 (below_long (if effect == 1 then 2 else 1)) (pair_by_long 1 199 some_family_long (λ f is.
     pair_by_long 1 198 (number_long 1) (λ protocol is. front_long (0 ∷ 0 ∷ []) 196 (body_long (effect == 2) (has_ports protocol) f)))))))
@@ -184,11 +184,11 @@ bound_long =
     or_long 0 23 (front_long (replicate 23 0) 0 (nothing_long tt))
     (front_long (1 ∷ 0 ∷ 0 ∷ 0 ∷ []) 20 (pair_long 4 16 (number_long 4) (times_long 16 1 (number_long 1))))
 
-held_long : Long held_form 84
+held_long : (version : ℕ) → Long (held_form version) 84
 unfolding held_form
-held_long =
+held_long version =
     pair_long 4 80 (number_long 4) (pair_long 40 40 flow_long (front_long (replicate 8 255) 32 (back_long (replicate 8 0) 24 bound_long)))
 
-pub state_long : Long state_form 96
+pub state_long : (version : ℕ) → Long (state_form version) 96
 unfolding state_form
-state_long = pair_long 12 84 name_long held_long
+state_long version = pair_long 12 84 name_long (held_long version)

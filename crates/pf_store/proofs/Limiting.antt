@@ -11,7 +11,8 @@ use Rattle.pf_table.specs.{EntryForms.entry_of, Tables.AreEntries}
 use Rattle.pf_snap.specs.Banks.{Content}
 use Rattle.pf_store.specs.declared.groups.change.Recorded.{Recorded}
 use Rattle.pf_store.proofs.DurablesWithin.{durable_within, entries_few}
-use Rattle.pf_store.specs.{Groups.{ChangeShape, ItemShape, NamedShape, change_form, defined_form, group_form, item_form, item_in, items_form, named_form, named_in, record_in, rule_list_form, rules_form, tables_form, IsRecorded}, Stores.{Follows, left_by, Leads, Makes}}
+use Rattle.pf_anchor.specs.Forms.{NamedShape, named_form, named_in, rule_list_form, rules_form}
+use Rattle.pf_store.specs.{Groups.{ChangeShape, ItemShape, change_form, defined_form, group_form, item_form, item_in, items_form, record_in, tables_form, IsRecorded}, Stores.{Follows, left_by, Leads, Makes}}
 
 -- ---- what a commit's bytes tell
 
@@ -19,48 +20,48 @@ all_behind : {A : Type 0} (P : A → Type 0) (xs ys : List A) → AllByRecursion
 all_behind P [] ys one other = other
 all_behind P (x ∷ xs) ys one other = (one.0, all_behind P xs ys one.1 other)
 
-rules_few : (vs : List (Value ItemShape)) → AllByRecursion (Fits item_form) vs → AllByRecursion (λ r. length r.1 ≤ RULE_LIMIT) (rulesets_in (map item_in vs))
+rules_few : (version : ℕ) (vs : List (Value ItemShape)) → AllByRecursion (Fits (item_form version)) vs → AllByRecursion (λ r. length r.1 ≤ RULE_LIMIT) (rulesets_in (map item_in vs))
 unfolding item_form rules_form rule_list_form
-rules_few [] each = tt
-rules_few (inl v ∷ vs) each = (grind (arith, nat_tests, length-map v.1 rule_of, each.0.1.1), rules_few vs each.1)
-rules_few (inr v ∷ vs) each = rules_few vs each.1
+rules_few version [] each = tt
+rules_few version (inl v ∷ vs) each = (grind (arith, nat_tests, length-map v.1 rule_of, each.0.1.1), rules_few version vs each.1)
+rules_few version (inr v ∷ vs) each = rules_few version vs each.1
 
 placed_few : (p : List ℕ) (ws : List (Value NamedShape)) → AllByRecursion (Fits named_form) ws → AllByRecursion (λ t. AreEntries t.1) (placed p (map named_in ws))
 unfolding named_form
 placed_few p [] each = tt
 placed_few p (w ∷ ws) each = (entries_few w.1 each.0.1, placed_few p ws each.1)
 
-tables_few : (vs : List (Value ItemShape)) → AllByRecursion (Fits item_form) vs → AllByRecursion (λ t. AreEntries t.1) (tables_in (map item_in vs))
+tables_few : (version : ℕ) (vs : List (Value ItemShape)) → AllByRecursion (Fits (item_form version)) vs → AllByRecursion (λ t. AreEntries t.1) (tables_in (map item_in vs))
 unfolding item_form tables_form defined_form
-tables_few [] each = tt
-tables_few (inl v ∷ vs) each = tables_few vs each.1
-tables_few (inr v ∷ vs) each = all_behind (λ t. AreEntries t.1) (placed v.0 (map named_in v.1)) (tables_in (map item_in vs)) (placed_few v.0 v.1 each.0.0.1.0.0.1) (tables_few vs each.1)
+tables_few version [] each = tt
+tables_few version (inl v ∷ vs) each = tables_few version vs each.1
+tables_few version (inr v ∷ vs) each = all_behind (λ t. AreEntries t.1) (placed v.0 (map named_in v.1)) (tables_in (map item_in vs)) (placed_few v.0 v.1 each.0.0.1.0.0.1) (tables_few version vs each.1)
 
-items_few : (vs : List (Value ItemShape)) → Fits items_form vs → AreFew (map item_in vs)
+items_few : (version : ℕ) (vs : List (Value ItemShape)) → Fits (items_form version) vs → AreFew (map item_in vs)
 unfolding items_form
-items_few vs fits = record { rules = rules_few vs fits.0.1; entries = tables_few vs fits.0.1 }
+items_few version vs fits = record { rules = rules_few version vs fits.0.1; entries = tables_few version vs fits.0.1 }
 
 -- ---- what is recorded
 
-told_within : (d : Kept) (v : Value ChangeShape) → Fits change_form v → Follows d (record_in v) → IsWithin d → IsWithin (left_by d (record_in v))
+told_within : (version : ℕ) (d : Kept) (v : Value ChangeShape) → Fits (change_form version) v → Follows d (record_in v) → IsWithin d → IsWithin (left_by d (record_in v))
 unfolding change_form
-told_within d (inl vs) fits follows within = (keeps_within d within).by_commit (map item_in vs) (items_few vs fits) follows
-told_within d (inr (inl v)) fits follows within = (keeps_within d within).by_add v.0 v.1.0 (map entry_of v.1.1) follows
-told_within d (inr (inr (inl v))) fits follows within = (keeps_within d within).by_delete v.0 v.1.0 (map entry_of v.1.1)
-told_within d (inr (inr (inr (inl v)))) fits follows within = (keeps_within d within).by_set v.0 v.1.0 (map entry_of v.1.1) follows
-told_within d (inr (inr (inr (inr (inl steps))))) fits follows within = (keeps_within d within).by_steps (map step_in steps) follows
-told_within d (inr (inr (inr (inr (inr (inl name)))))) fits follows within = (keeps_within d within).by_removal (name_in name)
-told_within d (inr (inr (inr (inr (inr (inr epoch)))))) fits follows within =
+told_within version d (inl vs) fits follows within = (keeps_within d within).by_commit (map item_in vs) (items_few version vs fits) follows
+told_within version d (inr (inl v)) fits follows within = (keeps_within d within).by_add v.0 v.1.0 (map entry_of v.1.1) follows
+told_within version d (inr (inr (inl v))) fits follows within = (keeps_within d within).by_delete v.0 v.1.0 (map entry_of v.1.1)
+told_within version d (inr (inr (inr (inl v)))) fits follows within = (keeps_within d within).by_set v.0 v.1.0 (map entry_of v.1.1) follows
+told_within version d (inr (inr (inr (inr (inl steps))))) fits follows within = (keeps_within d within).by_steps (map step_in steps) follows
+told_within version d (inr (inr (inr (inr (inr (inl name)))))) fits follows within = (keeps_within d within).by_removal (name_in name)
+told_within version d (inr (inr (inr (inr (inr (inr epoch)))))) fits follows within =
     record { maps = within.maps; rulesets = within.rulesets; rules = within.rules; tables = within.tables; entries = within.entries; states = within.states }
 
-recorded_within : (d : Kept) (x : Recorded) (payload : List ℕ) → IsRecorded x payload → Follows d x → IsWithin d → IsWithin (left_by d x)
+recorded_within : (version : ℕ) (d : Kept) (x : Recorded) (payload : List ℕ) → IsRecorded version x payload → Follows d x → IsWithin d → IsWithin (left_by d x)
 unfolding group_form
-recorded_within d x payload is follows within =
-    subst (λ (y : Recorded). IsWithin (left_by d y)) (sym is.told) (told_within d is.plain is.spelled.fits (subst (Follows d) is.told follows) within)
+recorded_within version d x payload is follows within =
+    subst (λ (y : Recorded). IsWithin (left_by d y)) (sym is.told) (told_within version d is.plain is.spelled.fits (subst (Follows d) is.told follows) within)
 
-led_within : (d : Kept) (ps : List (List ℕ)) (e : Kept) → Leads d ps e → IsWithin d → IsWithin e
-led_within d [] e led within = subst IsWithin led within
-led_within d (p ∷ ps) e led within = led_within (left_by d led.0) ps e led.3 (recorded_within d led.0 p led.1 led.2 within)
+led_within : (version : ℕ) (d : Kept) (ps : List (List ℕ)) (e : Kept) → Leads version d ps e → IsWithin d → IsWithin e
+led_within version d [] e led within = subst IsWithin led within
+led_within version d (p ∷ ps) e led within = led_within version (left_by d led.0) ps e led.3 (recorded_within version d led.0 p led.1 led.2 within)
 
 pub made_within : (content : Content) (d : Kept) → Makes content d → IsWithin d
-made_within content d makes = led_within makes.first content.payloads d makes.leads (durable_within makes.first content.snapshot makes.kept)
+made_within content d makes = led_within content.version makes.first content.payloads d makes.leads (durable_within content.version makes.first content.snapshot makes.kept)

@@ -6,7 +6,8 @@ use Rattle.pf_rule.specs.Sum.Reading.{rule_of}
 use Rattle.pf_state.specs.{Layouts.Steps.{StepShape, step_form, step_in}}
 use Rattle.pf_table.specs.EntryForms.{entry, entry_of}
 use Rattle.pf_store.specs.declared.groups.change.Recorded.{Recorded}
-use Rattle.pf_store.specs.Groups.{RulesShape, rule_list_form, rules_form, entries_form, entries_in, NamedShape, named_form, named_in, defined_form, TablesShape, tables_form, ItemShape, item_form, items_form, item_in, EditShape, edit_form, ChangeShape, change_form, group_form, record_in, IsRecorded}
+use Rattle.pf_anchor.specs.Forms.{RulesShape, rule_list_form, rules_form, entries_form, entries_in, NamedShape, named_form, named_in}
+use Rattle.pf_store.specs.Groups.{defined_form, TablesShape, tables_form, ItemShape, item_form, items_form, item_in, EditShape, edit_form, ChangeShape, change_form, group_form, record_in, IsRecorded}
 use Rattle.pf_store.specs.Lengths.{total, text_length, named_length, item_length, edit_length, step_length, recorded_length, payload_length}
 use Rattle.pf_store.proofs.Lengthy.{Long, bytes_long, number_long, each_long, entry_long, rule_long, name_long, state_long}
 
@@ -47,15 +48,15 @@ table_name_long name fits = omega (arith, counted_long 1 1 (number_long 1) name 
 
 -- ---- what a commit replaces
 
-pub rules_long : (v : Value RulesShape) → Fits rules_form v
-    → length (writes rules_form v) ≡ text_length v.0 + 4 + 204 * length (map rule_of v.1)
+pub rules_long : (version : ℕ) (v : Value RulesShape) → Fits (rules_form version) v
+    → length (writes (rules_form version) v) ≡ text_length v.0 + 4 + 204 * length (map rule_of v.1)
 unfolding rules_form rule_list_form
-rules_long v fits =
+rules_long version v fits =
     omega (
       arith,
-      length-append (writes path_form v.0) (writes rule_list_form v.1),
+      length-append (writes path_form v.0) (writes (rule_list_form version) v.1),
       path_long v.0 fits.0,
-      counted_long 4 204 rule_long v.1 fits.1.0.1,
+      counted_long 4 204 (rule_long version) v.1 fits.1.0.1,
       length-map v.1 rule_of,
     )
 
@@ -81,10 +82,10 @@ tables_long v fits =
       listed_long 4 named_form named_in named_length named_long v.1 fits.1.0.0.1,
     )
 
-item_long : (v : Value ItemShape) → Fits item_form v → length (writes item_form v) ≡ item_length (item_in v)
+item_long : (version : ℕ) (v : Value ItemShape) → Fits (item_form version) v → length (writes (item_form version) v) ≡ item_length (item_in v)
 unfolding item_form
-item_long (inl v) fits = omega (arith, rules_long v fits)
-item_long (inr v) fits = omega (arith, tables_long v fits.0)
+item_long version (inl v) fits = omega (arith, rules_long version v fits)
+item_long version (inr v) fits = omega (arith, tables_long v fits.0)
 
 -- ---- changes
 
@@ -101,27 +102,27 @@ edit_long v fits =
       length-map v.1.1 entry_of,
     )
 
-step_long : (v : Value StepShape) → Fits step_form v → length (writes step_form v) ≡ step_length (step_in v)
+step_long : (version : ℕ) (v : Value StepShape) → Fits (step_form version) v → length (writes (step_form version) v) ≡ step_length (step_in v)
 unfolding step_form
-step_long (inl v) fits = omega (arith, state_long.of v fits)
-step_long (inr (inl v)) fits = omega (arith, name_long.of v fits.0)
-step_long (inr (inr v)) fits = omega (arith, bytes_long 4 v)
+step_long version (inl v) fits = omega (arith, (state_long version).of v fits)
+step_long version (inr (inl v)) fits = omega (arith, name_long.of v fits.0)
+step_long version (inr (inr v)) fits = omega (arith, bytes_long 4 v)
 
 -- the byte of its kind, and what it is
-recorded_long : (v : Value ChangeShape) → Fits change_form v → length (writes change_form v) ≡ 1 + recorded_length (record_in v)
+recorded_long : (version : ℕ) (v : Value ChangeShape) → Fits (change_form version) v → length (writes (change_form version) v) ≡ 1 + recorded_length (record_in v)
 unfolding change_form items_form
-recorded_long (inl items) fits = omega (arith, listed_long 1 item_form item_in item_length item_long items fits.0.1)
-recorded_long (inr (inl v)) fits = omega (arith, edit_long v fits.0)
-recorded_long (inr (inr (inl v))) fits = omega (arith, edit_long v fits.0.0)
-recorded_long (inr (inr (inr (inl v)))) fits = omega (arith, edit_long v fits.0.0.0)
-recorded_long (inr (inr (inr (inr (inl steps))))) fits =
-    omega (arith, listed_long 4 step_form step_in step_length step_long steps fits.0.0.0.0.1)
-recorded_long (inr (inr (inr (inr (inr (inl name)))))) fits = omega (arith, name_long.of name fits.0.0.0.0.0)
-recorded_long (inr (inr (inr (inr (inr (inr epoch)))))) fits = omega (arith, bytes_long 4 epoch)
+recorded_long version (inl items) fits = omega (arith, listed_long 1 (item_form version) item_in item_length (item_long version) items fits.0.1)
+recorded_long version (inr (inl v)) fits = omega (arith, edit_long v fits.0)
+recorded_long version (inr (inr (inl v))) fits = omega (arith, edit_long v fits.0.0)
+recorded_long version (inr (inr (inr (inl v)))) fits = omega (arith, edit_long v fits.0.0.0)
+recorded_long version (inr (inr (inr (inr (inl steps))))) fits =
+    omega (arith, listed_long 4 (step_form version) step_in step_length (step_long version) steps fits.0.0.0.0.1)
+recorded_long version (inr (inr (inr (inr (inr (inl name)))))) fits = omega (arith, name_long.of name fits.0.0.0.0.0)
+recorded_long version (inr (inr (inr (inr (inr (inr epoch)))))) fits = omega (arith, bytes_long 4 epoch)
 
-pub payload_long : (r : Recorded) (payload : List ℕ) → IsRecorded r payload → length payload ≡ payload_length r
+pub payload_long : (version : ℕ) (r : Recorded) (payload : List ℕ) → IsRecorded version r payload → length payload ≡ payload_length r
 unfolding group_form
-payload_long r payload is =
-    let rest = recorded_long is.plain is.spelled.fits in
+payload_long version r payload is =
+    let rest = recorded_long version is.plain is.spelled.fits in
     let long : length payload ≡ payload_length (record_in is.plain) = omega (arith, ap length is.spelled.written, rest) in
     long ∙ ap payload_length (sym is.told)

@@ -10,7 +10,8 @@ use Rattle.pf_map.proofs.Ordered.{in_order_of}
 use Rattle.pf_anchor.specs.declared.limits.TheConstants.{RULE_LIMIT}
 use Rattle.pf_rule.specs.{Rules.PlainRule, Sum.Layouts.{rule_layout, plain_rule}}
 use Rattle.pf_ticket.specs.{declared.limits.TheConstants.{OFFERED_TABLE_LIMIT}, NamedTables.Named}
-use Rattle.pf_store.specs.Groups.{at_most, rule_list_form, defined_form, entries_form, plain_entries, named_form, named_before, plain_named, tables_form, item_form, items_form, plain_item, is_commit, has_item_form}
+use Rattle.pf_anchor.specs.Forms.{at_most, rule_list_form, entries_form, plain_entries, named_form, plain_named}
+use Rattle.pf_store.specs.Groups.{defined_form, named_before, tables_form, item_form, items_form, plain_item, is_commit, has_item_form}
 
 pub few : {A B : Type 0} (limit : ℕ) (xs : List A) (f : A → B) → length xs ≤ limit → at_most limit (map f xs) ≡ true
 few limit xs f le = grind (arith, nat_tests, le, length-map xs f)
@@ -38,21 +39,21 @@ tables_fit ts sorted le each =
     let turn = named_in_turn ts (in_order_of nat_list_cmp_total ts sorted) in
     (((omega (arith, le, length-map ts plain_named), each), turn), few OFFERED_TABLE_LIMIT ts plain_named le)
 
-pub items_fit : (items : List Item) → is_commit items ≡ true → AllByRecursion (Fits item_form) (map plain_item items)
-    → Fits items_form (map plain_item items)
+pub items_fit : (version : ℕ) (items : List Item) → is_commit items ≡ true → AllByRecursion (Fits (item_form version)) (map plain_item items)
+    → Fits (items_form version) (map plain_item items)
 unfolding items_form
-items_fit items is each =
+items_fit version items is each =
     let same : length (map plain_item items) ≡ length items = length-map items plain_item in
     let many : is_commit (map plain_item items) ≡ true = rw same is in
     ((grind (arith, nat_tests, same, is), each), many)
 
-pub rule_list_fits : (rs : List PlainRule) → length rs ≤ RULE_LIMIT → Fits (counted 4 rule_layout) (map plain_rule rs)
-    → Fits rule_list_form (map plain_rule rs)
+pub rule_list_fits : (version : ℕ) (rs : List PlainRule) → length rs ≤ RULE_LIMIT → Fits (counted 4 (rule_layout version)) (map plain_rule rs)
+    → Fits (rule_list_form version) (map plain_rule rs)
 unfolding rule_list_form
-rule_list_fits rs le fits = (fits, few RULE_LIMIT rs plain_rule le)
+rule_list_fits version rs le fits = (fits, few RULE_LIMIT rs plain_rule le)
 
 -- what an item's data fit
-pub item_formed : (i : Item) → Fits item_form (plain_item i) → has_item_form i ≡ true
+pub item_formed : (version : ℕ) (i : Item) → Fits (item_form version) (plain_item i) → has_item_form i ≡ true
 unfolding item_form tables_form defined_form
-item_formed (item.Rules r) fits = refl
-item_formed (item.Tables p ts) fits = rw (sym (length-map ts plain_named)) (fits.0.1.1)
+item_formed version (item.Rules r) fits = refl
+item_formed version (item.Tables p ts) fits = rw (sym (length-map ts plain_named)) (fits.0.1.1)

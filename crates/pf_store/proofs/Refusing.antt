@@ -2,7 +2,7 @@
 use Rattle.std.proofs.Common.{◌≡◌, ◌≢◌, ◌⊎◌, ⊎_elim, ◌+◌, ◌^◌, ◌<◌, inl, inr, ℕ, List, length, refl, ◌∙◌, ap, subst, arith}
 use Rattle.pf_journal.specs.Records.{records, region, IsFront, StandsFor}
 use Rattle.pf_journal.proofs.Parsing.{one_front, front_of}
-use Rattle.pf_snap.specs.{Banks.{AreBanks, Content, Counts, HasSnapshot, bank_size, records_start}, Faults.IsRefused, declared.fault.LookFault.LookFault}
+use Rattle.pf_snap.specs.{Banks.{AreBanks, Content, Counts, HasSnapshot, IsSize, bank_size, records_start}, Faults.IsRefused, declared.fault.LookFault.LookFault}
 use Rattle.pf_snap.specs.Banks as snap
 use Rattle.pf_snap.specs.declared.fault.LookFault.TheVariants as looking
 use Rattle.pf_snap.proofs.Holding.{one_place, one_content}
@@ -10,7 +10,7 @@ use Rattle.pf_snap.proofs.Holding as holding
 use Rattle.pf_core.specs.{Durable.Edits.{Kept}, Worlds.last_epoch}
 use Rattle.pf_store.specs.{Durables.IsDurable, Stores.{Holds, IsRoomy, Leads, Makes}, StoreFaults.{BreaksOff, SaysNone}, Openings.{BreaksBehind, IsFull, IsUnopened, MakesNone, gate_of, generation_of}}
 use Rattle.pf_store.specs.declared.store.fault.OpenFault.{OpenFault}
-use Rattle.pf_store.specs.declared.store.fault.OpenFault.TheVariants.{BadSize, NoBank, Corrupt, Memory, Fault, EpochsExhausted, Full}
+use Rattle.pf_store.specs.declared.store.fault.OpenFault.TheVariants.{BadSize, NoBank, Corrupt, Memory, Fault, EpochsExhausted, Full, Places}
 use Rattle.pf_store.proofs.{Durables.one_durable, Leading.{one_made, stopped}}
 
 -- what makes something doesn't break off
@@ -18,9 +18,9 @@ makes_some : (torn : Type 0) (bank : ℕ) (content : Content) (place : ℕ) (d :
 makes_some torn bank content place d whole makes (inl none) = none.0 makes.first makes.kept
 makes_some torn bank content place d whole makes (inr (inl none)) =
     let s = none.stops in
-    stopped none.first s.done s.payload s.rest s.d d s.leads s.none
-    (subst (λ (qs : List (List ℕ)). Leads none.first qs d) s.split
-    (subst (λ (f : Kept). Leads f content.payloads d) (one_durable makes.first none.first content.snapshot makes.kept none.kept) makes.leads))
+    stopped content.version none.first s.done s.payload s.rest s.d d s.leads s.none
+    (subst (λ (qs : List (List ℕ)). Leads content.version none.first qs d) s.split
+    (subst (λ (f : Kept). Leads content.version f content.payloads d) (one_durable content.version makes.first none.first content.snapshot makes.kept none.kept) makes.leads))
 makes_some torn bank content place d whole makes (inr (inr none)) = whole none.open_gate
 
 held_behind : (image : List ℕ) (place : ℕ) (d : Kept) → Holds image d → BreaksBehind image place → ⊥
@@ -37,8 +37,8 @@ held_behind image place d held b =
     makes_some ((c : Content) → ¬ snap.Holds image c) b.bank b.content place d (λ none. none k held.bank)
     (record {
       first = held.makes.first;
-      kept = subst (IsDurable held.makes.first) same.2 held.makes.kept;
-      leads = subst (λ (ps : List (List ℕ)). Leads held.makes.first ps d) payloads held.makes.leads;
+      kept = subst (λ (v : ℕ). IsDurable v held.makes.first b.content.snapshot) same.0 (subst (IsDurable k.version held.makes.first) same.2 held.makes.kept);
+      leads = subst (λ (v : ℕ). Leads v held.makes.first b.content.payloads d) same.0 (subst (λ (ps : List (List ℕ)). Leads k.version held.makes.first ps d) payloads held.makes.leads);
     })
     b.none
 
@@ -55,6 +55,7 @@ held_is_found image Memory d held early refused says = says
 held_is_found image Fault d held early refused says = says
 held_is_found image EpochsExhausted d held early refused says = says
 held_is_found image Full d held early refused says = says
+held_is_found image Places d held early refused says = says
 
 -- broken off at such a place, told otherwise
 pub breaks_off : (e : OpenFault) (P Q : ℕ → Type 0) → ((n : ℕ) → P n → Q n) → BreaksOff e P → BreaksOff e Q
@@ -65,6 +66,7 @@ breaks_off Memory P Q tell off = off
 breaks_off Fault P Q tell off = off
 breaks_off EpochsExhausted P Q tell off = off
 breaks_off Full P Q tell off = off
+breaks_off Places P Q tell off = off
 
 -- ---- what a look found, and no state in it
 
@@ -73,13 +75,25 @@ torn_as A B bank content place tell (inl none) = inl none
 torn_as A B bank content place tell (inr (inl none)) = inr (inl none)
 torn_as A B bank content place tell (inr (inr t)) = inr (inr (record { d = t.d; makes = t.makes; open_gate = tell t.open_gate; at = t.at }))
 
-pub unopened : (seen : List ℕ) (bank other : ℕ) (content : Content) (torn : Type 0) (e : OpenFault) → AreBanks (length seen) bank other → Counts seen bank other → content.generation < 2 ^ 63
+-- memory is refused behind the header of the bank that counts
+out_of_memory : (seen : List ℕ) (bank other : ℕ) (content : Content) → IsSize (length seen) → AreBanks (length seen) bank other → Counts seen bank other
+    → HasSnapshot seen bank content.version content.generation content.snapshot → IsUnopened Memory seen
+out_of_memory seen bank other content size places counts has =
+    (size, (bank, content.version, content.generation, length content.snapshot, record { other = other; banks = places; counts = counts; header = has.header }))
+
+-- so it is where something is held
+pub held_in_want : (seen : List ℕ) (d : Kept) → Holds seen d → IsUnopened Memory seen
+held_in_want seen d held =
+    let h = held.bank.holds in
+    out_of_memory seen held.bank.at held.bank.other held.content h.size h.banks h.counts h.bank.front
+
+pub unopened : (seen : List ℕ) (bank other : ℕ) (content : Content) (torn : Type 0) (e : OpenFault) → IsSize (length seen) → AreBanks (length seen) bank other → Counts seen bank other → content.generation < 2 ^ 63
     → HasSnapshot seen bank content.version content.generation content.snapshot
     → IsFront (region (records_start bank content.snapshot) (bank + bank_size (length seen)) seen) content.payloads
     → (torn → (c : Content) → ¬ snap.Holds seen c) → BreaksOff e (MakesNone torn bank content) → IsUnopened e seen
-unopened seen bank other content torn BadSize places counts early has front none off = absurd off
-unopened seen bank other content torn NoBank places counts early has front none off = absurd off
-unopened seen bank other content torn (Corrupt at) places counts early has front none off =
+unopened seen bank other content torn BadSize size places counts early has front none off = absurd off
+unopened seen bank other content torn NoBank size places counts early has front none off = absurd off
+unopened seen bank other content torn (Corrupt at) size places counts early has front none off =
     inr (record {
       bank = bank;
       other = other;
@@ -91,10 +105,11 @@ unopened seen bank other content torn (Corrupt at) places counts early has front
       front = front;
       none = torn_as torn ((c : Content) → ¬ snap.Holds seen c) bank content at none off;
     })
-unopened seen bank other content torn Memory places counts early has front none off = tt
-unopened seen bank other content torn Fault places counts early has front none off = tt
-unopened seen bank other content torn EpochsExhausted places counts early has front none off = absurd off
-unopened seen bank other content torn Full places counts early has front none off = absurd off
+unopened seen bank other content torn Memory size places counts early has front none off = out_of_memory seen bank other content size places counts has
+unopened seen bank other content torn Fault size places counts early has front none off = tt
+unopened seen bank other content torn EpochsExhausted size places counts early has front none off = absurd off
+unopened seen bank other content torn Full size places counts early has front none off = absurd off
+unopened seen bank other content torn Places size places counts early has front none off = absurd off
 
 -- and it isn't for an epoch or for room
 pub by_reading : (e : OpenFault) (P : ℕ → Type 0) → BreaksOff e P → (e ≢ EpochsExhausted) × (e ≢ Full)
@@ -105,6 +120,7 @@ by_reading Memory P off = (λ is. cc (is), λ is. cc (is))
 by_reading Fault P off = absurd off
 by_reading EpochsExhausted P off = absurd off
 by_reading Full P off = absurd off
+by_reading Places P off = absurd off
 
 -- ---- what may be opened
 
@@ -133,3 +149,4 @@ by_chance image Fault d held early low room refused = inr refl
 by_chance image EpochsExhausted d held early low room refused =
     absurd (omega (arith, ap (λ (k : Kept). k.epoch) (one_held image d refused.0 held refused.1), refused.3, low))
 by_chance image Full d held early low room refused = absurd (room (subst (IsFull image) (one_held image refused.0 d refused.1.held held) refused.1))
+by_chance image Places d held early low room refused = absurd refused

@@ -1,14 +1,14 @@
 -- What a record more, or a switch, leaves of what is held.
-use Rattle.std.proofs.Common.{◌≡◌, inl, inr, ℕ, ◌+◌, ◌^◌, ◌<◌, ◌≤◌, Bool, List, length, refl, sym, ap, subst, arith}
+use Rattle.std.proofs.Common.{◌≡◌, inl, inr, ℕ, ◌+◌, ◌^◌, ◌<◌, ◌≤◌, Bool, List, length, refl, sym, ap, ◌∙◌, subst, arith}
 use Rattle.std.specs.Prelude.{Result, Ok, Err, IfOk, IfErr}
 use Rattle.pf_disk.specs.Disk.{EachMoment, IsImage, IsSynced}
-use Rattle.pf_disk.proofs.{Images.only_read, Moments.{started, weakened, and_then}}
+use Rattle.pf_disk.proofs.{Images.only_read, Moments.{started, weakened, and_then, both}}
 use Rattle.pf_snap.specs.{Banks.{Content, with_payload, switched, bank_size}, Ready.{IsReady, Keeps}, declared.{banks.Banks.Banks, header.TheConstants.{HEADER, NEWEST}}}
 use Rattle.pf_snap.specs.Banks as snap
 use Rattle.pf_snap.proofs.Holding.{one_content}
 use Rattle.pf_core.specs.{Durable.Edits.{Kept}, Worlds.{last_epoch, raised}}
 use Rattle.pf_store.specs.declared.groups.change.Recorded.{Recorded}
-use Rattle.pf_store.specs.{Durables.IsDurable, Groups.IsRecorded, Lengths.snapshot_length, Openings.{IsFull, IsNoLaterThan, gate_of}, Stores.{Follows, left_by, Holds, HoldsEither, IsOfOpening, Makes}, StoreKept.{Stands, Storage, IsStore, HaveKept}}
+use Rattle.pf_store.specs.{Durables.IsDurable, Groups.IsRecorded, Lengths.snapshot_length, Openings.{IsAsLongAs, IsFull, IsNoLaterThan, LeavesRoom, gate_of}, Stores.{Follows, left_by, Holds, HoldsEither, IsOfOpening, IsRoomy, Makes}, StoreKept.{Stands, Storage, IsStore, HaveKept}}
 use Rattle.pf_store.proofs.{Leading.{leads-push}, Refusing.{one_at, one_gate, one_held}}
 
 pub not_less : (a b : ℕ) → (a < b → ⊥) → b ≤ a
@@ -30,20 +30,20 @@ on_err (Err e) P Q f p = f e p
 
 -- ---- what contents make
 
-pub makes_more : (content : Content) (d : Kept) (p : List ℕ) (x : Recorded) → Makes content d → IsRecorded x p → Follows d x → Makes (with_payload content p) (left_by d x)
-makes_more content d p x makes is follows = record { first = makes.first; kept = makes.kept; leads = leads-push makes.first content.payloads d p x makes.leads is follows }
+pub makes_more : (content : Content) (d : Kept) (p : List ℕ) (x : Recorded) → Makes content d → IsRecorded content.version x p → Follows d x → Makes (with_payload content p) (left_by d x)
+makes_more content d p x makes is follows = record { first = makes.first; kept = makes.kept; leads = leads-push content.version makes.first content.payloads d p x makes.leads is follows }
 
-pub makes_switched : (content : Content) (d : Kept) (snapshot : List ℕ) → IsDurable d snapshot → Makes (switched content NEWEST snapshot) d
+pub makes_switched : (content : Content) (d : Kept) (snapshot : List ℕ) → IsDurable NEWEST d snapshot → Makes (switched content NEWEST snapshot) d
 makes_switched content d snapshot is = record { first = d; kept = is; leads = refl }
 
 abbrev pub held : (content : Content) (d : Kept) (c : List ℕ) → Makes content d → snap.Holds c content → Holds c d
 held content d c makes bank = record { content = content; bank = bank; makes = makes }
 
-pub either : (content : Content) (d : Kept) (p : List ℕ) (x : Recorded) → Makes content d → IsRecorded x p → Follows d x → (c : List ℕ) → snap.HoldsEither content (with_payload content p) c → HoldsEither d (left_by d x) c
+pub either : (content : Content) (d : Kept) (p : List ℕ) (x : Recorded) → Makes content d → IsRecorded content.version x p → Follows d x → (c : List ℕ) → snap.HoldsEither content (with_payload content p) c → HoldsEither d (left_by d x) c
 either content d p x makes is follows c (inl bank) = inl (held content d c makes bank)
 either content d p x makes is follows c (inr bank) = inr (held (with_payload content p) (left_by d x) c (makes_more content d p x makes is follows) bank)
 
-pub still : (content : Content) (d : Kept) (snapshot : List ℕ) → Makes content d → IsDurable d snapshot → (c : List ℕ) → snap.HoldsEither content (switched content NEWEST snapshot) c → Holds c d
+pub still : (content : Content) (d : Kept) (snapshot : List ℕ) → Makes content d → IsDurable NEWEST d snapshot → (c : List ℕ) → snap.HoldsEither content (switched content NEWEST snapshot) c → Holds c d
 still content d snapshot makes is c (inl bank) = held content d c makes bank
 still content d snapshot makes is c (inr bank) = held (switched content NEWEST snapshot) d c (makes_switched content d snapshot is) bank
 
@@ -54,6 +54,16 @@ no_later g content low c has d h = subst (λ (k : Content). k.generation ≤ g) 
 pub neither_later : (g : ℕ) (a b : Content) → a.generation ≤ g → b.generation ≤ g → (c : List ℕ) → snap.HoldsEither a b c → IsNoLaterThan g c
 neither_later g a b one other c (inl has) = no_later g a one c has
 neither_later g a b one other c (inr has) = no_later g b other c has
+
+-- what either of two leaves room for
+roomy_as : (seen : List ℕ) (d : Kept) → IsRoomy (bank_size (length seen)) d → (c : List ℕ) → IsAsLongAs seen c → Holds c d → LeavesRoom c
+roomy_as seen d roomy c long has e holds =
+    subst (λ (k : Kept). IsRoomy (bank_size (length c)) k) (one_held c d e has holds) (subst (λ (n : ℕ). IsRoomy (bank_size n) d) (sym long) roomy)
+
+pub roomy_either : (seen : List ℕ) (d e : Kept) → IsRoomy (bank_size (length seen)) d → IsRoomy (bank_size (length seen)) e
+    → (c : List ℕ) → IsAsLongAs seen c → HoldsEither d e c → LeavesRoom c
+roomy_either seen d e one other c long (inl has) = roomy_as seen d one c long has
+roomy_either seen d e one other c long (inr has) = roomy_as seen e other c long has
 
 -- each image of a device that reads as it, where nothing is unsynced
 pub held_synced : (seen : List ℕ) (unsynced : ℕ → Bool) (d : Kept) → IsSynced unsynced → Holds seen d → (c : List ℕ) → IsImage seen unsynced c → Holds c d
@@ -104,10 +114,22 @@ module _ {D : Type 0} (seen : D → List ℕ) (unsynced : D → ℕ → Bool) wh
         there = omega (arith, full.1, six);
       }
 
-  pub have_more : (old new : Banks D) (d : Kept) (p : List ℕ) (x : Recorded) (k : HaveKept seen old d) → IsRecorded x p → Follows d x → Keeps seen new (with_payload k.content p) → HaveKept seen new (left_by d x)
+  -- there is one version so far
+  one_version : (banks : Banks D) (d : Kept) (k : HaveKept seen banks d) → banks.version ≡ 1
+  one_version banks d k =
+      let known : (1 ≤ k.content.version) × (k.content.version ≤ 1) = k.keeps.holds.bank.front.header.known in
+      omega (arith, k.keeps.version, known.0, known.1)
+
+  pub recorded_here : (banks : Banks D) (d : Kept) (k : HaveKept seen banks d) (x : Recorded) (p : List ℕ) → IsRecorded banks.version x p → IsRecorded k.content.version x p
+  recorded_here banks d k x p is = subst (λ (v : ℕ). IsRecorded v x p) k.keeps.version is
+
+  pub recorded_there : (old new : Banks D) (d : Kept) (k : HaveKept seen old d) (l : HaveKept seen new d) (x : Recorded) (p : List ℕ) → IsRecorded old.version x p → IsRecorded l.content.version x p
+  recorded_there old new d k l x p is = recorded_here new d l x p (subst (λ (v : ℕ). IsRecorded v x p) (one_version old d k ∙ sym (one_version new d l)) is)
+
+  pub have_more : (old new : Banks D) (d : Kept) (p : List ℕ) (x : Recorded) (k : HaveKept seen old d) → IsRecorded k.content.version x p → Follows d x → Keeps seen new (with_payload k.content p) → HaveKept seen new (left_by d x)
   have_more old new d p x k is follows keeps = record { content = with_payload k.content p; keeps = keeps; makes = makes_more k.content d p x k.makes is follows }
 
-  pub have_switched : (old new : Banks D) (d : Kept) (snapshot : List ℕ) (k : HaveKept seen old d) → IsDurable d snapshot → Keeps seen new (switched k.content NEWEST snapshot) → HaveKept seen new d
+  pub have_switched : (old new : Banks D) (d : Kept) (snapshot : List ℕ) (k : HaveKept seen old d) → IsDurable NEWEST d snapshot → Keeps seen new (switched k.content NEWEST snapshot) → HaveKept seen new d
   have_switched old new d snapshot k is keeps = record { content = switched k.content NEWEST snapshot; keeps = keeps; makes = makes_switched k.content d snapshot is }
 
   module _ (moment : D → ℕ) (left_since : D → ℕ → List ℕ → Type 0) where
@@ -133,13 +155,13 @@ module _ {D : Type 0} (seen : D → List ℕ) (unsynced : D → ℕ → Bool) wh
     before old new d e run = weakened moment left_since old new (λ c. Holds c d) (HoldsEither d e) run (λ c has. inl has)
 
     -- a record was added
-    pub moved : (old new : D) (content : Content) (d : Kept) (p : List ℕ) (x : Recorded) → Makes content d → IsRecorded x p → Follows d x
+    pub moved : (old new : D) (content : Content) (d : Kept) (p : List ℕ) (x : Recorded) → Makes content d → IsRecorded content.version x p → Follows d x
         → EachMoment moment left_since old new (snap.HoldsEither content (with_payload content p)) → EachMoment moment left_since old new (HoldsEither d (left_by d x))
     moved old new content d p x makes is follows run =
         weakened moment left_since old new (snap.HoldsEither content (with_payload content p)) (HoldsEither d (left_by d x)) run (λ c has. either content d p x makes is follows c has)
 
     -- the other bank was begun
-    pub turned : (old new : D) (content : Content) (d : Kept) (snapshot : List ℕ) → Makes content d → IsDurable d snapshot
+    pub turned : (old new : D) (content : Content) (d : Kept) (snapshot : List ℕ) → Makes content d → IsDurable NEWEST d snapshot
         → EachMoment moment left_since old new (snap.HoldsEither content (switched content NEWEST snapshot)) → EachMoment moment left_since old new (λ c. Holds c d)
     turned old new content d snapshot makes is run =
         weakened moment left_since old new (snap.HoldsEither content (switched content NEWEST snapshot)) (λ c. Holds c d) run (λ c has. still content d snapshot makes is c has)
@@ -155,3 +177,26 @@ module _ {D : Type 0} (seen : D → List ℕ) (unsynced : D → ℕ → Bool) wh
         and_then moment left_since old mid new P
         (weakened moment left_since old mid (IsImage (seen old) (unsynced old)) P first (λ c image. inl image))
         (weakened moment left_since mid new (HoldsEither d (raised d)) P second (λ c has. inr (d, holds, has)))
+
+    -- how long each image is
+    pub unmoved_lengths : (disk : D) → ((c : List ℕ) → left_since disk (moment disk) c → IsImage (seen disk) (unsynced disk) c) → EachMoment moment left_since disk disk (IsAsLongAs (seen disk))
+    unmoved_lengths disk only = started moment left_since disk (IsAsLongAs (seen disk)) (λ c left. (only c left).same_length)
+
+    pub run_lengths : (old new : D) (places : ℕ → Bool) → EachMoment moment left_since old new (IsImage (seen old) places) → EachMoment moment left_since old new (IsAsLongAs (seen old))
+    run_lengths old new places run = weakened moment left_since old new (IsImage (seen old) places) (IsAsLongAs (seen old)) run (λ c image. image.same_length)
+
+    pub both_lengths : (old mid new : D) → length (seen mid) ≡ length (seen old) → EachMoment moment left_since old mid (IsAsLongAs (seen old)) → EachMoment moment left_since mid new (IsAsLongAs (seen mid)) → EachMoment moment left_since old new (IsAsLongAs (seen old))
+    both_lengths old mid new same first second =
+        and_then moment left_since old mid new (IsAsLongAs (seen old)) first
+        (weakened moment left_since mid new (IsAsLongAs (seen mid)) (IsAsLongAs (seen old)) second (λ c long. cc (long, same)))
+
+    -- what each image holds leaves room
+    pub unmoved_roomy : (disk : D) → IsSynced (unsynced disk) → LeavesRoom (seen disk) → ((c : List ℕ) → left_since disk (moment disk) c → IsImage (seen disk) (unsynced disk) c) → EachMoment moment left_since disk disk LeavesRoom
+    unmoved_roomy disk synced leaves only =
+        started moment left_since disk LeavesRoom (λ c left. subst LeavesRoom (sym (only_read (seen disk) (unsynced disk) c synced (only c left))) leaves)
+
+    pub run_roomy : (old new : D) (d e : Kept) → IsRoomy (bank_size (length (seen old))) d → IsRoomy (bank_size (length (seen old))) e
+        → EachMoment moment left_since old new (IsAsLongAs (seen old)) → EachMoment moment left_since old new (HoldsEither d e) → EachMoment moment left_since old new LeavesRoom
+    run_roomy old new d e one other lengths run =
+        weakened moment left_since old new (λ c. IsAsLongAs (seen old) c × HoldsEither d e c) LeavesRoom (both moment left_since old new (IsAsLongAs (seen old)) (HoldsEither d e) lengths run)
+        (λ c is. roomy_either (seen old) d e one other c is.0 is.1)

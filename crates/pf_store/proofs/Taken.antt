@@ -7,7 +7,8 @@ use Rattle.pf_core.specs.declared.durable.change.Item.{Item}
 use Rattle.pf_map.proofs.Ordered.{sorted_of}
 use Rattle.pf_ticket.specs.{declared.limits.TheConstants.OFFERED_TABLE_LIMIT, NamedTables.Named}
 use Rattle.pf_store.specs.declared.groups.{items.StoredItem.StoredItem, tables.StoredTable.StoredTable}
-use Rattle.pf_store.specs.Groups.{NamedShape, defined_form, named_form, named_before, plain_named, ItemShape, item_form, items_form, plain_item, is_commit}
+use Rattle.pf_anchor.specs.Forms.{NamedShape, named_form, plain_named}
+use Rattle.pf_store.specs.Groups.{defined_form, named_before, ItemShape, item_form, items_form, plain_item, is_commit}
 use Rattle.pf_store.proofs.Pushed.{few}
 
 -- ---- tables
@@ -62,18 +63,18 @@ as_many : (rows : List StoredItem) (items : List Item) → items ≡ map item_of
 as_many rows items are = rw (are, length-map rows item_of, length-map rows plain_row) refl
 
 -- as many as a commit may name
-pub items_read : (rows : List StoredItem) (items : List Item) (before after : List ℕ) → items ≡ map item_of rows → is_commit items ≡ true
-    → reads (counted 1 item_form) before ≡ Ok (map plain_row rows, after) → reads items_form before ≡ Ok (map plain_item items, after)
+pub items_read : (version : ℕ) (rows : List StoredItem) (items : List Item) (before after : List ℕ) → items ≡ map item_of rows → is_commit items ≡ true
+    → reads (counted 1 (item_form version)) before ≡ Ok (map plain_row rows, after) → reads (items_form version) before ≡ Ok (map plain_item items, after)
 unfolding items_form
-items_read rows items before after are many is =
+items_read version rows items before after are many is =
     let all : is_commit (map plain_row rows) ≡ true = as_many rows items are ∙ many in
     rw (are, plain_items rows, is, all) refl
 
 -- and none or more
-pub items_refused : (rows : List StoredItem) (items : List Item) (before after : List ℕ) → items ≡ map item_of rows
+pub items_refused : (version : ℕ) (rows : List StoredItem) (items : List Item) (before after : List ℕ) → items ≡ map item_of rows
     → is_commit items ≡ false
-    → reads (counted 1 item_form) before ≡ Ok (map plain_row rows, after) → reads items_form before ≡ Err (Bad (length before))
+    → reads (counted 1 (item_form version)) before ≡ Ok (map plain_row rows, after) → reads (items_form version) before ≡ Err (Bad (length before))
 unfolding items_form
-items_refused rows items before after are none is =
+items_refused version rows items before after are none is =
     let not_all : is_commit (map plain_row rows) ≡ false = as_many rows items are ∙ none in
     rw (is, not_all) refl

@@ -1,4 +1,5 @@
--- What a bank's records keep, in bytes: a group of changes, or an opening. First how many there are, which is one, and then it. Own.
+-- What a bank's records keep, in bytes, in each version: a group of changes, or an opening. First how many there are, which is one, and
+-- then it. Own.
 --
 --   1 commit: how many it replaces, in one byte, 1 to 64, and then each:
 --       1 and the rules at a path: the path, their number in four bytes, each rule
@@ -13,37 +14,15 @@
 use Rattle.std.specs.{Prelude.{◌≡◌, ℕ, ◌==◌, ◌^◌, ◌&&◌, not, nat_le, nat_lt, Bool, true, List, [], ◌∷◌, length, map}, List.list_all, Ordering.is_lt}
 use Rattle.std.proofs.Common.{inl, inr}
 use Rattle.pf_addr.specs.{Bytes.{Forms.{Shape, nat, both, either, list, Value, Form, Spells, number, front, or, pair, counted, that}, Lists.ordered}, Path.{Names.name_order, PathForms.{TextShape, path_form, table_name_form}}}
-use Rattle.pf_anchor.specs.declared.limits.TheConstants.{RULE_LIMIT}
+use Rattle.pf_anchor.specs.Forms.{at_most, RulesShape, rules_form, plain_ruled, ruled_in, NamedShape, named_form, plain_entries, plain_named, entries_in, named_in}
 use Rattle.pf_core.specs.{declared.durable.change.Item.Item, Durable.Edits.{commits, adds, deletes, sets, acts, removes}}
 use Rattle.pf_core.specs.declared.durable.change.Item.TheVariants as item
 use Rattle.pf_store.specs.declared.groups.change.Recorded.{Recorded, TheVariants.Made as made, TheVariants.Opens as opens}
-use Rattle.pf_rule.specs.Sum.{Layouts.{RuleShape, rule_layout, plain_rule}, Reading.rule_of}
 use Rattle.pf_state.specs.Layouts.{States.{NameShape, name_form, plain_name, name_in}, Steps.{StepShape, step_form, plain_step, step_in}}
-use Rattle.pf_table.specs.{declared.limits.TheConstants.{TABLE_LIMIT}, EntryForms.{EntryShape, entry, plain_entry, entry_of, entry_before}, Entries.Row}
-use Rattle.pf_ticket.specs.{declared.limits.TheConstants.{ENTRY_LIMIT, OFFERED_TABLE_LIMIT}, NamedTables.Named}
-
-abbrev pub at_most : {A : Type 0} → ℕ → List A → Bool
-at_most limit xs = nat_le (length xs) limit
+use Rattle.pf_table.specs.EntryForms.{EntryShape, entry}
+use Rattle.pf_ticket.specs.declared.limits.TheConstants.{ENTRY_LIMIT, OFFERED_TABLE_LIMIT}
 
 -- ---- what a commit replaces
-
-abbrev pub RulesShape : Shape
-RulesShape = both TextShape (list RuleShape)
-
-unfoldable pub rule_list_form : Form (list RuleShape)
-rule_list_form = that (at_most RULE_LIMIT) (counted 4 rule_layout)
-
-unfoldable pub rules_form : Form RulesShape
-rules_form = pair path_form rule_list_form
-
-abbrev pub NamedShape : Shape
-NamedShape = both TextShape (list EntryShape)
-
-unfoldable pub entries_form : Form (list EntryShape)
-entries_form = that (at_most TABLE_LIMIT) (ordered entry_before 4 entry)
-
-unfoldable pub named_form : Form NamedShape
-named_form = pair table_name_form entries_form
 
 abbrev pub named_before : Value NamedShape → Value NamedShape → Bool
 named_before a b = is_lt (name_order a.0 b.0)
@@ -60,15 +39,15 @@ tables_form = pair path_form defined_form
 abbrev pub ItemShape : Shape
 ItemShape = either RulesShape TablesShape
 
-unfoldable pub item_form : Form ItemShape
-item_form = or 1 rules_form (front (2 ∷ []) tables_form)
+unfoldable pub item_form : ℕ → Form ItemShape
+item_form version = or 1 (rules_form version) (front (2 ∷ []) tables_form)
 
 -- as many as a commit may name
 abbrev pub is_commit : {A : Type 0} → List A → Bool
 is_commit items = not (length items == 0) && nat_le (length items) ENTRY_LIMIT
 
-unfoldable pub items_form : Form (list ItemShape)
-items_form = that is_commit (counted 1 item_form)
+unfoldable pub items_form : ℕ → Form (list ItemShape)
+items_form version = that is_commit (counted 1 (item_form version))
 
 -- ---- changes
 
@@ -82,24 +61,18 @@ abbrev pub ChangeShape : Shape
 ChangeShape =
     either (list ItemShape) (either EditShape (either EditShape (either EditShape (either (list StepShape) (either NameShape nat)))))
 
-unfoldable pub change_form : Form ChangeShape
-change_form =
-    or 1 items_form (or 2 edit_form (or 3 edit_form (or 4 edit_form
-    (or 5 (counted 4 step_form) (or 6 name_form (front (7 ∷ []) (number 4)))))))
+unfoldable pub change_form : ℕ → Form ChangeShape
+change_form version =
+    or 1 (items_form version) (or 2 edit_form (or 3 edit_form (or 4 edit_form
+    (or 5 (counted 4 (step_form version)) (or 6 name_form (front (7 ∷ []) (number 4)))))))
 
-unfoldable pub group_form : Form ChangeShape
-group_form = front (1 ∷ []) change_form
+unfoldable pub group_form : ℕ → Form ChangeShape
+group_form version = front (1 ∷ []) (change_form version)
 
 -- ---- what a change's bytes say
 
-abbrev pub plain_entries : List Row → List (Value EntryShape)
-plain_entries es = map plain_entry es
-
-abbrev pub plain_named : Named → Value NamedShape
-plain_named t = (t.0, plain_entries t.1)
-
 abbrev pub plain_item : Item → Value ItemShape
-plain_item (item.Rules r) = inl (r.0, map plain_rule r.1)
+plain_item (item.Rules r) = inl (plain_ruled r)
 plain_item (item.Tables p named) = inr (p, map plain_named named)
 
 abbrev pub plain_record : Recorded → Value ChangeShape
@@ -113,14 +86,8 @@ plain_record (opens epoch) = inr (inr (inr (inr (inr (inr epoch)))))
 
 -- ---- what bytes tell
 
-abbrev pub entries_in : List (Value EntryShape) → List Row
-entries_in xs = map entry_of xs
-
-abbrev pub named_in : Value NamedShape → Named
-named_in v = (v.0, entries_in v.1)
-
 abbrev pub item_in : Value ItemShape → Item
-item_in (inl v) = item.Rules (v.0, map rule_of v.1)
+item_in (inl v) = item.Rules (ruled_in v)
 item_in (inr v) = item.Tables v.0 (map named_in v.1)
 
 abbrev pub record_in : Value ChangeShape → Recorded
@@ -151,8 +118,8 @@ has_form (made (acts steps)) = is_short steps
 has_form (made (removes name)) = true
 has_form (opens epoch) = nat_lt epoch (2 ^ 32)
 
--- The payload is the bytes of what is recorded.
-pub record IsRecorded (r : Recorded) (payload : List ℕ) : Type 0 where
+-- The payload is the bytes of what is recorded, in a version.
+pub record IsRecorded (version : ℕ) (r : Recorded) (payload : List ℕ) : Type 0 where
   pub plain : Value ChangeShape
-  pub spelled : Spells group_form plain payload
+  pub spelled : Spells (group_form version) plain payload
   pub told : r ≡ record_in plain

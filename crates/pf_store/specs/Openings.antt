@@ -5,29 +5,29 @@ use Rattle.pf_snap.specs.{Banks.{AreBanks, Content, Counts, HasSnapshot, bank_si
 use Rattle.pf_snap.specs.Banks as snap
 use Rattle.pf_snap.specs.declared.fault.LookFault.TheVariants as looking
 use Rattle.pf_core.specs.{Durable.Edits.{Kept}, Worlds.last_epoch}
-use Rattle.pf_store.specs.{Durables.IsDurable, Groups.IsRecorded, Lengths.snapshot_length, Stores.{Follows, Holds, Leads, Makes}}
-use Rattle.pf_store.specs.declared.{groups.change.Recorded.Recorded, store.fault.OpenFault.OpenFault, store.fault.OpenFault.TheVariants.{BadSize, NoBank, Corrupt, Memory, Fault, EpochsExhausted, Full}}
+use Rattle.pf_store.specs.{Durables.IsDurable, Groups.IsRecorded, Lengths.snapshot_length, Stores.{Follows, Holds, IsRoomy, Leads, Makes}}
+use Rattle.pf_store.specs.declared.{groups.change.Recorded.Recorded, store.fault.OpenFault.OpenFault, store.fault.OpenFault.TheVariants.{BadSize, NoBank, Corrupt, Memory, Fault, EpochsExhausted, Full, Places}}
 
--- The snapshot of the bank at this place is of nothing.
-abbrev pub NoSnapshot : (at : ℕ) → List ℕ → ℕ → Type 0
-NoSnapshot at snapshot place = ((d : Kept) → ¬ IsDurable d snapshot) × (place ≡ at + HEADER)
+-- The snapshot of the bank of this version at this place is of nothing.
+abbrev pub NoSnapshot : (version at : ℕ) → List ℕ → ℕ → Type 0
+NoSnapshot version at snapshot place = ((d : Kept) → ¬ IsDurable version d snapshot) × (place ≡ at + HEADER)
 
 -- One of the payloads is of nothing that follows what the ones before it leave, where the first record's gate stands at `start`.
-pub record StopsAt (first : Kept) (start : ℕ) (payloads : List (List ℕ)) (place : ℕ) : Type 0 where
+pub record StopsAt (version : ℕ) (first : Kept) (start : ℕ) (payloads : List (List ℕ)) (place : ℕ) : Type 0 where
   pub done : List (List ℕ)
   pub payload : List ℕ
   pub rest : List (List ℕ)
   pub split : payloads ≡ done ++ payload ∷ rest
   pub d : Kept
-  pub leads : Leads first done d
-  pub none : (x : Recorded) → IsRecorded x payload → ¬ Follows d x
+  pub leads : Leads version first done d
+  pub none : (x : Recorded) → IsRecorded version x payload → ¬ Follows d x
   pub at : place ≡ start + length (records done)
 
 -- Behind such a snapshot it stops.
 pub record NoGroup (bank : ℕ) (content : Content) (place : ℕ) : Type 0 where
   pub first : Kept
-  pub kept : IsDurable first content.snapshot
-  pub stops : StopsAt first (records_start bank content.snapshot) content.payloads place
+  pub kept : IsDurable content.version first content.snapshot
+  pub stops : StopsAt content.version first (records_start bank content.snapshot) content.payloads place
 
 -- All of them lead on, but the gate behind them is open.
 pub record IsTorn (torn : Type 0) (bank : ℕ) (content : Content) (place : ℕ) : Type 0 where
@@ -39,7 +39,7 @@ pub record IsTorn (torn : Type 0) (bank : ℕ) (content : Content) (place : ℕ)
 -- What the bank at a place has makes nothing: it breaks off at this place.
 abbrev pub MakesNone : Type 0 → (bank : ℕ) → Content → ℕ → Type 0
 MakesNone torn bank content place =
-    NoSnapshot bank content.snapshot place ⊎ (NoGroup bank content place ⊎ IsTorn torn bank content place)
+    NoSnapshot content.version bank content.snapshot place ⊎ (NoGroup bank content place ⊎ IsTorn torn bank content place)
 
 -- Behind the header of the bank that counts, which is one that is read, snapshot and records break off at this place.
 pub record BreaksBehind (seen : List ℕ) (place : ℕ) : Type 0 where
@@ -65,6 +65,13 @@ generation_of seen d held = held.content.generation
 abbrev pub IsNoLaterThan : ℕ → List ℕ → Type 0
 IsNoLaterThan g seen = (d : Kept) (held : Holds seen d) → generation_of seen d held ≤ g
 
+abbrev pub IsAsLongAs : List ℕ → List ℕ → Type 0
+IsAsLongAs seen image = length image ≡ length seen
+
+-- A bank has 64 bytes left behind a snapshot of what the image holds.
+abbrev pub LeavesRoom : List ℕ → Type 0
+LeavesRoom image = (d : Kept) → Holds image d → IsRoomy (bank_size (length image)) d
+
 -- The record of an opening has room neither behind the others nor in a bank behind a snapshot of what is held: it takes 12 bytes with the
 -- gate behind it.
 pub record IsFull (seen : List ℕ) (d : Kept) : Type 0 where
@@ -74,12 +81,14 @@ pub record IsFull (seen : List ℕ) (d : Kept) : Type 0 where
   pub here : held.bank.at + bank_size (length seen) < gate_of seen d held + 12
   pub there : bank_size (length seen) < HEADER + snapshot_length d + 12
 
--- What is so of the bytes that a device reads as, where it isn't opened. Want of memory or a fault of the device may come in place of each.
+-- What is so of the bytes that a device reads as, where it isn't opened. A fault of the device may come in place of each, and want of memory in
+-- place of what stands behind a header.
 abbrev pub IsUnopened : OpenFault → List ℕ → Type 0
 IsUnopened BadSize seen = IsRefused looking.BadSize seen
 IsUnopened NoBank seen = IsRefused looking.NoBank seen
 IsUnopened (Corrupt at) seen = IsRefused (looking.Corrupt at) seen ⊎ BreaksBehind seen at
-IsUnopened Memory seen = Unit {0}
+IsUnopened Memory seen = IsRefused looking.Memory seen
 IsUnopened Fault seen = Unit {0}
 IsUnopened EpochsExhausted seen = (d : Kept) × (held : Holds seen d) × (generation_of seen d held < 2 ^ 63) × (d.epoch ≡ last_epoch)
 IsUnopened Full seen = (d : Kept) × IsFull seen d
+IsUnopened Places seen = ⊥

@@ -2,7 +2,7 @@
 use Rattle.std.specs.Prelude.{ℕ, Bool, true, false, Result, Ok, Err}
 use Rattle.pf_snap.specs.declared.fault.LookFault.{LookFault}
 use Rattle.pf_snap.specs.declared.fault.LookFault.TheVariants as looking
-use Rattle.pf_store.specs.declared.store.fault.{SaveFault.SaveFault, OpenFault.OpenFault, OpenFault.TheVariants.{BadSize, NoBank, Corrupt, Memory, Fault, EpochsExhausted, Full}}
+use Rattle.pf_store.specs.declared.store.fault.{SaveFault.SaveFault, OpenFault.OpenFault, OpenFault.TheVariants.{BadSize, NoBank, Corrupt, Memory, Fault, EpochsExhausted, Full, Places}}
 use Rattle.pf_store.specs.declared.store.fault.SaveFault.TheVariants as saving
 use Rattle.pf_store.specs.declared.store.fault.AddFault.{AddFault}
 use Rattle.pf_store.specs.declared.store.fault.AddFault.TheVariants as adding
@@ -36,6 +36,7 @@ is_fault Memory = false
 is_fault Fault = true
 is_fault EpochsExhausted = false
 is_fault Full = false
+is_fault Places = false
 
 -- a call of the device failed
 abbrev pub is_open_fault : {T : Type 0} → Result T OpenFault → Bool
@@ -51,6 +52,7 @@ SaysNone Memory = ⊥
 SaysNone Fault = ⊥
 SaysNone EpochsExhausted = ⊥
 SaysNone Full = ⊥
+SaysNone Places = ⊥
 
 -- corrupt at a place for which P holds, or memory was refused
 abbrev pub BreaksOff : OpenFault → (ℕ → Type 0) → Type 0
@@ -61,6 +63,7 @@ BreaksOff Memory P = Unit {0}
 BreaksOff Fault P = ⊥
 BreaksOff EpochsExhausted P = ⊥
 BreaksOff Full P = ⊥
+BreaksOff Places P = ⊥
 
 -- the same, where it came of looking at a device
 abbrev pub unlooked : LookFault → OpenFault

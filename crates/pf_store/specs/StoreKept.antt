@@ -1,16 +1,17 @@
 -- A store over a device. Own.
-use Rattle.std.specs.Prelude.{ℕ, ◌^◌, ◌<◌, Bool, List, length}
+use Rattle.std.specs.Prelude.{ℕ, ◌-◌, ◌^◌, ◌<◌, Bool, List, length}
 use Rattle.pf_disk.specs.Disk.{IsSynced}
 use Rattle.pf_snap.specs.{Banks.{bank_size, Content}, Ready.{IsReady, Keeps}, declared.banks.Banks.Banks}
 use Rattle.pf_core.specs.Durable.Edits.{Kept}
 use Rattle.pf_store.specs.Stores.{Holds, Makes}
 
--- What contracts see of a store: its device; how many bytes each of its banks has; the generation of the one that counts; whether a save
--- has met a fault.
+-- What contracts see of a store: its device; how many bytes each of its banks has; the generation of the one that counts, and how many bytes
+-- that one has from its closed gate on; whether a save has met a fault.
 pub record Storage (D : Type 0) : Type 0 where
   pub disk : D
   pub size : ℕ
   pub generation : ℕ
+  pub room : ℕ
   pub halted : Bool
 
 abbrev pub storage : {D : Type 0} → (seen : D → List ℕ) → Banks D → Bool → Storage D
@@ -18,6 +19,7 @@ storage seen banks halted = record {
   disk = banks.journal.disk;
   size = bank_size (length (seen banks.journal.disk));
   generation = banks.generation;
+  room = banks.journal.end - banks.journal.gate;
   halted = halted;
 }
 

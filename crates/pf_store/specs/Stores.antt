@@ -19,16 +19,17 @@ abbrev pub left_by : Kept → Recorded → Kept
 left_by d (recorded.Made e) = applied d e
 left_by d (recorded.Opens epoch) = in_epoch epoch d
 
--- The payloads are of changes and openings, each of which follows what the ones before it leave, and all of them leave this.
-abbrev pub Leads : Kept → List (List ℕ) → Kept → Type 0
-Leads d [] e = d ≡ e
-Leads d (p ∷ ps) e = (x : Recorded) × IsRecorded x p × Follows d x × Leads (left_by d x) ps e
+-- The payloads are, in this version, of changes and openings, each of which follows what the ones before it leave, and all of them leave
+-- this.
+abbrev pub Leads : (version : ℕ) → Kept → List (List ℕ) → Kept → Type 0
+Leads version d [] e = d ≡ e
+Leads version d (p ∷ ps) e = (x : Recorded) × IsRecorded version x p × Follows d x × Leads version (left_by d x) ps e
 
--- The snapshot is of what was kept first, and the payloads lead from there to this.
+-- The snapshot is of what was kept first, and the payloads lead from there to this, both in the bank's version.
 pub record Makes (content : Content) (d : Kept) : Type 0 where
   pub first : Kept
-  pub kept : IsDurable first content.snapshot
-  pub leads : Leads first content.payloads d
+  pub kept : IsDurable content.version first content.snapshot
+  pub leads : Leads content.version first content.payloads d
 
 -- The image holds what is kept: so the bank that counts says.
 pub record Holds (image : List ℕ) (d : Kept) : Type 0 where

@@ -1,6 +1,6 @@
 -- A layout of bytes as data: a form. What a value is written as, which values can be written, how bytes are read, and where bytes go
 -- wrong, are each a function of the form.
-use Rattle.std.specs.{Prelude.{◌≡◌, ◌<◌, ◌^◌, ℕ, Bool, true, List, [], ◌∷◌, ◌++◌, length, Ok, ◌⊎◌}, List.{flat_map, AllByRecursion}}
+use Rattle.std.specs.{Prelude.{◌≡◌, ◌<◌, ◌^◌, ◌+◌, ℕ, Bool, true, List, [], ◌∷◌, ◌++◌, length, Ok, ◌⊎◌}, List.{flat_map, sum_by, AllByRecursion}}
 use Rattle.std.proofs.Common.{inl, inr}
 use Rattle.pf_addr.specs.Bytes.Parts.{Reader, Part, number_at, number_bytes, constant_at, Differs, joined, times_by, if_first, seen_as, only_if, begins_otherwise, onto_each, Faulting, JoinedFaults, TimesFaults, ThatFaults}
 
@@ -74,6 +74,20 @@ onto (pair_by f g) x out = onto (g x.0) x.1 (onto f x.0 out)
 onto (times n f) xs out = onto_each (onto f) xs out
 onto (counted w f) xs out = onto_each (onto f) xs (out ++ number_bytes w (length xs))
 onto (that test f) x out = onto f x out
+
+-- How many bytes a value is written in. A law says that `writes` gives so many.
+abbrev pub length_of : {a : Shape} → Form a → Value a → ℕ
+length_of (nothing only) x = 0
+length_of (number w) n = w
+length_of (part p) x = length (p.write x)
+length_of (front k f) x = length k + length_of f x
+length_of (back f k) x = length_of f x + length k
+length_of (or k f g) (inl x) = 1 + length_of f x
+length_of (or k f g) (inr y) = length_of g y
+length_of (pair_by f g) x = length_of f x.0 + length_of (g x.0) x.1
+length_of (times n f) xs = sum_by (length_of f) xs
+length_of (counted w f) xs = w + sum_by (length_of f) xs
+length_of (that test f) x = length_of f x
 
 -- ---- which values can be written
 

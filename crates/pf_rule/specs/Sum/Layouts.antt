@@ -99,9 +99,9 @@ RuleShape = both nat (both nat (both nat (both nat (both FamilyShape (both nat B
 abbrev pub body : Bool → Bool → Value FamilyShape → Form BodyShape
 body anchors ports f = pair interface (pair (end ports f) (pair (end ports f) (named anchors)))
 
--- 204 bytes
-unfoldable pub rule_layout : Form RuleShape
-rule_layout = pair_by (below 3) (λ effect. pair (below 3) (pair flag (pair (below (if effect == 1 then 2 else 1))
+-- 204 bytes, in each version
+unfoldable pub rule_layout : ℕ → Form RuleShape
+rule_layout version = pair_by (below 3) (λ effect. pair (below 3) (pair flag (pair (below (if effect == 1 then 2 else 1))
     (pair_by some_family (λ f. pair_by (number 1) (λ protocol. front (0 ∷ 0 ∷ []) (body (effect == 2) (has_ports protocol) f)))))))
 
 abbrev pub plain_rule : PlainRule → Value RuleShape

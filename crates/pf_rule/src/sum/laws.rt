@@ -1,21 +1,22 @@
 //! Laws of forms. Each function does nothing; its clauses are what is proved.
-ghost use Rattle.std.specs.Prelude.{◌≡◌, [], ◌∷◌, codes, length, map, Ok};
+ghost use Rattle.std.specs.Prelude.{◌≡◌, ℕ, [], ◌∷◌, codes, length, map, Ok};
 ghost use Rattle.pf_rule.specs.{Rules.{PlainRule, IsRule}, RuleGrammar.rule, Sum.Forms.{host_form, rule_form, ruleset_sum}, Sum.Layouts.{rule_layout, plain_rule}, Sum.Reading.rule_of};
-ghost use Rattle.pf_addr.specs.{Bytes.Forms.{Fits, writes}, Form.Words.words_of, Form.Forms.read_all};
+ghost use Rattle.pf_addr.specs.{Bytes.Forms.{Fits, writes, length_of}, Form.Words.words_of, Form.Forms.read_all};
 ghost use Rattle.pf_rule.specs.declared.{host.host.Host.TheVariants.Any, sum.form.TheConstants.RULE_FORM};
 ghost use Rattle.pf_rule.specs.Laws.Sums as example;
 
-/// The form of each rule has [`RULE_FORM`](crate::sum::RULE_FORM) bytes.
-#[tactic(auto, using(crate::proofs::RuleBytes::form_long))]
+/// The form of each rule has [`RULE_FORM`](crate::sum::RULE_FORM) bytes, and so has what its layout writes in each version.
+#[tactic(auto, using(crate::proofs::RuleBytes::form_long, crate::proofs::RuleBytes::layout_long))]
 pub fn forms_are_of_one_length()
-    ensures { (r : PlainRule) → IsRule r → length (rule_form r) ≡ RULE_FORM }
+    ensures form { (r : PlainRule) → IsRule r → length (rule_form r) ≡ RULE_FORM }
+    ensures layout { (version : ℕ) (r : PlainRule) → IsRule r → length_of (rule_layout version) (plain_rule r) ≡ RULE_FORM }
 {}
 
-/// A form is what the layout writes of the rule's data, which tell the whole rule: what is read from it is the rule.
+/// A form is what the layout of each version writes of the rule's data, which tell the whole rule: what is read from it is the rule.
 #[tactic(auto, using(crate::proofs::RuleBytes::rule_fits, crate::proofs::RuleBytes::layout_is, crate::proofs::RuleBytes::rule_again))]
 pub fn rule_is_read_from_its_form()
-    ensures fits { (r : PlainRule) → IsRule r → Fits rule_layout (plain_rule r) }
-    ensures written { (r : PlainRule) → IsRule r → writes rule_layout (plain_rule r) ≡ rule_form r }
+    ensures fits { (version : ℕ) (r : PlainRule) → IsRule r → Fits (rule_layout version) (plain_rule r) }
+    ensures written { (version : ℕ) (r : PlainRule) → IsRule r → writes (rule_layout version) (plain_rule r) ≡ rule_form r }
     ensures again { (r : PlainRule) → IsRule r → rule_of (plain_rule r) ≡ r }
 {}
 

@@ -29,7 +29,7 @@ impl Layout for Rule {
 
     ghost shape = { RuleShape };
 
-    ghost form = { λ version. rule_layout };
+    ghost form = { rule_layout };
 
     ghost plain = { plain_rule };
 

@@ -1,4 +1,4 @@
--- A state in 96 bytes, as what is kept has it; and such states in the order of their names. Own.
+-- A state in 96 bytes, as what is kept has it, in each version; and such states in the order of their names. Own.
 --
 --   place width field
 --       0     8 id
@@ -10,7 +10,7 @@
 --      65     3 zeros
 --      68     4 the rule's number, and 16 the checksum of its rules: zeros for the default rule
 --      88     8 zeros
-use Rattle.std.specs.{Prelude.{◌&&◌, nat_le, Bool, true, not, List, [], ◌∷◌, length, map, replicate}, List.list_any, Ordering.is_lt}
+use Rattle.std.specs.{Prelude.{ℕ, ◌&&◌, nat_le, Bool, true, not, List, [], ◌∷◌, length, map, replicate}, List.list_any, Ordering.is_lt}
 use Rattle.std.proofs.Common.{inl, inr}
 use Rattle.pf_addr.specs.Bytes.{Forms.{Shape, unit, nat, both, either, list, Value, Form, nothing, number, front, back, or, times, counted, that, pair}, Lists.in_order}
 use Rattle.pf_state.specs.{declared.{limits.TheConstants.STATE_LIMIT, state.Bound.Bound, state.Bound.TheVariants.Rule, state.Bound.TheVariants.Default, state.Held.Held, state.StateName.StateName}, Flows.same_flow, Layouts.Flows.{FlowShape, flow_form, plain_flow, flow_in}, States.{Stated, name_order}}
@@ -51,8 +51,8 @@ bound_in (inr v) = Rule v.0 v.1
 abbrev pub HeldShape : Shape
 HeldShape = both nat (both FlowShape BoundShape)
 
-unfoldable pub held_form : Form HeldShape
-held_form = pair (number 4) (pair flow_form (front (replicate 8 255) (back bound_form (replicate 8 0))))
+unfoldable pub held_form : ℕ → Form HeldShape
+held_form version = pair (number 4) (pair flow_form (front (replicate 8 255) (back bound_form (replicate 8 0))))
 
 abbrev pub plain_held : Held → Value HeldShape
 plain_held h = (h.generation, (plain_flow h.flow, plain_bound h.bound))
@@ -63,8 +63,8 @@ held_in v = record { generation = v.0; flow = flow_in v.1.0; bound = bound_in v.
 abbrev pub StateShape : Shape
 StateShape = both NameShape HeldShape
 
-unfoldable pub state_form : Form StateShape
-state_form = pair name_form held_form
+unfoldable pub state_form : ℕ → Form StateShape
+state_form version = pair name_form (held_form version)
 
 abbrev pub plain_state : Stated → Value StateShape
 plain_state s = (plain_name s.0, plain_held s.1)
@@ -89,8 +89,8 @@ abbrev pub are_a_table : List (Value StateShape) → Bool
 are_a_table vs = nat_le (length vs) STATE_LIMIT && (in_order state_before vs && no_flow_twice (map state_in vs))
 
 -- their number in four bytes, and that many, which are a table's
-abbrev pub states_form : Form (list StateShape)
-states_form = that are_a_table (counted 4 state_form)
+abbrev pub states_form : ℕ → Form (list StateShape)
+states_form version = that are_a_table (counted 4 (state_form version))
 
 abbrev pub plain_states : List Stated → List (Value StateShape)
 plain_states es = map plain_state es

@@ -1,9 +1,9 @@
--- A step in bytes, as what is kept has it; and steps in their order. Own.
+-- A step in bytes, as what is kept has it, in each version; and steps in their order. Own.
 --
 --   1 and a state of 96 bytes                   insert
 --   2 and an id of 8 bytes, a creator of 4      delete
 --   3 and a creator of 4 bytes                  clear
-use Rattle.std.specs.Prelude.{List, [], ◌∷◌, map}
+use Rattle.std.specs.Prelude.{ℕ, List, [], ◌∷◌, map}
 use Rattle.std.proofs.Common.{inl, inr}
 use Rattle.pf_addr.specs.Bytes.Forms.{Shape, nat, either, list, Value, Form, number, front, or, counted}
 use Rattle.pf_state.specs.{declared.{step.Step.Step, step.Step.TheVariants.Insert, step.Step.TheVariants.Delete, step.Step.TheVariants.Clear}, Layouts.States.{NameShape, name_form, plain_name, name_in, StateShape, state_form, plain_state, state_in}}
@@ -11,8 +11,8 @@ use Rattle.pf_state.specs.{declared.{step.Step.Step, step.Step.TheVariants.Inser
 abbrev pub StepShape : Shape
 StepShape = either StateShape (either NameShape nat)
 
-unfoldable pub step_form : Form StepShape
-step_form = or 1 state_form (or 2 name_form (front (3 ∷ []) (number 4)))
+unfoldable pub step_form : ℕ → Form StepShape
+step_form version = or 1 (state_form version) (or 2 name_form (front (3 ∷ []) (number 4)))
 
 abbrev pub plain_step : Step → Value StepShape
 plain_step (Insert s) = inl (plain_state s)
@@ -25,8 +25,8 @@ step_in (inr (inl v)) = Delete (name_in v)
 step_in (inr (inr v)) = Clear v
 
 -- their number in four bytes, and that many
-abbrev pub steps_form : Form (list StepShape)
-steps_form = counted 4 step_form
+abbrev pub steps_form : ℕ → Form (list StepShape)
+steps_form version = counted 4 (step_form version)
 
 abbrev pub plain_steps : List Step → List (Value StepShape)
 plain_steps xs = map plain_step xs

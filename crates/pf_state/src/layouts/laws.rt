@@ -1,7 +1,8 @@
 //! Laws of the layouts. Each function does nothing; its clauses are what is proved.
-ghost use Rattle.std.specs.Prelude.{◌≡◌};
+ghost use Rattle.std.specs.Prelude.{◌≡◌, ◌+◌, ◌*◌, ℕ, List, length};
+ghost use Rattle.pf_addr.specs.Bytes.Forms.{Fits, length_of};
 ghost use Rattle.pf_state.specs.declared.step.Step.{Step};
-ghost use Rattle.pf_state.specs.{Flows.PlainFlow, States.Stated, Layouts.{Flows.{plain_flow, flow_in}, States.{plain_state, state_in}, Steps.{plain_step, step_in}}};
+ghost use Rattle.pf_state.specs.{Flows.PlainFlow, States.Stated, Layouts.{Flows.{plain_flow, flow_in}, States.{state_form, plain_state, state_in, states_form, plain_states}, Steps.{plain_step, step_in}}};
 
 /// Plain data tell a flow, a state or a step whole: no two have the same.
 #[tactic(auto, using(crate::proofs::LayoutsBack::flow_back, crate::proofs::LayoutsBack::state_back, crate::proofs::LayoutsBack::step_back))]
@@ -9,4 +10,13 @@ pub fn layouts_tell_states_and_steps()
     ensures flow { (f : PlainFlow) → flow_in (plain_flow f) ≡ f }
     ensures state { (s : Stated) → state_in (plain_state s) ≡ s }
     ensures step { (s : Step) → step_in (plain_step s) ≡ s }
+{}
+
+/// In each version a state that has bytes takes 96 of them, and states that have bytes take four more than all of theirs.
+#[tactic(auto, using(crate::proofs::Widths::state_long, crate::proofs::Widths::states_take))]
+pub fn states_take_so_many_bytes()
+    ensures state { (version : ℕ) (s : Stated) → Fits (state_form version) (plain_state s)
+        → length_of (state_form version) (plain_state s) ≡ 96 }
+    ensures states { (version : ℕ) (es : List Stated) → Fits (states_form version) (plain_states es)
+        → length_of (states_form version) (plain_states es) ≡ 4 + 96 * length es }
 {}

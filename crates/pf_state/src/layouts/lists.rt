@@ -1,5 +1,5 @@
 //! States and steps in bytes, many at a time, behind their number in four bytes.
-ghost use Rattle.std.specs.Prelude.{◌≡◌, ◌<◌, ◌^◌, ◌++◌, length, IfOk, OnOk};
+ghost use Rattle.std.specs.Prelude.{◌≡◌, ◌<◌, ◌^◌, ◌++◌, length, map, IfOk, OnOk};
 ghost use Rattle.pf_addr.specs.{Bytes.Forms.{Form, Fits, onto}, Bytes.Readers.Reads};
 ghost use Rattle.pf_state.specs.Layouts.{Rows.IsTableOf, States.{states_form, plain_states}, Steps.{steps_form, plain_steps}};
 
@@ -7,35 +7,35 @@ use crate::keys::States;
 use crate::layouts::state::{StoredState, push_state};
 use crate::layouts::step::push_step;
 use crate::limits::STATE_LIMIT;
+use crate::state::State;
 use crate::step::{Step, StepList};
 use crate::table::StateTable;
 use pf_addr::bytes::{Fault, Rest, Stop, are_in_order, push_u32, read_list};
 use std::alloc::{AllocError, Global};
 
-/// Puts a table's states behind the bytes, in the order of their names; they fit their form. Fails only where memory is refused, and
-/// then what stands behind the bytes isn't said.
-#[tactic(auto, using(crate::proofs::Pushing::states_fit))]
-pub fn push_states(out: &mut Vec<u8>, table: &StateTable) -> Result<(), AllocError>
-    ensures written { OnOk result (out.new.items ≡ onto states_form (plain_states table.now) out.old.items) }
-    ensures fits { OnOk result (Fits states_form (plain_states table.now)) }
+/// Puts a table's states behind the bytes, as this version has them, in the order of their names; they fit their form. Fails only where
+/// memory is refused, and then what stands behind the bytes isn't said.
+pub fn push_states(out: &mut Vec<u8>, version: u8, table: &StateTable) -> Result<(), AllocError>
+    ensures written { OnOk result (out.new.items ≡ onto (states_form version) (plain_states table.now) out.old.items) }
+    ensures fits { OnOk result (Fits (states_form version) (plain_states table.now)) }
 {
     let states = table.states();
     push_u32(out, table.len() as u32)?;
     for state in states {
-        push_state(out, state)?;
+        push_state(out, version, state)?;
     }
     Ok(())
 }
 
-/// The table of states at the front of the bytes.
+/// The table of states at the front of the bytes, which are of this version.
 ///
 /// Fails with the first fault of its form there, or where memory is refused. How many bytes are left then isn't said. States that are
 /// no table's, as two of one flow, are one fault of them all, from their number on.
-pub fn read_states<'a>(alloc: Global, from: &mut Rest<'a>) -> Result<StateTable, Stop>
-    ensures { Reads plain_states states_form result from.old.now from.new.now }
+pub fn read_states<'a>(alloc: Global, version: u8, from: &mut Rest<'a>) -> Result<StateTable, Stop>
+    ensures { Reads plain_states (states_form version) result from.old.now from.new.now }
 {
     let left = from.len();
-    let rows = read_list::<StoredState>(alloc, 1, from)?;
+    let rows = read_list::<StoredState>(alloc, version, from)?;
     match table_of(alloc, &rows)? {
         Some(table) => Ok(table),
         None => Err(Stop::Fault(Fault::Bad(left))),
@@ -43,43 +43,52 @@ pub fn read_states<'a>(alloc: Global, from: &mut Rest<'a>) -> Result<StateTable,
 }
 
 // The table that has these, if they are a table's.
+#[tactic(auto, using(crate::proofs::Rows::rows_sorted, crate::proofs::Rows::no_table, crate::proofs::Rows::are_states, crate::proofs::Rows::is_table))]
 fn table_of(alloc: Global, rows: &[StoredState]) -> Result<Option<StateTable>, AllocError>
     ensures { IfOk result (λ t. IsTableOf rows.now t) }
 {
     if rows.len() > STATE_LIMIT || !are_in_order(rows) {
         return Ok(None);
     }
-    let mut states = States::empty();
-    for row in rows {
-        if states.is_clash(&row.state) {
-            return Ok(None);
-        }
-        states = states.with(alloc, &row.state)?;
+    let states = states_of(alloc, rows)?;
+    match States::of(alloc, &states)? {
+        Some(states) => Ok(Some(StateTable::of(states))),
+        None => Ok(None),
     }
-    Ok(Some(StateTable::of(states)))
 }
 
-/// The steps at the front of the bytes.
+// Their states, each with one owner more.
+fn states_of(alloc: Global, rows: &[StoredState]) -> Result<Vec<State>, AllocError>
+    ensures { IfOk result (λ v. v.items ≡ map (λ row. row.state) rows.now) }
+{
+    let mut states = Vec::with_capacity(alloc, rows.len())?;
+    for row in rows {
+        states.push(row.state.shared()?)?;
+    }
+    Ok(states)
+}
+
+/// The steps at the front of the bytes, which are of this version.
 ///
 /// Fails with the first fault of their form there, or where memory is refused. How many bytes are left then isn't said.
-pub fn read_steps<'a>(alloc: Global, from: &mut Rest<'a>) -> Result<StepList, Stop>
-    ensures { Reads plain_steps steps_form result from.old.now from.new.now }
+pub fn read_steps<'a>(alloc: Global, version: u8, from: &mut Rest<'a>) -> Result<StepList, Stop>
+    ensures { Reads plain_steps (steps_form version) result from.old.now from.new.now }
 {
-    let steps = read_list::<Step>(alloc, 1, from)?;
+    let steps = read_list::<Step>(alloc, version, from)?;
     Ok(StepList::new(steps))
 }
 
-/// Puts steps, at most 4,294,967,295 of them, behind the bytes; they fit their form. Fails only where memory is refused, and then what
-/// stands behind the bytes isn't said.
-pub fn push_steps(out: &mut Vec<u8>, steps: &StepList) -> Result<(), AllocError>
+/// Puts steps, at most 4,294,967,295 of them, behind the bytes, as this version has them; they fit their form. Fails only where memory
+/// is refused, and then what stands behind the bytes isn't said.
+pub fn push_steps(out: &mut Vec<u8>, version: u8, steps: &StepList) -> Result<(), AllocError>
     requires { length steps.now < 2 ^ 32 }
-    ensures written { OnOk result (out.new.items ≡ onto steps_form (plain_steps steps.now) out.old.items) }
-    ensures fits { OnOk result (Fits steps_form (plain_steps steps.now)) }
+    ensures written { OnOk result (out.new.items ≡ onto (steps_form version) (plain_steps steps.now) out.old.items) }
+    ensures fits { OnOk result (Fits (steps_form version) (plain_steps steps.now)) }
 {
     let steps = steps.as_slice();
     push_u32(out, steps.len() as u32)?;
     for step in steps {
-        push_step(out, step)?;
+        push_step(out, version, step)?;
     }
     Ok(())
 }

@@ -24,19 +24,19 @@ impl Layout for StoredState {
 
     ghost shape = { StateShape };
 
-    ghost form = { λ version. state_form };
+    ghost form = { state_form };
 
     ghost plain = { λ row. plain_state row.state };
 
     ghost before = { state_before };
 
-    fn read<'a>(alloc: Global, _version: u8, from: &mut Rest<'a>) -> Result<StoredState, Stop> {
-        let state = read_state(alloc, from)?;
+    fn read<'a>(alloc: Global, version: u8, from: &mut Rest<'a>) -> Result<StoredState, Stop> {
+        let state = read_state(alloc, version, from)?;
         Ok(StoredState { state })
     }
 
-    fn write(&self, _version: u8, out: &mut Vec<u8>) -> Result<(), AllocError> {
-        push_state(out, &self.state)
+    fn write(&self, version: u8, out: &mut Vec<u8>) -> Result<(), AllocError> {
+        push_state(out, version, &self.state)
     }
 }
 
@@ -66,35 +66,35 @@ pub fn push_name(out: &mut Vec<u8>, name: StateName) -> Result<(), AllocError>
     push_u32(out, name.creator)
 }
 
-/// The state at the front of the bytes.
+/// The state at the front of the bytes, which are of this version.
 ///
 /// Fails with the first fault of its form there, or where memory is refused. How many bytes are left then isn't said.
 #[tactic(auto, unfolding(crate::specs::Layouts::States::state_form))]
-pub fn read_state<'a>(alloc: Global, from: &mut Rest<'a>) -> Result<State, Stop>
-    ensures { Reads plain_state state_form result from.old.now from.new.now }
+pub fn read_state<'a>(alloc: Global, version: u8, from: &mut Rest<'a>) -> Result<State, Stop>
+    ensures { Reads plain_state (state_form version) result from.old.now from.new.now }
 {
     let name = read_name(from)?;
-    let held = read_held(alloc, from)?;
+    let held = read_held(alloc, version, from)?;
     Ok(State::new(alloc, name, held)?)
 }
 
-/// Puts a state behind the bytes; each fits its form. Fails only where memory is refused, and then what stands behind the bytes isn't
-/// said.
+/// Puts a state behind the bytes, as this version has it; each fits its form. Fails only where memory is refused, and then what stands
+/// behind the bytes isn't said.
 #[tactic(auto, unfolding(crate::specs::Layouts::States::state_form))]
-pub fn push_state(out: &mut Vec<u8>, state: &State) -> Result<(), AllocError>
-    ensures written { OnOk result (out.new.items ≡ onto state_form (plain_state state.now) out.old.items) }
-    ensures fits { OnOk result (Fits state_form (plain_state state.now)) }
+pub fn push_state(out: &mut Vec<u8>, version: u8, state: &State) -> Result<(), AllocError>
+    ensures written { OnOk result (out.new.items ≡ onto (state_form version) (plain_state state.now) out.old.items) }
+    ensures fits { OnOk result (Fits (state_form version) (plain_state state.now)) }
 {
     push_name(out, *state.key())?;
-    push_held(out, *state.value())
+    push_held(out, version, *state.value())
 }
 
 #[tactic(auto, unfolding(crate::specs::Layouts::States::held_form))]
-fn read_held<'a>(alloc: Global, from: &mut Rest<'a>) -> Result<Held, Stop>
-    ensures { Reads plain_held held_form result from.old.now from.new.now }
+fn read_held<'a>(alloc: Global, version: u8, from: &mut Rest<'a>) -> Result<Held, Stop>
+    ensures { Reads plain_held (held_form version) result from.old.now from.new.now }
 {
     let generation = read_u32(from)?;
-    let flow = Flow::read(alloc, 1, from)?;
+    let flow = Flow::read(alloc, version, from)?;
     expect(from, &[255; 8])?;
     let bound = read_bound(from)?;
     expect(from, &[0; 8])?;
@@ -106,9 +106,9 @@ fn read_held<'a>(alloc: Global, from: &mut Rest<'a>) -> Result<Held, Stop>
 }
 
 #[tactic(auto, unfolding(crate::specs::Layouts::States::held_form))]
-fn push_held(out: &mut Vec<u8>, held: Held) -> Result<(), AllocError>
-    ensures written { OnOk result (out.new.items ≡ onto held_form (plain_held held) out.old.items) }
-    ensures fits { OnOk result (Fits held_form (plain_held held)) }
+fn push_held(out: &mut Vec<u8>, _version: u8, held: Held) -> Result<(), AllocError>
+    ensures written { OnOk result (out.new.items ≡ onto (held_form _version) (plain_held held) out.old.items) }
+    ensures fits { OnOk result (Fits (held_form _version) (plain_held held)) }
 {
     push_u32(out, held.generation)?;
     push_flow(out, &held.flow)?;

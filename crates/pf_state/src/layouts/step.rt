@@ -20,16 +20,16 @@ impl Layout for Step {
 
     ghost shape = { StepShape };
 
-    ghost form = { λ version. step_form };
+    ghost form = { step_form };
 
     ghost plain = { plain_step };
 
     ghost before = { λ a b. true };
 
     #[tactic(auto, unfolding(crate::specs::Layouts::Steps::step_form))]
-    fn read<'a>(alloc: Global, _version: u8, from: &mut Rest<'a>) -> Result<Step, Stop> {
+    fn read<'a>(alloc: Global, version: u8, from: &mut Rest<'a>) -> Result<Step, Stop> {
         if takes(from, INSERT)? {
-            let state = read_state(alloc, from)?;
+            let state = read_state(alloc, version, from)?;
             return Ok(Step::Insert(state));
         }
         if takes(from, DELETE)? {
@@ -41,22 +41,22 @@ impl Layout for Step {
         Ok(Step::Clear { creator })
     }
 
-    fn write(&self, _version: u8, out: &mut Vec<u8>) -> Result<(), AllocError> {
-        push_step(out, self)
+    fn write(&self, version: u8, out: &mut Vec<u8>) -> Result<(), AllocError> {
+        push_step(out, version, self)
     }
 }
 
-/// Puts a step behind the bytes; each fits its form. Fails only where memory is refused, and then what stands behind the bytes isn't
-/// said.
+/// Puts a step behind the bytes, as this version has it; each fits its form. Fails only where memory is refused, and then what stands
+/// behind the bytes isn't said.
 #[tactic(auto, unfolding(crate::specs::Layouts::Steps::step_form))]
-pub fn push_step(out: &mut Vec<u8>, step: &Step) -> Result<(), AllocError>
-    ensures written { OnOk result (out.new.items ≡ onto step_form (plain_step step.now) out.old.items) }
-    ensures fits { OnOk result (Fits step_form (plain_step step.now)) }
+pub fn push_step(out: &mut Vec<u8>, version: u8, step: &Step) -> Result<(), AllocError>
+    ensures written { OnOk result (out.new.items ≡ onto (step_form version) (plain_step step.now) out.old.items) }
+    ensures fits { OnOk result (Fits (step_form version) (plain_step step.now)) }
 {
     match step {
         Step::Insert(state) => {
             push_key(out, INSERT)?;
-            push_state(out, state)
+            push_state(out, version, state)
         }
         Step::Delete(name) => {
             push_key(out, DELETE)?;

@@ -4,6 +4,7 @@ ghost use Rattle.pf_state.specs.Peer.Records.{IsInsert, told_flow, Says};
 
 use crate::flow::Flow;
 use crate::peer::fields::{u32_at, u64_at};
+use crate::peer::message::VERSION;
 use crate::peer::writing::{push_u32, push_u64};
 use pf_addr::Addr;
 use pf_addr::bytes::{Layout, Stop, decode};
@@ -143,14 +144,14 @@ impl Record for Insert {
 
     #[tactic(auto, unfolding(crate::specs::Peer::Records::insert_of))]
     fn from_row(alloc: Global, row: &[u8]) -> Result<Insert, Stop> {
-        decode::<Insert>(alloc, 1, row)
+        decode::<Insert>(alloc, VERSION, row)
     }
 
     #[tactic(auto, using(crate::proofs::Inserts::insert_fits))]
     fn push(&self, out: &mut Vec<u8>) -> Result<(), AllocError> {
         // what each insert keeps lets it be written
         let _fields = self.fields();
-        self.write(1, out)?;
+        self.write(VERSION, out)?;
         Ok(())
     }
 }

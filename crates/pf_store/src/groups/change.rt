@@ -1,7 +1,8 @@
 //! Changes.
 ghost use Rattle.std.specs.Prelude.{◌≡◌, ◌<◌, ◌^◌, true, false, length, List, ℕ, IfOk, IfErr, OnOk};
 ghost use Rattle.pf_addr.specs.{Bytes.Forms.{onto, Fits}, Bytes.Readers.Reads};
-ghost use Rattle.pf_store.specs.{Groups.{EditShape, edit_form, plain_entries, change_form, plain_record, has_form, IsRecorded}, Lengths.payload_length};
+ghost use Rattle.pf_anchor.specs.Forms.{plain_entries};
+ghost use Rattle.pf_store.specs.{Groups.{EditShape, edit_form, change_form, plain_record, has_form, IsRecorded}, Lengths.payload_length};
 
 use crate::groups::fault::GroupFault;
 use crate::groups::items::{have_form, push_items, read_items};
@@ -49,23 +50,23 @@ impl Layout for Recorded {
 
     ghost shape = { ChangeShape };
 
-    ghost form = { λ version. group_form };
+    ghost form = { group_form };
 
     ghost plain = { plain_record };
 
     ghost before = { λ a b. true };
 
     #[tactic(auto, unfolding(crate::specs::Groups::group_form))]
-    fn read<'a>(alloc: Global, _version: u8, from: &mut Rest<'a>) -> Result<Recorded, Stop> {
+    fn read<'a>(alloc: Global, version: u8, from: &mut Rest<'a>) -> Result<Recorded, Stop> {
         expect(from, &[1])?;
-        read_record(alloc, from)
+        read_record(alloc, version, from)
     }
 
     #[tactic(auto, unfolding(crate::specs::Groups::group_form), using(crate::proofs::Told::formed))]
-    fn write(&self, _version: u8, out: &mut Vec<u8>) -> Result<(), AllocError> {
+    fn write(&self, version: u8, out: &mut Vec<u8>) -> Result<(), AllocError> {
         tells(self);
         push_bytes(out, &[1])?;
-        push_record(out, self)
+        push_record(out, version, self)
     }
 }
 
@@ -78,12 +79,12 @@ struct TableEdit {
 }
 
 #[tactic(auto, unfolding(crate::specs::Groups::edit_form))]
-fn read_edit<'a>(alloc: Global, from: &mut Rest<'a>) -> Result<TableEdit, Stop>
+fn read_edit<'a>(alloc: Global, version: u8, from: &mut Rest<'a>) -> Result<TableEdit, Stop>
     ensures { Reads {a = EditShape} (λ e. (e.path, (e.name, plain_entries e.entries))) edit_form result from.old.now from.new.now }
 {
-    let path = Path::read(alloc, 1, from)?;
-    let name = TableName::read(alloc, 1, from)?;
-    let entries = read_entries(alloc, from)?;
+    let path = Path::read(alloc, version, from)?;
+    let name = TableName::read(alloc, version, from)?;
+    let entries = read_entries(alloc, version, from)?;
     Ok(TableEdit {
         path,
         name,
@@ -94,6 +95,7 @@ fn read_edit<'a>(alloc: Global, from: &mut Rest<'a>) -> Result<TableEdit, Stop>
 #[tactic(auto, unfolding(crate::specs::Groups::edit_form))]
 fn push_edit(
     out: &mut Vec<u8>,
+    version: u8,
     path: &Path,
     name: &TableName,
     entries: &[Entry],
@@ -103,33 +105,33 @@ fn push_edit(
         (out.new.items ≡ onto {a = EditShape} edit_form (path.now, (name.now, plain_entries entries.now)) out.old.items) }
     ensures fits { OnOk result (Fits {a = EditShape} edit_form (path.now, (name.now, plain_entries entries.now))) }
 {
-    push_fitting(out, 1, path)?;
-    push_fitting(out, 1, name)?;
-    push_entries(out, entries)
+    push_fitting(out, version, path)?;
+    push_fitting(out, version, name)?;
+    push_entries(out, version, entries)
 }
 
 // What is recorded, at the front of the bytes.
 #[tactic(auto, unfolding(crate::specs::Groups::change_form))]
-fn read_record<'a>(alloc: Global, from: &mut Rest<'a>) -> Result<Recorded, Stop>
-    ensures { Reads plain_record change_form result from.old.now from.new.now }
+fn read_record<'a>(alloc: Global, version: u8, from: &mut Rest<'a>) -> Result<Recorded, Stop>
+    ensures { Reads plain_record (change_form version) result from.old.now from.new.now }
 {
     if takes(from, COMMIT)? {
-        return Ok(Recorded::Made(Change::commit(read_items(alloc, from)?)));
+        return Ok(Recorded::Made(Change::commit(read_items(alloc, version, from)?)));
     }
     if takes(from, ADD)? {
-        let edit = read_edit(alloc, from)?;
+        let edit = read_edit(alloc, version, from)?;
         return Ok(Recorded::Made(Change::add(edit.path, edit.name, edit.entries)));
     }
     if takes(from, DELETE)? {
-        let edit = read_edit(alloc, from)?;
+        let edit = read_edit(alloc, version, from)?;
         return Ok(Recorded::Made(Change::delete(edit.path, edit.name, edit.entries)));
     }
     if takes(from, SET)? {
-        let edit = read_edit(alloc, from)?;
+        let edit = read_edit(alloc, version, from)?;
         return Ok(Recorded::Made(Change::set(edit.path, edit.name, edit.entries)));
     }
     if takes(from, STATES)? {
-        return Ok(Recorded::Made(Change::states(read_steps(alloc, from)?)));
+        return Ok(Recorded::Made(Change::states(read_steps(alloc, version, from)?)));
     }
     if takes(from, REMOVE)? {
         return Ok(Recorded::Made(Change::remove(read_name(from)?)));
@@ -139,13 +141,13 @@ fn read_record<'a>(alloc: Global, from: &mut Rest<'a>) -> Result<Recorded, Stop>
 }
 
 #[tactic(auto, unfolding(crate::specs::Groups::change_form))]
-fn push_record(out: &mut Vec<u8>, recorded: &Recorded) -> Result<(), AllocError>
+fn push_record(out: &mut Vec<u8>, version: u8, recorded: &Recorded) -> Result<(), AllocError>
     requires { has_form recorded.now ≡ true }
-    ensures written { OnOk result (out.new.items ≡ onto change_form (plain_record recorded.now) out.old.items) }
-    ensures fits { OnOk result (Fits change_form (plain_record recorded.now)) }
+    ensures written { OnOk result (out.new.items ≡ onto (change_form version) (plain_record recorded.now) out.old.items) }
+    ensures fits { OnOk result (Fits (change_form version) (plain_record recorded.now)) }
 {
     match recorded {
-        Recorded::Made(change) => push_change(out, change),
+        Recorded::Made(change) => push_change(out, version, change),
         Recorded::Opens(epoch) => {
             push_bytes(out, &[OPEN])?;
             push_u32(out, *epoch)
@@ -154,15 +156,15 @@ fn push_record(out: &mut Vec<u8>, recorded: &Recorded) -> Result<(), AllocError>
 }
 
 #[tactic(auto, unfolding(crate::specs::Groups::change_form))]
-fn push_change(out: &mut Vec<u8>, change: &Change) -> Result<(), AllocError>
+fn push_change(out: &mut Vec<u8>, version: u8, change: &Change) -> Result<(), AllocError>
     requires { has_form (Recorded.Made change.now) ≡ true }
-    ensures written { OnOk result (out.new.items ≡ onto change_form (plain_record (Recorded.Made change.now)) out.old.items) }
-    ensures fits { OnOk result (Fits change_form (plain_record (Recorded.Made change.now))) }
+    ensures written { OnOk result (out.new.items ≡ onto (change_form version) (plain_record (Recorded.Made change.now)) out.old.items) }
+    ensures fits { OnOk result (Fits (change_form version) (plain_record (Recorded.Made change.now))) }
 {
     match change.kind() {
         ChangeKind::Commit(items) => {
             push_key(out, COMMIT)?;
-            push_items(out, items.as_slice())
+            push_items(out, version, items.as_slice())
         }
         ChangeKind::Add {
             path,
@@ -170,7 +172,7 @@ fn push_change(out: &mut Vec<u8>, change: &Change) -> Result<(), AllocError>
             entries,
         } => {
             push_key(out, ADD)?;
-            push_edit(out, path, name, entries.as_slice())
+            push_edit(out, version, path, name, entries.as_slice())
         }
         ChangeKind::Delete {
             path,
@@ -178,7 +180,7 @@ fn push_change(out: &mut Vec<u8>, change: &Change) -> Result<(), AllocError>
             entries,
         } => {
             push_key(out, DELETE)?;
-            push_edit(out, path, name, entries.as_slice())
+            push_edit(out, version, path, name, entries.as_slice())
         }
         ChangeKind::Set {
             path,
@@ -186,11 +188,11 @@ fn push_change(out: &mut Vec<u8>, change: &Change) -> Result<(), AllocError>
             entries,
         } => {
             push_key(out, SET)?;
-            push_edit(out, path, name, entries.as_slice())
+            push_edit(out, version, path, name, entries.as_slice())
         }
         ChangeKind::States(steps) => {
             push_key(out, STATES)?;
-            push_steps(out, steps)
+            push_steps(out, version, steps)
         }
         ChangeKind::Remove(name) => {
             push_key(out, REMOVE)?;
@@ -213,13 +215,12 @@ pub(crate) fn has_change_form(change: &Change) -> bool
     }
 }
 
-/// The bytes of a group of one change, 2 and more.
+/// The bytes of a group of one change in a version, 2 and more.
 ///
 /// `NoForm`: it has none, as a commit of nothing, of more than 64 rulesets, or of more tables at a path than a ticket takes.
 /// `Memory`: a growth was refused. Own.
-#[tactic(auto, using(crate::proofs::Told::pushed, crate::proofs::Payloads::payload_long))]
-pub fn write_group(alloc: Global, change: &Change) -> Result<Vec<u8>, GroupFault>
-    ensures written { IfOk result (λ v. IsRecorded (Recorded.Made change.now) v.items) }
+pub fn write_group(alloc: Global, version: u8, change: &Change) -> Result<Vec<u8>, GroupFault>
+    ensures written { IfOk result (λ v. IsRecorded version (Recorded.Made change.now) v.items) }
     ensures length { IfOk result (λ v. length v.items ≡ payload_length (Recorded.Made change.now)) }
     ensures formed { OnOk result (has_form (Recorded.Made change.now) ≡ true) }
     ensures formless { IfErr result (λ e. e ≡ GroupFault.NoForm → has_form (Recorded.Made change.now) ≡ false) }
@@ -230,14 +231,13 @@ pub fn write_group(alloc: Global, change: &Change) -> Result<Vec<u8>, GroupFault
     tell_change(change);
     let mut out = Vec::new(alloc);
     push_bytes(&mut out, &[1])?;
-    push_change(&mut out, change)?;
+    push_change(&mut out, version, change)?;
     Ok(out)
 }
 
-/// The 6 bytes of an opening with this epoch. `AllocError`: memory was refused.
-#[tactic(auto, using(crate::proofs::Told::opening_pushed, crate::proofs::Payloads::payload_long))]
+/// The 6 bytes of an opening with this epoch, which are the same in each version. `AllocError`: memory was refused.
 pub(crate) fn write_opening(alloc: Global, epoch: u32) -> Result<Vec<u8>, AllocError>
-    ensures written { IfOk result (λ v. IsRecorded (Recorded.Opens epoch) v.items) }
+    ensures written { IfOk result (λ v. (version : ℕ) → IsRecorded version (Recorded.Opens epoch) v.items) }
     ensures length { IfOk result (λ v. length v.items ≡ 6) }
 {
     let mut out = Vec::new(alloc);
@@ -246,13 +246,13 @@ pub(crate) fn write_opening(alloc: Global, epoch: u32) -> Result<Vec<u8>, AllocE
     Ok(out)
 }
 
-/// What these bytes record: a change or an opening. `NoForm`: they are neither's. `Memory`: a growth was refused.
+/// What these bytes record in a version: a change or an opening. `NoForm`: they are neither's. `Memory`: a growth was refused.
 #[tactic(auto, using(crate::proofs::Told::spelled, crate::proofs::Told::none_told))]
-pub fn read_group(alloc: Global, bytes: &[u8]) -> Result<Recorded, GroupFault>
-    ensures found { IfOk result (λ r. IsRecorded r bytes.now) }
-    ensures none { IfErr result (λ e. e ≡ GroupFault.NoForm → (r : Recorded) → ¬ IsRecorded r bytes.now) }
+pub fn read_group(alloc: Global, version: u8, bytes: &[u8]) -> Result<Recorded, GroupFault>
+    ensures found { IfOk result (λ r. IsRecorded version r bytes.now) }
+    ensures none { IfErr result (λ e. e ≡ GroupFault.NoForm → (r : Recorded) → ¬ IsRecorded version r bytes.now) }
 {
-    match decode::<Recorded>(alloc, 1, bytes) {
+    match decode::<Recorded>(alloc, version, bytes) {
         Ok(recorded) => {
             tells(&recorded);
             Ok(recorded)

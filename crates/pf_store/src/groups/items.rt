@@ -3,7 +3,8 @@ ghost use Rattle.std.specs.{Prelude.{◌≡◌, ◌≤◌, ◌&&◌, true, lengt
 ghost use Rattle.pf_addr.specs.{Bytes.Forms.{counted, onto, Fits}, Bytes.Readers.Reads};
 ghost use Rattle.pf_rule.specs.Sum.Layouts.{plain_rule};
 ghost use Rattle.pf_ticket.specs.declared.limits.TheConstants.{OFFERED_TABLE_LIMIT};
-ghost use Rattle.pf_store.specs.Groups.{RulesShape, rules_form, rule_list_form, TablesShape, tables_form, defined_form, item_form, items_form, plain_item, plain_named, is_commit, has_item_form};
+ghost use Rattle.pf_anchor.specs.Forms.{RulesShape, rules_form, rule_list_form, plain_named};
+ghost use Rattle.pf_store.specs.Groups.{TablesShape, tables_form, defined_form, item_form, items_form, plain_item, is_commit, has_item_form};
 
 use crate::groups::tables::{StoredTable, push_named};
 use pf_addr::bytes::{
@@ -33,47 +34,51 @@ impl Layout for StoredItem {
 
     ghost shape = { ItemShape };
 
-    ghost form = { λ version. item_form };
+    ghost form = { item_form };
 
     ghost plain = { λ row. plain_item row.item };
 
     ghost before = { λ a b. true };
 
     #[tactic(auto, unfolding(crate::specs::Groups::item_form))]
-    fn read<'a>(alloc: Global, _version: u8, from: &mut Rest<'a>) -> Result<StoredItem, Stop> {
+    fn read<'a>(alloc: Global, version: u8, from: &mut Rest<'a>) -> Result<StoredItem, Stop> {
         if takes(from, RULES)? {
-            let (path, rules) = read_rules(alloc, from)?;
+            let (path, rules) = read_rules(alloc, version, from)?;
             let item = Item::Rules(Placed::new(alloc, path, rules)?);
             return Ok(StoredItem { item });
         }
         expect(from, &[TABLES])?;
-        let (path, tables) = read_tables(alloc, from)?;
+        let (path, tables) = read_tables(alloc, version, from)?;
         let item = Item::Tables { path, tables };
         Ok(StoredItem { item })
     }
 
     #[tactic(auto, using(crate::proofs::Pushed::item_formed))]
-    fn write(&self, _version: u8, out: &mut Vec<u8>) -> Result<(), AllocError> {
-        push_item(out, &self.item)
+    fn write(&self, version: u8, out: &mut Vec<u8>) -> Result<(), AllocError> {
+        push_item(out, version, &self.item)
     }
 }
 
 /// A path and the rules there, from the front of the bytes. Fails with the first fault there, or where memory is refused.
-#[tactic(auto, unfolding(crate::specs::Groups::rules_form))]
-pub(crate) fn read_rules<'a>(alloc: Global, from: &mut Rest<'a>) -> Result<(Path, RuleList), Stop>
-    ensures { Reads {a = RulesShape} (λ r. (r.0, map plain_rule r.1)) rules_form result from.old.now from.new.now }
+#[tactic(auto, unfolding(pf_anchor::specs::Forms::rules_form))]
+pub(crate) fn read_rules<'a>(
+    alloc: Global,
+    version: u8,
+    from: &mut Rest<'a>,
+) -> Result<(Path, RuleList), Stop>
+    ensures { Reads {a = RulesShape} (λ r. (r.0, map plain_rule r.1)) (rules_form version) result from.old.now from.new.now }
 {
-    let path = Path::read(alloc, 1, from)?;
-    let rules = read_rule_list(alloc, from)?;
+    let path = Path::read(alloc, version, from)?;
+    let rules = read_rule_list(alloc, version, from)?;
     Ok((path, rules))
 }
 
-#[tactic(auto, unfolding(crate::specs::Groups::rule_list_form))]
-fn read_rule_list<'a>(alloc: Global, from: &mut Rest<'a>) -> Result<RuleList, Stop>
-    ensures { Reads (λ l. map plain_rule l) rule_list_form result from.old.now from.new.now }
+#[tactic(auto, unfolding(pf_anchor::specs::Forms::rule_list_form))]
+fn read_rule_list<'a>(alloc: Global, version: u8, from: &mut Rest<'a>) -> Result<RuleList, Stop>
+    ensures { Reads (λ l. map plain_rule l) (rule_list_form version) result from.old.now from.new.now }
 {
     let left = from.len();
-    let rules = read_list::<Rule>(alloc, 1, from)?;
+    let rules = read_list::<Rule>(alloc, version, from)?;
     if rules.len() > RULE_LIMIT {
         return Err(Stop::Fault(Fault::Bad(left)));
     }
@@ -82,20 +87,20 @@ fn read_rule_list<'a>(alloc: Global, from: &mut Rest<'a>) -> Result<RuleList, St
 
 // A path and the tables there that were defined.
 #[tactic(auto, unfolding(crate::specs::Groups::tables_form))]
-fn read_tables<'a>(alloc: Global, from: &mut Rest<'a>) -> Result<(Path, Defined), Stop>
+fn read_tables<'a>(alloc: Global, version: u8, from: &mut Rest<'a>) -> Result<(Path, Defined), Stop>
     ensures { Reads {a = TablesShape} (λ r. (r.0, map plain_named r.1)) tables_form result from.old.now from.new.now }
 {
-    let path = Path::read(alloc, 1, from)?;
-    let tables = read_defined(alloc, from)?;
+    let path = Path::read(alloc, version, from)?;
+    let tables = read_defined(alloc, version, from)?;
     Ok((path, tables))
 }
 
 #[tactic(auto, unfolding(crate::specs::Groups::defined_form))]
-fn read_defined<'a>(alloc: Global, from: &mut Rest<'a>) -> Result<Defined, Stop>
+fn read_defined<'a>(alloc: Global, version: u8, from: &mut Rest<'a>) -> Result<Defined, Stop>
     ensures { Reads (λ d. map plain_named d) defined_form result from.old.now from.new.now }
 {
     let left = from.len();
-    let rows = read_ordered_list::<StoredTable>(alloc, 1, from)?;
+    let rows = read_ordered_list::<StoredTable>(alloc, version, from)?;
     if rows.len() > OFFERED_TABLE_LIMIT {
         return Err(Stop::Fault(Fault::Bad(left)));
     }
@@ -110,38 +115,43 @@ fn tables_of(alloc: Global, rows: Vec<StoredTable>) -> Result<Vec<DefinedTable>,
 }
 
 /// Puts a path and the rules there behind the bytes; they fit. Fails only where memory is refused.
-#[tactic(auto, unfolding(crate::specs::Groups::rules_form))]
-pub(crate) fn push_rules(out: &mut Vec<u8>, placed: &Placed) -> Result<(), AllocError>
+#[tactic(auto, unfolding(pf_anchor::specs::Forms::rules_form))]
+pub(crate) fn push_rules(out: &mut Vec<u8>, version: u8, placed: &Placed) -> Result<(), AllocError>
     ensures written { OnOk result
-        (out.new.items ≡ onto {a = RulesShape} rules_form (placed.now.0, map plain_rule placed.now.1) out.old.items) }
-    ensures fits { OnOk result (Fits {a = RulesShape} rules_form (placed.now.0, map plain_rule placed.now.1)) }
+        (out.new.items ≡ onto {a = RulesShape} (rules_form version) (placed.now.0, map plain_rule placed.now.1) out.old.items) }
+    ensures fits { OnOk result (Fits {a = RulesShape} (rules_form version) (placed.now.0, map plain_rule placed.now.1)) }
 {
-    push_fitting(out, 1, placed.key())?;
-    push_rule_list(out, placed.value())
+    push_fitting(out, version, placed.key())?;
+    push_rule_list(out, version, placed.value())
 }
 
-#[tactic(auto, unfolding(crate::specs::Groups::rule_list_form), using(crate::proofs::Pushed::rule_list_fits))]
-fn push_rule_list(out: &mut Vec<u8>, rules: &RuleList) -> Result<(), AllocError>
-    ensures written { OnOk result (out.new.items ≡ onto rule_list_form (map plain_rule rules.now) out.old.items) }
-    ensures fits { OnOk result (Fits rule_list_form (map plain_rule rules.now)) }
+#[tactic(auto, unfolding(pf_anchor::specs::Forms::rule_list_form), using(crate::proofs::Pushed::rule_list_fits))]
+fn push_rule_list(out: &mut Vec<u8>, version: u8, rules: &RuleList) -> Result<(), AllocError>
+    ensures written { OnOk result (out.new.items ≡ onto (rule_list_form version) (map plain_rule rules.now) out.old.items) }
+    ensures fits { OnOk result (Fits (rule_list_form version) (map plain_rule rules.now)) }
 {
-    push_list(out, 1, rules.as_slice())
+    push_list(out, version, rules.as_slice())
 }
 
 // Puts a path and the tables there that were defined behind the bytes.
 #[tactic(auto, unfolding(crate::specs::Groups::tables_form))]
-fn push_tables(out: &mut Vec<u8>, path: &Path, tables: &Defined) -> Result<(), AllocError>
+fn push_tables(
+    out: &mut Vec<u8>,
+    version: u8,
+    path: &Path,
+    tables: &Defined,
+) -> Result<(), AllocError>
     requires { length tables.now ≤ OFFERED_TABLE_LIMIT }
     ensures written { OnOk result
         (out.new.items ≡ onto {a = TablesShape} tables_form (path.now, map plain_named tables.now) out.old.items) }
     ensures fits { OnOk result (Fits {a = TablesShape} tables_form (path.now, map plain_named tables.now)) }
 {
-    push_fitting(out, 1, path)?;
-    push_defined(out, tables)
+    push_fitting(out, version, path)?;
+    push_defined(out, version, tables)
 }
 
 #[tactic(auto, unfolding(crate::specs::Groups::defined_form), using(crate::proofs::Pushed::tables_fit))]
-fn push_defined(out: &mut Vec<u8>, tables: &Defined) -> Result<(), AllocError>
+fn push_defined(out: &mut Vec<u8>, version: u8, tables: &Defined) -> Result<(), AllocError>
     requires { length tables.now ≤ OFFERED_TABLE_LIMIT }
     ensures written { OnOk result (out.new.items ≡ onto defined_form (map plain_named tables.now) out.old.items) }
     ensures fits { OnOk result (Fits defined_form (map plain_named tables.now)) }
@@ -149,36 +159,40 @@ fn push_defined(out: &mut Vec<u8>, tables: &Defined) -> Result<(), AllocError>
     let entries = tables.entries();
     push_u32(out, tables.len() as u32)?;
     for table in entries {
-        push_named(out, table)?;
+        push_named(out, version, table)?;
     }
     Ok(())
 }
 
 #[tactic(auto, unfolding(crate::specs::Groups::item_form))]
-fn push_item(out: &mut Vec<u8>, item: &Item) -> Result<(), AllocError>
+fn push_item(out: &mut Vec<u8>, version: u8, item: &Item) -> Result<(), AllocError>
     requires { has_item_form item.now ≡ true }
-    ensures written { OnOk result (out.new.items ≡ onto item_form (plain_item item.now) out.old.items) }
-    ensures fits { OnOk result (Fits item_form (plain_item item.now)) }
+    ensures written { OnOk result (out.new.items ≡ onto (item_form version) (plain_item item.now) out.old.items) }
+    ensures fits { OnOk result (Fits (item_form version) (plain_item item.now)) }
 {
     match item {
         Item::Rules(placed) => {
             push_key(out, RULES)?;
-            push_rules(out, placed)
+            push_rules(out, version, placed)
         }
         Item::Tables { path, tables } => {
             push_bytes(out, &[TABLES])?;
-            push_tables(out, path, tables)
+            push_tables(out, version, path, tables)
         }
     }
 }
 
 /// What a commit replaces, from the front of the bytes. Fails with the first fault there, or where memory is refused.
 #[tactic(auto, unfolding(crate::specs::Groups::items_form))]
-pub(crate) fn read_items<'a>(alloc: Global, from: &mut Rest<'a>) -> Result<Vec<Item>, Stop>
-    ensures { Reads (λ v. map plain_item v.items) items_form result from.old.now from.new.now }
+pub(crate) fn read_items<'a>(
+    alloc: Global,
+    version: u8,
+    from: &mut Rest<'a>,
+) -> Result<Vec<Item>, Stop>
+    ensures { Reads (λ v. map plain_item v.items) (items_form version) result from.old.now from.new.now }
 {
     let left = from.len();
-    let rows = read_rows(alloc, from)?;
+    let rows = read_rows(alloc, version, from)?;
     let items = items_of(alloc, rows)?;
     if !is_commit(&items) {
         return Err(Stop::Fault(Fault::Bad(left)));
@@ -193,24 +207,24 @@ fn items_of(alloc: Global, rows: Vec<StoredItem>) -> Result<Vec<Item>, AllocErro
 }
 
 // Items behind their number in one byte.
-fn read_rows<'a>(alloc: Global, from: &mut Rest<'a>) -> Result<Vec<StoredItem>, Stop>
-    ensures { Reads (λ v. map (λ row. plain_item row.item) v.items) (counted 1 item_form) result from.old.now from.new.now }
+fn read_rows<'a>(alloc: Global, version: u8, from: &mut Rest<'a>) -> Result<Vec<StoredItem>, Stop>
+    ensures { Reads (λ v. map (λ row. plain_item row.item) v.items) (counted 1 (item_form version)) result from.old.now from.new.now }
 {
     let count = read_u8(from)?;
-    read_times::<StoredItem>(alloc, 1, count as usize, from)
+    read_times::<StoredItem>(alloc, version, count as usize, from)
 }
 
 /// Puts what a commit replaces behind the bytes; it fits. Fails only where memory is refused.
-#[tactic(auto, unfolding(crate::specs::Groups::items_form), using(crate::proofs::Pushed::items_fit))]
-pub(crate) fn push_items(out: &mut Vec<u8>, items: &[Item]) -> Result<(), AllocError>
+#[tactic(auto, unfolding(crate::specs::Groups::items_form))]
+pub(crate) fn push_items(out: &mut Vec<u8>, version: u8, items: &[Item]) -> Result<(), AllocError>
     requires many { is_commit items.now ≡ true }
     requires formed { list_all has_item_form items.now ≡ true }
-    ensures written { OnOk result (out.new.items ≡ onto items_form (map plain_item items.now) out.old.items) }
-    ensures fits { OnOk result (Fits items_form (map plain_item items.now)) }
+    ensures written { OnOk result (out.new.items ≡ onto (items_form version) (map plain_item items.now) out.old.items) }
+    ensures fits { OnOk result (Fits (items_form version) (map plain_item items.now)) }
 {
     push_u8(out, items.len() as u8)?;
     for item in items {
-        push_item(out, item)?;
+        push_item(out, version, item)?;
     }
     Ok(())
 }

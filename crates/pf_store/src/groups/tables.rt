@@ -2,7 +2,7 @@
 ghost use Rattle.std.specs.Prelude.{◌≡◌, ◌<◌, ◌^◌, length, IfOk, OnOk};
 ghost use Rattle.pf_addr.specs.{Bytes.Forms.{counted, onto, Fits}, Bytes.Readers.Reads};
 ghost use Rattle.pf_table.specs.EntryForms.{entry};
-ghost use Rattle.pf_store.specs.Groups.{plain_entries, entries_form, named_form, plain_named};
+ghost use Rattle.pf_anchor.specs.Forms.{plain_entries, entries_form, named_form, plain_named};
 
 use pf_addr::bytes::{
     Fault, Layout, Ordered, Rest, Stop, push_fitting, push_list, push_u32, read_list,
@@ -14,19 +14,27 @@ use pf_ticket::DefinedTable;
 use std::alloc::{AllocError, Global};
 
 /// Puts entries behind the bytes, as handed in, behind their number in four bytes; they fit. Fails only where memory is refused.
-pub(crate) fn push_entries(out: &mut Vec<u8>, entries: &[Entry]) -> Result<(), AllocError>
+pub(crate) fn push_entries(
+    out: &mut Vec<u8>,
+    version: u8,
+    entries: &[Entry],
+) -> Result<(), AllocError>
     requires { length entries.now < 2 ^ 32 }
     ensures written { OnOk result (out.new.items ≡ onto (counted 4 entry) (plain_entries entries.now) out.old.items) }
     ensures fits { Fits (counted 4 entry) (plain_entries entries.now) }
 {
-    push_list(out, 1, entries)
+    push_list(out, version, entries)
 }
 
 /// Entries behind their number in four bytes. Fails with the first fault of their form there, or where memory is refused.
-pub(crate) fn read_entries<'a>(alloc: Global, from: &mut Rest<'a>) -> Result<Vec<Entry>, Stop>
+pub(crate) fn read_entries<'a>(
+    alloc: Global,
+    version: u8,
+    from: &mut Rest<'a>,
+) -> Result<Vec<Entry>, Stop>
     ensures { Reads (λ v. plain_entries v.items) (counted 4 entry) result from.old.now from.new.now }
 {
-    read_list::<Entry>(alloc, 1, from)
+    read_list::<Entry>(alloc, version, from)
 }
 
 /// A table that was defined, as a commit has it.
@@ -36,7 +44,8 @@ pub(crate) struct StoredTable {
 }
 
 impl Layout for StoredTable {
-    ghost use Rattle.pf_store.specs.Groups.{NamedShape, named_form, plain_named, named_before};
+    ghost use Rattle.pf_anchor.specs.Forms.{NamedShape, named_form, plain_named};
+    ghost use Rattle.pf_store.specs.Groups.{named_before};
 
     ghost shape = { NamedShape };
 
@@ -46,17 +55,17 @@ impl Layout for StoredTable {
 
     ghost before = { named_before };
 
-    #[tactic(auto, unfolding(crate::specs::Groups::named_form))]
+    #[tactic(auto, unfolding(pf_anchor::specs::Forms::named_form))]
     fn read<'a>(alloc: Global, version: u8, from: &mut Rest<'a>) -> Result<StoredTable, Stop> {
         let name = TableName::read(alloc, version, from)?;
-        let table = read_table(alloc, from)?;
+        let table = read_table(alloc, version, from)?;
         Ok(StoredTable {
             table: DefinedTable::new(name, table),
         })
     }
 
-    fn write(&self, _version: u8, out: &mut Vec<u8>) -> Result<(), AllocError> {
-        push_named(out, &self.table)
+    fn write(&self, version: u8, out: &mut Vec<u8>) -> Result<(), AllocError> {
+        push_named(out, version, &self.table)
     }
 }
 
@@ -67,12 +76,12 @@ impl Ordered for StoredTable {
 }
 
 /// Entries in a table's order, at most as many as a table may have. Fails with the first fault there, or where memory is refused.
-#[tactic(auto, unfolding(crate::specs::Groups::entries_form), using(pf_table::proofs::TableRows::in_order_is))]
-pub(crate) fn read_table<'a>(alloc: Global, from: &mut Rest<'a>) -> Result<Table, Stop>
+#[tactic(auto, unfolding(pf_anchor::specs::Forms::entries_form), using(pf_table::proofs::TableRows::in_order_is))]
+pub(crate) fn read_table<'a>(alloc: Global, version: u8, from: &mut Rest<'a>) -> Result<Table, Stop>
     ensures { Reads plain_entries entries_form result from.old.now from.new.now }
 {
     let left = from.len();
-    let entries = read_ordered_list::<Entry>(alloc, 1, from)?;
+    let entries = read_ordered_list::<Entry>(alloc, version, from)?;
     if entries.len() > TABLE_LIMIT {
         return Err(Stop::Fault(Fault::Bad(left)));
     }
@@ -80,25 +89,29 @@ pub(crate) fn read_table<'a>(alloc: Global, from: &mut Rest<'a>) -> Result<Table
 }
 
 /// Puts a table's entries behind the bytes, in its order; they fit. Fails only where memory is refused.
-#[tactic(auto, unfolding(crate::specs::Groups::entries_form), using(crate::proofs::Pushed::entries_fit))]
-pub(crate) fn push_table(out: &mut Vec<u8>, table: &Table) -> Result<(), AllocError>
+#[tactic(auto, unfolding(pf_anchor::specs::Forms::entries_form), using(crate::proofs::Pushed::entries_fit))]
+pub(crate) fn push_table(out: &mut Vec<u8>, version: u8, table: &Table) -> Result<(), AllocError>
     ensures written { OnOk result (out.new.items ≡ onto entries_form (plain_entries table.now) out.old.items) }
     ensures fits { OnOk result (Fits entries_form (plain_entries table.now)) }
 {
     let entries = table.entries();
     push_u32(out, table.len() as u32)?;
     for entry in entries {
-        push_fitting(out, 1, entry)?;
+        push_fitting(out, version, entry)?;
     }
     Ok(())
 }
 
 /// Puts a table's name behind the bytes, and its entries in their order; they fit. Fails only where memory is refused.
-#[tactic(auto, unfolding(crate::specs::Groups::named_form))]
-pub(crate) fn push_named(out: &mut Vec<u8>, defined: &DefinedTable) -> Result<(), AllocError>
+#[tactic(auto, unfolding(pf_anchor::specs::Forms::named_form))]
+pub(crate) fn push_named(
+    out: &mut Vec<u8>,
+    version: u8,
+    defined: &DefinedTable,
+) -> Result<(), AllocError>
     ensures written { OnOk result (out.new.items ≡ onto named_form (plain_named defined.now) out.old.items) }
     ensures fits { OnOk result (Fits named_form (plain_named defined.now)) }
 {
-    push_fitting(out, 1, defined.name())?;
-    push_table(out, defined.table())
+    push_fitting(out, version, defined.name())?;
+    push_table(out, version, defined.table())
 }

@@ -3,7 +3,9 @@ ghost use Rattle.std.specs.{Prelude.{◌≡◌, ℕ, true, false, T, List, lengt
 ghost use Rattle.pf_addr.specs.{Bytes.Forms.{onto, Fits}, Path.Paths.path_order};
 ghost use Rattle.pf_anchor.specs.Tables.{table_order};
 ghost use Rattle.pf_core.specs.Durable.Edits.{Kept};
-ghost use Rattle.pf_store.specs.{Durables.{has_some, configured, durable_form, plain_durable, durable_has_form, IsDurable}, Lengths.snapshot_length};
+ghost use Rattle.pf_anchor.specs.Forms.{has_some, configured};
+ghost use Rattle.pf_core.specs.Durable.Forms.{durable_form, plain_durable};
+ghost use Rattle.pf_store.specs.{Durables.{durable_has_form, IsDurable}, Lengths.snapshot_length};
 
 use crate::groups::GroupFault;
 use crate::snapshots::rulesets::{push_rulesets, read_rulesets};
@@ -23,22 +25,22 @@ struct Snapshot {
 
 impl Layout for Snapshot {
     ghost use Rattle.std.specs.Prelude.{true};
-    ghost use Rattle.pf_store.specs.Durables.{DurableShape, durable_form, plain_durable};
+    ghost use Rattle.pf_core.specs.Durable.Forms.{DurableShape, durable_form, plain_durable};
 
     ghost shape = { DurableShape };
 
-    ghost form = { λ version. durable_form };
+    ghost form = { durable_form };
 
     ghost plain = { λ row. plain_durable row.durable };
 
     ghost before = { λ a b. true };
 
-    #[tactic(auto, unfolding(crate::specs::Durables::durable_form))]
-    fn read<'a>(alloc: Global, _version: u8, from: &mut Rest<'a>) -> Result<Snapshot, Stop> {
+    #[tactic(auto, unfolding(pf_core::specs::Durable::Forms::durable_form))]
+    fn read<'a>(alloc: Global, version: u8, from: &mut Rest<'a>) -> Result<Snapshot, Stop> {
         let epoch = read_u32(from)?;
-        let rulesets = read_rulesets(alloc, from)?;
-        let tables = read_tables(alloc, from)?;
-        let states = read_states(alloc, from)?;
+        let rulesets = read_rulesets(alloc, version, from)?;
+        let tables = read_tables(alloc, version, from)?;
+        let states = read_states(alloc, version, from)?;
         let config = config_of(alloc, &rulesets, &tables)?;
         Ok(Snapshot {
             durable: Durable::of(alloc, epoch, config, states)?,
@@ -46,8 +48,8 @@ impl Layout for Snapshot {
     }
 
     #[tactic(auto, using(crate::proofs::Durables::durable_formed))]
-    fn write(&self, _version: u8, out: &mut Vec<u8>) -> Result<(), AllocError> {
-        push_durable(out, &self.durable)
+    fn write(&self, version: u8, out: &mut Vec<u8>) -> Result<(), AllocError> {
+        push_durable(out, version, &self.durable)
     }
 }
 
@@ -67,17 +69,17 @@ fn config_of(
     config.with_tables(alloc, tables)
 }
 
-#[tactic(auto, unfolding(crate::specs::Durables::durable_form))]
-fn push_durable(out: &mut Vec<u8>, durable: &Durable) -> Result<(), AllocError>
+#[tactic(auto, unfolding(pf_core::specs::Durable::Forms::durable_form))]
+fn push_durable(out: &mut Vec<u8>, version: u8, durable: &Durable) -> Result<(), AllocError>
     requires { durable_has_form durable.now ≡ true }
-    ensures written { OnOk result (out.new.items ≡ onto durable_form (plain_durable durable.now) out.old.items) }
-    ensures fits { OnOk result (Fits durable_form (plain_durable durable.now)) }
+    ensures written { OnOk result (out.new.items ≡ onto (durable_form version) (plain_durable durable.now) out.old.items) }
+    ensures fits { OnOk result (Fits (durable_form version) (plain_durable durable.now)) }
 {
     let epoch = durable.epoch();
     push_u32(out, epoch)?;
-    push_rulesets(out, durable.config())?;
-    push_tables(out, durable.config())?;
-    push_states(out, durable.states())
+    push_rulesets(out, version, durable.config())?;
+    push_tables(out, version, durable.config())?;
+    push_states(out, version, durable.states())
 }
 
 // Whether it has bytes.
@@ -91,12 +93,11 @@ fn has_form(alloc: Global, durable: &Durable) -> Result<bool, AllocError>
     Ok(!config.would_be_too_many_tables(alloc, &[])?)
 }
 
-/// The bytes of a snapshot of what is kept, 16 and more.
+/// The bytes of a snapshot of what is kept in a version, 16 and more.
 ///
 /// `NoForm`: it has none, since there are more than 1,024 rulesets or tables. `Memory`: a growth was refused. Own.
-#[tactic(auto, using(crate::proofs::Durables::durable_pushed))]
-pub fn write_durable(alloc: Global, durable: &Durable) -> Result<Vec<u8>, GroupFault>
-    ensures written { IfOk result (λ v. IsDurable durable.now v.items) }
+pub fn write_durable(alloc: Global, version: u8, durable: &Durable) -> Result<Vec<u8>, GroupFault>
+    ensures written { IfOk result (λ v. IsDurable version durable.now v.items) }
     ensures length { IfOk result (λ v. length v.items ≡ snapshot_length durable.now) }
     ensures formed { OnOk result (durable_has_form durable.now ≡ true) }
     ensures formless { IfErr result (λ e. e ≡ GroupFault.NoForm → durable_has_form durable.now ≡ false) }
@@ -106,17 +107,17 @@ pub fn write_durable(alloc: Global, durable: &Durable) -> Result<Vec<u8>, GroupF
     }
     tell_durable(durable);
     let mut out = Vec::new(alloc);
-    push_durable(&mut out, durable)?;
+    push_durable(&mut out, version, durable)?;
     Ok(out)
 }
 
-/// What these bytes are the snapshot of. `NoForm`: they are nothing's. `Memory`: a growth was refused.
+/// What these bytes are the snapshot of in a version. `NoForm`: they are nothing's. `Memory`: a growth was refused.
 #[tactic(auto, using(crate::proofs::Durables::durable_spelled, crate::proofs::Durables::none_told))]
-pub fn read_durable(alloc: Global, bytes: &[u8]) -> Result<Durable, GroupFault>
-    ensures found { IfOk result (λ d. IsDurable d bytes.now) }
-    ensures none { IfErr result (λ e. e ≡ GroupFault.NoForm → (d : Kept) → ¬ IsDurable d bytes.now) }
+pub fn read_durable(alloc: Global, version: u8, bytes: &[u8]) -> Result<Durable, GroupFault>
+    ensures found { IfOk result (λ d. IsDurable version d bytes.now) }
+    ensures none { IfErr result (λ e. e ≡ GroupFault.NoForm → (d : Kept) → ¬ IsDurable version d bytes.now) }
 {
-    match decode::<Snapshot>(alloc, 1, bytes) {
+    match decode::<Snapshot>(alloc, version, bytes) {
         Ok(snapshot) => {
             tell_durable(&snapshot.durable);
             Ok(snapshot.durable)

@@ -2,7 +2,7 @@
 ghost use Rattle.std.specs.{Prelude.{◌≡◌, ◌≤◌, ◌&&◌, nat_le, true, T, length, map, IfOk, OnOk}, FinMap.is_sorted, List.list_all};
 ghost use Rattle.pf_addr.specs.{Bytes.Forms.{onto, Fits}, Bytes.Readers.Reads, Path.Paths.path_order};
 ghost use Rattle.pf_anchor.specs.{declared.limits.TheConstants.RULESET_LIMIT, Rulesets.IsMap};
-ghost use Rattle.pf_store.specs.Durables.{has_some, rulesets_form, plain_ruled};
+ghost use Rattle.pf_anchor.specs.Forms.{has_some, rulesets_form, plain_ruled};
 
 use crate::groups::{push_rules, read_rules};
 use pf_addr::bytes::{Fault, Layout, Ordered, Rest, Stop, push_u32, read_ordered_list};
@@ -16,26 +16,25 @@ struct StoredRuleset {
 }
 
 impl Layout for StoredRuleset {
-    ghost use Rattle.pf_store.specs.Groups.{RulesShape, rules_form};
-    ghost use Rattle.pf_store.specs.Durables.{plain_ruled, ruleset_before};
+    ghost use Rattle.pf_anchor.specs.Forms.{RulesShape, rules_form, plain_ruled, ruleset_before};
 
     ghost shape = { RulesShape };
 
-    ghost form = { λ version. rules_form };
+    ghost form = { rules_form };
 
     ghost plain = { λ row. plain_ruled row.placed };
 
     ghost before = { ruleset_before };
 
-    fn read<'a>(alloc: Global, _version: u8, from: &mut Rest<'a>) -> Result<StoredRuleset, Stop> {
-        let (path, rules) = read_rules(alloc, from)?;
+    fn read<'a>(alloc: Global, version: u8, from: &mut Rest<'a>) -> Result<StoredRuleset, Stop> {
+        let (path, rules) = read_rules(alloc, version, from)?;
         Ok(StoredRuleset {
             placed: Placed::new(alloc, path, rules)?,
         })
     }
 
-    fn write(&self, _version: u8, out: &mut Vec<u8>) -> Result<(), AllocError> {
-        push_rules(out, &self.placed)
+    fn write(&self, version: u8, out: &mut Vec<u8>) -> Result<(), AllocError> {
+        push_rules(out, version, &self.placed)
     }
 }
 
@@ -72,14 +71,18 @@ fn placed_in(alloc: Global, rows: Vec<StoredRuleset>) -> Result<Vec<Placed>, All
 
 /// The rulesets at the front of the bytes, in the order of their paths. Fails with the first fault of their form there, or where memory
 /// is refused.
-#[tactic(auto, unfolding(crate::specs::Durables::rulesets_form), using(crate::proofs::Durables::rulesets_sorted, crate::proofs::Durables::rulesets_are, crate::proofs::Durables::rulesets_filled))]
-pub(crate) fn read_rulesets<'a>(alloc: Global, from: &mut Rest<'a>) -> Result<Vec<Placed>, Stop>
-    ensures read { Reads (λ v. map plain_ruled v.items) rulesets_form result from.old.now from.new.now }
+#[tactic(auto, unfolding(pf_anchor::specs::Forms::rulesets_form), using(crate::proofs::Durables::rulesets_sorted, crate::proofs::Durables::rulesets_are, crate::proofs::Durables::rulesets_filled))]
+pub(crate) fn read_rulesets<'a>(
+    alloc: Global,
+    version: u8,
+    from: &mut Rest<'a>,
+) -> Result<Vec<Placed>, Stop>
+    ensures read { Reads (λ v. map plain_ruled v.items) (rulesets_form version) result from.old.now from.new.now }
     ensures sorted { IfOk result (λ v. T (is_sorted path_order v.items)) }
     ensures filled { IfOk result (λ v. list_all (λ r. has_some r.1) v.items ≡ true) }
 {
     let left = from.len();
-    let rows = read_ordered_list::<StoredRuleset>(alloc, 1, from)?;
+    let rows = read_ordered_list::<StoredRuleset>(alloc, version, from)?;
     if !are_rulesets(&rows) {
         return Err(Stop::Fault(Fault::Bad(left)));
     }
@@ -106,16 +109,20 @@ fn tell_map(config: &Config)
 }
 
 /// Puts the rulesets, at most 1,024, behind the bytes, in the order of their paths; they fit. Fails only where memory is refused.
-#[tactic(auto, unfolding(crate::specs::Durables::rulesets_form), using(crate::proofs::Durables::rulesets_fit))]
-pub(crate) fn push_rulesets(out: &mut Vec<u8>, config: &Config) -> Result<(), AllocError>
+#[tactic(auto, unfolding(pf_anchor::specs::Forms::rulesets_form))]
+pub(crate) fn push_rulesets(
+    out: &mut Vec<u8>,
+    version: u8,
+    config: &Config,
+) -> Result<(), AllocError>
     requires { length config.now.rulesets ≤ RULESET_LIMIT }
-    ensures written { OnOk result (out.new.items ≡ onto rulesets_form (map plain_ruled config.now.rulesets) out.old.items) }
-    ensures fits { OnOk result (Fits rulesets_form (map plain_ruled config.now.rulesets)) }
+    ensures written { OnOk result (out.new.items ≡ onto (rulesets_form version) (map plain_ruled config.now.rulesets) out.old.items) }
+    ensures fits { OnOk result (Fits (rulesets_form version) (map plain_ruled config.now.rulesets)) }
 {
     tell_map(config);
     push_u32(out, count_of(config))?;
     for placed in config.each_ruleset() {
-        push_rules(out, placed)?;
+        push_rules(out, version, placed)?;
     }
     Ok(())
 }

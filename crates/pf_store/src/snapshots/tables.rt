@@ -2,7 +2,7 @@
 ghost use Rattle.std.specs.{Prelude.{◌≡◌, ◌≤◌, ◌&&◌, nat_le, true, T, length, map, IfOk, OnOk}, FinMap.is_sorted, List.list_all};
 ghost use Rattle.pf_addr.specs.{Bytes.Forms.{onto, Fits}, Bytes.Readers.Reads};
 ghost use Rattle.pf_anchor.specs.{declared.limits.TheConstants.TABLE_COUNT_LIMIT, Tables.{IsTableMap, table_order}};
-ghost use Rattle.pf_store.specs.Durables.{has_some, kept_tables_form, placed_form, plain_tabled};
+ghost use Rattle.pf_anchor.specs.Forms.{has_some, kept_tables_form, placed_form, plain_tabled};
 
 use crate::groups::{push_table, read_table};
 use pf_addr::bytes::{
@@ -19,7 +19,7 @@ struct StoredPlaced {
 }
 
 impl Layout for StoredPlaced {
-    ghost use Rattle.pf_store.specs.Durables.{PlacedShape, placed_form, placed_before, plain_tabled};
+    ghost use Rattle.pf_anchor.specs.Forms.{PlacedShape, placed_form, placed_before, plain_tabled};
 
     ghost shape = { PlacedShape };
 
@@ -29,18 +29,18 @@ impl Layout for StoredPlaced {
 
     ghost before = { placed_before };
 
-    #[tactic(auto, unfolding(crate::specs::Durables::placed_form, crate::specs::Groups::named_form))]
-    fn read<'a>(alloc: Global, _version: u8, from: &mut Rest<'a>) -> Result<StoredPlaced, Stop> {
-        let path = Path::read(alloc, 1, from)?;
-        let name = TableName::read(alloc, 1, from)?;
-        let table = read_table(alloc, from)?;
+    #[tactic(auto, unfolding(pf_anchor::specs::Forms::placed_form, pf_anchor::specs::Forms::named_form))]
+    fn read<'a>(alloc: Global, version: u8, from: &mut Rest<'a>) -> Result<StoredPlaced, Stop> {
+        let path = Path::read(alloc, version, from)?;
+        let name = TableName::read(alloc, version, from)?;
+        let table = read_table(alloc, version, from)?;
         Ok(StoredPlaced {
             placed: PlacedTable::new(alloc, (path, name), table)?,
         })
     }
 
-    fn write(&self, _version: u8, out: &mut Vec<u8>) -> Result<(), AllocError> {
-        push_placed(out, &self.placed)
+    fn write(&self, version: u8, out: &mut Vec<u8>) -> Result<(), AllocError> {
+        push_placed(out, version, &self.placed)
     }
 }
 
@@ -79,14 +79,18 @@ fn placed_in(alloc: Global, rows: Vec<StoredPlaced>) -> Result<Vec<PlacedTable>,
 
 /// The tables at the front of the bytes, in the order of their paths, at one path in that of their names. Fails with the first fault of
 /// their form there, or where memory is refused.
-#[tactic(auto, unfolding(crate::specs::Durables::kept_tables_form), using(crate::proofs::Durables::tables_sorted, crate::proofs::Durables::tables_are, crate::proofs::Durables::tables_filled))]
-pub(crate) fn read_tables<'a>(alloc: Global, from: &mut Rest<'a>) -> Result<Vec<PlacedTable>, Stop>
+#[tactic(auto, unfolding(pf_anchor::specs::Forms::kept_tables_form), using(crate::proofs::Durables::tables_sorted, crate::proofs::Durables::tables_are, crate::proofs::Durables::tables_filled))]
+pub(crate) fn read_tables<'a>(
+    alloc: Global,
+    version: u8,
+    from: &mut Rest<'a>,
+) -> Result<Vec<PlacedTable>, Stop>
     ensures read { Reads (λ v. map plain_tabled v.items) kept_tables_form result from.old.now from.new.now }
     ensures sorted { IfOk result (λ v. T (is_sorted table_order v.items)) }
     ensures filled { IfOk result (λ v. list_all (λ t. has_some t.1) v.items ≡ true) }
 {
     let left = from.len();
-    let rows = read_ordered_list::<StoredPlaced>(alloc, 1, from)?;
+    let rows = read_ordered_list::<StoredPlaced>(alloc, version, from)?;
     if !are_tables(&rows) {
         return Err(Stop::Fault(Fault::Bad(left)));
     }
@@ -116,21 +120,21 @@ fn tell_map(config: &Config)
 }
 
 // Puts a table's path, its name and its entries behind the bytes.
-#[tactic(auto, unfolding(crate::specs::Durables::placed_form, crate::specs::Groups::named_form))]
-fn push_placed(out: &mut Vec<u8>, placed: &PlacedTable) -> Result<(), AllocError>
+#[tactic(auto, unfolding(pf_anchor::specs::Forms::placed_form, pf_anchor::specs::Forms::named_form))]
+fn push_placed(out: &mut Vec<u8>, version: u8, placed: &PlacedTable) -> Result<(), AllocError>
     ensures written { OnOk result (out.new.items ≡ onto placed_form (plain_tabled placed.now) out.old.items) }
     ensures fits { OnOk result (Fits placed_form (plain_tabled placed.now)) }
 {
     let (path, name) = placed.key();
-    push_fitting(out, 1, path)?;
-    push_fitting(out, 1, name)?;
-    push_table(out, placed.value())
+    push_fitting(out, version, path)?;
+    push_fitting(out, version, name)?;
+    push_table(out, version, placed.value())
 }
 
 /// Puts the tables, at most 1,024, behind the bytes, in the order of their paths and names; they fit. Fails only where memory is
 /// refused.
-#[tactic(auto, unfolding(crate::specs::Durables::kept_tables_form), using(crate::proofs::Durables::tables_fit))]
-pub(crate) fn push_tables(out: &mut Vec<u8>, config: &Config) -> Result<(), AllocError>
+#[tactic(auto, unfolding(pf_anchor::specs::Forms::kept_tables_form), using(crate::proofs::Durables::tables_fit))]
+pub(crate) fn push_tables(out: &mut Vec<u8>, version: u8, config: &Config) -> Result<(), AllocError>
     requires { length config.now.tables ≤ TABLE_COUNT_LIMIT }
     ensures written { OnOk result (out.new.items ≡ onto kept_tables_form (map plain_tabled config.now.tables) out.old.items) }
     ensures fits { OnOk result (Fits kept_tables_form (map plain_tabled config.now.tables)) }
@@ -138,7 +142,7 @@ pub(crate) fn push_tables(out: &mut Vec<u8>, config: &Config) -> Result<(), Allo
     tell_map(config);
     push_u32(out, count_of(config))?;
     for placed in config.each_table() {
-        push_placed(out, placed)?;
+        push_placed(out, version, placed)?;
     }
     Ok(())
 }

@@ -1,6 +1,7 @@
 //! That what is kept is told by its data. Each function does nothing; its clause is what the types keep.
 ghost use Rattle.std.specs.Prelude.{◌≡◌, map};
-ghost use Rattle.pf_store.specs.Durables.{plain_ruled, ruled_in, plain_durable, durable_in};
+ghost use Rattle.pf_anchor.specs.Forms.{plain_ruled, ruled_in};
+ghost use Rattle.pf_core.specs.Durable.Forms.{plain_durable, durable_in};
 
 use crate::groups::tell_rules;
 use pf_anchor::Config;

@@ -1,10 +1,10 @@
 //! Adding a record, behind a switch to the other bank where it has no room.
-ghost use Rattle.std.specs.Prelude.{◌≡◌, ◌↔◌, ◌+◌, ◌^◌, ◌<◌, ◌≤◌, List, ℕ, length, OnOk, IsErrOf, if◌then◌else◌};
+ghost use Rattle.std.specs.Prelude.{◌≡◌, ◌↔◌, ◌+◌, ◌^◌, ◌<◌, ◌≤◌, List, ℕ, length, OnOk, OnErr, IsErrOf, if◌then◌else◌};
 ghost use Rattle.pf_disk.specs.Disk.{EachMoment};
 ghost use Rattle.pf_snap.specs.{Banks.bank_size, Faults.is_switch_fault, Ready.IsReady};
 ghost use Rattle.pf_core.specs.Durable.Edits.{Kept};
 ghost use Rattle.pf_store.specs.declared.groups.change.Recorded.{Recorded};
-ghost use Rattle.pf_store.specs.{Groups.IsRecorded, Lengths.snapshot_length, StoreFaults.is_add_fault, StoreKept.HaveKept, Openings.IsNoLaterThan, Stores.{Follows, left_by, Holds, HoldsEither}};
+ghost use Rattle.pf_store.specs.{Groups.IsRecorded, Lengths.snapshot_length, StoreFaults.is_add_fault, StoreKept.HaveKept, Openings.{IsAsLongAs, IsNoLaterThan}, Stores.{Follows, left_by, Holds, HoldsEither}};
 
 use crate::groups::GroupFault;
 use crate::snapshots::write_durable;
@@ -13,7 +13,7 @@ use crate::store::lengths::has_room;
 use pf_core::Durable;
 use pf_disk::Disk;
 use pf_journal::Record;
-use pf_snap::{Banks, HEADER, SwitchFault};
+use pf_snap::{Banks, HEADER, NEWEST, SwitchFault};
 use std::alloc::Global;
 
 /// Bytes that a record takes beside its payload: its gate, the payload's length, and the gate behind it.
@@ -21,6 +21,8 @@ const AROUND: usize = 6;
 
 /// Adds a record of what follows what is kept, with this payload, in ten moments of the device at most. Where the bank that counts has no
 /// room for it, the other one is begun before with a snapshot of what is kept. All memory is taken before the device's first call.
+///
+/// The payload is in the version of the bank that counts, which is that of the other one too: there is one so far.
 ///
 /// The banks are ready and hold what is kept. `Full`: the record has no room, and wouldn't have it behind such a snapshot either.
 pub(crate) fn add<D: Disk>(
@@ -34,18 +36,25 @@ pub(crate) fn add<D: Disk>(
     requires early { banks.old.generation + 1 < 2 ^ 64 }
     requires few { D.fault_count banks.old.journal.disk < 2 ^ 63 }
     requires small { length payload.now + 6 < 2 ^ 64 }
-    ensures any_moment { (x : Recorded) → IsRecorded x payload.now → Follows durable.now x
+    ensures any_moment { (x : Recorded) → IsRecorded banks.old.version x payload.now → Follows durable.now x
         → EachMoment D.moment D.left_since banks.old.journal.disk banks.new.journal.disk (HoldsEither durable.now (left_by durable.now x)) }
     ensures generations { EachMoment D.moment D.left_since banks.old.journal.disk banks.new.journal.disk
         (IsNoLaterThan (banks.old.generation + 1)) }
-    ensures kept { OnOk result ((x : Recorded) → IsRecorded x payload.now → Follows durable.now x
+    ensures lengths { EachMoment D.moment D.left_since banks.old.journal.disk banks.new.journal.disk
+        (IsAsLongAs (D.seen banks.old.journal.disk)) }
+    ensures kept { OnOk result ((x : Recorded) → IsRecorded banks.old.version x payload.now → Follows durable.now x
         → HaveKept D.seen banks.new (left_by durable.now x)) }
     ensures ready { OnOk result (IsReady D.seen D.unsynced banks.new) }
     ensures full { IsErrOf result AddFault.Full ↔ ((banks.old.journal.end < banks.old.journal.gate + (length payload.now + 6))
         × (bank_size (length (D.seen banks.old.journal.disk)) < HEADER + snapshot_length durable.now + (length payload.now + 6))) }
     ensures unchanged_where_full { IsErrOf result AddFault.Full → banks.new ≡ banks.old }
     ensures unchanged_without_memory { IsErrOf result AddFault.Memory → banks.new ≡ banks.old }
-    ensures generation { OnOk result (banks.new.generation ≤ banks.old.generation + 1) }
+    ensures generation { banks.new.generation ≤ banks.old.generation + 1 }
+    ensures generation_stays { banks.old.generation ≤ banks.new.generation }
+    ensures here { OnOk result (banks.old.journal.gate + (length payload.now + 6) ≤ banks.old.journal.end
+        → banks.new.generation ≡ banks.old.generation) }
+    ensures there { OnOk result (banks.old.journal.end < banks.old.journal.gate + (length payload.now + 6)
+        → banks.new.generation ≡ banks.old.generation + 1) }
     ensures same_size { length (D.seen banks.new.journal.disk) ≡ length (D.seen banks.old.journal.disk) }
     ensures moments { D.moment banks.new.journal.disk ≤ D.moment banks.old.journal.disk + 10 }
     ensures faults { D.fault_count banks.new.journal.disk
@@ -80,17 +89,20 @@ fn switch<D: Disk>(
     ensures any_moment { EachMoment D.moment D.left_since banks.old.journal.disk banks.new.journal.disk (λ image. Holds image durable.now) }
     ensures generations { EachMoment D.moment D.left_since banks.old.journal.disk banks.new.journal.disk
         (IsNoLaterThan (banks.old.generation + 1)) }
+    ensures lengths { EachMoment D.moment D.left_since banks.old.journal.disk banks.new.journal.disk
+        (IsAsLongAs (D.seen banks.old.journal.disk)) }
     ensures kept { OnOk result (HaveKept D.seen banks.new durable.now) }
     ensures ready { OnOk result (IsReady D.seen D.unsynced banks.new) }
     ensures gate { OnOk result (banks.new.journal.gate ≡ banks.new.at + HEADER + snapshot_length durable.now) }
     ensures generation { OnOk result (banks.new.generation ≡ banks.old.generation + 1) }
+    ensures same_generation { OnErr result (banks.new.generation ≡ banks.old.generation) }
     ensures unchanged_without_memory { IsErrOf result SwitchFault.Memory → banks.new ≡ banks.old }
     ensures same_size { length (D.seen banks.new.journal.disk) ≡ length (D.seen banks.old.journal.disk) }
     ensures moments { D.moment banks.new.journal.disk ≤ D.moment banks.old.journal.disk + 6 }
     ensures faults { D.fault_count banks.new.journal.disk
         ≡ D.fault_count banks.old.journal.disk + (if is_switch_fault result then 1 else 0) }
 {
-    let snapshot = match write_durable(alloc, durable) {
+    let snapshot = match write_durable(alloc, NEWEST, durable) {
         Ok(snapshot) => snapshot,
         Err(GroupFault::Memory) => return Err(SwitchFault::Memory),
         Err(GroupFault::NoForm) => unreachable!(),

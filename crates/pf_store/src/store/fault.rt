@@ -2,10 +2,10 @@
 ghost use Rattle.std.specs.Prelude.{◌≡◌};
 ghost use Rattle.pf_store.specs.declared.store.fault.OpenFault.TheVariants as opening;
 ghost use Rattle.pf_store.specs.declared.store.fault.AddFault.TheVariants as adding;
-ghost use Rattle.pf_store.specs.StoreFaults.{switched_to};
+ghost use Rattle.pf_store.specs.StoreFaults.{switched_to, unlooked};
 
 use pf_disk::DiskFault;
-use pf_snap::SwitchFault;
+use pf_snap::{LookFault, SwitchFault};
 use std::alloc::AllocError;
 
 /// Why a change wasn't saved. Own.
@@ -21,7 +21,8 @@ pub enum SaveFault {
     Halted,
 }
 
-/// Why a device wasn't opened. After each of these but `Fault` it reads as before, and nothing was written. Own.
+/// Why a device wasn't opened, or no history was begun over one that was. Of a store's: after each of these but `Fault` the device reads as
+/// before, and nothing was written. Own.
 #[derive(Clone, Copy, Debug, PartialEq, Eq)]
 pub enum OpenFault {
     /// The device has an odd number of bytes, or fewer than 256 or more than 2^30. No call was made.
@@ -40,6 +41,8 @@ pub enum OpenFault {
     EpochsExhausted,
     /// The record of an opening has no room, and none in the other bank behind a snapshot of what is held.
     Full,
+    /// There is no place for a reader of what is published. A store never says so: it is for whoever shows what a store keeps.
+    Places,
 }
 
 impl From<AllocError> for OpenFault {
@@ -47,6 +50,20 @@ impl From<AllocError> for OpenFault {
 
     fn from(_: AllocError) -> Self {
         OpenFault::Memory
+    }
+}
+
+impl From<LookFault> for OpenFault {
+    ghost from_gives = { λ fault e. e ≡ unlooked fault };
+
+    fn from(fault: LookFault) -> Self {
+        match fault {
+            LookFault::BadSize => OpenFault::BadSize,
+            LookFault::NoBank => OpenFault::NoBank,
+            LookFault::Corrupt { at } => OpenFault::Corrupt { at },
+            LookFault::Memory => OpenFault::Memory,
+            LookFault::Fault => OpenFault::Fault,
+        }
     }
 }
 

@@ -3,14 +3,14 @@ ghost use Rattle.std.specs.Prelude.{◌≡◌, ◌≢◌, ◌+◌, ◌^◌, ◌<
 ghost use Rattle.pf_disk.specs.Disk.{AreIn, EachMoment, IsImage};
 ghost use Rattle.pf_core.specs.Laws.Durable.{IsWithin};
 ghost use Rattle.pf_store.specs.declared.store.fault.OpenFault.TheVariants as opening;
-ghost use Rattle.pf_store.specs.{Stores.Holds, StoreFaults.{is_open_fault, unlooked}, Openings.{IsUnopened, generation_of}};
+ghost use Rattle.pf_store.specs.{Stores.Holds, StoreFaults.{is_open_fault}, Openings.{IsUnopened, generation_of}};
 
 use crate::store::fault::OpenFault;
 use crate::store::keeping::Store;
 use crate::store::replaying::replay;
 use pf_core::Durable;
 use pf_disk::Disk;
-use pf_snap::{LookFault, look};
+use pf_snap::look;
 use std::alloc::Global;
 
 impl<D: Disk> Store<D> {
@@ -34,20 +34,7 @@ impl<D: Disk> Store<D> {
                 Ok(durable) => Ok(durable),
                 Err(fault) => Err(fault),
             },
-            Err(fault) => Err(unlooked(fault)),
+            Err(fault) => Err(fault.into()),
         }
-    }
-}
-
-/// Why a device isn't opened that can't be looked at.
-pub(crate) fn unlooked(fault: LookFault) -> OpenFault
-    ensures { result ≡ unlooked fault }
-{
-    match fault {
-        LookFault::BadSize => OpenFault::BadSize,
-        LookFault::NoBank => OpenFault::NoBank,
-        LookFault::Corrupt { at } => OpenFault::Corrupt { at },
-        LookFault::Memory => OpenFault::Memory,
-        LookFault::Fault => OpenFault::Fault,
     }
 }

@@ -6,12 +6,11 @@ ghost use Rattle.pf_core.specs.{Durable.Edits.{Kept, applied, fits}, Laws.Durabl
 ghost use Rattle.pf_store.specs.declared.store.fault.SaveFault.TheVariants as saving;
 ghost use Rattle.pf_store.specs.declared.store.fault.OpenFault.TheVariants as opening;
 ghost use Rattle.pf_store.specs.declared.groups.change.Recorded.TheVariants as recorded;
-ghost use Rattle.pf_store.specs.{Groups.IsRecorded, Stores.{Holds, HoldsEither, IsOfOpening, FindsRoom}, StoreKept.{Stands, HaveKept}, StoreFaults.{is_save_fault, TellsRoom, is_fault}, Openings.{IsUnopened, IsFull, IsNoLaterThan, generation_of}};
+ghost use Rattle.pf_store.specs.{Groups.IsRecorded, Lengths.payload_length, Stores.{Holds, HoldsEither, IsOfOpening, FindsRoom}, StoreKept.{Stands, HaveKept}, StoreFaults.{is_save_fault, TellsRoom, is_fault}, Openings.{IsUnopened, IsFull, IsNoLaterThan, LeavesRoom, generation_of}};
 
 use crate::groups::{GroupFault, write_group, write_opening};
 use crate::store::adding::add;
 use crate::store::fault::{AddFault, OpenFault, SaveFault};
-use crate::store::finding::unlooked;
 use crate::store::lengths::finds_room;
 use crate::store::replaying::replay;
 use pf_core::{Change, Durable};
@@ -73,6 +72,10 @@ impl<D: Disk> Store<D> {
         ensures generations { self.old.halted ≡ false
             → EachMoment D.moment D.left_since self.old.disk self.new.disk (IsNoLaterThan (self.old.generation + 1)) }
 
+        // Where what the device held leaves an opening room, so does what each of them holds.
+        ensures roomy { self.old.halted ≡ false → LeavesRoom (D.seen self.old.disk)
+            → EachMoment D.moment D.left_since self.old.disk self.new.disk LeavesRoom }
+
         // At `Ok` each image holds what is kept after it, and the store stands for it.
         ensures images { OnOk result ((c : List ℕ) → IsImage (D.seen self.new.disk) (D.unsynced self.new.disk) c → Holds c after.now) }
         ensures stands { OnOk result (Stands D.seen D.unsynced self.new after.now) }
@@ -84,7 +87,15 @@ impl<D: Disk> Store<D> {
 
         ensures room { TellsRoom result (FindsRoom self.old.size before.now after.now change.now) }
         ensures unchanged { OnErr result ((IsErrOf result saving.Fault → ⊥) → self.new ≡ self.old) }
-        ensures generation { OnOk result (self.new.generation ≤ self.old.generation + 1) }
+        ensures generation { self.new.generation ≤ self.old.generation + 1 }
+        ensures generation_stays { self.old.generation ≤ self.new.generation }
+
+        // It switches where its record has no room in the bank that counts, and there alone.
+        ensures here { OnOk result (payload_length (recorded.Made change.now) + 6 ≤ self.old.room
+            → self.new.generation ≡ self.old.generation) }
+        ensures there { OnOk result (self.old.room < payload_length (recorded.Made change.now) + 6
+            → self.new.generation ≡ self.old.generation + 1) }
+
         ensures size { self.new.size ≡ self.old.size }
         ensures same_size { length (D.seen self.new.disk) ≡ length (D.seen self.old.disk) }
         ensures moments { D.moment self.new.disk ≤ D.moment self.old.disk + 10 }
@@ -96,7 +107,7 @@ impl<D: Disk> Store<D> {
         if !self.has_room(before, change, after) {
             return Err(SaveFault::Full);
         }
-        let payload = match write_group(alloc, change) {
+        let payload = match write_group(alloc, self.banks.version, change) {
             Ok(payload) => payload,
             Err(GroupFault::Memory) => return Err(SaveFault::Memory),
             Err(GroupFault::NoForm) => unreachable!(),
@@ -154,7 +165,7 @@ impl<D: Disk> Store<D> {
                 Ok(durable) => raise_on(alloc, banks, &durable),
                 Err(fault) => Err((fault, banks.into_disk())),
             },
-            Err((fault, disk)) => Err((unlooked(fault), disk)),
+            Err((fault, disk)) => Err((fault.into(), disk)),
         }
     }
 
@@ -227,10 +238,11 @@ fn raise_on<D: Disk>(
 // What is kept in the next epoch, and the payload of that opening.
 fn raise(alloc: Global, durable: &Durable) -> Result<(Durable, Vec<u8>), OpenFault>
     ensures raised { IfOk result (λ r. r.0 ≡ raised durable.now) }
-    ensures payload { IfOk result (λ r. IsRecorded (recorded.Opens (durable.now.epoch + 1)) r.1.items) }
+    ensures payload { IfOk result (λ r. (version : ℕ) → IsRecorded version (recorded.Opens (durable.now.epoch + 1)) r.1.items) }
     ensures length { IfOk result (λ r. length r.1.items ≡ 6) }
     ensures next { IfOk result (λ r. durable.now.epoch < last_epoch) }
-    ensures refused { IfErr result (λ e. (e ≡ opening.Memory) ⊎ ((e ≡ opening.EpochsExhausted) × (durable.now.epoch ≡ last_epoch))) }
+    ensures refused { IfErr result (λ e. ((e ≡ opening.Memory) × (durable.now.epoch < last_epoch))
+        ⊎ ((e ≡ opening.EpochsExhausted) × (durable.now.epoch ≡ last_epoch))) }
 {
     let Some(epoch) = durable.epoch().checked_add(1) else {
         return Err(OpenFault::EpochsExhausted);

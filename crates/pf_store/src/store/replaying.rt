@@ -27,7 +27,7 @@ pub(crate) fn replay(alloc: Global, looked: &Looked) -> Result<Durable, OpenFaul
     ensures refused { IfErr result (λ e. BreaksOff e (MakesNone (looked.now.broken ≡ true) looked.now.at (content_of looked.now))) }
 {
     let (start, gate) = (looked.start, looked.gate);
-    match first_kept(alloc, looked.at, &looked.snapshot) {
+    match first_kept(alloc, looked.version, looked.at, &looked.snapshot) {
         Ok(first) => replay_from(alloc, first, looked, start, gate),
         Err(fault) => Err(fault),
     }
@@ -41,14 +41,14 @@ fn replay_from(
     start: usize,
     gate: usize,
 ) -> Result<Durable, OpenFault>
-    requires kept { IsDurable first looked.now.snapshot.items }
+    requires kept { IsDurable looked.now.version first looked.now.snapshot.items }
     requires start { start ≡ records_start looked.now.at looked.now.snapshot.items }
     requires gate { gate ≡ start + length (records (contents looked.now.payloads.items)) }
     ensures whole { IfOk result (λ d. looked.now.broken ≡ false) }
     ensures made { IfOk result (λ d. Makes (content_of looked.now) d) }
     ensures refused { IfErr result (λ e. BreaksOff e (MakesNone (looked.now.broken ≡ true) looked.now.at (content_of looked.now))) }
 {
-    match follow_all(alloc, first, start, &looked.payloads) {
+    match follow_all(alloc, looked.version, first, start, &looked.payloads) {
         Ok(durable) => {
             if looked.broken {
                 return Err(OpenFault::Corrupt { at: gate });
@@ -59,34 +59,40 @@ fn replay_from(
     }
 }
 
-// What the snapshot of the bank at this place is of.
-fn first_kept(alloc: Global, bank: usize, snapshot: &[u8]) -> Result<Durable, OpenFault>
+// What the snapshot of the bank of this version at this place is of.
+fn first_kept(
+    alloc: Global,
+    version: u8,
+    bank: usize,
+    snapshot: &[u8],
+) -> Result<Durable, OpenFault>
     requires { bank + HEADER < 2 ^ 64 }
-    ensures kept { IfOk result (λ d. IsDurable d snapshot.now) }
-    ensures refused { IfErr result (λ e. BreaksOff e (NoSnapshot bank snapshot.now)) }
+    ensures kept { IfOk result (λ d. IsDurable version d snapshot.now) }
+    ensures refused { IfErr result (λ e. BreaksOff e (NoSnapshot version bank snapshot.now)) }
 {
-    match read_durable(alloc, snapshot) {
+    match read_durable(alloc, version, snapshot) {
         Ok(durable) => Ok(durable),
         Err(GroupFault::Memory) => Err(OpenFault::Memory),
         Err(GroupFault::NoForm) => Err(OpenFault::Corrupt { at: bank + HEADER }),
     }
 }
 
-// What is kept after the changes of all payloads, whose first record has its gate at this place.
+// What is kept after the changes of all payloads of this version, whose first record has its gate at this place.
 fn follow_all(
     alloc: Global,
+    version: u8,
     first: Durable,
     start: usize,
     payloads: &[Vec<u8>],
 ) -> Result<Durable, OpenFault>
     requires small { start + length (records (contents payloads.now)) < 2 ^ 64 }
-    ensures led { IfOk result (λ d. Leads first (contents payloads.now) d) }
-    ensures refused { IfErr result (λ e. BreaksOff e (StopsAt first start (contents payloads.now))) }
+    ensures led { IfOk result (λ d. Leads version first (contents payloads.now) d) }
+    ensures refused { IfErr result (λ e. BreaksOff e (StopsAt version first start (contents payloads.now))) }
 {
     let mut durable = first;
     let mut gate = start;
     for payload in payloads {
-        durable = match follow(alloc, &durable, payload) {
+        durable = match follow(alloc, version, &durable, payload) {
             Ok(after) => after,
             Err(GroupFault::Memory) => return Err(OpenFault::Memory),
             Err(GroupFault::NoForm) => return Err(OpenFault::Corrupt { at: gate }),
@@ -96,12 +102,18 @@ fn follow_all(
     Ok(durable)
 }
 
-// What is kept after what has this payload. `NoForm`: nothing that has it follows what is kept.
-fn follow(alloc: Global, durable: &Durable, payload: &[u8]) -> Result<Durable, GroupFault>
-    ensures followed { IfOk result (λ d. (x : Recorded) × IsRecorded x payload.now × Follows durable.now x × (d ≡ left_by durable.now x)) }
-    ensures none { IfErr result (λ e. e ≡ group.NoForm → (x : Recorded) → IsRecorded x payload.now → ¬ Follows durable.now x) }
+// What is kept after what has this payload of this version. `NoForm`: nothing that has it follows what is kept.
+fn follow(
+    alloc: Global,
+    version: u8,
+    durable: &Durable,
+    payload: &[u8],
+) -> Result<Durable, GroupFault>
+    ensures followed { IfOk result (λ d. (x : Recorded) × IsRecorded version x payload.now × Follows durable.now x
+        × (d ≡ left_by durable.now x)) }
+    ensures none { IfErr result (λ e. e ≡ group.NoForm → (x : Recorded) → IsRecorded version x payload.now → ¬ Follows durable.now x) }
 {
-    match read_group(alloc, payload) {
+    match read_group(alloc, version, payload) {
         Ok(next) => left_by(alloc, durable, &next),
         Err(GroupFault::Memory) => Err(GroupFault::Memory),
         Err(GroupFault::NoForm) => Err(GroupFault::NoForm),

@@ -5,4 +5,4 @@ use Rattle.pf_state.proofs.Pushing.{Pushing}
 use Rattle.pf_state.proofs.layouts.lists.push_states.Given as goal
 
 abbrev pub invariant-loop-state : goal.invariant-loop-state
-invariant-loop-state l = Pushing state_form plain_state l.state-iterator l.table (l.fn.out.items ++ number_bytes 4 (length l.table)) l.out.items
+invariant-loop-state l = Pushing (state_form l.version) plain_state l.state-iterator l.table (l.fn.out.items ++ number_bytes 4 (length l.table)) l.out.items

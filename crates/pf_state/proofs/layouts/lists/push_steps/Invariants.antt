@@ -5,4 +5,4 @@ use Rattle.pf_state.proofs.Pushing.{Pushing}
 use Rattle.pf_state.proofs.layouts.lists.push_steps.Given as goal
 
 abbrev pub invariant-loop-step : goal.invariant-loop-step
-invariant-loop-step l = Pushing step_form plain_step (drop l.step-index l.steps) l.steps (l.fn.out.items ++ number_bytes 4 (length l.steps)) l.out.items
+invariant-loop-step l = Pushing (step_form l.version) plain_step (drop l.step-index l.steps) l.steps (l.fn.out.items ++ number_bytes 4 (length l.steps)) l.out.items

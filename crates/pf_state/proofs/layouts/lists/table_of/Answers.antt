@@ -1,22 +1,14 @@
-use Rattle.std.proofs.Common.{◌+◌, drop, sym, ◌∙◌}
-use Rattle.pf_state.proofs.{Indexed.clash_is, Rows.{next_row, made_one, made_clash, made_all}}
+use Rattle.std.proofs.Common.{◌≡◌, true, Option, List, map, sym, ◌∙◌, subst}
+use Rattle.pf_map.specs.Indexes.{IsIndexOf, no_flow_twice}
+use Rattle.pf_state.specs.{FlowKeys.{key_of, key_order}, States.Stated}
+use Rattle.pf_state.proofs.Rows.{is_table}
 use Rattle.pf_state.proofs.layouts.lists.table_of.Goals as goal
 
-pub returns-then-is_clash : goal.returns-then-is_clash
-returns-then-is_clash c =
-    let row = c.row-item.result in
-    made_clash c.args.rows.now (drop (c.loop-row.row-index + 1) c.args.rows.now) c.loop-row.states row
-    (next_row c.args.rows.now c.loop-row.row-index row c.loop-row.states c.loop-row-test.true c.row-item.is c.loop-row.invariant)
-    (sym (clash_is c.loop-row.states row.state c.loop-row.invariant.names) ∙ sym c.is_clash.ensures ∙ c.if-is_clash.true)
-
-pub loop-row-preserved : goal.loop-row-preserved
-loop-row-preserved c =
-    let row = c.row-item.result in
-    made_one c.args.rows.now (drop (c.loop-row.row-index + 1) c.args.rows.now) c.loop-row.states c.in_ok-states.states row
-    (sym c.are_in_order.ensures ∙ c.if-not-are_in_order.false)
-    (next_row c.args.rows.now c.loop-row.row-index row c.loop-row.states c.loop-row-test.true c.row-item.is c.loop-row.invariant)
-    (sym (clash_is c.loop-row.states row.state c.loop-row.invariant.names) ∙ sym c.is_clash.ensures ∙ c.if-is_clash.false)
-    c.in_ok-states.ensures
-
-pub returns : goal.returns
-returns c = rw c.of.ensures (made_all c.args.rows.now c.loop-row.row-index c.loop-row.states (sym c.are_in_order.ensures ∙ c.if-not-are_in_order.false) c.if-rows-gt-STATE_LIMIT.false c.loop-row-test.false c.loop-row.invariant).0
+pub returns-in-Some : goal.returns-in-Some
+returns-in-Some c =
+    let es = c.in-Some.states in
+    let rows = c.args.rows.now in
+    let made = subst (λ (o : Option (List Stated)). IsIndexOf key_order (λ held. key_of held.flow) c.deref.result.now o) c.in-Some.is c.in_ok-states-2.ensures in
+    let are : (es ≡ map (λ row. row.state) rows) × (no_flow_twice key_order (λ held. key_of held.flow) (map (λ row. row.state) rows) ≡ true) =
+    subst (λ (l : List Stated). (es ≡ l) × (no_flow_twice key_order (λ held. key_of held.flow) l ≡ true)) (c.deref.ensures.value ∙ c.in_ok-states.ensures) made in
+    rw c.of-in-Some.ensures (is_table rows es (sym c.are_in_order.ensures ∙ c.if-not-are_in_order.false) c.if-rows-gt-STATE_LIMIT.false are.0 are.1)

@@ -4,6 +4,15 @@ use Rattle.pf_store.specs.declared.groups.change.Recorded.TheVariants.{Opens}
 use Rattle.pf_store.proofs.{Payloads.payload_long, Told.opening_pushed}
 use Rattle.pf_store.proofs.groups.change.write_opening.Goals as goal
 
+pub returns-clause-written : goal.returns-clause-written
+returns-clause-written c version =
+    let out = c.push_u32.new.out.items in
+    let begun : c.push_bytes.new.out.items ≡ 1 ∷ 7 ∷ [] =
+    c.in_ok-push_bytes.ensures.constant ∙ ap (λ (l : List ℕ). l ++ 1 ∷ 7 ∷ []) c.new-out.ensures.items in
+    let is : out ≡ 1 ∷ 7 ∷ [] ++ number_bytes 4 c.args.epoch =
+    c.in_ok-push_u32.ensures ∙ ap (λ (l : List ℕ). l ++ number_bytes 4 c.args.epoch) begun in
+    opening_pushed version c.args.epoch out (omega arith) is
+
 pub returns-clause-length : goal.returns-clause-length
 returns-clause-length c =
     let out = c.push_u32.new.out.items in
@@ -11,4 +20,4 @@ returns-clause-length c =
     c.in_ok-push_bytes.ensures.constant ∙ ap (λ (l : List ℕ). l ++ 1 ∷ 7 ∷ []) c.new-out.ensures.items in
     let is : out ≡ 1 ∷ 7 ∷ [] ++ number_bytes 4 c.args.epoch =
     c.in_ok-push_u32.ensures ∙ ap (λ (l : List ℕ). l ++ number_bytes 4 c.args.epoch) begun in
-    payload_long (Opens c.args.epoch) out (opening_pushed c.args.epoch out (omega arith) is)
+    payload_long 1 (Opens c.args.epoch) out (opening_pushed 1 c.args.epoch out (omega arith) is)

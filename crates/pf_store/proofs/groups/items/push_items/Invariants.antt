@@ -6,4 +6,4 @@ use Rattle.pf_store.proofs.groups.items.push_items.Given as goal
 
 abbrev pub invariant-loop-item : goal.invariant-loop-item
 invariant-loop-item l =
-    Pushing item_form plain_item (drop l.item-index l.items) l.items (l.fn.out.items ++ number_bytes 1 (length l.items)) l.out.items
+    Pushing (item_form l.version) plain_item (drop l.item-index l.items) l.items (l.fn.out.items ++ number_bytes 1 (length l.items)) l.out.items

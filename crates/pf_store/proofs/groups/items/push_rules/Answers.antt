@@ -1,6 +1,6 @@
 use Rattle.std.proofs.Common.{sym}
 use Rattle.std.proofs.lemmas.Result.{on_ok_weaker}
-use Rattle.pf_store.specs.Groups.{rules_form}
+use Rattle.pf_anchor.specs.Forms.{rules_form}
 use Rattle.pf_store.proofs.groups.items.push_rules.Goals as goal
 
 pub returns-clause-fits : goal.returns-clause-fits

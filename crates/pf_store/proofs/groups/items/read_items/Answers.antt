@@ -5,10 +5,10 @@ use Rattle.pf_store.proofs.groups.items.read_items.Goals as goal
 
 pub returns-then-not-is_commit : goal.returns-then-not-is_commit
 returns-then-not-is_commit c =
-    items_refused c.in_ok-rows.rows.items c.in_ok-items.items.items c.args.from.now.now c.read_rows.new.from.now c.in_ok-items.ensures
+    items_refused c.args.version c.in_ok-rows.rows.items c.in_ok-items.items.items c.args.from.now.now c.read_rows.new.from.now c.in_ok-items.ensures
     (sym (ap is_commit c.deref.ensures.value) ∙ sym c.is_commit.ensures ∙ c.if-not-is_commit.true) c.in_ok-rows.ensures
 
 pub returns : goal.returns
 returns c =
-    items_read c.in_ok-rows.rows.items c.in_ok-items.items.items c.args.from.now.now c.read_rows.new.from.now c.in_ok-items.ensures
+    items_read c.args.version c.in_ok-rows.rows.items c.in_ok-items.items.items c.args.from.now.now c.read_rows.new.from.now c.in_ok-items.ensures
     (sym (ap is_commit c.deref.ensures.value) ∙ sym c.is_commit.ensures ∙ c.if-not-is_commit.false) c.in_ok-rows.ensures

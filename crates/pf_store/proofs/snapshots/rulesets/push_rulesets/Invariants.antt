@@ -1,10 +1,10 @@
 use Rattle.std.proofs.Common.{◌++◌, length}
 use Rattle.pf_addr.specs.Bytes.Parts.{number_bytes}
-use Rattle.pf_store.specs.{Groups.rules_form, Durables.plain_ruled}
+use Rattle.pf_anchor.specs.Forms.{rules_form, plain_ruled}
 use Rattle.pf_state.proofs.Pushing.{Pushing}
 use Rattle.pf_store.proofs.snapshots.rulesets.push_rulesets.Given as goal
 
 abbrev pub invariant-loop-placed : goal.invariant-loop-placed
 invariant-loop-placed l =
-    Pushing rules_form plain_ruled l.placed-iterator l.config.rulesets
+    Pushing (rules_form l.version) plain_ruled l.placed-iterator l.config.rulesets
     (l.fn.out.items ++ number_bytes 4 (length l.config.rulesets)) l.out.items

@@ -1,7 +1,7 @@
 use Rattle.std.proofs.Common.{◌≡◌, ◌&&◌, nat_le, true, length}
 use Rattle.std.specs.List.{list_all}
 use Rattle.pf_anchor.specs.declared.limits.TheConstants.{RULESET_LIMIT}
-use Rattle.pf_store.specs.Durables.{has_some}
+use Rattle.pf_anchor.specs.Forms.{has_some}
 use Rattle.pf_store.proofs.Durables.{rulesets_read}
 use Rattle.pf_store.proofs.snapshots.rulesets.read_rulesets.Goals as goal
 
@@ -11,4 +11,4 @@ returns-clause-read c =
     let filled : (nat_le (length rows) RULESET_LIMIT && list_all (λ r. has_some r.placed.1) rows) ≡ true =
     cc (c.are_rulesets.ensures, c.if-not-are_rulesets.false, c.deref.ensures.value)
     in
-    rw c.in_ok-placed_in.ensures (rulesets_read rows c.args.from.now.now c.read_ordered_list.new.from.now c.in_ok-rows.ensures.read filled)
+    rw c.in_ok-placed_in.ensures (rulesets_read c.args.version rows c.args.from.now.now c.read_ordered_list.new.from.now c.in_ok-rows.ensures.read filled)

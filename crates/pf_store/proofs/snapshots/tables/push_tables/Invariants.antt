@@ -1,6 +1,6 @@
 use Rattle.std.proofs.Common.{◌++◌, length}
 use Rattle.pf_addr.specs.Bytes.Parts.{number_bytes}
-use Rattle.pf_store.specs.Durables.{placed_form, plain_tabled}
+use Rattle.pf_anchor.specs.Forms.{placed_form, plain_tabled}
 use Rattle.pf_state.proofs.Pushing.{Pushing}
 use Rattle.pf_store.proofs.snapshots.tables.push_tables.Given as goal
 

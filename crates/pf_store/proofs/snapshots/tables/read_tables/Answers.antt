@@ -1,7 +1,7 @@
 use Rattle.std.proofs.Common.{◌≡◌, ◌&&◌, nat_le, true, length}
 use Rattle.std.specs.List.{list_all}
 use Rattle.pf_anchor.specs.declared.limits.TheConstants.{TABLE_COUNT_LIMIT}
-use Rattle.pf_store.specs.Durables.{has_some}
+use Rattle.pf_anchor.specs.Forms.{has_some}
 use Rattle.pf_store.proofs.Durables.{tables_read}
 use Rattle.pf_store.proofs.snapshots.tables.read_tables.Goals as goal
 

@@ -1,5 +1,5 @@
 use Rattle.std.proofs.Common.{◌≡◌, map}
-use Rattle.pf_store.specs.Durables.{plain_ruled, ruled_in}
+use Rattle.pf_anchor.specs.Forms.{plain_ruled, ruled_in}
 use Rattle.pf_store.proofs.snapshots.telling.tell_rulesets.Given as goal
 
 -- where the rest is told all is

@@ -1,7 +1,9 @@
 use Rattle.std.proofs.Common.{◌+◌, ◌≤◌, arith}
+use Rattle.std.specs.Prelude.{length}
+use Rattle.pf_disk.specs.Disk.{is_within}
 use Rattle.pf_snap.specs.Banks.{with_payload}
 use Rattle.pf_store.specs.Stores.{left_by}
-use Rattle.pf_store.proofs.Saving.{before, both_generations, have_held, have_more, moved, run_generations, turned_and_moved, unmoved, unmoved_generations}
+use Rattle.pf_store.proofs.Saving.{before, both_generations, both_lengths, have_held, have_more, moved, recorded_here, recorded_there, run_generations, run_lengths, turned_and_moved, unmoved, unmoved_generations, unmoved_lengths}
 use Rattle.pf_store.proofs.store.adding.add.Goals as goal
 
 pub returns-then-not-has_room-clause-any_moment : goal.returns-then-not-has_room-clause-any_moment
@@ -25,7 +27,7 @@ returns-in_err-append_record-clause-any_moment g c x is follows =
     let d = g.D.Disk in
     let k = c.requires.kept in
     let p = c.args.payload.now in
-    moved d.seen d.unsynced d.moment d.left_since c.args.banks.now.journal.disk c.append_record.new.self.journal.disk k.content c.args.durable.now p x k.makes is follows
+    moved d.seen d.unsynced d.moment d.left_since c.args.banks.now.journal.disk c.append_record.new.self.journal.disk k.content c.args.durable.now p x k.makes (recorded_here d.seen d.unsynced c.args.banks.now c.args.durable.now k x p is) follows
     (c.append_record.ensures.any_moment k.content p k.keeps c.in_ok-record.ensures)
 
 pub returns-then-fits_here-clause-any_moment : goal.returns-then-fits_here-clause-any_moment
@@ -33,7 +35,7 @@ returns-then-fits_here-clause-any_moment g c x is follows =
     let d = g.D.Disk in
     let k = c.requires.kept in
     let p = c.args.payload.now in
-    moved d.seen d.unsynced d.moment d.left_since c.args.banks.now.journal.disk c.append_record.new.self.journal.disk k.content c.args.durable.now p x k.makes is follows
+    moved d.seen d.unsynced d.moment d.left_since c.args.banks.now.journal.disk c.append_record.new.self.journal.disk k.content c.args.durable.now p x k.makes (recorded_here d.seen d.unsynced c.args.banks.now c.args.durable.now k x p is) follows
     (c.append_record.ensures.any_moment k.content p k.keeps c.in_ok-record.ensures)
 
 pub returns-then-fits_here-clause-kept : goal.returns-then-fits_here-clause-kept
@@ -41,7 +43,7 @@ returns-then-fits_here-clause-kept g c x is follows =
     let d = g.D.Disk in
     let k = c.requires.kept in
     let p = c.args.payload.now in
-    have_more d.seen d.unsynced c.args.banks.now c.append_record.new.self c.args.durable.now p x k is follows
+    have_more d.seen d.unsynced c.args.banks.now c.append_record.new.self c.args.durable.now p x k (recorded_here d.seen d.unsynced c.args.banks.now c.args.durable.now k x p is) follows
     (c.in_ok-append_record.ensures.kept k.content p k.keeps c.in_ok-record.ensures)
 
 pub returns-in_err-append_record-2-clause-any_moment : goal.returns-in_err-append_record-2-clause-any_moment
@@ -53,7 +55,7 @@ returns-in_err-append_record-2-clause-any_moment g c x is follows =
     let mid = c.switch.new.banks.journal.disk in
     let new = c.append_record-2.new.self.journal.disk in
     turned_and_moved d.seen d.unsynced d.moment d.left_since c.args.banks.now.journal.disk mid new e (left_by e x) c.switch.ensures.any_moment
-    (moved d.seen d.unsynced d.moment d.left_since mid new k.content e p x k.makes is follows (c.append_record-2.ensures.any_moment k.content p k.keeps c.in_ok-record.ensures))
+    (moved d.seen d.unsynced d.moment d.left_since mid new k.content e p x k.makes (recorded_there d.seen d.unsynced c.args.banks.now c.switch.new.banks c.args.durable.now c.requires.kept k x p is) follows (c.append_record-2.ensures.any_moment k.content p k.keeps c.in_ok-record.ensures))
 
 pub returns-clause-any_moment : goal.returns-clause-any_moment
 returns-clause-any_moment g c x is follows =
@@ -64,14 +66,14 @@ returns-clause-any_moment g c x is follows =
     let mid = c.switch.new.banks.journal.disk in
     let new = c.append_record-2.new.self.journal.disk in
     turned_and_moved d.seen d.unsynced d.moment d.left_since c.args.banks.now.journal.disk mid new e (left_by e x) c.switch.ensures.any_moment
-    (moved d.seen d.unsynced d.moment d.left_since mid new k.content e p x k.makes is follows (c.append_record-2.ensures.any_moment k.content p k.keeps c.in_ok-record.ensures))
+    (moved d.seen d.unsynced d.moment d.left_since mid new k.content e p x k.makes (recorded_there d.seen d.unsynced c.args.banks.now c.switch.new.banks c.args.durable.now c.requires.kept k x p is) follows (c.append_record-2.ensures.any_moment k.content p k.keeps c.in_ok-record.ensures))
 
 pub returns-clause-kept : goal.returns-clause-kept
 returns-clause-kept g c x is follows =
     let d = g.D.Disk in
     let k = c.in_ok-switch.ensures.kept in
     let p = c.args.payload.now in
-    have_more d.seen d.unsynced c.switch.new.banks c.append_record-2.new.self c.args.durable.now p x k is follows
+    have_more d.seen d.unsynced c.switch.new.banks c.append_record-2.new.self c.args.durable.now p x k (recorded_there d.seen d.unsynced c.args.banks.now c.switch.new.banks c.args.durable.now c.requires.kept k x p is) follows
     (c.in_ok-append_record-2.ensures.kept k.content p k.keeps c.in_ok-record.ensures)
 
 pub returns-then-not-has_room-clause-generations : goal.returns-then-not-has_room-clause-generations
@@ -139,3 +141,43 @@ returns-in_err-switch-clause-any_moment g c x is follows =
     let d = g.D.Disk in
     let k = c.args.durable.now in
     before d.seen d.unsynced d.moment d.left_since c.args.banks.now.journal.disk c.switch.new.banks.journal.disk k (left_by k x) c.switch.ensures.any_moment
+
+pub returns-then-not-has_room-clause-lengths : goal.returns-then-not-has_room-clause-lengths
+returns-then-not-has_room-clause-lengths g c =
+    let d = g.D.Disk in
+    let disk = c.args.banks.now.journal.disk in
+    unmoved_lengths d.seen d.unsynced d.moment d.left_since disk (g.met.D.Disk.only_now disk)
+
+pub returns-in_err-record-clause-lengths : goal.returns-in_err-record-clause-lengths
+returns-in_err-record-clause-lengths g c =
+    let d = g.D.Disk in
+    let disk = c.args.banks.now.journal.disk in
+    unmoved_lengths d.seen d.unsynced d.moment d.left_since disk (g.met.D.Disk.only_now disk)
+
+pub returns-in_err-append_record-clause-lengths : goal.returns-in_err-append_record-clause-lengths
+returns-in_err-append_record-clause-lengths g c =
+    let d = g.D.Disk in
+    let j = c.args.banks.now.journal in
+    run_lengths d.seen d.unsynced d.moment d.left_since j.disk c.append_record.new.self.journal.disk (is_within j.gate (1 + length c.in_ok-record.record.behind.items)) c.append_record.ensures.elsewhere
+
+pub returns-then-fits_here-clause-lengths : goal.returns-then-fits_here-clause-lengths
+returns-then-fits_here-clause-lengths g c =
+    let d = g.D.Disk in
+    let j = c.args.banks.now.journal in
+    run_lengths d.seen d.unsynced d.moment d.left_since j.disk c.append_record.new.self.journal.disk (is_within j.gate (1 + length c.in_ok-record.record.behind.items)) c.append_record.ensures.elsewhere
+
+pub returns-in_err-append_record-2-clause-lengths : goal.returns-in_err-append_record-2-clause-lengths
+returns-in_err-append_record-2-clause-lengths g c =
+    let d = g.D.Disk in
+    let mid = c.switch.new.banks.journal in
+    let new = c.append_record-2.new.self.journal.disk in
+    both_lengths d.seen d.unsynced d.moment d.left_since c.args.banks.now.journal.disk mid.disk new c.switch.ensures.same_size c.switch.ensures.lengths
+    (run_lengths d.seen d.unsynced d.moment d.left_since mid.disk new (is_within mid.gate (1 + length c.in_ok-record.record.behind.items)) c.append_record-2.ensures.elsewhere)
+
+pub returns-clause-lengths : goal.returns-clause-lengths
+returns-clause-lengths g c =
+    let d = g.D.Disk in
+    let mid = c.switch.new.banks.journal in
+    let new = c.append_record-2.new.self.journal.disk in
+    both_lengths d.seen d.unsynced d.moment d.left_since c.args.banks.now.journal.disk mid.disk new c.switch.ensures.same_size c.switch.ensures.lengths
+    (run_lengths d.seen d.unsynced d.moment d.left_since mid.disk new (is_within mid.gate (1 + length c.in_ok-record.record.behind.items)) c.append_record-2.ensures.elsewhere)

@@ -1,8 +1,9 @@
 use Rattle.std.proofs.Common.{◌+◌, ◌∙◌, arith, subst, sym, true≢false}
-use Rattle.std.specs.Prelude.{Result, Ok, Err, OnOk}
-use Rattle.pf_snap.specs.{Banks.switched, declared.header.TheConstants.NEWEST}
+use Rattle.std.specs.Prelude.{Result, Ok, Err, OnOk, length}
+use Rattle.pf_disk.specs.Disk.{is_within}
+use Rattle.pf_snap.specs.{Banks.switched, declared.header.TheConstants.{HEADER, NEWEST}}
 use Rattle.pf_store.specs.Durables.{IsDurable}
-use Rattle.pf_store.proofs.{Durables.within_formed, Limiting.made_within, Saving.{have_held, have_switched, run_generations, turned, unmoved, unmoved_generations}}
+use Rattle.pf_store.proofs.{Durables.within_formed, Limiting.made_within, Saving.{have_held, have_switched, run_generations, run_lengths, turned, unmoved, unmoved_generations, unmoved_lengths}}
 use Rattle.pf_store.proofs.store.adding.switch.Goals as goal
 
 mapped : {A E P Q : Type 0} (r : Result A E) → (P → Q) → OnOk r P → OnOk r Q
@@ -26,7 +27,7 @@ pub returns-clause-any_moment : goal.returns-clause-any_moment
 returns-clause-any_moment g c =
     let d = g.D.Disk in
     let k = c.requires.kept in
-    let is = subst (IsDurable c.args.durable.now) (sym c.deref.ensures.value) c.in-Ok.ensures.written in
+    let is = subst (IsDurable NEWEST c.args.durable.now) (sym c.deref.ensures.value) c.in-Ok.ensures.written in
     turned d.seen d.unsynced d.moment d.left_since c.args.banks.now.journal.disk c.switch.new.self.journal.disk k.content c.args.durable.now c.deref.result.now k.makes is
     (c.switch.ensures.any_moment k.content k.keeps)
 
@@ -34,7 +35,7 @@ pub returns-clause-kept : goal.returns-clause-kept
 returns-clause-kept g c =
     let d = g.D.Disk in
     let k = c.requires.kept in
-    let is = subst (IsDurable c.args.durable.now) (sym c.deref.ensures.value) c.in-Ok.ensures.written in
+    let is = subst (IsDurable NEWEST c.args.durable.now) (sym c.deref.ensures.value) c.in-Ok.ensures.written in
     mapped c.switch.result (λ keeps. have_switched d.seen d.unsynced c.args.banks.now c.switch.new.self c.args.durable.now c.deref.result.now k is (keeps k.content k.keeps))
     c.switch.ensures.kept
 
@@ -53,3 +54,15 @@ returns-clause-generations g c =
     let k = c.requires.kept in
     run_generations d.seen d.unsynced d.moment d.left_since b.journal.disk c.switch.new.self.journal.disk (b.generation + 1) k.content (switched k.content NEWEST c.deref.result.now)
     (omega (arith, k.keeps.generation)) (omega (arith, k.keeps.generation)) (c.switch.ensures.any_moment k.content k.keeps)
+
+pub returns-in-Err-Memory-clause-lengths : goal.returns-in-Err-Memory-clause-lengths
+returns-in-Err-Memory-clause-lengths g c =
+    let d = g.D.Disk in
+    let disk = c.args.banks.now.journal.disk in
+    unmoved_lengths d.seen d.unsynced d.moment d.left_since disk (g.met.D.Disk.only_now disk)
+
+pub returns-clause-lengths : goal.returns-clause-lengths
+returns-clause-lengths g c =
+    let d = g.D.Disk in
+    let b = c.args.banks.now in
+    run_lengths d.seen d.unsynced d.moment d.left_since b.journal.disk c.switch.new.self.journal.disk (is_within b.other (HEADER + length c.deref.result.now + 1)) c.switch.ensures.elsewhere

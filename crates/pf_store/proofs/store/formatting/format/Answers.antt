@@ -16,7 +16,7 @@ holding : (image : List ℕ) (other : ℕ) → HoldsAt 0 other image (begun NEWE
 holding image other bank = record {
   content = begun NEWEST 1 (replicate 16 0);
   bank = record { at = 0; other = other; holds = bank };
-  makes = record { first = kept_nothing 0; kept = zeros_are; leads = refl };
+  makes = record { first = kept_nothing 0; kept = zeros_are NEWEST; leads = refl };
 }
 
 pub returns-clause-holds : goal.returns-clause-holds

@@ -5,7 +5,8 @@ use Rattle.pf_snap.specs.Banks as snap
 use Rattle.pf_core.specs.{Durable.Edits.Kept, Worlds.raised}
 use Rattle.pf_store.specs.{Groups.IsRecorded, Openings.IsUnopened, Stores.{Holds, HoldsEither}}
 use Rattle.pf_store.specs.declared.groups.change.Recorded.TheVariants.{Opens as opens}
-use Rattle.pf_store.proofs.Saving.{before, have_held, is_full, no_later, tells_full, unmoved}
+use Rattle.pf_store.proofs.Refusing.{held_in_want}
+use Rattle.pf_store.proofs.Saving.{before, have_held, is_full, no_later, stores, tells_full, unmoved}
 use Rattle.pf_store.proofs.store.keeping.raise_on.Goals as goal
 
 pub returns-in-Err-clause-any_moment_err : goal.returns-in-Err-clause-any_moment_err
@@ -16,6 +17,14 @@ returns-in-Err-clause-any_moment_err g c =
     let run = unmoved d.seen d.unsynced d.moment d.left_since b.journal.disk k c.requires.ready.journal.synced (have_held d.seen d.unsynced d.fault_count b k c.requires.kept) (g.met.D.Disk.only_now b.journal.disk) in
     subst (λ e. EachMoment d.moment d.left_since b.journal.disk e (HoldsEither k (raised k))) (sym c.into_disk.ensures)
     (before d.seen d.unsynced d.moment d.left_since b.journal.disk b.journal.disk k (raised k) run)
+
+pub invariant_of-result : goal.invariant_of-result
+invariant_of-result g c going =
+    let d = g.D.Disk in
+    let k = c.args.durable.now in
+    let is = subst (IsRecorded c.args.banks.version (opens (k.epoch + 1))) (sym c.deref.ensures.value) (c.in-Ok.ensures.payload c.args.banks.version) in
+    stores d.seen d.unsynced d.fault_count c.add.new.banks (raised k) c.in-Ok-add.ensures.ready (c.in-Ok-add.ensures.kept (opens (k.epoch + 1)) is refl)
+    (omega (arith, c.requires.few, c.in-Ok-add.ensures.faults))
 
 pub returns-in-Ok-add-clause-room : goal.returns-in-Ok-add-clause-room
 returns-in-Ok-add-clause-room g c e full =
@@ -28,7 +37,7 @@ returns-in-Ok-add-clause-stands g c =
     let d = g.D.Disk in
     let k = c.args.durable.now in
     let disk = c.add.new.banks.journal.disk in
-    let is = subst (IsRecorded (opens (k.epoch + 1))) (sym c.deref.ensures.value) c.in-Ok.ensures.payload in
+    let is = subst (IsRecorded c.args.banks.version (opens (k.epoch + 1))) (sym c.deref.ensures.value) (c.in-Ok.ensures.payload c.args.banks.version) in
     let holds = have_held d.seen d.unsynced d.fault_count c.add.new.banks (raised k) (c.in-Ok-add.ensures.kept (opens (k.epoch + 1)) is refl) in
     record { holds = subst (λ (x : Kept). Holds (d.seen disk) x) (sym c.in-Ok.ensures.raised) holds; synced = c.in-Ok-add.ensures.ready.journal.synced }
 
@@ -48,7 +57,7 @@ returns-in-Err-clause-refused g c =
     let k = c.requires.kept in
     let mine = have_held d.seen d.unsynced d.fault_count c.args.banks c.args.durable.now k in
     ⊎_elim
-    (λ is. subst (λ e. IsUnopened e seen) (sym is) tt)
+    (λ is. subst (λ e. IsUnopened e seen) (sym is.0) (held_in_want seen c.args.durable.now mine))
     (λ last. subst (λ e. IsUnopened e seen) (sym last.0) (c.args.durable.now, mine, omega (arith, c.requires.early, k.keeps.generation), last.1))
     c.in-Err.ensures.refused
 
@@ -57,8 +66,46 @@ returns-in-Ok-add-clause-generations g c image is_image =
     let d = g.D.Disk in
     let k = c.args.durable.now in
     let new = c.add.new.banks in
-    let is = subst (IsRecorded (opens (k.epoch + 1))) (sym c.deref.ensures.value) c.in-Ok.ensures.payload in
+    let is = subst (IsRecorded c.args.banks.version (opens (k.epoch + 1))) (sym c.deref.ensures.value) (c.in-Ok.ensures.payload c.args.banks.version) in
     let kept = c.in-Ok-add.ensures.kept (opens (k.epoch + 1)) is refl in
     let same = only_read (d.seen new.journal.disk) (d.unsynced new.journal.disk) image c.in-Ok-add.ensures.ready.journal.synced is_image in
     no_later new.generation kept.content (omega (arith, kept.keeps.generation)) image
     (subst (λ (l : List ℕ). snap.Holds l kept.content) (sym same) (record { at = new.at; other = new.other; holds = kept.keeps.holds }))
+
+pub returns-in-Err-Memory-clause-refused : goal.returns-in-Err-Memory-clause-refused
+returns-in-Err-Memory-clause-refused g c =
+    let d = g.D.Disk in
+    held_in_want (d.seen c.args.banks.journal.disk) c.args.durable.now (have_held d.seen d.unsynced d.fault_count c.args.banks c.args.durable.now c.requires.kept)
+
+pub returns-in-Ok-add-clause-any_moment : goal.returns-in-Ok-add-clause-any_moment
+returns-in-Ok-add-clause-any_moment g c =
+    let k = c.args.durable.now in
+    let is = subst (IsRecorded c.args.banks.version (opens (k.epoch + 1))) (sym c.deref.ensures.value) (c.in-Ok.ensures.payload c.args.banks.version) in
+    c.add.ensures.any_moment (opens (k.epoch + 1)) is refl
+
+pub returns-in-Err-Memory-clause-any_moment_err : goal.returns-in-Err-Memory-clause-any_moment_err
+returns-in-Err-Memory-clause-any_moment_err g c =
+    let d = g.D.Disk in
+    let b = c.args.banks in
+    let k = c.args.durable.now in
+    let is = subst (IsRecorded b.version (opens (k.epoch + 1))) (sym c.deref.ensures.value) (c.in-Ok.ensures.payload b.version) in
+    subst (λ e. EachMoment d.moment d.left_since b.journal.disk e (HoldsEither k (raised k))) (sym c.into_disk-in-Err-Memory.ensures)
+    (c.add.ensures.any_moment (opens (k.epoch + 1)) is refl)
+
+pub returns-in-Err-Full-clause-any_moment_err : goal.returns-in-Err-Full-clause-any_moment_err
+returns-in-Err-Full-clause-any_moment_err g c =
+    let d = g.D.Disk in
+    let b = c.args.banks in
+    let k = c.args.durable.now in
+    let is = subst (IsRecorded b.version (opens (k.epoch + 1))) (sym c.deref.ensures.value) (c.in-Ok.ensures.payload b.version) in
+    subst (λ e. EachMoment d.moment d.left_since b.journal.disk e (HoldsEither k (raised k))) (sym c.into_disk-in-Err-Full.ensures)
+    (c.add.ensures.any_moment (opens (k.epoch + 1)) is refl)
+
+pub returns-clause-any_moment_err : goal.returns-clause-any_moment_err
+returns-clause-any_moment_err g c =
+    let d = g.D.Disk in
+    let b = c.args.banks in
+    let k = c.args.durable.now in
+    let is = subst (IsRecorded b.version (opens (k.epoch + 1))) (sym c.deref.ensures.value) (c.in-Ok.ensures.payload b.version) in
+    subst (λ e. EachMoment d.moment d.left_since b.journal.disk e (HoldsEither k (raised k))) (sym c.into_disk-in-Err-Fault.ensures)
+    (c.add.ensures.any_moment (opens (k.epoch + 1)) is refl)

@@ -16,7 +16,7 @@ returns-in-Err-NoForm-clause-refused c =
       split = contents-split c.args.payloads.now i p c.loop-payload-test.true c.payload-item.is;
       d = c.loop-payload.durable;
       leads = inv.0;
-      none = λ x here follows. c.in-Err-NoForm.ensures.none c.in-Err-NoForm.field-0-is x (subst (IsRecorded x) (sym c.deref.ensures.value) here) follows;
+      none = λ x here follows. c.in-Err-NoForm.ensures.none c.in-Err-NoForm.field-0-is x (subst (IsRecorded c.args.version x) (sym c.deref.ensures.value) here) follows;
       at = inv.1;
     }
 
@@ -33,6 +33,6 @@ loop-payload-preserved c =
     let inv = c.loop-payload.invariant in
     let f = c.in-Ok.ensures.followed in
     let len : c.len.result ≡ length p.items = search rules in (
-      leads_on c.args.payloads.now i p c.loop-payload-test.true c.payload-item.is c.args.first c.loop-payload.durable c.in-Ok.after inv.0 (f.0, subst (IsRecorded f.0) c.deref.ensures.value f.1, f.2, f.3),
+      leads_on c.args.payloads.now i p c.loop-payload-test.true c.payload-item.is c.args.version c.args.first c.loop-payload.durable c.in-Ok.after inv.0 (f.0, subst (IsRecorded c.args.version f.0) c.deref.ensures.value f.1, f.2, f.3),
       ap (λ (n : ℕ). c.loop-payload.gate + (5 + n)) len ∙ gate_on c.args.payloads.now i p c.loop-payload-test.true c.payload-item.is c.args.start c.loop-payload.gate inv.1,
     )

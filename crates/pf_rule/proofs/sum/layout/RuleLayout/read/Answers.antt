@@ -44,6 +44,6 @@ returns c =
       protocol = c.in_ok-protocol.protocol;
     } in
     let parts = body_read _ _ _ _ _ _ _ _ _ _ _ _ c.in_ok-interface.ensures.read source destination c.in_ok-effect.ensures.read in
-    subst (λ (r : PlainRule). reads rule_layout c.args.from.now.now ≡ Ok (plain_rule r, c.read_effect.new.from.now)) (sym c.of.ensures)
-    (rule_read r _ _ _ _ _ _ _ _ _ c.read_protocol.new.from.now c.expect.new.from.now _ c.in_ok-effect.ensures.kind c.in_ok-effect.ensures.keeps c.in_ok-keeps.ensures.below limit.1 limit.0
+    subst (λ (r : PlainRule). reads (rule_layout c.args.version) c.args.from.now.now ≡ Ok (plain_rule r, c.read_effect.new.from.now)) (sym c.of.ensures)
+    (rule_read _ r _ _ _ _ _ _ _ _ _ c.read_protocol.new.from.now c.expect.new.from.now _ c.in_ok-effect.ensures.kind c.in_ok-effect.ensures.keeps c.in_ok-keeps.ensures.below limit.1 limit.0
     c.in_ok-kind.ensures.read c.in_ok-direction.ensures c.in_ok-quick.ensures c.in_ok-keeps.ensures.read c.in_ok-family.ensures c.in_ok-protocol.ensures.read c.in_ok-expect.ensures parts)

@@ -49,4 +49,4 @@ pub returns-in-Ok-clause-refused : goal.returns-in-Ok-clause-refused
 returns-in-Ok-clause-refused g c =
     let l = c.in-Ok.looked in
     let found = c.in-Ok.ensures.found in
-    unopened (g.D.Disk.seen c.args.disk) l.at l.other (content_of l) (l.broken ≡ true) c.in-Err-replay.fault found.places found.counts found.early found.front found.whole c.in-Ok.ensures.broken c.in-Err-replay.ensures.refused
+    unopened (g.D.Disk.seen c.args.disk) l.at l.other (content_of l) (l.broken ≡ true) c.in-Err-replay.fault found.size found.places found.counts found.early found.front found.whole c.in-Ok.ensures.broken c.in-Err-replay.ensures.refused

@@ -1,9 +1,10 @@
-use Rattle.std.proofs.Common.{◌≡◌, ◌+◌, ◌∙◌, false, sym, ap, subst, arith}
+use Rattle.std.proofs.Common.{◌≡◌, ◌+◌, ◌<◌, ◌≤◌, ◌∙◌, false, length, sym, ap, subst, arith}
 use Rattle.pf_disk.specs.Disk.{EachMoment}
 use Rattle.pf_core.specs.Durable.Edits.{Kept, applied}
-use Rattle.pf_store.specs.{Groups.IsRecorded, Openings.IsNoLaterThan, Stores.Holds, StoreKept.Storage}
+use Rattle.pf_snap.specs.Banks.{bank_size}
+use Rattle.pf_store.specs.{Groups.IsRecorded, Lengths.payload_length, Openings.{IsNoLaterThan, LeavesRoom}, Stores.{FindsRoom, Holds, IsRoomy}, StoreKept.Storage}
 use Rattle.pf_store.specs.declared.groups.change.Recorded.TheVariants.{Made as made}
-use Rattle.pf_store.proofs.Saving.{before, have_held, held_synced, store_has, stores, unmoved, unmoved_generations}
+use Rattle.pf_store.proofs.Saving.{before, have_held, held_synced, run_roomy, store_has, stores, unmoved, unmoved_generations, unmoved_roomy}
 use Rattle.pf_store.proofs.store.keeping.Store.save.Goals as goal
 
 pub returns-then-not-has_room-clause-any_moment : goal.returns-then-not-has_room-clause-any_moment
@@ -34,7 +35,7 @@ pub invariant_of-self : goal.invariant_of-self
 invariant_of-self g c going =
     let d = g.D.Disk in
     let change = c.args.change.now in
-    let is = subst (IsRecorded (made change)) (sym c.deref.ensures.value) c.in-Ok.ensures.written in
+    let is = subst (IsRecorded c.self.inside.banks.version (made change)) (sym c.deref.ensures.value) c.in-Ok.ensures.written in
     let kept = c.in-Ok-add.ensures.kept (made change) is c.requires.fits in
     stores d.seen d.unsynced d.fault_count c.add.new.banks (applied c.args.before.now change) c.in-Ok-add.ensures.ready kept
     (omega (arith, (c.self.invariant c.if-self.false).few, c.in-Ok-add.ensures.faults))
@@ -44,7 +45,7 @@ returns-in-Ok-add-clause-images g c image is_image =
     let d = g.D.Disk in
     let change = c.args.change.now in
     let disk = c.add.new.banks.journal.disk in
-    let is = subst (IsRecorded (made change)) (sym c.deref.ensures.value) c.in-Ok.ensures.written in
+    let is = subst (IsRecorded c.self.inside.banks.version (made change)) (sym c.deref.ensures.value) c.in-Ok.ensures.written in
     let holds = have_held d.seen d.unsynced d.fault_count c.add.new.banks (applied c.args.before.now change) (c.in-Ok-add.ensures.kept (made change) is c.requires.fits) in
     held_synced (d.seen disk) (d.unsynced disk) c.args.after.now c.in-Ok-add.ensures.ready.journal.synced (subst (λ (k : Kept). Holds (d.seen disk) k) (sym c.requires.leads) holds) image is_image
 
@@ -53,7 +54,7 @@ returns-in-Ok-add-clause-stands g c =
     let d = g.D.Disk in
     let change = c.args.change.now in
     let disk = c.add.new.banks.journal.disk in
-    let is = subst (IsRecorded (made change)) (sym c.deref.ensures.value) c.in-Ok.ensures.written in
+    let is = subst (IsRecorded c.self.inside.banks.version (made change)) (sym c.deref.ensures.value) c.in-Ok.ensures.written in
     let holds = have_held d.seen d.unsynced d.fault_count c.add.new.banks (applied c.args.before.now change) (c.in-Ok-add.ensures.kept (made change) is c.requires.fits) in
     record { holds = subst (λ (k : Kept). Holds (d.seen disk) k) (sym c.requires.leads) holds; synced = c.in-Ok-add.ensures.ready.journal.synced }
 
@@ -74,3 +75,89 @@ returns-in-Err-Memory-clause-generations g c going =
     subst (λ (v : Storage g.row.D.Denot). EachMoment d.moment d.left_since v.disk v.disk (IsNoLaterThan (v.generation + 1))) c.self.view_is
     (unmoved_generations d.seen d.unsynced d.moment d.left_since b.journal.disk (b.generation + 1) s.content (omega (arith, s.keeps.generation)) s.ready.journal.synced
     (record { at = b.at; other = b.other; holds = s.keeps.holds }) (g.met.D.Disk.only_now b.journal.disk))
+
+pub returns-then-not-has_room-clause-roomy : goal.returns-then-not-has_room-clause-roomy
+returns-then-not-has_room-clause-roomy g c going leaves =
+    let d = g.D.Disk in
+    let disk = c.args.self.now.disk in
+    unmoved_roomy d.seen d.unsynced d.moment d.left_since disk (c.requires.stands going).synced leaves (g.met.D.Disk.only_now disk)
+
+pub returns-in-Err-Memory-clause-roomy : goal.returns-in-Err-Memory-clause-roomy
+returns-in-Err-Memory-clause-roomy g c going leaves =
+    let d = g.D.Disk in
+    let disk = c.args.self.now.disk in
+    unmoved_roomy d.seen d.unsynced d.moment d.left_since disk (c.requires.stands going).synced leaves (g.met.D.Disk.only_now disk)
+
+pub returns-in-Ok-add-clause-roomy : goal.returns-in-Ok-add-clause-roomy
+returns-in-Ok-add-clause-roomy g c going =
+    let d = g.D.Disk in
+    let b = c.self.inside.banks in
+    let change = c.args.change.now in
+    let before = c.args.before.now in
+    let is = subst (IsRecorded c.self.inside.banks.version (made change)) (sym c.deref.ensures.value) c.in-Ok.ensures.written in
+    let found : FindsRoom c.args.self.now.size before c.args.after.now change = (c.has_room.ensures.0 c.if-not-has_room.false).1 in
+    let then : IsRoomy (bank_size (length (d.seen b.journal.disk))) (applied before change) =
+    subst (λ (v : Storage g.row.D.Denot). IsRoomy v.size (applied before change)) (sym c.self.view_is) (subst (λ (k : Kept). IsRoomy c.args.self.now.size k) c.requires.leads found.room.then) in
+    let holds : Holds (d.seen b.journal.disk) before = subst (λ (v : Storage g.row.D.Denot). Holds (d.seen v.disk) before) (sym c.self.view_is) (c.requires.stands going).holds in
+    subst (λ (v : Storage g.row.D.Denot). LeavesRoom (d.seen v.disk) → EachMoment d.moment d.left_since v.disk c.add.new.banks.journal.disk LeavesRoom) c.self.view_is
+    (λ leaves. run_roomy d.seen d.unsynced d.moment d.left_since b.journal.disk c.add.new.banks.journal.disk before (applied before change) (leaves before holds) then c.add.ensures.lengths
+    (c.add.ensures.any_moment (made change) is c.requires.fits))
+
+pub returns-in-Err-Memory-add-clause-roomy : goal.returns-in-Err-Memory-add-clause-roomy
+returns-in-Err-Memory-add-clause-roomy g c going =
+    let d = g.D.Disk in
+    let b = c.self.inside.banks in
+    let change = c.args.change.now in
+    let before = c.args.before.now in
+    let is = subst (IsRecorded c.self.inside.banks.version (made change)) (sym c.deref.ensures.value) c.in-Ok.ensures.written in
+    let found : FindsRoom c.args.self.now.size before c.args.after.now change = (c.has_room.ensures.0 c.if-not-has_room.false).1 in
+    let then : IsRoomy (bank_size (length (d.seen b.journal.disk))) (applied before change) =
+    subst (λ (v : Storage g.row.D.Denot). IsRoomy v.size (applied before change)) (sym c.self.view_is) (subst (λ (k : Kept). IsRoomy c.args.self.now.size k) c.requires.leads found.room.then) in
+    let holds : Holds (d.seen b.journal.disk) before = subst (λ (v : Storage g.row.D.Denot). Holds (d.seen v.disk) before) (sym c.self.view_is) (c.requires.stands going).holds in
+    subst (λ (v : Storage g.row.D.Denot). LeavesRoom (d.seen v.disk) → EachMoment d.moment d.left_since v.disk c.add.new.banks.journal.disk LeavesRoom) c.self.view_is
+    (λ leaves. run_roomy d.seen d.unsynced d.moment d.left_since b.journal.disk c.add.new.banks.journal.disk before (applied before change) (leaves before holds) then c.add.ensures.lengths
+    (c.add.ensures.any_moment (made change) is c.requires.fits))
+
+pub returns-in-Err-Full-clause-roomy : goal.returns-in-Err-Full-clause-roomy
+returns-in-Err-Full-clause-roomy g c going =
+    let d = g.D.Disk in
+    let b = c.self.inside.banks in
+    let change = c.args.change.now in
+    let before = c.args.before.now in
+    let is = subst (IsRecorded c.self.inside.banks.version (made change)) (sym c.deref.ensures.value) c.in-Ok.ensures.written in
+    let found : FindsRoom c.args.self.now.size before c.args.after.now change = (c.has_room.ensures.0 c.if-not-has_room.false).1 in
+    let then : IsRoomy (bank_size (length (d.seen b.journal.disk))) (applied before change) =
+    subst (λ (v : Storage g.row.D.Denot). IsRoomy v.size (applied before change)) (sym c.self.view_is) (subst (λ (k : Kept). IsRoomy c.args.self.now.size k) c.requires.leads found.room.then) in
+    let holds : Holds (d.seen b.journal.disk) before = subst (λ (v : Storage g.row.D.Denot). Holds (d.seen v.disk) before) (sym c.self.view_is) (c.requires.stands going).holds in
+    subst (λ (v : Storage g.row.D.Denot). LeavesRoom (d.seen v.disk) → EachMoment d.moment d.left_since v.disk c.add.new.banks.journal.disk LeavesRoom) c.self.view_is
+    (λ leaves. run_roomy d.seen d.unsynced d.moment d.left_since b.journal.disk c.add.new.banks.journal.disk before (applied before change) (leaves before holds) then c.add.ensures.lengths
+    (c.add.ensures.any_moment (made change) is c.requires.fits))
+
+pub returns-clause-roomy : goal.returns-clause-roomy
+returns-clause-roomy g c going =
+    let d = g.D.Disk in
+    let b = c.self.inside.banks in
+    let change = c.args.change.now in
+    let before = c.args.before.now in
+    let is = subst (IsRecorded c.self.inside.banks.version (made change)) (sym c.deref.ensures.value) c.in-Ok.ensures.written in
+    let found : FindsRoom c.args.self.now.size before c.args.after.now change = (c.has_room.ensures.0 c.if-not-has_room.false).1 in
+    let then : IsRoomy (bank_size (length (d.seen b.journal.disk))) (applied before change) =
+    subst (λ (v : Storage g.row.D.Denot). IsRoomy v.size (applied before change)) (sym c.self.view_is) (subst (λ (k : Kept). IsRoomy c.args.self.now.size k) c.requires.leads found.room.then) in
+    let holds : Holds (d.seen b.journal.disk) before = subst (λ (v : Storage g.row.D.Denot). Holds (d.seen v.disk) before) (sym c.self.view_is) (c.requires.stands going).holds in
+    subst (λ (v : Storage g.row.D.Denot). LeavesRoom (d.seen v.disk) → EachMoment d.moment d.left_since v.disk c.add.new.banks.journal.disk LeavesRoom) c.self.view_is
+    (λ leaves. run_roomy d.seen d.unsynced d.moment d.left_since b.journal.disk c.add.new.banks.journal.disk before (applied before change) (leaves before holds) then c.add.ensures.lengths
+    (c.add.ensures.any_moment (made change) is c.requires.fits))
+
+pub returns-in-Ok-add-clause-here : goal.returns-in-Ok-add-clause-here
+returns-in-Ok-add-clause-here g c =
+    let change = c.args.change.now in
+    let long : length c.deref.result.now ≡ payload_length (made change) = ap length c.deref.ensures.value ∙ c.in-Ok.ensures.length in
+    subst (λ (v : Storage g.row.D.Denot). payload_length (made change) + 6 ≤ v.room → c.add.new.banks.generation ≡ v.generation) c.self.view_is
+    (λ fits. c.in-Ok-add.ensures.here (omega (arith, fits, long)))
+
+pub returns-in-Ok-add-clause-there : goal.returns-in-Ok-add-clause-there
+returns-in-Ok-add-clause-there g c =
+    let change = c.args.change.now in
+    let long : length c.deref.result.now ≡ payload_length (made change) = ap length c.deref.ensures.value ∙ c.in-Ok.ensures.length in
+    subst (λ (v : Storage g.row.D.Denot). v.room < payload_length (made change) + 6 → c.add.new.banks.generation ≡ v.generation + 1) c.self.view_is
+    (λ less. c.in-Ok-add.ensures.there (omega (arith, less, long)))
