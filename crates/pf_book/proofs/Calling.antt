@@ -249,7 +249,7 @@ module _ (h : Held) (b : Page) (c : Command) (e : Edit) (o : Outcome) (at : IsAt
   kept-due new n kept = is-due h b c e n o at none is-step kept.more.room (kept.number ∙ next-number b new e kept.more)
 
   unkept : (why : Refusal) (new : Page) → IsUnkept why b new e → (why ≡ Fault → ⊥) → Leads h new (call c (Refused why)) (upshot new.shown false)
-  unkept Memory new same other = refused-leads h b new c Memory (inr takes) same at
+  unkept Memory new (same, room) other = refused-leads h b new c Memory (inr takes) same at
   unkept HistoryFull new (same, full) other = refused-leads h b new c HistoryFull (full-history h b c e o at none is-step full) same at
   unkept Full new (same, few, full) other = refused-leads h b new c Full (full-device h b c e o at none is-step few full) same at
   unkept Fault new pending other = absurd (other refl)
@@ -367,7 +367,7 @@ made-stays now new (Answered a) o e made device = absurd made
 made-stays now new (Applied n p) o e made device = tt
 made-stays now new (Stored n p) o e made device = tt
 made-stays now new (Refused Fault) o e made device = record { same = λ is. absurd (cc (is)); pending = λ is. (e ∷ [], made.same) }
-made-stays now new (Refused Memory) o e made device = record { same = λ is. (made, device Memory refl refl); pending = λ is. absurd (cc (is)) }
+made-stays now new (Refused Memory) o e made device = record { same = λ is. (made.0, device Memory refl refl); pending = λ is. absurd (cc (is)) }
 made-stays now new (Refused HistoryFull) o e made device = record { same = λ is. (made.0, device HistoryFull refl refl); pending = λ is. absurd (cc (is)) }
 made-stays now new (Refused Full) o e made device = record { same = λ is. (made.0, device Full refl refl); pending = λ is. absurd (cc (is)) }
 made-stays now new (Refused why) o e made device = absurd made

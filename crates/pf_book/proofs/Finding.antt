@@ -16,6 +16,12 @@ told P size base d next groups e kept left p =
     subst (λ (k : Kept). P (group_fits size k then (e ∷ []))) kept
     (subst (λ (k : Kept). P (group_fits size d k (e ∷ []))) (left-is base d next groups e kept left) p)
 
+-- the same room, told of equals
+pub room-of : (size : ℕ) (d k next left : Kept) (e f : Edit) → d ≡ k → next ≡ left → e ≡ f → FindsRoom size d next e → FindsRoom size k left f
+room-of size d k next left e f kept is same room =
+    subst (λ (x : Edit). FindsRoom size k left x) same
+    (subst (λ (n : Kept). FindsRoom size k n e) is (subst (λ (n : Kept). FindsRoom size n next e) kept room))
+
 pub device-fits : (size : ℕ) (base d next : Kept) (groups : List (List Edit)) (e : Edit) → d ≡ after base (flat groups) → next ≡ applied d e →
     FindsRoom size d next e → not (group_fits size (after base (flat groups)) (after base (flat groups ++ e ∷ [])) (e ∷ [])) ≡ false
 device-fits size base d next groups e kept left room =

@@ -5,9 +5,10 @@ use mathlib.Core.List.{IsPrefix}
 use Rattle.pf_disk.specs.Disk.{IsImage}
 use Rattle.pf_core.specs.{Durable.Edits.{Kept, Edit, applied, after}, Pages.{Page, IsFolded}, Wholes.Whole, Worlds.{Setting, flat}}
 use Rattle.pf_core.proofs.LongerWorlds.{flat-push}
-use Rattle.pf_store.specs.{Stores.{Holds, HoldsEither}, StoreKept.{Stands, Storage}}
+use Rattle.pf_store.specs.{Openings.{IsNoLaterThan, LeavesRoom}, Stores.{Holds, HoldsEither, IsRoomy}, StoreKept.{Stands, Storage}}
 use Rattle.pf_view.specs.Known.{Stage}
 use Rattle.pf_book.specs.{Books.{singles, page_of, HoldsFront, IsOpened, IsBook, shows_all}, Pasts.{Past, no_past, with_change}}
+use Rattle.pf_book.proofs.Openable.{later}
 use Rattle.pf_book.proofs.Parts.{flat-singles, all-acked, taken-more, taken-still, left-one, singles-more, prefix_is, prefix_short}
 
 -- ---- pages
@@ -88,8 +89,10 @@ module _ {D : Type 0} (seen : D → List ℕ) (unsynced : D → ℕ → Bool) wh
       → singles (drop acked log) ≡ [] → acked' ≡ acked + 1 → log' ≡ log ++ e ∷ [] → past' ≡ with_change past e true → whole'.durable ≡ applied whole.durable e → d' ≡ whole'.durable
       → store.halted ≡ false → store'.halted ≡ false → Stands seen unsynced store' whole'.durable → store'.generation ≤ store.generation + 1 → setting'.limit ≤ 2 ^ 20
       → ((c : List ℕ) → IsImage (seen store'.disk) (unsynced store'.disk) c → Holds c whole'.durable)
+      → ((c : List ℕ) → IsImage (seen store'.disk) (unsynced store'.disk) c → IsNoLaterThan (store'.generation + 1) c)
+      → (IsRoomy store'.size base → (c : List ℕ) → IsImage (seen store'.disk) (unsynced store'.disk) c → LeavesRoom c)
       → IsBook seen unsynced store' (page_of base whole' log' acked' setting' stage.shown) d' log' acked' offered stage past'
-  more-book store store' base whole whole' d d' log log' e acked acked' offered setting setting' stage past past' i none counted logged noted left latest was on stands raised limit images =
+  more-book store store' base whole whole' d d' log log' e acked acked' offered setting setting' stage past past' i none counted logged noted left latest was on stands raised limit images generations roomy =
       let all : acked ≡ length log = all-acked log acked i.low none in
       let page : Page = page_of base whole' (log ++ e ∷ []) (acked + 1) setting' stage.shown in
       let folded : IsFolded page = folded-more base whole whole' log e acked setting setting' stage.shown all left i.folded in
@@ -105,6 +108,8 @@ module _ {D : Type 0} (seen : D → List ℕ) (unsynced : D → ℕ → Bool) wh
         early = λ h. omega (arith, raised, i.early was, long);
         limit = limit;
         images = λ c image. kept-front base whole' (log ++ e ∷ []) (acked + 1) setting' stage.shown c folded (images c image);
+        generations = generations;
+        roomy = roomy;
         offered_low = omega (arith, i.offered_low);
         offered_is = i.offered_is ∙ sym (taken-still log e offered (omega (arith, i.offered_low, i.low)));
         shown_is = i.shown_is;
@@ -116,8 +121,10 @@ module _ {D : Type 0} (seen : D → List ℕ) (unsynced : D → ℕ → Bool) wh
       → IsBook seen unsynced store (page_of base whole log acked setting stage.shown) d log acked offered stage past
       → singles (drop acked log) ≡ [] → log' ≡ log ++ e ∷ [] → past' ≡ with_change past e false → store'.halted ≡ true → setting'.limit ≤ 2 ^ 20
       → ((c : List ℕ) → IsImage (seen store'.disk) (unsynced store'.disk) c → HoldsEither whole.durable (applied whole.durable e) c)
+      → ((c : List ℕ) → IsImage (seen store'.disk) (unsynced store'.disk) c → IsNoLaterThan (store'.generation + 1) c)
+      → (IsRoomy store'.size base → (c : List ℕ) → IsImage (seen store'.disk) (unsynced store'.disk) c → LeavesRoom c)
       → IsBook seen unsynced store' (page_of base whole log' acked setting' stage.shown) d log' acked offered stage past'
-  fault-book store store' base whole d log log' e acked offered setting setting' stage past past' i none logged noted off limit images =
+  fault-book store store' base whole d log log' e acked offered setting setting' stage past past' i none logged noted off limit images generations roomy =
       let all : acked ≡ length log = all-acked log acked i.low none in
       let long : length (log ++ e ∷ []) ≡ length log + 1 = length-append log (e ∷ []) in
       let folded : IsFolded (page_of base whole (log ++ e ∷ []) acked setting' stage.shown) = folded-pending base whole log e acked setting setting' stage.shown i.low i.folded in
@@ -133,6 +140,8 @@ module _ {D : Type 0} (seen : D → List ℕ) (unsynced : D → ℕ → Bool) wh
         early = λ h. absurd (out h);
         limit = limit;
         images = λ c image. either c (images c image);
+        generations = generations;
+        roomy = roomy;
         offered_low = i.offered_low;
         offered_is = i.offered_is ∙ sym (taken-still log e offered (omega (arith, i.offered_low, i.low)));
         shown_is = i.shown_is;
@@ -169,6 +178,8 @@ module _ {D : Type 0} (seen : D → List ℕ) (unsynced : D → ℕ → Bool) wh
     early = i.early;
     limit = i.limit;
     images = i.images;
+    generations = i.generations;
+    roomy = i.roomy;
     offered_low = omega arith;
     offered_is = is;
     shown_is = front;
@@ -190,6 +201,8 @@ module _ {D : Type 0} (seen : D → List ℕ) (unsynced : D → ℕ → Bool) wh
     early = i.early;
     limit = i.limit;
     images = i.images;
+    generations = i.generations;
+    roomy = i.roomy;
     offered_low = i.offered_low;
     offered_is = i.offered_is;
     shown_is = i.shown_is;
@@ -197,10 +210,10 @@ module _ {D : Type 0} (seen : D → List ℕ) (unsynced : D → ℕ → Bool) wh
   }
 
   -- a new Book
-  pub new-book : (store : Storage D) (base : Kept) (whole : Whole) (d : Kept) (setting : Setting) (stage : Stage) (past : Past)
-      → IsOpened seen unsynced store d → past ≡ no_past → d ≡ base → whole.durable ≡ d → setting.limit ≤ 2 ^ 20 → stage.shown ≡ [] → stage.offered ≡ []
-      → IsBook seen unsynced store (page_of base whole [] 0 setting stage.shown) d [] 0 0 stage past
-  new-book store base whole d setting stage past o empty same kept limit shown offered = record {
+  pub new-book : (store : Storage D) (base : Kept) (whole : Whole) (d : Kept) (log : List Edit) (setting : Setting) (stage : Stage) (past : Past)
+      → IsOpened seen unsynced store d → log ≡ [] → past ≡ no_past → d ≡ base → whole.durable ≡ d → setting.limit ≤ 2 ^ 20 → stage.shown ≡ [] → stage.offered ≡ []
+      → IsBook seen unsynced store (page_of base whole log 0 setting stage.shown) d log 0 0 stage past
+  new-book store base whole d log setting stage past o none empty same kept limit shown offered = rw none (record {
     folded = record { durable = kept ∙ same; within = omega (arith, ap length shown); published = ap (after base) shown ∙ sym (ap (λ (n : ℕ). after base (take n [])) (ap length shown)) };
     log_is = ap (λ (p : Past). p.front) empty;
     acked_is = ap (λ (p : Past). p.acked) empty;
@@ -211,8 +224,10 @@ module _ {D : Type 0} (seen : D → List ℕ) (unsynced : D → ℕ → Bool) wh
     early = λ h. omega (arith, o.early);
     limit = limit;
     images = λ c image. (0, subst (λ (k : Kept). Holds c k) same (o.images c image));
+    generations = λ c image. later store.generation (store.generation + 1) (omega arith) c (o.generations c image);
+    roomy = λ room. o.roomy (subst (λ (k : Kept). IsRoomy store.size k) (sym same) room);
     offered_low = omega arith;
     offered_is = offered;
     shown_is = subst (λ (l : List Edit). IsPrefix l stage.offered) (sym shown) (stage.offered, refl);
     latest = sym kept;
-  }
+  })

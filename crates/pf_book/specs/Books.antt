@@ -2,27 +2,30 @@
 use Rattle.std.specs.Prelude.{◌≡◌, ◌⊎◌, ℕ, zero, suc, ◌+◌, ◌<◌, ◌≤◌, ◌^◌, Bool, true, false, nat_lt, List, [], ◌∷◌, ◌++◌, length, slice_get, take, drop, map, ⊤, Option, None, Result, Ok, Err}
 use mathlib.Core.List.{IsPrefix}
 use Rattle.logbook.specs.Pages.{Book}
-use Rattle.pf_disk.specs.Disk.{IsImage}
+use Rattle.pf_disk.specs.Disk.{EachMoment, IsImage}
 use Rattle.pf_rule.specs.Packets.{PlainPacket}
 use Rattle.pf_ticket.specs.{Mentions.{after as moved_by, switches}}
 use Rattle.pf_core.specs.declared.{command.Command.Command, command.Command.TheVariants.{Ask}, command.HistoryCommand.HistoryCommand, command.HistoryCommand.TheVariants.{Log, Publish}, command.Question.TheVariants.Judge, durable.verdict.Verdict.Verdict, reply.Outcome.Outcome, reply.Refusal.Refusal, reply.Refusal.TheVariants.{HistoryFull, Full, Fault, Memory}, reply.Reply.Reply, reply.Reply.TheVariants.{Answer, Applied, Stored, Refused}}
 use Rattle.pf_core.specs.declared.reply.Answer.TheVariants as answer
 use Rattle.pf_core.specs.{Calls.{Call, call}, Durable.Edits.{Kept, Edit, after, voided_by, verdict}, Laws.{Durable.IsWithin, Openings.Leaves}, Pages.{Page, IsFolded}, Wholes.Whole, Worlds.{Setting, Held, Doing, flat, is_fault, last_epoch, raised}}
-use Rattle.pf_store.specs.{Rooms.on_device, Stores.Holds, StoreKept.{Stands, Storage}}
+use Rattle.pf_store.specs.declared.{store.fault.OpenFault.OpenFault, store.fault.OpenFault.TheVariants.Memory as OutOfMemory, store.fault.OpenFault.TheVariants.Places as Places}
+use Rattle.pf_store.specs.{Openings.{IsNoLaterThan, LeavesRoom}, Rooms.on_device, Stores.{Holds, IsRoomy}, StoreKept.{Stands, Storage}}
 use Rattle.pf_view.specs.Known.{Stage}
 use Rattle.pf_book.specs.Pasts.{Past}
 
 -- ---- an opened device
 
--- the device, what it held, in the next epoch, how many bytes each of its banks has, and which history is its own
+-- the device; what it held, in the next epoch; how many bytes each of its banks has, and the generation of the one that counts; and which
+-- history is its own
 pub record Opened (D : Type 0) : Type 0 where
   pub disk : D
   pub given : Kept
   pub size : ℕ
+  pub generation : ℕ
   pub history : Book
 
 abbrev pub opened_store : {D : Type 0} → Storage D → Kept → Book → Opened D
-opened_store store d history = record { disk = store.disk; given = d; size = store.size; history = history }
+opened_store store d history = record { disk = store.disk; given = d; size = store.size; generation = store.generation; history = history }
 
 -- what the opening keeps within, with so many changes as its history may have
 abbrev pub setting_of : {D : Type 0} → Opened D → ℕ → Setting
@@ -31,6 +34,10 @@ setting_of o limit = on_device limit o.size
 -- The opening, with so many changes as its history may have, is named by these: what it gave, its history, and what it keeps within.
 abbrev pub IsNamed : {D : Type 0} → Kept → Book → Setting → Opened D → ℕ → Type 0
 IsNamed base history setting o limit = (o.given ≡ base) × (o.history ≡ history) × (setting_of o limit ≡ setting)
+
+-- why no history was begun over an opened device: memory was refused, or a place for what is shown
+abbrev pub IsUnshown : OpenFault → Type 0
+IsUnshown e = (e ≡ OutOfMemory) ⊎ (e ≡ Places)
 
 -- what is kept is what an epoch less was, in its next epoch
 pub record IsRaised (d : Kept) : Type 0 where
@@ -44,6 +51,8 @@ pub record IsOpened {D : Type 0} (seen : D → List ℕ) (unsynced : D → ℕ �
   pub stands : Stands seen unsynced store d
   pub early : store.generation ≤ 2 ^ 63
   pub images : (c : List ℕ) → IsImage (seen store.disk) (unsynced store.disk) c → Holds c d
+  pub generations : (c : List ℕ) → IsImage (seen store.disk) (unsynced store.disk) c → IsNoLaterThan store.generation c
+  pub roomy : IsRoomy store.size d → (c : List ℕ) → IsImage (seen store.disk) (unsynced store.disk) c → LeavesRoom c
   pub within : IsWithin d
   pub epoch : IsRaised d
 
@@ -66,8 +75,8 @@ page_of base whole log acked setting shown = record {
 }
 
 -- What contracts see of a Book: its device; what its opening gave; its core; the groups of changes that were acknowledged, and the one that
--- wasn't; how many changes it may have, and how many bytes each of its device's banks has; how many changes are shown, and the copy that
--- shows them.
+-- wasn't; how many changes it may have, how many bytes each of its device's banks has, and the generation of the one that counts; how many
+-- changes are shown, and the copy that shows them.
 pub record Ledger (D : Type 0) : Type 0 where
   pub disk : D
   pub base : Kept
@@ -76,11 +85,12 @@ pub record Ledger (D : Type 0) : Type 0 where
   pub pending : List (List Edit)
   pub limit : ℕ
   pub size : ℕ
+  pub generation : ℕ
   pub shown : ℕ
   pub published : Kept
 
-abbrev pub ledger : {D : Type 0} → D → Kept → Whole → List Edit → (acked limit size : ℕ) → List Edit → Ledger D
-ledger disk base whole log acked limit size shown = record {
+abbrev pub ledger : {D : Type 0} → D → Kept → Whole → List Edit → (acked limit size generation : ℕ) → List Edit → Ledger D
+ledger disk base whole log acked limit size generation shown = record {
   disk = disk;
   base = base;
   whole = whole;
@@ -88,6 +98,7 @@ ledger disk base whole log acked limit size shown = record {
   pending = singles (drop acked log);
   limit = limit;
   size = size;
+  generation = generation;
   shown = length shown;
   published = after base shown;
 }
@@ -126,6 +137,9 @@ pub record IsBook {D : Type 0} (seen : D → List ℕ) (unsynced : D → ℕ →
   pub early : store.halted ≡ false → store.generation ≤ 2 ^ 63 + length log
   pub limit : b.setting.limit ≤ 2 ^ 20
   pub images : (c : List ℕ) → IsImage (seen store.disk) (unsynced store.disk) c → HoldsFront b c
+  pub generations : (c : List ℕ) → IsImage (seen store.disk) (unsynced store.disk) c → IsNoLaterThan (store.generation + 1) c
+  -- an opening finds room, where it would in what the last one gave
+  pub roomy : IsRoomy store.size b.base → (c : List ℕ) → IsImage (seen store.disk) (unsynced store.disk) c → LeavesRoom c
   pub offered_low : offered ≤ acked
   pub offered_is : stage.offered ≡ take offered log
   pub shown_is : IsPrefix stage.shown stage.offered
@@ -164,7 +178,7 @@ pub record IsPending (old new : Page) (e : Edit) : Type 0 where
 
 -- why a change that fits wasn't kept, and what that leaves
 abbrev pub IsUnkept : Refusal → Page → Page → Edit → Type 0
-IsUnkept Memory old new e = new ≡ old
+IsUnkept Memory old new e = (new ≡ old) × HasRoom old e
 IsUnkept HistoryFull old new e = (new ≡ old) × (old.setting.limit ≤ length (flat old.acked))
 IsUnkept Full old new e = (new ≡ old) × (length (flat old.acked) < old.setting.limit) × (old.setting.is_full old.base old.acked (e ∷ []) ≡ true)
 IsUnkept Fault old new e = IsPending old new e
@@ -205,6 +219,15 @@ judging packet v = call (Ask (Judge packet)) (Answer (answer.Judged v))
 pub record Stays {D : Type 0} (e : Refusal) (old new : Ledger D) : Type 0 where
   pub same : is_fault e ≡ false → (page new ≡ page old) × (new.disk ≡ old.disk)
   pub pending : is_fault e ≡ true → (group : List Edit) × (page new ≡ record (page old) { pending = group ∷ [] })
+
+-- What an opening will need: the bank's generation stays or is one greater, and banks have as many bytes; each image at each moment holds what
+-- it holds by the next generation at the latest, and leaves an opening room, where what the last one gave does.
+pub record StaysOpenable {D : Type 0} (moment : D → ℕ) (left_since : D → ℕ → List ℕ → Type 0) (old new : Ledger D) : Type 0 where
+  pub stays : old.generation ≤ new.generation
+  pub one_more : new.generation ≤ old.generation + 1
+  pub size : new.size ≡ old.size
+  pub early : EachMoment moment left_since old.disk new.disk (IsNoLaterThan (old.generation + 1))
+  pub roomy : IsRoomy old.size old.base → EachMoment moment left_since old.disk new.disk LeavesRoom
 
 -- No call of the device is made for what is answered without a change, nor where a command is refused but for a fault.
 abbrev pub StaysUnlessKept : {D : Type 0} → Reply → Ledger D → Ledger D → Type 0

@@ -4,10 +4,10 @@ ghost use Rattle.std.specs.{Arc.arc_value, Option.option_map};
 ghost use Rattle.pf_disk.specs.Disk.{EachMoment, IsImage};
 ghost use Rattle.pf_core.specs.declared.reply.Refusal.TheVariants as told;
 ghost use Rattle.pf_core.specs.{Calls.call, Commands.may_change, Durable.Edits.{Kept, applied, after, fits, verdict}, Pages.{IsAt, IsFolded, StandsFor, Leads}, Wholes.left_by, Worlds.{Held, idle, calling, begun, upshot, Event, called, opened, is_fault, flat, raised, last_epoch, down, state_after, IsWorld, LegalReply, shown_by}};
-ghost use Rattle.pf_store.specs.Stores.{HoldsEither};
+ghost use Rattle.pf_store.specs.Stores.{FindsRoom, HoldsEither};
 ghost use Rattle.pf_view.specs.Known.{IsNewSeer};
 ghost use Rattle.pf_book.specs.Receipts.{IsGiven, IsReached};
-ghost use Rattle.pf_book.specs.Books.{page, HoldsLeft, IsMore, IsUnkept, IsMade, IsTold, Stays, StaysUnlessKept, shows_all, change_in, log_in, is_fault_reply, is_fault_result, IsNumbered, IsJudged, IsNamed, setting_of, judging};
+ghost use Rattle.pf_book.specs.Books.{page, HoldsLeft, IsMore, IsUnkept, IsUnshown, IsMade, IsTold, Stays, StaysOpenable, StaysUnlessKept, shows_all, change_in, log_in, is_fault_reply, is_fault_result, IsNumbered, IsJudged, IsNamed, setting_of, judging};
 
 mod receipts;
 
@@ -20,7 +20,7 @@ use pf_core::{
 };
 use pf_disk::Disk;
 use pf_rule::Packet;
-use pf_store::{SaveFault, Store};
+use pf_store::{OpenFault, SaveFault, Store};
 use pf_view::{Seer, Shower, ViewFault, views};
 use std::alloc::{AllocError, Global};
 use std::marker::Model;
@@ -52,7 +52,7 @@ impl<D: Disk + Drop, J: Chapter, R: Wait + Drop> Model for Book<D, J, R> {
 
     ghost Value = { Ledger D };
 
-    ghost view = { λ b. ledger b.store.disk J.base b.core (map arc_value b.log.items) b.acked b.limit b.store.size b.shower.shown };
+    ghost view = { λ b. ledger b.store.disk J.base b.core (map arc_value b.log.items) b.acked b.limit b.store.size b.store.generation b.shower.shown };
 
     ghost invariant = { λ b. IsBook D.seen D.unsynced b.store
         (page_of J.base b.core (map arc_value b.log.items) b.acked (on_device b.limit b.store.size) b.shower.shown)
@@ -83,6 +83,16 @@ fn share(alloc: Global, change: Change) -> Result<Shares, AllocError>
     })
 }
 
+// Why no history is begun, where what it would show has no place.
+fn unshown(fault: ViewFault) -> OpenFault
+    ensures { IsUnshown result }
+{
+    match fault {
+        ViewFault::Memory => OpenFault::Memory,
+        ViewFault::Places => OpenFault::Places,
+    }
+}
+
 // Whether it may change something, so that it is refused once the device has failed.
 fn may_change(command: &Command) -> bool
     ensures { result ≡ may_change command.now }
@@ -98,21 +108,24 @@ impl<D: Disk + Drop, J: Chapter, R: Wait + Drop> Book<D, J, R> {
     /// `J` names the opening.
     ///
     /// `Err` hands the device back: `Memory` was refused, or a worker's place, or the history's first one, wasn't given (`Places`), which
-    /// no run is known to meet. The device holds what the opening gave. Own.
+    /// no run is known to meet. It is no other fault, and the device holds what the opening gave. Own.
     pub fn of(
         rt: R,
         alloc: Global,
         opening: Opening<D>,
         history_limit: usize,
         seers: usize,
-    ) -> Result<(Book<D, J, R>, Vec<Seer<J>>), (ViewFault, D)>
+    ) -> Result<(Book<D, J, R>, Vec<Seer<J>>), (OpenFault, D)>
         requires name { IsNamed J.base J.history J.setting opening history_limit }
         requires low { 1 ≤ history_limit }
         requires high { history_limit ≤ 1_048_576 }
         requires seers { (0 < seers) × (seers ≤ 64) }
         ensures at { IfOk result (λ r. IsAt (begun (setting_of opening history_limit) opening.given) (page r.0)) }
         ensures device { IfOk result (λ r. r.0.disk ≡ opening.disk) }
+        ensures size { IfOk result (λ r. r.0.size ≡ opening.size) }
+        ensures generation { IfOk result (λ r. r.0.generation ≡ opening.generation) }
         ensures device_err { IfErr result (λ e. e.1 ≡ opening.disk) }
+        ensures refused { IfErr result (λ e. IsUnshown e.0) }
         ensures seers { IfOk result (λ r. (length r.1.items ≡ seers) × All IsNewSeer r.1.items) }
 
         // Of whatever world the device held this after, but for the epoch, it stands for that with an opening at its end.
@@ -127,10 +140,10 @@ impl<D: Disk + Drop, J: Chapter, R: Wait + Drop> Book<D, J, R> {
             history,
         } = opening;
         let Some(tip) = history.named::<J>() else {
-            return Err((ViewFault::Places, store.into_disk()));
+            return Err((OpenFault::Places, store.into_disk()));
         };
         let Ok(shared) = Arc::try_clone(&durable) else {
-            return Err((ViewFault::Memory, store.into_disk()));
+            return Err((OpenFault::Memory, store.into_disk()));
         };
         match views::<J, R>(rt, alloc, &durable, seers) {
             Ok((shower, all)) => {
@@ -148,7 +161,7 @@ impl<D: Disk + Drop, J: Chapter, R: Wait + Drop> Book<D, J, R> {
                 };
                 Ok((book, all))
             }
-            Err(fault) => Err((fault, store.into_disk())),
+            Err(fault) => Err((unshown(fault), store.into_disk())),
         }
     }
 
@@ -163,12 +176,19 @@ impl<D: Disk + Drop, J: Chapter, R: Wait + Drop> Book<D, J, R> {
         ensures any_moment { EachMoment D.moment D.left_since self.old.disk self.new.disk
             (HoldsEither self.old.whole.durable (applied self.old.whole.durable change)) }
         ensures still { IfErr result (λ e. is_fault e ≡ false → self.new.disk ≡ self.old.disk) }
+        ensures openable { StaysOpenable D.moment D.left_since self.old self.new }
         ensures moments { D.moment self.new.disk ≤ D.moment self.old.disk + 10 }
         ensures same_size { length (D.seen self.new.disk) ≡ length (D.seen self.old.disk) }
         ensures faults { D.fault_count self.new.disk ≡ D.fault_count self.old.disk + (if is_fault_result result then 1 else 0) }
     {
         if self.log.len() >= self.limit {
             return Err(Refusal::HistoryFull);
+        }
+        if !self
+            .store
+            .has_room(self.core.durable(), &change, next.after())
+        {
+            return Err(Refusal::Full);
         }
         let after = next.durable()?;
         let Ok(shares) = share(self.alloc, change) else {
@@ -185,7 +205,7 @@ impl<D: Disk + Drop, J: Chapter, R: Wait + Drop> Book<D, J, R> {
         }
     }
 
-    // Saves a change for which the history has a number, and notes it there.
+    // Saves a change for which the history has a number and the device room, and notes it there.
     fn save(
         &mut self,
         change: Arc<Change>,
@@ -198,12 +218,14 @@ impl<D: Disk + Drop, J: Chapter, R: Wait + Drop> Book<D, J, R> {
         requires after { arc_value after ≡ next.durable }
         requires fits { fits self.old.whole.durable (arc_value change) ≡ Ok tt }
         requires few { length (flat self.old.acked) < self.old.limit }
+        requires room { FindsRoom self.old.size self.old.whole.durable next.durable (arc_value change) }
         requires free { self.old.pending ≡ [] }
         ensures ok { OnOk result (IsMore (page self.old) (page self.new) (arc_value change)) }
         ensures err { IfErr result (λ e. IsUnkept e (page self.old) (page self.new) (arc_value change)) }
         ensures any_moment { EachMoment D.moment D.left_since self.old.disk self.new.disk
             (HoldsEither self.old.whole.durable (applied self.old.whole.durable (arc_value change))) }
         ensures still { IfErr result (λ e. is_fault e ≡ false → self.new.disk ≡ self.old.disk) }
+        ensures openable { StaysOpenable D.moment D.left_since self.old self.new }
         ensures moments { D.moment self.new.disk ≤ D.moment self.old.disk + 10 }
         ensures same_size { length (D.seen self.new.disk) ≡ length (D.seen self.old.disk) }
         ensures faults { D.fault_count self.new.disk ≡ D.fault_count self.old.disk + (if is_fault_result result then 1 else 0) }
@@ -235,6 +257,8 @@ impl<D: Disk + Drop, J: Chapter, R: Wait + Drop> Book<D, J, R> {
     // Shows all that was acknowledged, unless memory is refused: then what is shown stays.
     fn show_all(&mut self) -> bool
         ensures device { self.new.disk ≡ self.old.disk }
+        ensures size { self.new.size ≡ self.old.size }
+        ensures generation { self.new.generation ≡ self.old.generation }
         ensures page { MatchBool result ((page self.new) ≡ shows_all (page self.old)) ((page self.new) ≡ (page self.old)) }
     {
         if !offer_rest(
@@ -264,6 +288,7 @@ impl<D: Disk + Drop, J: Chapter, R: Wait + Drop> Book<D, J, R> {
         ensures any_moment { EachMoment D.moment D.left_since self.old.disk self.new.disk
             (HoldsEither self.old.whole.durable (applied self.old.whole.durable change)) }
         ensures still { (e : Refusal) → result.0 ≡ Reply.Refused e → is_fault e ≡ false → self.new.disk ≡ self.old.disk }
+        ensures openable { StaysOpenable D.moment D.left_since self.old self.new }
         ensures moments { D.moment self.new.disk ≤ D.moment self.old.disk + 10 }
         ensures same_size { length (D.seen self.new.disk) ≡ length (D.seen self.old.disk) }
         ensures faults { D.fault_count self.new.disk ≡ D.fault_count self.old.disk + (if is_fault_reply result.0 then 1 else 0) }
@@ -284,6 +309,8 @@ impl<D: Disk + Drop, J: Chapter, R: Wait + Drop> Book<D, J, R> {
     // What is asked of the history itself.
     fn tell(&mut self, command: HistoryCommand) -> Reply
         ensures device { self.new.disk ≡ self.old.disk }
+        ensures size { self.new.size ≡ self.old.size }
+        ensures generation { self.new.generation ≡ self.old.generation }
         ensures told { IsTold command result (page self.old) (page self.new) }
     {
         let acked = self.acked as u64;
@@ -311,6 +338,7 @@ impl<D: Disk + Drop, J: Chapter, R: Wait + Drop> Book<D, J, R> {
         ensures given { IsGiven result.0 (option_map arc_value result.1) (page self.old) (page self.new) }
         ensures numbered { IsNumbered result.0 (page self.new) }
         ensures judged { IsJudged self.old.whole.durable command.now result.0 }
+        ensures openable { StaysOpenable D.moment D.left_since self.old self.new }
         ensures moments { D.moment self.new.disk ≤ D.moment self.old.disk + 10 }
         ensures same_size { length (D.seen self.new.disk) ≡ length (D.seen self.old.disk) }
         ensures faults { D.fault_count self.new.disk ≡ D.fault_count self.old.disk + (if is_fault_reply result.0 then 1 else 0) }
@@ -335,7 +363,8 @@ impl<D: Disk + Drop, J: Chapter, R: Wait + Drop> Book<D, J, R> {
     /// was refused for that. The refusals, in their order: `Halted`, where the device failed in an earlier call and the command may change
     /// something; the core's own; `HistoryFull`, where the history has as many changes as it may have; `Full`, where the device has no room
     /// for the change; `Fault`, where a call of the device failed. `Memory` may come instead of any reply but that to a judge, a test, a
-    /// sum, a rollback and a `log`; all growths but those for showing come before the device is written.
+    /// sum, a rollback and a `log`; but of a change that the core wants, with all its memory made, the two limits are looked at first. All
+    /// growths but those for showing come before the device is written.
     ///
     /// For an answer no call of the device is made. After every refusal but `Fault` all is as before. After `Fault` the change stands in the
     /// history, not acknowledged, all else is as before, and each later command that may change something is `Halted`. Own.
@@ -362,6 +391,10 @@ impl<D: Disk + Drop, J: Chapter, R: Wait + Drop> Book<D, J, R> {
         ensures stays { StaysUnlessKept result self.old self.new }
         ensures base { self.new.base ≡ self.old.base }
         ensures setting { (page self.new).setting ≡ (page self.old).setting }
+
+        // What an opening needs of each image at each moment of the call.
+        ensures openable { StaysOpenable D.moment D.left_since self.old self.new }
+
         ensures moments { D.moment self.new.disk ≤ D.moment self.old.disk + 10 }
         ensures same_size { length (D.seen self.new.disk) ≡ length (D.seen self.old.disk) }
         ensures faults { D.fault_count self.new.disk ≡ D.fault_count self.old.disk + (if is_fault_reply result then 1 else 0) }

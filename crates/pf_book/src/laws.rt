@@ -1,9 +1,10 @@
 //! What the definitions come to, whoever made what they speak of: receipts, and openings after crashes.
-ghost use Rattle.std.specs.Prelude.{◌≡◌, ◌<◌, ◌≤◌, ◌++◌, ◌∷◌, [], ℕ, List, length, Option, Some};
+ghost use Rattle.std.specs.Prelude.{◌≡◌, ◌⊎◌, ◌^◌, ◌<◌, ◌≤◌, ◌++◌, ◌∷◌, [], ℕ, List, length, Option, Some};
 ghost use mathlib.Core.List.{IsPrefix};
 ghost use Rattle.pf_core.specs.declared.{command.Command.Command, reply.Outcome.Outcome, reply.Reply.Reply, reply.Reply.TheVariants.{Applied, Stored}};
 ghost use Rattle.pf_core.specs.{Durable.Edits.{Kept, Edit}, Pages.{Page, IsAt, StandsFor}, Worlds.{Setting, Held, Doing, Event, crashed, opened, begun, raised, last_epoch, up, down, state_after, IsWorld}};
-ghost use Rattle.pf_store.specs.Stores.{Holds};
+ghost use Rattle.pf_store.specs.declared.store.fault.{OpenFault.OpenFault, OpenFault.TheVariants.{Memory, Fault, EpochsExhausted}};
+ghost use Rattle.pf_store.specs.{Openings.{IsNoLaterThan, IsUnopened, LeavesRoom}, Stores.{Holds, IsRoomy}};
 ghost use Rattle.pf_book.specs.{Books.HoldsLeft, Receipts.{Slip, IsAnswered}};
 
 /// The receipt that a caller hands in and the one that it is given: the front of the first begins that of the second, and has fewer changes
@@ -29,4 +30,14 @@ pub fn crashes_are_opened()
     ensures { (first : Kept) (world : List Event) (h : Held) (doing : Doing) (image : List ℕ) (d : Kept) (setting : Setting) (b : Page)
         → IsWorld first world → state_after (down first) world ≡ up h → HoldsLeft h doing image → Holds image d → d.epoch < last_epoch
         → IsAt (begun setting (raised d)) b → (n : ℕ) × StandsFor first b ((world ++ crashed doing n ∷ []) ++ opened setting ∷ []) }
+{}
+
+/// Whatever image a crash leaves of an opening, where it holds what it holds by a generation below 2^63 and leaves an opening room: only want of
+/// memory or a fault of the device keeps it from being opened, or that its epoch is the last one. An opening leaves as much room as it found,
+/// and what `Book::run` says of each image makes it so. Own.
+pub fn left_images_are_refused_by_chance_alone()
+    ensures chance { (h : Held) (doing : Doing) (image : List ℕ) (generation : ℕ) (fault : OpenFault) → HoldsLeft h doing image
+        → IsNoLaterThan generation image → generation < 2 ^ 63 → LeavesRoom image → IsUnopened fault image
+        → (fault ≡ Memory) ⊎ ((fault ≡ Fault) ⊎ ((fault ≡ EpochsExhausted) × (d : Kept) × Holds image d × (d.epoch ≡ last_epoch))) }
+    ensures room { (size : ℕ) (d : Kept) → IsRoomy size d → IsRoomy size (raised d) }
 {}

@@ -33,6 +33,6 @@ pub use opening::Opening;
 pub use pf_core::Reply;
 pub use pf_disk::{Disk, FileDisk, FileFault, FuseDisk, MemDisk};
 pub use pf_store::{OpenFault, Store, format};
-pub use pf_view::{Gone, Naming, Seer, Token, ViewFault};
+pub use pf_view::{Gone, Naming, Seer, Token};
 pub use receipt::Receipt;
 pub use shared::Shared;

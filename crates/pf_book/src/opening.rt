@@ -3,7 +3,7 @@ ghost use Rattle.std.specs.Prelude.{◌≡◌, ◌+◌, ◌^◌, ◌<◌, ◌≤
 ghost use Rattle.pf_disk.specs.Disk.{EachMoment, IsImage};
 ghost use Rattle.pf_core.specs.{Durable.Edits.Kept, Laws.Durable.IsWithin, Worlds.{last_epoch, raised}};
 ghost use Rattle.pf_store.specs.declared.store.fault.OpenFault.TheVariants.{BadSize, Memory};
-ghost use Rattle.pf_store.specs.{Banks.bank_size, Stores.{Holds, IsOfOpening}, StoreFaults.is_fault, Openings.{IsFull, IsUnopened}};
+ghost use Rattle.pf_store.specs.{Banks.bank_size, Stores.{Holds, IsOfOpening}, StoreFaults.is_fault, Openings.{IsFull, IsNoLaterThan, IsUnopened, generation_of}};
 
 use crate::history::NewHistory;
 use pf_core::Durable;
@@ -46,6 +46,12 @@ impl<D: Disk> Opening<D> {
         ensures opened { IfOk result (λ o. (d : Kept) × Holds (D.seen disk) d × (o.given ≡ raised d) × (d.epoch < last_epoch)) }
         ensures images { IfOk result (λ o. (c : List ℕ) → IsImage (D.seen o.disk) (D.unsynced o.disk) c → Holds c o.given) }
         ensures within { IfOk result (λ o. IsWithin o.given) }
+
+        // By the generation that was found, which is below 2^63, or the next one.
+        ensures generation { IfOk result (λ o. (d : Kept) × (held : Holds (D.seen disk) d)
+            × (o.generation ≤ generation_of (D.seen disk) d held + 1) × (generation_of (D.seen disk) d held < 2 ^ 63)) }
+        ensures generations { IfOk result (λ o. (c : List ℕ) → IsImage (D.seen o.disk) (D.unsynced o.disk) c → IsNoLaterThan o.generation c) }
+
         ensures size { IfOk result (λ o. o.size ≡ bank_size (length (D.seen o.disk))) }
         ensures room { IfOk result (λ o. (d : Kept) → ¬ IsFull (D.seen disk) d) }
 

@@ -34,15 +34,16 @@ impl From<AllocError> for FileFault {
 /// The bytes that a read has to give are kept in memory too, and a read that finds others in the file is a fault. No clause
 /// can say what a file holds: that its bytes after a crash are as a `Disk` says is a premise, and no promise.
 ///
-/// After a write that failed the file may hold any bytes in that range, so the device is broken: each later call is a fault,
-/// and the file isn't touched any more. Only a new device over the file, which reads it again, goes on. Own.
+/// After a write that failed the file may hold any bytes in that range, and after a sync that failed the system may have dropped what was to
+/// be written, so that the next sync succeeds without it. Then the device is broken: each later call is a fault, and the file isn't touched
+/// any more. Only a new device over the file, which reads it again, goes on. Own.
 #[derive(Drop)]
 pub struct FileDisk {
     file: File,
     size: usize,
     bytes: Vec<u8>,
     fault_count: u64,
-    // A write failed.
+    // A write or a sync failed.
     is_broken: bool,
     history: History,
     ghost seen_is: { (after (at_rest (replicate size 0)) history.events).seen ≡ bytes.items },
@@ -174,7 +175,8 @@ impl Disk for FileDisk {
     fn sync(&mut self) -> Result<(), DiskFault>
         requires few { self.old.fault_count < 2 ^ 63 }
         ensures refused { OnOk result (self.old.is_broken ≡ false) }
-        ensures broken { self.new.is_broken ≡ self.old.is_broken }
+        ensures broken { OnErr result (self.new.is_broken ≡ true) }
+        ensures whole { OnOk result (self.new.is_broken ≡ false) }
         ensures synced { OnOk result (IsSynced (unsynced_of self.new)) }
         ensures seen { seen_of self.new ≡ seen_of self.old }
         ensures unsynced { AreIn (unsynced_of self.new) (unsynced_of self.old) }
@@ -185,6 +187,7 @@ impl Disk for FileDisk {
         ensures faults { CountsFault result self.old.fault_count self.new.fault_count }
     {
         if self.is_broken || self.file.sync_data().is_err() {
+            self.is_broken = true;
             self.fault_count += 1;
             return Err(DiskFault);
         }

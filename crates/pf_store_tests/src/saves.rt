@@ -10,6 +10,7 @@ use crate::rows::{
 };
 use pf_book::{Book, Chapter, Disk, FuseDisk, MemDisk, OpenFault, Opening, format};
 use pf_disk::Fill;
+use pf_snap::NEWEST;
 use pf_store::{read_durable, write_durable};
 use std::alloc::{AllocError, Global};
 use std::marker::Brand;
@@ -255,13 +256,13 @@ impl<H: Wait + Drop + Copy> Bench<H> {
         told: &mut String,
         book: &Book<MemDisk, J, H>,
     ) -> Result<(), AllocError> {
-        let Ok(bytes) = write_durable(self.alloc, book.durable()) else {
+        let Ok(bytes) = write_durable(self.alloc, NEWEST, book.durable()) else {
             return Err(AllocError);
         };
-        let Ok(read) = read_durable(self.alloc, &bytes) else {
+        let Ok(read) = read_durable(self.alloc, NEWEST, &bytes) else {
             return Err(AllocError);
         };
-        let Ok(again) = write_durable(self.alloc, &read) else {
+        let Ok(again) = write_durable(self.alloc, NEWEST, &read) else {
             return Err(AllocError);
         };
         let is_same = bytes.as_slice() == again.as_slice();

@@ -1,13 +1,12 @@
 -- What keeps a fresh disk from being opened.
-use Rattle.std.proofs.{Common.{◌≡◌, ◌∙◌, ℕ, ◌+◌, ◌≤◌, Bool, List, length, ap, arith, refl, subst}, lemmas.Nat.le-div}
+use Rattle.std.proofs.{Common.{◌≡◌, ◌∙◌, inl, inr, sym, ℕ, ◌+◌, ◌≤◌, Bool, List, length, ap, arith, refl, subst}, lemmas.Nat.le-div}
 use Rattle.pf_core.specs.{Durable.Edits.{Kept, kept_nothing}, Worlds.raised}
 use Rattle.pf_store.specs.{Banks.{IsSize, bank_size}, Openings.{IsFull, IsUnopened, generation_of}, Stores.Holds}
-use Rattle.pf_store.specs.declared.{store.fault.OpenFault.OpenFault, store.fault.OpenFault.TheVariants.{BadSize, NoBank, Corrupt, Memory, Fault, EpochsExhausted, Full}}
+use Rattle.pf_store.specs.declared.{store.fault.OpenFault.OpenFault, store.fault.OpenFault.TheVariants.{BadSize, NoBank, Corrupt, Memory, Fault, EpochsExhausted, Full, Places}}
 use Rattle.pf_store.proofs.Refusing.{held_is_found, one_held, roomy_is_not_full}
 use Rattle.pf_disk.specs.Disk.{IsImage}
-use Rattle.pf_view.specs.declared.opening.ViewFault.{ViewFault}
-use Rattle.pf_view.specs.declared.opening.ViewFault.TheVariants as views
-use Rattle.pfd_files.specs.Faults.{told_of_opening, told_of_views}
+use Rattle.pfd_files.specs.Faults.{told_of_opening}
+use Rattle.pf_book.specs.Books.{IsUnshown}
 use Rattle.pfd.specs.Program.{Hinders}
 
 -- what a device reads as is an image of it
@@ -29,10 +28,11 @@ module _ (seen : List ℕ) (size : ℕ) (is : IsSize size) (same : length seen �
   unopened-hinders EpochsExhausted (d, other, early, last) = absurd (omega (arith, ap (λ (k : Kept). k.epoch) (one_held seen d (kept_nothing 0) other held), last))
   unopened-hinders Full (d, full) =
       absurd (roomy_is_not_full seen (kept_nothing 0) (omega (arith, roomy size is, ap bank_size same)) (subst (IsFull seen) (one_held seen d (kept_nothing 0) full.held held) full))
+  unopened-hinders Places why = absurd why
 
-pub views-hinder : (size : ℕ) (e : ViewFault) → IsSize size → Hinders size (told_of_views e)
-views-hinder size views.Memory is = is
-views-hinder size views.Places is = is
+pub unshown-hinders : (size : ℕ) (e : OpenFault) → IsSize size → IsUnshown e → Hinders size (told_of_opening e)
+unshown-hinders size e is (inl memory) = subst (λ (f : OpenFault). Hinders size (told_of_opening f)) (sym memory) is
+unshown-hinders size e is (inr places) = subst (λ (f : OpenFault). Hinders size (told_of_opening f)) (sym places) is
 
 -- what an opening gave of a disk that holds nothing
 pub given-is : (seen : List ℕ) (d given : Kept) → Holds seen d → Holds seen (kept_nothing 0) → given ≡ raised d → given ≡ raised (kept_nothing 0)

@@ -5,14 +5,13 @@ use Rattle.pf_addr.specs.Writing.{Writes}
 use Rattle.pf_core.specs.{Durable.Edits.{Kept, kept_nothing}, Pages.{IsAt, StandsFor}, Worlds.{Event, begun, down, last_epoch, opened, raised, state_after, IsWorld}}
 use Rattle.pf_store.specs.{Banks.{IsSize, bank_size}, Openings.IsUnopened, Rooms.on_device, Stores.Holds}
 use Rattle.pf_store.specs.declared.store.fault.OpenFault.{OpenFault}
-use Rattle.pf_view.specs.declared.opening.ViewFault.{ViewFault}
-use Rattle.pf_book.specs.Books.{Ledger, Opened, page, setting_of}
+use Rattle.pf_book.specs.Books.{IsUnshown, Ledger, Opened, page, setting_of}
 use Rattle.pfd_words.specs.declared.words.{Task.Task, Task.TheVariants.{Run, RunOn, Format, Show, Serve, Connect}, TheConstants.MEMORY_SIZE}
 use Rattle.pf_session.specs.declared.line_engine.fault.EngineFault.{EngineFault}
 use Rattle.pf_session.specs.declared.line_engine.fault.EngineFault.TheVariants as session
 use Rattle.pf_session.specs.{LineEngine.Sessions.IsSession, Serving.Serves}
 use Rattle.pfd_files.specs.declared.fault.{Fault.Fault, Fault.TheVariants.{BadSize, Device, Input, Memory, Output, Places}}
-use Rattle.pfd_files.specs.{Faults.{told_of_opening, told_of_views}, Showing.{IsOfFile, ShownOfFile}}
+use Rattle.pfd_files.specs.{Faults.{told_of_opening}, Showing.{IsOfFile, ShownOfFile}}
 
 abbrev pub told_of_session : EngineFault → Fault
 told_of_session session.Read = Input
@@ -45,7 +44,7 @@ abbrev pub ServesFrom : {D : Type 0} → (D → ℕ) → Opened D → ℕ → Re
     → Option (List ℕ) → Option (List ℕ) → Option (List ℕ) → Option (List ℕ) → Type 0
 ServesFrom faults opening history result unread unread' held held' =
     ((session : Result (Unit {0}) EngineFault) × (result ≡ ended session) × Began faults opening history session unread unread' held held')
-    ⊎ ((fault : ViewFault) × (result ≡ Err (told_of_views fault)) × Keeps unread unread' × Keeps held held')
+    ⊎ ((fault : OpenFault) × IsUnshown fault × (result ≡ Err (told_of_opening fault)) × Keeps unread unread' × Keeps held held')
 
 -- A session was served over a disk in memory that was just formatted, by a Book with room for so many changes: it stands for the world in
 -- which the first opening begins, with the room that a disk of this size has.

@@ -5,8 +5,6 @@ use Rattle.pf_store.specs.declared.store.fault.OpenFault.{OpenFault}
 use Rattle.pf_snap.specs.declared.fault.FormatFault.{FormatFault}
 use Rattle.pf_snap.specs.declared.fault.FormatFault.TheVariants as formatting
 use Rattle.pf_store.specs.declared.store.fault.OpenFault.TheVariants as opening
-use Rattle.pf_view.specs.declared.opening.ViewFault.{ViewFault}
-use Rattle.pf_view.specs.declared.opening.ViewFault.TheVariants as views
 use Rattle.pfd_files.specs.declared.fault.{Fault.Fault, Fault.TheVariants.{BadSize, NoBank, Corrupt, Device, Memory, EpochsExhausted, Full, Places, Input}}
 
 abbrev pub told_of_opening : OpenFault → Fault
@@ -17,6 +15,7 @@ told_of_opening opening.Memory = Memory
 told_of_opening opening.Fault = Device
 told_of_opening opening.EpochsExhausted = EpochsExhausted
 told_of_opening opening.Full = Full
+told_of_opening opening.Places = Places
 
 abbrev pub told_of_formatting : FormatFault → Fault
 told_of_formatting formatting.BadSize = BadSize
@@ -27,7 +26,3 @@ abbrev pub told_of_file : FileFault → Fault
 told_of_file file.WrongLength = Input
 told_of_file file.Fault = Device
 told_of_file file.Memory = Memory
-
-abbrev pub told_of_views : ViewFault → Fault
-told_of_views views.Memory = Memory
-told_of_views views.Places = Places

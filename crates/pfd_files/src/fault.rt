@@ -1,10 +1,9 @@
 //! Why the program ends with status 1.
 ghost use Rattle.std.specs.Prelude.{◌≡◌};
-ghost use Rattle.pfd_files.specs.Faults.{told_of_opening, told_of_formatting, told_of_file, told_of_views};
+ghost use Rattle.pfd_files.specs.Faults.{told_of_opening, told_of_formatting, told_of_file};
 
 use pf_disk::FileFault;
 use pf_store::{FormatFault, OpenFault};
-use pf_view::ViewFault;
 use thiserror::Error;
 
 /// Why the program ends with status 1. Own.
@@ -55,6 +54,7 @@ impl From<OpenFault> for Fault {
             OpenFault::Fault => Fault::Device,
             OpenFault::EpochsExhausted => Fault::EpochsExhausted,
             OpenFault::Full => Fault::Full,
+            OpenFault::Places => Fault::Places,
         }
     }
 }
@@ -67,17 +67,6 @@ impl From<FormatFault> for Fault {
             FormatFault::BadSize => Fault::BadSize,
             FormatFault::Memory => Fault::Memory,
             FormatFault::Fault => Fault::Device,
-        }
-    }
-}
-
-impl From<ViewFault> for Fault {
-    ghost from_gives = { λ fault told. told ≡ told_of_views fault };
-
-    fn from(fault: ViewFault) -> Fault {
-        match fault {
-            ViewFault::Memory => Fault::Memory,
-            ViewFault::Places => Fault::Places,
         }
     }
 }

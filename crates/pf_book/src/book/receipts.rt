@@ -4,7 +4,7 @@ ghost use Rattle.pf_disk.specs.Disk.{EachMoment};
 ghost use Rattle.std.specs.{Arc.arc_value, Option.{ForSome, option_copied, option_map}};
 ghost use mathlib.Core.List.{IsPrefix};
 ghost use Rattle.pf_core.specs.{Calls.call, Pages.{IsAt, Leads}, Worlds.{Held, calling, flat, upshot}};
-ghost use Rattle.pf_book.specs.{Books.{HoldsLeft, StaysUnlessKept, page, log_in}, Receipts.{token_of, Confirms, EndsIn, Follows, IsGiven, ShownFits}};
+ghost use Rattle.pf_book.specs.{Books.{HoldsLeft, StaysOpenable, StaysUnlessKept, page, log_in}, Receipts.{token_of, Confirms, EndsIn, Follows, IsGiven, ShownFits}};
 
 use crate::book::Book;
 use crate::history::Chapter;
@@ -24,6 +24,7 @@ impl<D: Disk + Drop, J: Chapter, R: Wait + Drop> Book<D, J, R> {
             (upshot self.new.shown (nat_lt (D.fault_count self.old.disk) (D.fault_count self.new.disk))) }
         ensures any_moment { (h : Held) → IsAt h (page self.old)
             → EachMoment D.moment D.left_since self.old.disk self.new.disk (HoldsLeft h (calling command.now)) }
+        ensures openable { StaysOpenable D.moment D.left_since self.old self.new }
         ensures front { result.1.front ≡ log_in (page self.new) }
         ensures acked { result.1.acked ≡ length (flat self.new.acked) }
         ensures given { IsGiven result.0 result.1.change (page self.old) (page self.new) }

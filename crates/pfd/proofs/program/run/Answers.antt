@@ -2,8 +2,8 @@ use Rattle.std.proofs.Common.{ℕ, [], ◌∷◌, inl, inr, lit<, refl, subst}
 use Rattle.pf_core.specs.{Durable.Edits.kept_nothing, Pages.StandsFor, Worlds.opened}
 use Rattle.pf_store.specs.Rooms.{on_device}
 use Rattle.pf_book.specs.Books.{page}
-use Rattle.pfd_files.specs.Faults.{told_of_views}
-use Rattle.pfd.proofs.Begun.{views-hinder}
+use Rattle.pfd_files.specs.Faults.{told_of_opening}
+use Rattle.pfd.proofs.Begun.{unshown-hinders}
 use Rattle.pfd.proofs.program.run.Goals as goal
 
 pub returns : goal.returns
@@ -22,5 +22,5 @@ returns g c =
           session = began.session;
         },
       )
-      | inr (fault, is_end, unread_still, held_still) ↦ inr (told_of_views fault, is_end, views-hinder c.args.size fault size_is, unread_still, held_still)
+      | inr (fault, unshown, is_end, unread_still, held_still) ↦ inr (told_of_opening fault, is_end, unshown-hinders c.args.size fault size_is unshown, unread_still, held_still)
     ]

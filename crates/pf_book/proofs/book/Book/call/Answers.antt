@@ -1,12 +1,13 @@
-use Rattle.std.proofs.{Common.{◌≡◌, ℕ, List, length, map, Ok, sym, ap, ◌∙◌, subst, arith}, lemmas.Grind.common_steps}
+use Rattle.std.proofs.{Common.{◌≡◌, ℕ, List, length, map, Ok, refl, sym, ap, ◌∙◌, subst, arith}, lemmas.Grind.common_steps}
 use Rattle.std.specs.{Arc.arc_value, Option.option_map, Prelude.nat_lt}
 use Rattle.pf_disk.specs.Disk.{EachMoment}
 use Rattle.pf_core.specs.declared.reply.{Reply.TheVariants.{Answer}}
 use Rattle.pf_core.specs.{Calls.call, Durable.Edits.{Edit, fits}, Laws.Wanted.wants_what_fits, Pages.{Page, IsAt, Leads}, Wholes.Whole, Worlds.{Held, calling, upshot}}
 use Rattle.pf_store.specs.Rooms.{on_device}
-use Rattle.pf_book.specs.{Books.{Ledger, page, page_of, HoldsLeft, IsMade, IsTold, is_fault_reply}, Receipts.IsGiven}
+use Rattle.pf_book.specs.{Books.{Ledger, ledger, page, page_of, HoldsLeft, IsMade, IsTold, is_fault_reply}, Receipts.IsGiven}
 use Rattle.pf_book.proofs.Answering.{told-given}
 use Rattle.pf_book.proofs.Calling.{with_core, IsFree, unchanging, none-behind, no-fault, not-more, fault-flag, answer-leads, history-leads, made-leads, made-stays, made-moment, still-left, err-not-fault}
+use Rattle.pf_book.proofs.Openable.{same-openable, saved-openable, still-openable}
 use Rattle.pf_book.proofs.book.Book.call.Goals.{else-self-len-via-then-self-len+else-may_change, else-self-len-via-else-self-len}
 use Rattle.pf_book.proofs.book.Book.call.Goals as goal
 
@@ -163,3 +164,36 @@ returns-in-Ok-Wants-clause-given g c =
 
 pub returns-in-Ok-OfHistory-clause-given : goal.returns-in-Ok-OfHistory-clause-given
 returns-in-Ok-OfHistory-clause-given g c = told-given c.in-Ok-OfHistory.command c.tell.result _ _ (page c.args.self.now) (page c.tell.new.self) c.tell.ensures.told
+
+pub returns-then-may_change-clause-openable : goal.returns-then-may_change-clause-openable
+returns-then-may_change-clause-openable g c =
+    let i = c.self.invariant in
+    let disk = c.self.inside.store.disk in
+    same-openable g.D.Disk.seen g.D.Disk.unsynced g.D.Disk.moment g.D.Disk.left_since _ _ c.self.view_is (g.met.D.Disk.only_now disk) i.generations i.roomy
+
+pub returns-in-Ok-Done-clause-openable : goal.returns-in-Ok-Done-clause-openable
+returns-in-Ok-Done-clause-openable g c =
+    let i = c.self.invariant in
+    let s = c.self.inside in
+    let disk = s.store.disk in
+    let new : Ledger g.row.D.Denot = ledger disk g.J.Naming.base c.step_ready.new.self (map arc_value s.log.items) s.acked s.limit s.store.size s.store.generation s.shower.shown in
+    still-openable g.D.Disk.seen g.D.Disk.unsynced g.D.Disk.moment g.D.Disk.left_since _ _ new c.self.view_is refl refl refl (g.met.D.Disk.only_now disk) i.generations i.roomy
+
+pub returns-in-Err-clause-openable : goal.returns-in-Err-clause-openable
+returns-in-Err-clause-openable g c =
+    let i = c.self.invariant in
+    let s = c.self.inside in
+    let disk = s.store.disk in
+    let new : Ledger g.row.D.Denot = ledger disk g.J.Naming.base c.step_ready.new.self (map arc_value s.log.items) s.acked s.limit s.store.size s.store.generation s.shower.shown in
+    still-openable g.D.Disk.seen g.D.Disk.unsynced g.D.Disk.moment g.D.Disk.left_since _ _ new c.self.view_is refl refl refl (g.met.D.Disk.only_now disk) i.generations i.roomy
+
+pub returns-in-Ok-OfHistory-clause-openable : goal.returns-in-Ok-OfHistory-clause-openable
+returns-in-Ok-OfHistory-clause-openable g c =
+    let i = c.self.invariant in
+    let disk = c.self.inside.store.disk in
+    still-openable g.D.Disk.seen g.D.Disk.unsynced g.D.Disk.moment g.D.Disk.left_since _ _ c.tell.new.self c.self.view_is c.tell.ensures.device c.tell.ensures.generation c.tell.ensures.size (g.met.D.Disk.only_now disk) i.generations i.roomy
+
+pub returns-in-Ok-Wants-clause-openable : goal.returns-in-Ok-Wants-clause-openable
+returns-in-Ok-Wants-clause-openable g c =
+    let o = c.make.ensures.openable in
+    saved-openable g.D.Disk.seen g.D.Disk.unsynced g.D.Disk.moment g.D.Disk.left_since _ _ c.make.new.self c.self.view_is o.stays o.one_more o.size o.early o.roomy

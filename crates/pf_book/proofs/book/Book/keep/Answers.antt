@@ -1,10 +1,10 @@
-use Rattle.std.proofs.{Common.{◌≡◌, ◌≤◌, ◌<◌, ℕ, List, [], length, map, take, drop, refl, sym, ap, ◌∙◌, subst, arith}, lemmas.Grind.common_steps}
-use Rattle.std.specs.{Arc.arc_value}
+use Rattle.std.proofs.{Common.{◌≡◌, ◌≤◌, ◌<◌, ℕ, List, [], length, map, take, drop, refl, sym, ap, ◌∙◌, subst, true, false, ◌++◌, ◌∷◌, arith}, lemmas.{Grind.common_steps, Result.err_from_is_err_and}}
+use Rattle.std.specs.{Arc.arc_value, Prelude.not}
 use Rattle.pf_disk.specs.Disk.{EachMoment}
-use Rattle.pf_core.specs.{Durable.Edits.{Edit, applied}, Pages.Page, Worlds.{Setting, flat}}
-use Rattle.pf_store.specs.{Rooms.{on_device}, Stores.{HoldsEither}}
-use Rattle.pf_book.specs.{Books.{Ledger, page_of, singles}}
-use Rattle.pf_book.proofs.{Calling.still-either, Keeping.{acked-is}, Parts.{all-acked}}
+use Rattle.pf_core.specs.{Durable.Edits.{Edit, after, applied}, Nexts.Ready, Pages.Page, Worlds.{Setting, flat}}
+use Rattle.pf_store.specs.{Rooms.{group_fits, on_device}, Stores.{FindsRoom, HoldsEither}}
+use Rattle.pf_book.specs.{Books.{HasRoom, Ledger, page, page_of, singles}}
+use Rattle.pf_book.proofs.{Calling.still-either, Finding.{device-fits, device-full, room-of}, Keeping.{acked-is, goes-on}, Openable.same-openable, Parts.{all-acked}}
 use Rattle.pf_book.proofs.book.Book.keep.Goals as goal
 
 pub returns-then-len-self-clause-err : goal.returns-then-len-self-clause-err
@@ -74,3 +74,97 @@ save-requires-clause-few g c =
     let counted : c.len.result ≡ length log = grind (arith, common_steps, c.len.ensures) in
     let few : length (flat (singles (take s.acked log))) < s.limit = subst (λ (n : ℕ). n < s.limit) (counted ∙ ap length (sym (acked-is log s.acked all))) c.if-len-self.false in
     subst (λ (l : Ledger g.row.D.Denot). length (flat l.acked) < l.limit) c.self.view_is few
+
+pub returns-then-len-self-clause-openable : goal.returns-then-len-self-clause-openable
+returns-then-len-self-clause-openable g c =
+    let i = c.self.invariant in
+    let disk = c.self.inside.store.disk in
+    same-openable g.D.Disk.seen g.D.Disk.unsynced g.D.Disk.moment g.D.Disk.left_since _ _ c.self.view_is (g.met.D.Disk.only_now disk) i.generations i.roomy
+
+pub returns-in_err-after-clause-openable : goal.returns-in_err-after-clause-openable
+returns-in_err-after-clause-openable g c =
+    let i = c.self.invariant in
+    let disk = c.self.inside.store.disk in
+    same-openable g.D.Disk.seen g.D.Disk.unsynced g.D.Disk.moment g.D.Disk.left_since _ _ c.self.view_is (g.met.D.Disk.only_now disk) i.generations i.roomy
+
+pub returns-in_default-clause-openable : goal.returns-in_default-clause-openable
+returns-in_default-clause-openable g c =
+    let i = c.self.invariant in
+    let disk = c.self.inside.store.disk in
+    same-openable g.D.Disk.seen g.D.Disk.unsynced g.D.Disk.moment g.D.Disk.left_since _ _ c.self.view_is (g.met.D.Disk.only_now disk) i.generations i.roomy
+
+pub returns-then-not-has_room-clause-any_moment : goal.returns-then-not-has_room-clause-any_moment
+returns-then-not-has_room-clause-any_moment g c =
+    let s = c.self.inside in
+    let i = c.self.invariant in
+    let e = c.args.change in
+    let log : List Edit = map arc_value s.log.items in
+    let none : singles (drop s.acked log) ≡ [] = ap (λ (l : Ledger g.row.D.Denot). l.pending) c.self.view_is ∙ c.requires.free in
+    let all : s.acked ≡ length log = all-acked log s.acked i.low none in
+    let setting : Setting = on_device s.limit s.store.size in
+    let b : Page = page_of g.J.Naming.base s.core log s.acked setting s.shower.shown in
+    let disk = s.store.disk in
+    subst (λ (l : Ledger g.row.D.Denot). EachMoment g.D.Disk.moment g.D.Disk.left_since l.disk l.disk (HoldsEither l.whole.durable (applied l.whole.durable e))) c.self.view_is
+    (still-either g.D.Disk.seen g.D.Disk.unsynced g.D.Disk.moment g.D.Disk.left_since b e disk (g.met.D.Disk.only_now disk) i.images i.folded none)
+
+pub returns-then-not-has_room-clause-openable : goal.returns-then-not-has_room-clause-openable
+returns-then-not-has_room-clause-openable g c =
+    let i = c.self.invariant in
+    let disk = c.self.inside.store.disk in
+    same-openable g.D.Disk.seen g.D.Disk.unsynced g.D.Disk.moment g.D.Disk.left_since _ _ c.self.view_is (g.met.D.Disk.only_now disk) i.generations i.roomy
+
+pub returns-then-not-has_room-clause-err : goal.returns-then-not-has_room-clause-err
+returns-then-not-has_room-clause-err g c =
+    let s = c.self.inside in
+    let i = c.self.invariant in
+    let e = c.args.change in
+    let log : List Edit = map arc_value s.log.items in
+    let none : singles (drop s.acked log) ≡ [] = ap (λ (l : Ledger g.row.D.Denot). l.pending) c.self.view_is ∙ c.requires.free in
+    let all : s.acked ≡ length log = all-acked log s.acked i.low none in
+    let counted : c.len.result ≡ length log = grind (arith, common_steps, c.len.ensures) in
+    let few : length (flat (singles (take s.acked log))) < s.limit = subst (λ (n : ℕ). n < s.limit) (counted ∙ ap length (sym (acked-is log s.acked all))) c.if-len-self.false in
+    let left : c.args.next.durable ≡ applied s.core.durable e = ap (λ (r : Ready). r.durable) c.requires.made ∙ ap (λ (l : Ledger g.row.D.Denot). applied l.whole.durable e) (sym c.self.view_is) in
+    let going : s.store.halted ≡ false = goes-on s.store.halted log s.acked i.halted all in
+    let nowhere : FindsRoom s.store.size s.core.durable (applied s.core.durable e) e → ⊥ = λ there.
+    cc (c.has_room.ensures.1 (going, room-of s.store.size s.core.durable c.durable.result.now (applied s.core.durable e) c.after.result.now e e (sym c.durable.ensures) (sym (c.after.ensures ∙ left)) refl there), c.if-not-has_room.true) in
+    let full : not (group_fits s.store.size (after g.J.Naming.base (flat (singles (take s.acked log)))) (after g.J.Naming.base (flat (singles (take s.acked log)) ++ e ∷ [])) (e ∷ [])) ≡ true =
+    device-full s.store.size g.J.Naming.base s.core.durable (applied s.core.durable e) (singles (take s.acked log)) e i.folded.durable refl nowhere in (
+      refl,
+      subst (λ (l : Ledger g.row.D.Denot). length (flat l.acked) < l.limit) c.self.view_is few,
+      subst (λ (l : Ledger g.row.D.Denot). not (group_fits l.size (after l.base (flat l.acked)) (after l.base (flat l.acked ++ e ∷ [])) (e ∷ [])) ≡ true) c.self.view_is full,
+    )
+
+pub returns-in_err-after-clause-err : goal.returns-in_err-after-clause-err
+returns-in_err-after-clause-err g c =
+    let s = c.self.inside in
+    let i = c.self.invariant in
+    let e = c.args.change in
+    let log : List Edit = map arc_value s.log.items in
+    let none : singles (drop s.acked log) ≡ [] = ap (λ (l : Ledger g.row.D.Denot). l.pending) c.self.view_is ∙ c.requires.free in
+    let all : s.acked ≡ length log = all-acked log s.acked i.low none in
+    let counted : c.len.result ≡ length log = grind (arith, common_steps, c.len.ensures) in
+    let few : length (flat (singles (take s.acked log))) < s.limit = subst (λ (n : ℕ). n < s.limit) (counted ∙ ap length (sym (acked-is log s.acked all))) c.if-len-self.false in
+    let left : c.args.next.durable ≡ applied s.core.durable e = ap (λ (r : Ready). r.durable) c.requires.made ∙ ap (λ (l : Ledger g.row.D.Denot). applied l.whole.durable e) (sym c.self.view_is) in
+    let there : FindsRoom s.store.size s.core.durable (applied s.core.durable e) e =
+    room-of s.store.size c.durable.result.now s.core.durable c.after.result.now (applied s.core.durable e) e e c.durable.ensures (c.after.ensures ∙ left) refl (c.has_room.ensures.0 c.if-not-has_room.false).1 in
+    let room : HasRoom (page_of g.J.Naming.base s.core log s.acked (on_device s.limit s.store.size) s.shower.shown) e =
+    record { few = few; device = device-fits s.store.size g.J.Naming.base s.core.durable (applied s.core.durable e) (singles (take s.acked log)) e i.folded.durable refl there } in
+    let p = err_from_is_err_and c.from_residual.result c.from_residual.ensures.1 in
+    rw (p.1, p.2) (refl, subst (λ (l : Ledger g.row.D.Denot). HasRoom (page l) e) c.self.view_is room)
+
+pub returns-in_default-clause-err : goal.returns-in_default-clause-err
+returns-in_default-clause-err g c =
+    let s = c.self.inside in
+    let i = c.self.invariant in
+    let e = c.args.change in
+    let log : List Edit = map arc_value s.log.items in
+    let none : singles (drop s.acked log) ≡ [] = ap (λ (l : Ledger g.row.D.Denot). l.pending) c.self.view_is ∙ c.requires.free in
+    let all : s.acked ≡ length log = all-acked log s.acked i.low none in
+    let counted : c.len.result ≡ length log = grind (arith, common_steps, c.len.ensures) in
+    let few : length (flat (singles (take s.acked log))) < s.limit = subst (λ (n : ℕ). n < s.limit) (counted ∙ ap length (sym (acked-is log s.acked all))) c.if-len-self.false in
+    let left : c.args.next.durable ≡ applied s.core.durable e = ap (λ (r : Ready). r.durable) c.requires.made ∙ ap (λ (l : Ledger g.row.D.Denot). applied l.whole.durable e) (sym c.self.view_is) in
+    let there : FindsRoom s.store.size s.core.durable (applied s.core.durable e) e =
+    room-of s.store.size c.durable.result.now s.core.durable c.after.result.now (applied s.core.durable e) e e c.durable.ensures (c.after.ensures ∙ left) refl (c.has_room.ensures.0 c.if-not-has_room.false).1 in
+    let room : HasRoom (page_of g.J.Naming.base s.core log s.acked (on_device s.limit s.store.size) s.shower.shown) e =
+    record { few = few; device = device-fits s.store.size g.J.Naming.base s.core.durable (applied s.core.durable e) (singles (take s.acked log)) e i.folded.durable refl there } in
+    (refl, subst (λ (l : Ledger g.row.D.Denot). HasRoom (page l) e) c.self.view_is room)

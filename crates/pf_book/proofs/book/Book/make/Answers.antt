@@ -2,7 +2,7 @@ use Rattle.std.proofs.Common.{◌≡◌, length, map, Some, refl, sym, ap, ◌�
 use Rattle.std.specs.Arc.{arc_value}
 use Rattle.pf_core.specs.{Pages.Page, Worlds.flat}
 use Rattle.pf_book.specs.Books.{Ledger, page, IsMore}
-use Rattle.pf_book.proofs.{Answering.added-by, Parts.counted-acked}
+use Rattle.pf_book.proofs.{Answering.added-by, Openable.then-still, Parts.counted-acked}
 use Rattle.pf_book.proofs.book.Book.make.Goals as goal
 
 pub returns-then-show_all-clause-made : goal.returns-then-show_all-clause-made
@@ -27,3 +27,13 @@ pub returns-else-show_all-clause-given : goal.returns-else-show_all-clause-given
 returns-else-show_all-clause-given g c =
     let same = c.if-show_all.ensures.page in
     added-by (page c.args.self.now) (page c.keep.new.self) (page c.show_all.new.self) c.args.change _ c.in-Ok.ensures.ok (ap (λ (p : Page). p.acked) same) (ap (λ (p : Page). p.pending) same) c.requires.free (ap Some c.in-Ok.ensures.given)
+
+pub returns-then-show_all-clause-openable : goal.returns-then-show_all-clause-openable
+returns-then-show_all-clause-openable g c =
+    let f = c.show_all.ensures in
+    then-still g.D.Disk.seen g.D.Disk.unsynced g.D.Disk.moment g.D.Disk.left_since c.args.self.now c.keep.new.self c.show_all.new.self c.keep.ensures.openable f.device f.generation f.size
+
+pub returns-else-show_all-clause-openable : goal.returns-else-show_all-clause-openable
+returns-else-show_all-clause-openable g c =
+    let f = c.show_all.ensures in
+    then-still g.D.Disk.seen g.D.Disk.unsynced g.D.Disk.moment g.D.Disk.left_since c.args.self.now c.keep.new.self c.show_all.new.self c.keep.ensures.openable f.device f.generation f.size

@@ -1,4 +1,4 @@
-use Rattle.std.proofs.Common.{◌≡◌, [], ◌∷◌, length, map, refl, sym, ap, ◌∙◌}
+use Rattle.std.proofs.Common.{◌≡◌, [], ◌∷◌, length, map, refl, sym, ap, ◌∙◌, arith}
 use Rattle.std.specs.Arc.{arc_value}
 use Rattle.pf_ticket.specs.Tickets.{fresh}
 use Rattle.pf_core.specs.{Durable.Edits.Kept, Wholes.Whole, Worlds.{Setting, begun, opened, down}}
@@ -6,7 +6,17 @@ use Rattle.pf_core.specs.Worlds.{raised as raised'}
 use Rattle.pf_core.proofs.LongerWorlds.{stands-by, stands-opened}
 use Rattle.pf_store.specs.Rooms.{on_device}
 use Rattle.pf_book.specs.Books.{Opened, singles}
+use Rattle.pf_book.proofs.Keeping.{new-book}
 use Rattle.pf_book.proofs.book.Book.of.Goals as goal
+
+pub invariant_of-book : goal.invariant_of-book
+invariant_of-book g c =
+    let store = c.opening.inside.store in
+    let d = arc_value c.opening.inside.durable in
+    let given : d ≡ g.J.Naming.base = ap (λ (x : Opened g.row.D.Denot). x.given) c.opening.view_is ∙ c.requires.name.0 in
+    new-book g.D.Disk.seen g.D.Disk.unsynced store g.J.Naming.base c.new.result d _ (on_device c.args.history_limit store.size) _ _ c.opening.invariant
+    (ap (λ xs. map arc_value xs) c.new-in-Ok-views.ensures.items) c.in-Some.ensures given (ap (λ (w : Whole). w.durable) c.new.ensures ∙ c.in-Ok.ensures) (omega (arith, c.requires.high))
+    c.in-Ok-views.ensures.shower.0 c.in-Ok-views.ensures.shower.1
 
 pub returns-in-Ok-views-clause-worlds : goal.returns-in-Ok-views-clause-worlds
 returns-in-Ok-views-clause-worlds g c = λ first d world legal comes low raised.

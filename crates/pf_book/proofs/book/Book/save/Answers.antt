@@ -1,11 +1,11 @@
-use Rattle.std.proofs.{Common.{true, false, ◌≡◌, ◌<◌, ◌+◌, ◌^◌, ℕ, List, [], ◌∷◌, ◌++◌, length, map, take, drop, refl, sym, ap, ◌∙◌, subst, arith}, lemmas.Grind.common_steps}
+use Rattle.std.proofs.{Common.{true, false, ◌≡◌, ◌<◌, ◌+◌, ◌^◌, ℕ, List, [], ◌∷◌, ◌++◌, length, map, take, drop, refl, sym, ap, ◌∙◌, subst, arith}, lemmas.{Grind.common_steps, Result.err_from_is_err_and}}
 use Rattle.std.specs.{Arc.arc_value, Prelude.not}
 use Rattle.pf_disk.specs.Disk.{EachMoment}
 use Rattle.pf_ticket.specs.Mentions.{after as moved_by, switches}
 use Rattle.pf_core.specs.{Durable.Edits.{Kept, Edit, applied, after}, Nexts.Ready, Pages.Page, Wholes.Whole, Worlds.{Setting, flat}}
-use Rattle.pf_store.specs.{Rooms.{group_fits, on_device}, Stores.{Holds, HoldsEither, FindsRoom}, StoreKept.{Stands, Storage}}
+use Rattle.pf_store.specs.{Rooms.{group_fits, on_device}, Stores.{Holds, HoldsEither, FindsRoom, IsRoomy}, StoreKept.{Stands, Storage}}
 use Rattle.pf_book.specs.{Books.{Ledger, page, page_of, singles, IsMore, IsPending, HasRoom}, Pasts.with_change}
-use Rattle.pf_book.proofs.{Calling.still-either, Finding.{device-fits, device-full}, Keeping.{acked-is, acked-more, goes-on, pending-page, more-book, fault-book}, Parts.{all-acked, left-none}}
+use Rattle.pf_book.proofs.{Calling.still-either, Finding.{device-fits, device-full, room-of}, Keeping.{acked-is, acked-more, goes-on, pending-page, more-book, fault-book}, Openable.{itself, later, saved-openable, still-openable}, Parts.{all-acked, left-none}}
 use Rattle.pf_book.proofs.book.Book.save.Goals as goal
 
 pub save-requires-clause-stands : goal.save-requires-clause-stands
@@ -70,6 +70,10 @@ invariant_of-self-in-Ok g c =
     (subst (λ (k : Kept). Stands g.D.Disk.seen g.D.Disk.unsynced c.save.new.self k) kept d.stands)
     d.generation i.limit
     (λ image is. subst (λ (k : Kept). Holds image k) kept (d.images image is))
+    (λ image is. let run = c.save.ensures.generations going in
+    later (s.store.generation + 1) (c.save.new.self.generation + 1) (omega (arith, c.save.ensures.generation_stays)) image (run.each image (g.met.D.Disk.counts_now c.save.new.self.disk (g.D.Disk.moment disk) image run.later is)))
+    (λ room image is. let run = c.save.ensures.roomy going (i.roomy (subst (λ (n : ℕ). IsRoomy n g.J.Naming.base) c.save.ensures.size room) (g.D.Disk.seen disk) (itself (g.D.Disk.seen disk) (g.D.Disk.unsynced disk))) in
+    run.each image (g.met.D.Disk.counts_now c.save.new.self.disk (g.D.Disk.moment disk) image run.later is))
 
 pub returns-in-Ok-clause-ok : goal.returns-in-Ok-clause-ok
 returns-in-Ok-clause-ok g c =
@@ -218,6 +222,10 @@ invariant_of-self-in-Fault-1 g c =
     fault-book g.D.Disk.seen g.D.Disk.unsynced s.store c.save.new.self g.J.Naming.base s.core (arc_value s.durable) log log' e s.acked s.offered setting setting' s.shower s.tip c.add-in-Err-Fault.new.self i none logged
     (c.add-in-Err-Fault.ensures ∙ ap (λ (x : Edit). with_change s.tip x false) c.requires.noted) (f.halts refl) i.limit
     (λ image is. run.each image (g.met.D.Disk.counts_now c.save.new.self.disk (g.D.Disk.moment disk) image run.later is))
+    (λ image is. let run = c.save.ensures.generations going in
+    later (s.store.generation + 1) (c.save.new.self.generation + 1) (omega (arith, c.save.ensures.generation_stays)) image (run.each image (g.met.D.Disk.counts_now c.save.new.self.disk (g.D.Disk.moment disk) image run.later is)))
+    (λ room image is. let run = c.save.ensures.roomy going (i.roomy (subst (λ (n : ℕ). IsRoomy n g.J.Naming.base) c.save.ensures.size room) (g.D.Disk.seen disk) (itself (g.D.Disk.seen disk) (g.D.Disk.unsynced disk))) in
+    run.each image (g.met.D.Disk.counts_now c.save.new.self.disk (g.D.Disk.moment disk) image run.later is))
 
 pub returns-in-Err-Fault-clause-err : goal.returns-in-Err-Fault-clause-err
 returns-in-Err-Fault-clause-err g c =
@@ -268,3 +276,96 @@ returns-in-Err-Fault-clause-any_moment g c =
     subst (λ (k : Kept). EachMoment g.D.Disk.moment g.D.Disk.left_since disk c.save.new.self.disk (HoldsEither s.core.durable k)) next
     (subst (λ (k : Kept). EachMoment g.D.Disk.moment g.D.Disk.left_since disk c.save.new.self.disk (HoldsEither k c.deref-2.result.now)) before (c.save.ensures.any_moment going)) in
     subst (λ (l : Ledger g.row.D.Denot). EachMoment g.D.Disk.moment g.D.Disk.left_since l.disk c.save.new.self.disk (HoldsEither l.whole.durable (applied l.whole.durable e))) c.self.view_is run
+
+pub returns-in_err-reserve-clause-openable : goal.returns-in_err-reserve-clause-openable
+returns-in_err-reserve-clause-openable g c =
+    let i = c.self.invariant in
+    let disk = c.self.inside.store.disk in
+    still-openable g.D.Disk.seen g.D.Disk.unsynced g.D.Disk.moment g.D.Disk.left_since _ _ _ c.self.view_is refl refl refl (g.met.D.Disk.only_now disk) i.generations i.roomy
+
+pub returns-in-Ok-clause-openable : goal.returns-in-Ok-clause-openable
+returns-in-Ok-clause-openable g c =
+    let s = c.self.inside in
+    let i = c.self.invariant in
+    let log : List Edit = map arc_value s.log.items in
+    let none : singles (drop s.acked log) ≡ [] = ap (λ (l : Ledger g.row.D.Denot). l.pending) c.self.view_is ∙ c.requires.free in
+    let going : s.store.halted ≡ false = goes-on s.store.halted log s.acked i.halted (all-acked log s.acked i.low none) in
+    let disk = s.store.disk in
+    let f = c.save.ensures in
+    saved-openable g.D.Disk.seen g.D.Disk.unsynced g.D.Disk.moment g.D.Disk.left_since _ _ _ c.self.view_is f.generation_stays f.generation f.size (f.generations going)
+    (λ room. f.roomy going (i.roomy room (g.D.Disk.seen disk) (itself (g.D.Disk.seen disk) (g.D.Disk.unsynced disk))))
+
+pub returns-in-Err-Memory-clause-openable : goal.returns-in-Err-Memory-clause-openable
+returns-in-Err-Memory-clause-openable g c =
+    let s = c.self.inside in
+    let i = c.self.invariant in
+    let log : List Edit = map arc_value s.log.items in
+    let none : singles (drop s.acked log) ≡ [] = ap (λ (l : Ledger g.row.D.Denot). l.pending) c.self.view_is ∙ c.requires.free in
+    let going : s.store.halted ≡ false = goes-on s.store.halted log s.acked i.halted (all-acked log s.acked i.low none) in
+    let disk = s.store.disk in
+    let f = c.save.ensures in
+    saved-openable g.D.Disk.seen g.D.Disk.unsynced g.D.Disk.moment g.D.Disk.left_since _ _ _ c.self.view_is f.generation_stays f.generation f.size (f.generations going)
+    (λ room. f.roomy going (i.roomy room (g.D.Disk.seen disk) (itself (g.D.Disk.seen disk) (g.D.Disk.unsynced disk))))
+
+pub returns-in-Err-Full-clause-openable : goal.returns-in-Err-Full-clause-openable
+returns-in-Err-Full-clause-openable g c =
+    let s = c.self.inside in
+    let i = c.self.invariant in
+    let log : List Edit = map arc_value s.log.items in
+    let none : singles (drop s.acked log) ≡ [] = ap (λ (l : Ledger g.row.D.Denot). l.pending) c.self.view_is ∙ c.requires.free in
+    let going : s.store.halted ≡ false = goes-on s.store.halted log s.acked i.halted (all-acked log s.acked i.low none) in
+    let disk = s.store.disk in
+    let f = c.save.ensures in
+    saved-openable g.D.Disk.seen g.D.Disk.unsynced g.D.Disk.moment g.D.Disk.left_since _ _ _ c.self.view_is f.generation_stays f.generation f.size (f.generations going)
+    (λ room. f.roomy going (i.roomy room (g.D.Disk.seen disk) (itself (g.D.Disk.seen disk) (g.D.Disk.unsynced disk))))
+
+pub returns-in-Err-Fault-clause-openable : goal.returns-in-Err-Fault-clause-openable
+returns-in-Err-Fault-clause-openable g c =
+    let s = c.self.inside in
+    let i = c.self.invariant in
+    let log : List Edit = map arc_value s.log.items in
+    let none : singles (drop s.acked log) ≡ [] = ap (λ (l : Ledger g.row.D.Denot). l.pending) c.self.view_is ∙ c.requires.free in
+    let going : s.store.halted ≡ false = goes-on s.store.halted log s.acked i.halted (all-acked log s.acked i.low none) in
+    let disk = s.store.disk in
+    let f = c.save.ensures in
+    saved-openable g.D.Disk.seen g.D.Disk.unsynced g.D.Disk.moment g.D.Disk.left_since _ _ _ c.self.view_is f.generation_stays f.generation f.size (f.generations going)
+    (λ room. f.roomy going (i.roomy room (g.D.Disk.seen disk) (itself (g.D.Disk.seen disk) (g.D.Disk.unsynced disk))))
+
+pub returns-in_err-reserve-clause-err : goal.returns-in_err-reserve-clause-err
+returns-in_err-reserve-clause-err g c =
+    let s = c.self.inside in
+    let i = c.self.invariant in
+    let e : Edit = arc_value c.args.change in
+    let log : List Edit = map arc_value s.log.items in
+    let few : length (flat (singles (take s.acked log))) < s.limit = subst (λ (l : Ledger g.row.D.Denot). length (flat l.acked) < l.limit) (sym c.self.view_is) c.requires.few in
+    let left : c.args.next.durable ≡ applied s.core.durable e = ap (λ (r : Ready). r.durable) c.requires.made ∙ ap (λ (l : Ledger g.row.D.Denot). applied l.whole.durable e) (sym c.self.view_is) in
+    let found : FindsRoom s.store.size s.core.durable c.args.next.durable e =
+    subst (λ (l : Ledger g.row.D.Denot). FindsRoom l.size l.whole.durable c.args.next.durable e) (sym c.self.view_is) c.requires.room in
+    let there : FindsRoom s.store.size s.core.durable (applied s.core.durable e) e =
+    room-of s.store.size s.core.durable s.core.durable c.args.next.durable (applied s.core.durable e) e e refl left refl found in
+    let room : HasRoom (page_of g.J.Naming.base s.core log s.acked (on_device s.limit s.store.size) s.shower.shown) e =
+    record { few = few; device = device-fits s.store.size g.J.Naming.base s.core.durable (applied s.core.durable e) (singles (take s.acked log)) e i.folded.durable refl there } in
+    let p = err_from_is_err_and c.from_residual.result c.from_residual.ensures.1 in
+    let same = ap (λ xs. page_of g.J.Naming.base s.core (map arc_value xs) s.acked (on_device s.limit s.store.size) s.shower.shown) c.reserve.ensures.items ∙ ap page c.self.view_is in
+    rw (p.1, p.2) (same, subst (λ (l : Ledger g.row.D.Denot). HasRoom (page l) e) c.self.view_is room)
+
+pub returns-in-Err-Memory-clause-err : goal.returns-in-Err-Memory-clause-err
+returns-in-Err-Memory-clause-err g c =
+    let s = c.self.inside in
+    let i = c.self.invariant in
+    let e : Edit = arc_value c.args.change in
+    let log : List Edit = map arc_value s.log.items in
+    let few : length (flat (singles (take s.acked log))) < s.limit = subst (λ (l : Ledger g.row.D.Denot). length (flat l.acked) < l.limit) (sym c.self.view_is) c.requires.few in
+    let left : c.args.next.durable ≡ applied s.core.durable e = ap (λ (r : Ready). r.durable) c.requires.made ∙ ap (λ (l : Ledger g.row.D.Denot). applied l.whole.durable e) (sym c.self.view_is) in
+    let found : FindsRoom s.store.size s.core.durable c.args.next.durable e =
+    subst (λ (l : Ledger g.row.D.Denot). FindsRoom l.size l.whole.durable c.args.next.durable e) (sym c.self.view_is) c.requires.room in
+    let there : FindsRoom s.store.size s.core.durable (applied s.core.durable e) e =
+    room-of s.store.size s.core.durable s.core.durable c.args.next.durable (applied s.core.durable e) e e refl left refl found in
+    let room : HasRoom (page_of g.J.Naming.base s.core log s.acked (on_device s.limit s.store.size) s.shower.shown) e =
+    record { few = few; device = device-fits s.store.size g.J.Naming.base s.core.durable (applied s.core.durable e) (singles (take s.acked log)) e i.folded.durable refl there } in
+    let f = rw c.in-Err-Memory.field-0-is at c.in-Err-Memory.ensures in
+    let same : c.save.new.self ≡ s.store = f.unchanged (λ x. cc (x)) in (
+      ap (λ xs. page_of g.J.Naming.base s.core (map arc_value xs) s.acked (on_device s.limit c.save.new.self.size) s.shower.shown) c.reserve.ensures.items
+          ∙ ap (λ (x : Storage g.row.D.Denot). page_of g.J.Naming.base s.core log s.acked (on_device s.limit x.size) s.shower.shown) same ∙ ap page c.self.view_is,
+      subst (λ (l : Ledger g.row.D.Denot). HasRoom (page l) e) c.self.view_is room,
+    )
