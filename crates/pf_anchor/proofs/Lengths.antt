@@ -6,7 +6,7 @@ use Rattle.pf_addr.proofs.PathBytes.{path_fits}
 use Rattle.pf_rule.specs.{Rules.{PlainRule, IsRule}, Sum.{Layouts.{rule_layout, plain_rule}}}
 use Rattle.pf_rule.proofs.RuleBytes.{layout_long}
 use Rattle.pf_table.specs.{Entries.Row, EntryForms.{entry, plain_entry}, Laws.EntryForms.entry_long}
-use Rattle.pf_anchor.specs.{declared.limits.TheConstants.{RULE_LIMIT}, Rulesets.Ruled, Tables.Tabled, Forms.{rule_list_form, rules_form, rulesets_form, plain_ruled, entries_form, named_form, placed_form, kept_tables_form, plain_tabled, ruled_length, tabled_length}}
+use Rattle.pf_anchor.specs.{declared.limits.TheConstants.{RULE_LIMIT}, Rulesets.Ruled, Tables.Tabled, Forms.{rule_list_form, rules_form, rulesets_form, plain_ruled, entries_form, named_form, plain_named, placed_form, kept_tables_form, plain_tabled, ruled_length, tabled_length}}
 
 sum_of-map : {A B : Type 0} (f : B → ℕ) (g : A → B) (xs : List A) → sum_by f (map g xs) ≡ sum_by (λ x. f (g x)) xs
 sum_of-map f g [] = refl
@@ -36,6 +36,10 @@ entries_sum (e ∷ es) = omega (arith, sum_by-cons (length_of entry) (plain_entr
 pub ruled_long : (version : ℕ) (r : Ruled) → All IsRule r.1 → ruled_length version r ≡ 5 + length r.0 + 204 * length r.1
 unfolding rules_form rule_list_form path_form
 ruled_long version r are = omega (arith, ones r.0, rules_sum version r.1 are)
+
+pub named_long : (name : List ℕ) (es : List Row) → length_of named_form (plain_named (name, es)) ≡ 5 + length name + 20 * length es
+unfolding named_form entries_form table_name_form
+named_long name es = omega (arith, ones name, entries_sum es)
 
 pub tabled_long : (t : Tabled) → tabled_length t ≡ 6 + length t.0.0 + length t.0.1 + 20 * length t.1
 unfolding placed_form named_form entries_form path_form table_name_form

@@ -5,7 +5,7 @@
 --   a table: its path, its name, the number of its entries in four bytes, and each entry
 --
 -- Rulesets stand in the order of their paths, tables in that of their paths and at one path of their names, entries in that of their table,
--- each behind their number in four bytes; so nothing stands twice. No ruleset and no table is empty.
+-- each behind their number in four bytes; so nothing stands twice. Among all rulesets and all tables none is empty.
 use Rattle.std.specs.{Prelude.{ℕ, ◌+◌, ◌==◌, ◌&&◌, not, nat_le, Bool, List, length, map}, List.list_all, Ordering.is_lt}
 use Rattle.pf_addr.specs.{Bytes.{Forms.{Shape, both, list, Value, Form, pair, counted, that, length_of}, Lists.ordered}, Path.{Paths.path_order, PathForms.{TextShape, path_form, table_name_form}}}
 use Rattle.pf_rule.specs.Sum.{Layouts.{RuleShape, rule_layout, plain_rule}, Reading.rule_of}

@@ -10,6 +10,7 @@
 //!
 //! `config` is the type, and uses all other modules; `evaluate` is judging, over `config`, and uses `evaluated` (what was found so far)
 //! and `named_tables` (the table that a rule names); `rulesets`, `tables` and `rule_list` are what the maps hold, and use none of them.
+//! `verdict` is what an evaluation answers, `fault` why something isn't put at a path, by the `limits`, and `laws` may name all.
 #![tactic(auto)]
 
 mod config;
@@ -29,6 +30,6 @@ pub use fault::ConfigFault;
 pub use limits::{RULE_LIMIT, RULESET_LIMIT, TABLE_COUNT_LIMIT};
 pub use pf_addr::path::Path;
 pub use rule_list::RuleList;
-pub use rulesets::{EachRuleset, Placed};
-pub use tables::{EachTable, PlacedTable};
+pub use rulesets::{EachRuleset, Placed, ruleset_length};
+pub use tables::{EachTable, PlacedTable, named_table_length};
 pub use verdict::RuleVerdict;

@@ -1,5 +1,6 @@
 //! The active rulesets.
-ghost use Rattle.std.specs.Prelude.{◌≡◌, IfOk};
+ghost use Rattle.std.specs.Prelude.{◌≡◌, ℕ, IfOk};
+ghost use Rattle.pf_anchor.specs.Forms.{ruled_length};
 
 use crate::rule_list::RuleList;
 use pf_addr::path::Path;
@@ -10,7 +11,18 @@ use std::alloc::{AllocError, Global};
 /// A ruleset at its path, shared by all that hold it: path and rules stand once. Contracts see it as a `Ruled`.
 pub type Placed = Entry<Path, RuleList>;
 
-/// How many bytes a ruleset takes where it is kept, in each version: a path behind its length, and rules behind their number.
+/// How many bytes a ruleset takes where it is kept, in each version: a path behind its length, and rules behind their number. It looks at
+/// no rule.
+#[tactic(auto, using(crate::proofs::Lengths::ruled_long, crate::proofs::Lengths::path_short))]
+pub fn ruleset_length(placed: &Placed) -> u32
+    ensures { (version : ℕ) → result ≡ ruled_length version placed.now }
+{
+    let path = placed.key().as_bytes();
+    let rules = placed.value().as_slice();
+    (5 + path.len() + RULE_FORM * rules.len()) as u32
+}
+
+/// What each ruleset weighs: the bytes that it takes where it is kept, in the first version and so in each.
 pub(crate) struct RulesetBytes;
 
 impl Weigher<Path, RuleList> for RulesetBytes {
@@ -18,11 +30,8 @@ impl Weigher<Path, RuleList> for RulesetBytes {
 
     ghost weight = { ruled_length 1 };
 
-    #[tactic(auto, using(crate::proofs::Lengths::ruled_long, crate::proofs::Lengths::path_short))]
     fn weigh(placed: &Placed) -> u32 {
-        let path = placed.key().as_bytes();
-        let rules = placed.value().as_slice();
-        (5 + path.len() + RULE_FORM * rules.len()) as u32
+        ruleset_length(placed)
     }
 }
 

@@ -1,4 +1,7 @@
 //! The active tables.
+ghost use Rattle.std.specs.Prelude.{◌≡◌};
+ghost use Rattle.pf_addr.specs.Bytes.Forms.{length_of};
+ghost use Rattle.pf_anchor.specs.Forms.{named_form, plain_named};
 
 use pf_addr::path::{Path, TableName};
 use pf_map::{Entries, Entry, Key, PagedMap, Probe, Weigher};
@@ -11,7 +14,19 @@ pub type PlacedTable = Entry<(Path, TableName), Table>;
 // How many bytes an entry takes.
 const ENTRY_BYTES: usize = 20;
 
-/// How many bytes a table takes where it is kept: a path and a name behind their lengths, and entries behind their number.
+/// How many bytes a table takes behind its path where it is kept, in each version: a name behind its length, and entries behind their
+/// number. It looks at no entry.
+#[tactic(auto, using(crate::proofs::Lengths::named_long))]
+pub fn named_table_length(name: &TableName, table: &Table) -> u32
+    ensures { result ≡ length_of named_form (plain_named (name.now, table.now)) }
+{
+    let name = name.as_bytes();
+    // what each table keeps of how many entries there are
+    let _entries = table.entries();
+    (5 + name.len() + ENTRY_BYTES * table.len()) as u32
+}
+
+/// What each table weighs: the bytes that it takes where it is kept.
 pub(crate) struct TableBytes;
 
 impl Weigher<(Path, TableName), Table> for TableBytes {

@@ -76,8 +76,8 @@ impl<'a> Probe<'a> {
         hosts & ports(columns, &self.words, at, &marks)
     }
 
-    /// The first block from this one on in which a rule may match, or where the rules begin that have no columns: no rule of the
-    /// blocks before it matches, whatever tables say. It takes no memory.
+    /// The first block from this one on in which a rule may match, or that has no columns: no rule of the blocks passed over matches,
+    /// whatever tables say. It takes no memory.
     pub fn next_near(&self, from: usize) -> usize
         ensures later { from ≤ result }
         ensures none { (says : TableTest) (block i : ℕ) → from ≤ block → block < result → i < 8 →

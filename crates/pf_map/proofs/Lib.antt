@@ -7,3 +7,4 @@ pub mod ListMaps
 pub mod Indexes
 pub mod Ordered
 pub mod Gathered
+pub mod Hinted

@@ -1,81 +1,14 @@
 //! Values found by their names and by a second key.
 ghost use Rattle.std.specs.{Prelude.{◌≡◌, T, [], length, false, Some, IfOk}, FinMap.is_sorted, List.Sorted.{IsPermutation, IsSortedBy}, Option.option_map, Ordering.is_lt};
-ghost use Rattle.pf_addr.specs.Bytes.Lists.{in_order};
 ghost use Rattle.pf_map.specs.{Indexes.{of_flow, is_clash, unflowed, IsIndexOf}, Maps.{with_value, without, entry_at}};
 
+use crate::by_flow::{ByFlow, Flowed, HintedFlow, are_apart, each_by_flow, in_order_of_flows};
 use crate::entries::Entries;
-use crate::entry::{Entry, Held};
+use crate::entry::Entry;
 use crate::key::{Key, Probe};
 use crate::tree_map::TreeMap;
 use std::alloc::{AllocError, Global};
-use std::cmp::Ordering;
-use std::marker::{Model, PhantomData};
-
-/// A value that has a second key beside its name, as a state has its flow.
-pub trait Flowed<F: Key>: Drop {
-    /// The second key.
-    ghost flow: { Self → F };
-
-    /// The second key.
-    fn flow(&self) -> &F
-        ensures { result.now ≡ flow self.now };
-}
-
-// An entry as the map of flows holds it: its value has the key. Contracts see it as the entry.
-struct ByFlow<N: Key, F: Key, V: Flowed<F>> {
-    entry: Entry<N, V>,
-    of: PhantomData<F>,
-}
-
-impl<N: Key, F: Key, V: Flowed<F>> Drop for ByFlow<N, F, V> {
-    fn drop(self) {
-        let ByFlow { entry: _, of: _ } = self;
-    }
-}
-
-impl<N: Key, F: Key, V: Flowed<F>> Model for ByFlow<N, F, V> {
-    ghost Value = { N × V };
-
-    ghost view = { λ e. e.entry };
-}
-
-impl<N: Key, F: Key, V: Flowed<F>> ByFlow<N, F, V> {
-    // The same entry, with one owner more. `AllocError`: it can't have another.
-    fn new(entry: &Entry<N, V>) -> Result<ByFlow<N, F, V>, AllocError>
-        ensures { IfOk result (λ e. e ≡ entry.now) }
-    {
-        Ok(ByFlow {
-            entry: entry.shared()?,
-            of: PhantomData,
-        })
-    }
-
-    // Which of two flows comes first.
-    fn order(&self, other: &ByFlow<N, F, V>) -> Ordering
-        ensures { result ≡ F.order (V.flow self.now.1) (V.flow other.now.1) }
-    {
-        Key::order(self.entry.value().flow(), other.entry.value().flow())
-    }
-
-    // The entry.
-    fn entry(&self) -> &Entry<N, V>
-        ensures { result.now ≡ self.now }
-    {
-        &self.entry
-    }
-}
-
-impl<N: Key, F: Key, V: Flowed<F>> Held<F, Entry<N, V>> for ByFlow<N, F, V> {
-    ghost pair = { λ e. (V.flow e.1, e) };
-
-    fn share(&self) -> Result<ByFlow<N, F, V>, AllocError> {
-        ByFlow::new(&self.entry)
-    }
-
-    fn held_key(&self) -> &F {
-        self.entry.value().flow()
-    }
-}
+use std::marker::Model;
 
 /// Values by name, of which no two have one flow. Contracts see it as the list of them in the order of names.
 ///
@@ -117,64 +50,22 @@ fn without_flow<N: Key, F: Key, V: Flowed<F>>(
     }
 }
 
-// These values as the map of flows holds them.
-fn each_by_flow<N: Key, F: Key, V: Flowed<F>>(
-    alloc: Global,
-    entries: &[Entry<N, V>],
-) -> Result<Vec<ByFlow<N, F, V>>, AllocError>
-    ensures { IfOk result (λ v. v.items ≡ entries.now) }
-{
-    let mut flows = Vec::with_capacity(alloc, entries.len())?;
-    for entry in entries {
-        flows.push(ByFlow::new(entry)?)?;
-    }
-    Ok(flows)
-}
-
-// The same, in the order of their flows.
-fn in_order_of_flows<N: Key, F: Key, V: Flowed<F>>(
-    alloc: Global,
-    entries: &[Entry<N, V>],
-) -> Result<Vec<ByFlow<N, F, V>>, AllocError>
-    ensures same { IfOk result (λ v. IsPermutation entries.now v.items) }
-    ensures sorted { IfOk result (λ v. IsSortedBy (λ a b. is_lt (F.order (V.flow a.1) (V.flow b.1))) v.items) }
-{
-    let mut flows = each_by_flow(alloc, entries)?;
-    flows.sort_by(|a, b| a.order(b))?;
-    Ok(flows)
-}
-
-// Whether the flow of each comes before that of the next.
-#[tactic(auto, using(crate::proofs::Gathered::few_turned))]
-fn are_apart<N: Key, F: Key, V: Flowed<F>>(flows: &[ByFlow<N, F, V>]) -> bool
-    ensures { result ≡ in_order (λ a b. is_lt (F.order (V.flow a.1) (V.flow b.1))) flows.now }
-{
-    let mut rest = flows;
-    while rest.len() > 1 {
-        if !rest[0].order(&rest[1]).is_lt() {
-            return false;
-        }
-        rest = &rest[1..];
-    }
-    true
-}
-
 // The index of these values, which stand in the order of their names and in that of their flows; none where two have one flow.
 fn of_both<N: Key, F: Key, V: Flowed<F>>(
     alloc: Global,
     entries: &[Entry<N, V>],
-    flows: &[ByFlow<N, F, V>],
+    flows: Vec<HintedFlow<N, F, V>>,
 ) -> Result<Option<Index<N, F, V>>, AllocError>
     requires named { T (is_sorted N.order entries.now) }
-    requires same { IsPermutation entries.now flows.now }
-    requires sorted { IsSortedBy (λ a b. is_lt (F.order (V.flow a.1) (V.flow b.1))) flows.now }
+    requires same { IsPermutation entries.now flows.items }
+    requires sorted { IsSortedBy (λ a b. is_lt (F.order (V.flow a.1) (V.flow b.1))) flows.items }
     ensures { IfOk result (λ i. IsIndexOf F.order V.flow entries.now i) }
 {
-    if !are_apart(flows) {
+    if !are_apart(&flows) {
         return Ok(None);
     }
     let names = TreeMap::of(alloc, entries)?;
-    let flows = TreeMap::of(alloc, flows)?;
+    let flows = TreeMap::of(alloc, &each_by_flow(alloc, flows)?)?;
     Ok(Some(Index { names, flows }))
 }
 
@@ -196,7 +87,7 @@ impl<N: Key, F: Key, V: Flowed<F>> Index<N, F, V> {
         ensures { IfOk result (λ i. IsIndexOf F.order V.flow entries.now i) }
     {
         let flows = in_order_of_flows(alloc, entries)?;
-        of_both(alloc, entries, &flows)
+        of_both(alloc, entries, flows)
     }
 
     /// How many values there are.

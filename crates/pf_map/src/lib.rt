@@ -5,10 +5,17 @@
 //! A map is the list of its entries in the order of their keys, no key twice. Read first specs/Maps.antt, which says what a map holds once
 //! a key's value was replaced, and specs/ListMaps.antt, maps of lists in which an empty list has no entry; specs/Indexes.antt is about
 //! values with two keys. Callers use [`PagedMap`], [`TreeMap`] and [`Index`]: copies share all pages, and a change makes anew those on the
-//! way to what it changes (`level`, `part`, `slot`). `laws` has what follows from the definitions.
+//! way to what it changes.
+//!
+//! `key` is what maps are ordered by, with `keys` and `networks` as those there are; `entry` is what stands at a key, and `weight` what
+//! entries weigh together. A tree consists of parts (`part`), which a `level` holds in slots (`slot`); `pieces` is what becomes of a part
+//! that was changed, `raised` makes levels over parts that are there already, and `beside` keeps with a page what follows from its
+//! entries. `tree_map` is the tree and `entries` goes over it; `paged_map` and `index` stand on trees, the latter with `by_flow`, the
+//! entries under their second keys. `laws` has what follows from the definitions.
 #![tactic(auto)]
 
 mod beside;
+mod by_flow;
 mod entries;
 mod entry;
 mod index;
@@ -26,9 +33,10 @@ mod tree_map;
 mod weight;
 
 pub use beside::{Beside, PageBeside};
+pub use by_flow::Flowed;
 pub use entries::Entries;
 pub use entry::{Content, Entry, Held};
-pub use index::{Flowed, Index};
+pub use index::Index;
 pub use key::{Key, Probe};
 pub use paged_map::PagedMap;
 pub use tree_map::TreeMap;

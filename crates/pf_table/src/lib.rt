@@ -1,6 +1,7 @@
 //! Tables: networks, each plain or negated, and which of them decides about an address (pf.conf(5), TABLES).
 //!
-//! It knows the addresses and networks of pf_addr and the maps of pf_map. It doesn't know where a table is, or who names it.
+//! It knows the addresses and networks of pf_addr, the maps of pf_map and the columns of pf_lanes. It doesn't know where a table is, or who
+//! names it.
 //!
 //! A table is the list of its entries in the order of their networks, none of them twice; of those that contain an address the one with
 //! the longest prefix decides. Read first specs/Tables.antt, which says so, and specs/Edits.antt, what an edit leaves and answers;

@@ -1,7 +1,7 @@
 use Rattle.std.proofs.Common.{rules}
 use Rattle.std.specs.Ordering.{is_lt}
 use Rattle.std.proofs.lemmas.List.Sorted.{ranks_by, answers_always}
-use Rattle.pf_map.proofs.index.in_order_of_flows.Goals as goal
+use Rattle.pf_map.proofs.by_flow.in_order_of_flows.Goals as goal
 
 pub returns-clause-sorted : goal.returns-clause-sorted
 returns-clause-sorted g c =
