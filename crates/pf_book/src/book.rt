@@ -363,7 +363,7 @@ impl<D: Disk + Drop, J: Chapter, R: Wait + Drop> Book<D, J, R> {
     /// was refused for that. The refusals, in their order: `Halted`, where the device failed in an earlier call and the command may change
     /// something; the core's own; `HistoryFull`, where the history has as many changes as it may have; `Full`, where the device has no room
     /// for the change; `Fault`, where a call of the device failed. `Memory` may come instead of any reply but that to a judge, a test, a
-    /// sum, a rollback and a `log`; but of a change that the core wants, with all its memory made, the two limits are looked at first. All
+    /// sum, a rollback and a `log`; but once the core has made what a change leaves, the two limits come before any further want of memory. All
     /// growths but those for showing come before the device is written.
     ///
     /// For an answer no call of the device is made. After every refusal but `Fault` all is as before. After `Fault` the change stands in the

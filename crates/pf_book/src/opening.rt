@@ -3,7 +3,7 @@ ghost use Rattle.std.specs.Prelude.{◌≡◌, ◌+◌, ◌^◌, ◌<◌, ◌≤
 ghost use Rattle.pf_disk.specs.Disk.{EachMoment, IsImage};
 ghost use Rattle.pf_core.specs.{Durable.Edits.Kept, Laws.Durable.IsWithin, Worlds.{last_epoch, raised}};
 ghost use Rattle.pf_store.specs.declared.store.fault.OpenFault.TheVariants.{BadSize, Memory};
-ghost use Rattle.pf_store.specs.{Banks.bank_size, Stores.{Holds, IsOfOpening}, StoreFaults.is_fault, Openings.{IsFull, IsNoLaterThan, IsUnopened, generation_of}};
+ghost use Rattle.pf_store.specs.{Banks.bank_size, Stores.{Holds}, StoreFaults.is_fault, Openings.{IsFull, IsNoLaterThan, IsOfOpening, IsUnopened, generation_of}};
 
 use crate::history::NewHistory;
 use pf_core::Durable;
@@ -55,7 +55,8 @@ impl<D: Disk> Opening<D> {
         ensures size { IfOk result (λ o. o.size ≡ bank_size (length (D.seen o.disk))) }
         ensures room { IfOk result (λ o. (d : Kept) → ¬ IsFull (D.seen disk) d) }
 
-        // At each moment an image is one from the start, or holds what was read, its epoch perhaps one greater.
+        // At each moment an image is one from the start, or holds what was read, its epoch perhaps one greater: by the generation that was
+        // found or the next one, and with room for another opening where there was room.
         ensures any_moment { IfOk result (λ o. EachMoment D.moment D.left_since disk o.disk (IsOfOpening (D.seen disk) (D.unsynced disk))) }
         ensures any_moment_err { IfErr result (λ e. EachMoment D.moment D.left_since disk e.1 (IsOfOpening (D.seen disk) (D.unsynced disk))) }
 

@@ -26,3 +26,4 @@ pub mod Batches
 pub mod Indexed
 pub mod Computed
 pub mod Widths
+pub mod Whole

@@ -1,7 +1,7 @@
 -- States, and the table of them (pf.conf(5)). How states are named and ordered is own.
-use Rattle.std.specs.{Prelude.{◌≡◌, ◌≤◌, T, true, List, length, Option, Some}, FinMap.{find, is_sorted}, List.find as first_where, Ordering.{ordering_then, nat_cmp}}
+use Rattle.std.specs.{Prelude.{◌≡◌, ◌≤◌, ◌==◌, Bool, T, true, List, length, Option, Some}, FinMap.{find, is_sorted}, List.{list_all, find as first_where}, Ordering.{ordering_then, nat_cmp}}
 use Rattle.std.specs.declared.cmp.Ordering.{Ordering}
-use Rattle.pf_state.specs.{declared.{limits.TheConstants.STATE_LIMIT, state.Held.Held, state.StateName.StateName}, Flows.{PlainFlow, same_flow}}
+use Rattle.pf_state.specs.{declared.{limits.TheConstants.STATE_LIMIT, state.Bound.Bound, state.Bound.TheVariants.Rule, state.Bound.TheVariants.Default, state.Held.Held, state.StateName.StateName}, Flows.{PlainFlow, same_flow}}
 
 -- a state: its name, and what is held under it
 abbrev pub Stated : Type 0
@@ -28,3 +28,12 @@ pub record NamesFlows (es : List Stated) : Type 0 where
 pub record IsStates (es : List Stated) : Type 0 where
   pub names : NamesFlows es
   pub few : length es ≤ STATE_LIMIT
+
+-- a checksum has 16 bytes (RFC 1321)
+abbrev pub is_whole : Bound → Bool
+is_whole Default = true
+is_whole (Rule n sum) = length sum == 16
+
+-- each of them is bound by a whole checksum, if by any
+abbrev pub are_whole : List Stated → Bool
+are_whole es = list_all (λ s. is_whole s.1.bound) es

@@ -1,12 +1,12 @@
 //! Changes of states.
-ghost use Rattle.std.specs.{Prelude.{◌≡◌, ◌-◌, ◌≤◌, length, nat_le, false, T, IfOk}, FinMap.is_sorted, Option.option_map_or};
-ghost use Rattle.pf_state.specs.{States.{NamesFlows, held_at, name_order}, Steps.{insertion, stepped, counted, only_deleted, without_creator, is_over}};
+ghost use Rattle.std.specs.{Prelude.{◌≡◌, ◌-◌, ◌≤◌, length, nat_le, true, false, T, IfOk}, FinMap.is_sorted, Option.option_map_or};
+ghost use Rattle.pf_state.specs.{States.{NamesFlows, are_whole, held_at, name_order}, Steps.{insertion, stepped, counted, only_deleted, without_creator, is_over}};
 ghost use Rattle.pf_state.specs.declared.step.Step.TheVariants as step_kind;
 
 use crate::counts::Counts;
 use crate::keys::States;
 use crate::limits::STATE_LIMIT;
-use crate::state::{Held, State, StateName};
+use crate::state::{Held, State, StateName, tell_whole};
 use crate::step::{Insertion, Step};
 use std::alloc::{AllocError, Global};
 
@@ -49,12 +49,15 @@ fn judge(states: &States, new: &State) -> Insertion
 }
 
 // The states with one that is inserted, unless it is stale or clashes, and what becomes of it.
-#[tactic(auto, unfolding(crate::specs::Steps::stepped))]
+#[tactic(auto, using(crate::proofs::Whole::whole_with), unfolding(crate::specs::Steps::stepped))]
 fn insert(alloc: Global, states: States, new: &State) -> Result<(States, Insertion), AllocError>
-    requires { NamesFlows states }
+    requires names { NamesFlows states }
+    requires whole { are_whole states ≡ true }
     ensures judged { IfOk result (λ r. r.1 ≡ insertion states new.now) }
     ensures after { IfOk result (λ r. r.0 ≡ stepped states (step_kind.Insert new.now)) }
+    ensures whole { IfOk result (λ r. are_whole r.0 ≡ true) }
 {
+    tell_whole(new);
     let judged = judge(&states, new);
     let left = match judged {
         Insertion::Stale | Insertion::Clash => states,
@@ -96,15 +99,17 @@ fn taken_out(before: usize, left: States) -> (States, Counts)
 }
 
 /// The states after one step, and what became of it. `AllocError`: nothing is left of these; what shares them stays.
-#[tactic(auto, using(crate::proofs::Counting::shrinks), unfolding(crate::specs::Steps::stepped, crate::specs::Steps::counted))]
+#[tactic(auto, using(crate::proofs::Counting::shrinks, crate::proofs::Whole::whole_without, crate::proofs::Whole::whole_cleared), unfolding(crate::specs::Steps::stepped, crate::specs::Steps::counted))]
 pub(crate) fn act(
     alloc: Global,
     states: States,
     step: &Step,
 ) -> Result<(States, Counts), AllocError>
-    requires { NamesFlows states }
+    requires names { NamesFlows states }
+    requires whole { are_whole states ≡ true }
     ensures counted { IfOk result (λ r. r.1 ≡ counted states step.now) }
     ensures after { IfOk result (λ r. r.0 ≡ stepped states step.now) }
+    ensures whole { IfOk result (λ r. are_whole r.0 ≡ true) }
 {
     let before = states.len();
     match step {

@@ -1,6 +1,6 @@
 //! States.
-ghost use Rattle.std.specs.{Prelude.◌≡◌, Ordering.eq_by_cmp};
-ghost use Rattle.pf_state.specs.States.{name_order};
+ghost use Rattle.std.specs.{Prelude.{◌≡◌, ◌==◌, true, length}, Ordering.eq_by_cmp};
+ghost use Rattle.pf_state.specs.States.{name_order, is_whole};
 
 use crate::flow::Flow;
 use pf_map::Entry;
@@ -53,5 +53,19 @@ impl StateName {
         ensures { result ≡ eq_by_cmp name_order self.now other.now }
     {
         self.order(other).is_eq()
+    }
+}
+
+// What the type of a checksum says.
+fn tell_sum(_sum: &[u8; 16])
+    ensures { (length _sum.now == 16) ≡ true }
+{}
+
+/// What each state keeps: a checksum that it is bound by is whole.
+pub(crate) fn tell_whole(state: &State)
+    ensures { is_whole state.now.1.bound ≡ true }
+{
+    if let Bound::Rule { sum, .. } = &state.value().bound {
+        tell_sum(sum);
     }
 }

@@ -1,6 +1,6 @@
 //! The table of states.
-ghost use Rattle.std.specs.{Prelude.{◌≡◌, ◌+◌, [], cond, is_ok, is_some, length, IfOk, IfSome, Contains, Some, None, true, false}, Option.option_map};
-ghost use Rattle.pf_state.specs.{Flows.flow_of, States.{Stated, IsStates, held_at, state_of}, Steps.{Refuses, passes_limit, after, counts, without_state, without_creator, creator_count}};
+ghost use Rattle.std.specs.{Prelude.{◌≡◌, ◌≤◌, ◌+◌, [], cond, is_ok, is_some, length, IfOk, IfSome, Contains, Some, None, true, false}, Option.option_map};
+ghost use Rattle.pf_state.specs.{declared.limits.TheConstants.STATE_LIMIT, Flows.flow_of, States.{Stated, IsStates, are_whole, held_at, state_of}, Steps.{Refuses, passes_limit, after, counts, without_state, without_creator, creator_count}};
 
 use crate::change::{act, clear, held_at, is_over};
 use crate::counts::Counts;
@@ -28,14 +28,14 @@ impl Drop for StateTable {
 }
 
 impl Model for StateTable {
-    ghost use Rattle.std.specs.Prelude.{List};
-    ghost use Rattle.pf_state.specs.States.{Stated, IsStates};
+    ghost use Rattle.std.specs.Prelude.{◌≡◌, true, List};
+    ghost use Rattle.pf_state.specs.States.{Stated, IsStates, are_whole};
 
     ghost Value = { List Stated };
 
     ghost view = { λ t. t.index };
 
-    ghost invariant = { λ t. IsStates t.index };
+    ghost invariant = { λ t. IsStates t.index × (are_whole t.index ≡ true) };
 }
 
 impl StateTable {
@@ -50,7 +50,8 @@ impl StateTable {
 
     /// The table of these, which are a table's.
     pub(crate) fn of(states: States) -> StateTable
-        requires { IsStates states }
+        requires table { IsStates states }
+        requires whole { are_whole states ≡ true }
         ensures { result ≡ states }
     {
         StateTable { index: states }
@@ -70,6 +71,15 @@ impl StateTable {
         ensures { result ≡ length self.now }
     {
         self.index.len()
+    }
+
+    /// What each table keeps: it has so few states, and each checksum that they are bound by is whole.
+    pub(crate) fn tell_whole(&self)
+        ensures few { length self.now ≤ STATE_LIMIT }
+        ensures whole { are_whole self.now ≡ true }
+    {
+        // the type keeps it of the index
+        let _index = &self.index;
     }
 
     /// The states, in the order of their names. It takes no memory.

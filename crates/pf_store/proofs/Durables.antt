@@ -238,16 +238,6 @@ durable_told d rulesets = λ i. kept d.epoch (configured (rulesets i) (tables_to
 
 -- ---- what has bytes
 
--- what data tell has bytes where the data fit
-formed_of : (version : ℕ) (v : Value DurableShape) → Fits (durable_form version) v → durable_has_form (durable_in v) ≡ true
-unfolding durable_form rulesets_form kept_tables_form
-formed_of version v fits =
-    let rulesets : at_most RULESET_LIMIT v.1.0 ≡ true =
-    (and_parts (at_most RULESET_LIMIT v.1.0) (list_all (λ r. has_some r.1) v.1.0) fits.1.0.1).0 in
-    let tables : at_most TABLE_COUNT_LIMIT v.1.1.0 ≡ true =
-    (and_parts (at_most TABLE_COUNT_LIMIT v.1.1.0) (list_all (λ t. has_some t.1.1) v.1.1.0) fits.1.1.0.1).0 in
-    rw (few RULESET_LIMIT v.1.0 ruled_in, rulesets, few TABLE_COUNT_LIMIT v.1.1.0 tabled_in, tables) refl
-
 pub durable_formed : (version : ℕ) (d : Kept) → Fits (durable_form version) (plain_durable d) → durable_has_form d ≡ true
 unfolding durable_form rulesets_form kept_tables_form
 durable_formed version d fits =
@@ -266,44 +256,35 @@ within_formed d rulesets tables = rw (at_most_is RULESET_LIMIT d.config.rulesets
 
 pub durable_formless : (version : ℕ) (d : Kept) (bytes : List ℕ) → durable_has_form d ≡ false → IsDurable version d bytes → ⊥
 durable_formless version d bytes none is =
-    true≢false (sym (subst (λ x. durable_has_form x ≡ true) (sym is.told) (formed_of version is.plain is.spelled.fits)) ∙ none)
+    true≢false (sym (durable_formed version d is.spelled.fits) ∙ none)
 
 -- ---- its bytes
 
 pub durable_spelled : (version : ℕ) (d : Kept) (bytes : List ℕ) → durable_in (plain_durable d) ≡ d → Spells (durable_form version) (plain_durable d) bytes
     → IsDurable version d bytes
-durable_spelled version d bytes told is = record { plain = plain_durable d; spelled = is; told = sym told }
+durable_spelled version d bytes told is = record { spelled = is; told = sym told }
+
+pub snapshot_pushed : (version : ℕ) (d : Kept) (out : List ℕ) → Fits (durable_form version) (plain_durable d)
+    → out ≡ onto (durable_form version) (plain_durable d) [] → Spells (durable_form version) (plain_durable d) out
+snapshot_pushed version d out fits is = record { fits = fits; written = is ∙ onto_is (durable_form version) (plain_durable d) [] }
 
 pub durable_pushed : (version : ℕ) (d : Kept) (out : List ℕ) → durable_in (plain_durable d) ≡ d → Fits (durable_form version) (plain_durable d)
     → out ≡ onto (durable_form version) (plain_durable d) [] → IsDurable version d out
-durable_pushed version d out told fits is =
-    durable_spelled version d out told (record { fits = fits; written = is ∙ onto_is (durable_form version) (plain_durable d) [] })
+durable_pushed version d out told fits is = durable_spelled version d out told (snapshot_pushed version d out fits is)
 
 -- bytes are those of one thing kept at most
 pub one_durable : (version : ℕ) (d e : Kept) (bytes : List ℕ) → IsDurable version d bytes → IsDurable version e bytes → d ≡ e
-one_durable version d e bytes a b = a.told ∙ ap durable_in (one_value (durable_form version) bytes a.plain b.plain a.spelled b.spelled) ∙ sym b.told
+one_durable version d e bytes a b = a.told ∙ ap durable_in (one_value (durable_form version) bytes (plain_durable d) (plain_durable e) a.spelled b.spelled) ∙ sym b.told
 
 -- and what is kept has the bytes of some data that tell it
 pub none_told : {A : Type 0} (version : ℕ) (d : Kept) (bytes : List ℕ) → ((v : Value DurableShape) → Spells (durable_form version) v bytes → A)
     → IsDurable version d bytes → A
-none_told version d bytes refuses is = refuses is.plain is.spelled
+none_told version d bytes refuses is = refuses (plain_durable d) is.spelled
 
 -- ---- the snapshot of nothing
 
 abbrev nothing_plain : ℕ → Value DurableShape
 nothing_plain epoch = (epoch, ([], ([], [])))
-
-none_mapped : {A B : Type 0} (f : A → B) (xs : List A) → [] ≡ map f xs → xs ≡ []
-none_mapped f [] is = refl
-none_mapped f (x ∷ xs) is = absurd (cc (is))
-
-plain_nothing : (epoch : ℕ) (v : Value DurableShape) → kept_nothing epoch ≡ durable_in v → v ≡ nothing_plain epoch
-plain_nothing epoch v told =
-    let rulesets : v.1.0 ≡ [] = none_mapped ruled_in v.1.0 (ap (λ (d : Kept). d.config.rulesets) told) in
-    let tables : v.1.1.0 ≡ [] = none_mapped tabled_in v.1.1.0 (ap (λ (d : Kept). d.config.tables) told) in
-    let states : v.1.1.1 ≡ [] = none_mapped state_in v.1.1.1 (ap (λ (d : Kept). d.states) told) in
-    let same : epoch ≡ v.0 = ap (λ (d : Kept). d.epoch) told in
-    λ i. (sym same i, (rulesets i, (tables i, states i)))
 
 nothing_written : (version epoch : ℕ) → writes (durable_form version) (nothing_plain epoch) ≡ writes (empty_form version) epoch
 unfolding durable_form rulesets_form kept_tables_form empty_form number_bytes
@@ -312,14 +293,11 @@ nothing_written version epoch = refl
 pub nothing_is_empty : (version epoch : ℕ) (bytes : List ℕ) → IsDurable version (kept_nothing epoch) bytes → Spells (empty_form version) epoch bytes
 unfolding durable_form empty_form
 nothing_is_empty version epoch bytes is =
-    let spelled : Spells (durable_form version) (nothing_plain epoch) bytes =
-    subst (λ (v : Value DurableShape). Spells (durable_form version) v bytes) (plain_nothing epoch is.plain is.told) is.spelled in
-    record { fits = spelled.fits.0; written = spelled.written ∙ nothing_written version epoch }
+    record { fits = is.spelled.fits.0; written = is.spelled.written ∙ nothing_written version epoch }
 
 pub empty_is_nothing : (version epoch : ℕ) (bytes : List ℕ) → Spells (empty_form version) epoch bytes → IsDurable version (kept_nothing epoch) bytes
 unfolding durable_form rulesets_form kept_tables_form empty_form
 empty_is_nothing version epoch bytes is = record {
-  plain = nothing_plain epoch;
   spelled = record {
     fits = (is.fits, ((((omega arith, tt), refl), refl), ((((omega arith, tt), refl), refl), ((omega arith, tt), refl))));
     written = is.written ∙ sym (nothing_written version epoch);
@@ -348,7 +326,6 @@ example_written version = refl
 pub example_is : (version : ℕ) → IsDurable version example_kept example_bytes
 unfolding durable_form rulesets_form kept_tables_form
 example_is version = record {
-  plain = plain_durable example_kept;
   spelled = record {
     fits =
         (omega arith, ((((omega arith, tt), refl), refl), ((((omega arith, (example_fits, tt)), refl), refl), ((omega arith, tt), refl))));
@@ -360,7 +337,6 @@ example_is version = record {
 pub zeros_are : (version : ℕ) → IsDurable version (kept_nothing 0) (replicate 16 0)
 unfolding durable_form rulesets_form kept_tables_form number_bytes
 zeros_are version = record {
-  plain = nothing_plain 0;
   spelled = record {
     fits = (omega arith, ((((omega arith, tt), refl), refl), ((((omega arith, tt), refl), refl), ((omega arith, tt), refl))));
     written = refl;

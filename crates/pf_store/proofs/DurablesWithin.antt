@@ -12,7 +12,7 @@ use Rattle.pf_table.specs.{EntryForms.{EntryShape, entry_of, entry_before}, Tabl
 use Rattle.pf_map.specs.{ListMaps.{list_at, list_in}, Networks.net_order, NetworkLaws.net_total}
 use Rattle.pf_map.proofs.Ordered.{sorted_of}
 use Rattle.pf_anchor.specs.Forms.{at_most, RulesShape, rules_form, rule_list_form, named_form, entries_form, has_some, rulesets_form, PlacedShape, placed_form, kept_tables_form, ruled_in, tabled_in}
-use Rattle.pf_core.specs.Durable.Forms.{DurableShape, durable_form, durable_in}
+use Rattle.pf_core.specs.Durable.Forms.{DurableShape, durable_form, plain_durable, durable_in}
 use Rattle.pf_store.specs.Durables.{IsDurable}
 use Rattle.pf_store.proofs.Durables.{some_mapped, seen_in_order}
 
@@ -167,4 +167,4 @@ data_within version v fits = record {
 }
 
 pub durable_within : (version : ℕ) (d : Kept) (bytes : List ℕ) → IsDurable version d bytes → IsWithin d
-durable_within version d bytes is = subst IsWithin (sym is.told) (data_within version is.plain is.spelled.fits)
+durable_within version d bytes is = subst IsWithin (sym is.told) (data_within version (plain_durable d) is.spelled.fits)

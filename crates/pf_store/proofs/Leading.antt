@@ -10,12 +10,12 @@ use Rattle.pf_addr.specs.Laws.Bytes.Texts.{one_value}
 use Rattle.pf_snap.specs.Banks.{Content}
 use Rattle.pf_core.specs.Durable.Edits.{Kept}
 use Rattle.pf_store.specs.declared.groups.change.Recorded.{Recorded}
-use Rattle.pf_store.specs.{Groups.{IsRecorded, group_form, record_in}, Stores.{Follows, left_by, Leads, Makes}}
+use Rattle.pf_store.specs.{Groups.{IsRecorded, group_form, plain_record, record_in}, Stores.{Follows, left_by, Leads, Makes}}
 use Rattle.pf_store.proofs.Durables.{one_durable}
 
 -- a payload is of one change or opening
 pub one_record : (version : ℕ) (x y : Recorded) (p : List ℕ) → IsRecorded version x p → IsRecorded version y p → x ≡ y
-one_record version x y p a b = a.told ∙ ap record_in (one_value (group_form version) p a.plain b.plain a.spelled b.spelled) ∙ sym b.told
+one_record version x y p a b = a.told ∙ ap record_in (one_value (group_form version) p (plain_record x) (plain_record y) a.spelled b.spelled) ∙ sym b.told
 
 pub leads-push : (version : ℕ) (d : Kept) (ps : List (List ℕ)) (e : Kept) (p : List ℕ) (x : Recorded) → Leads version d ps e → IsRecorded version x p → Follows e x → Leads version d (ps ++ p ∷ []) (left_by e x)
 leads-push version d [] e p x led is follows = subst (λ (f : Kept). Leads version f (p ∷ []) (left_by e x)) (sym led) (x, is, follows, refl)

@@ -1,13 +1,11 @@
 pub mod Pushed
 pub mod Taken
 pub mod Told
-pub mod Lengthy
-pub mod Payloads
+pub mod Sized
 pub mod Leading
 pub mod Refusing
 pub mod Saving
 pub mod Rooming
 pub mod Limiting
 pub mod Durables
-pub mod DurablesSized
 pub mod DurablesWithin

@@ -12,7 +12,7 @@ use Rattle.pf_snap.specs.Banks.{Content}
 use Rattle.pf_store.specs.declared.groups.change.Recorded.{Recorded}
 use Rattle.pf_store.proofs.DurablesWithin.{durable_within, entries_few}
 use Rattle.pf_anchor.specs.Forms.{NamedShape, named_form, named_in, rule_list_form, rules_form}
-use Rattle.pf_store.specs.{Groups.{ChangeShape, ItemShape, change_form, defined_form, group_form, item_form, item_in, items_form, record_in, tables_form, IsRecorded}, Stores.{Follows, left_by, Leads, Makes}}
+use Rattle.pf_store.specs.{Groups.{ChangeShape, ItemShape, change_form, defined_form, group_form, item_form, item_in, items_form, plain_record, record_in, tables_form, IsRecorded}, Stores.{Follows, left_by, Leads, Makes}}
 
 -- ---- what a commit's bytes tell
 
@@ -57,7 +57,7 @@ told_within version d (inr (inr (inr (inr (inr (inr epoch)))))) fits follows wit
 recorded_within : (version : ℕ) (d : Kept) (x : Recorded) (payload : List ℕ) → IsRecorded version x payload → Follows d x → IsWithin d → IsWithin (left_by d x)
 unfolding group_form
 recorded_within version d x payload is follows within =
-    subst (λ (y : Recorded). IsWithin (left_by d y)) (sym is.told) (told_within version d is.plain is.spelled.fits (subst (Follows d) is.told follows) within)
+    subst (λ (y : Recorded). IsWithin (left_by d y)) (sym is.told) (told_within version d (plain_record x) is.spelled.fits (subst (Follows d) is.told follows) within)
 
 led_within : (version : ℕ) (d : Kept) (ps : List (List ℕ)) (e : Kept) → Leads version d ps e → IsWithin d → IsWithin e
 led_within version d [] e led within = subst IsWithin led within

@@ -76,16 +76,16 @@ torn_as A B bank content place tell (inr (inl none)) = inr (inl none)
 torn_as A B bank content place tell (inr (inr t)) = inr (inr (record { d = t.d; makes = t.makes; open_gate = tell t.open_gate; at = t.at }))
 
 -- memory is refused behind the header of the bank that counts
-out_of_memory : (seen : List ℕ) (bank other : ℕ) (content : Content) → IsSize (length seen) → AreBanks (length seen) bank other → Counts seen bank other
+out_of_memory : (seen : List ℕ) (bank other : ℕ) (content : Content) → IsSize (length seen) → AreBanks (length seen) bank other → Counts seen bank other → content.generation < 2 ^ 63
     → HasSnapshot seen bank content.version content.generation content.snapshot → IsUnopened Memory seen
-out_of_memory seen bank other content size places counts has =
-    (size, (bank, content.version, content.generation, length content.snapshot, record { other = other; banks = places; counts = counts; header = has.header }))
+out_of_memory seen bank other content size places counts early has =
+    (size, (bank, content.version, content.generation, length content.snapshot, record { other = other; banks = places; counts = counts; header = has.header; early = early }))
 
 -- so it is where something is held
-pub held_in_want : (seen : List ℕ) (d : Kept) → Holds seen d → IsUnopened Memory seen
-held_in_want seen d held =
+pub held_in_want : (seen : List ℕ) (d : Kept) (held : Holds seen d) → generation_of seen d held < 2 ^ 63 → IsUnopened Memory seen
+held_in_want seen d held early =
     let h = held.bank.holds in
-    out_of_memory seen held.bank.at held.bank.other held.content h.size h.banks h.counts h.bank.front
+    out_of_memory seen held.bank.at held.bank.other held.content h.size h.banks h.counts early h.bank.front
 
 pub unopened : (seen : List ℕ) (bank other : ℕ) (content : Content) (torn : Type 0) (e : OpenFault) → IsSize (length seen) → AreBanks (length seen) bank other → Counts seen bank other → content.generation < 2 ^ 63
     → HasSnapshot seen bank content.version content.generation content.snapshot
@@ -105,8 +105,8 @@ unopened seen bank other content torn (Corrupt at) size places counts early has 
       front = front;
       none = torn_as torn ((c : Content) → ¬ snap.Holds seen c) bank content at none off;
     })
-unopened seen bank other content torn Memory size places counts early has front none off = out_of_memory seen bank other content size places counts has
-unopened seen bank other content torn Fault size places counts early has front none off = tt
+unopened seen bank other content torn Memory size places counts early has front none off = out_of_memory seen bank other content size places counts early has
+unopened seen bank other content torn Fault size places counts early has front none off = size
 unopened seen bank other content torn EpochsExhausted size places counts early has front none off = absurd off
 unopened seen bank other content torn Full size places counts early has front none off = absurd off
 unopened seen bank other content torn Places size places counts early has front none off = absurd off

@@ -8,8 +8,8 @@ use Rattle.pf_snap.specs.Banks as snap
 use Rattle.pf_snap.proofs.Holding.{one_content}
 use Rattle.pf_core.specs.{Durable.Edits.{Kept}, Worlds.{last_epoch, raised}}
 use Rattle.pf_store.specs.declared.groups.change.Recorded.{Recorded}
-use Rattle.pf_store.specs.{Durables.IsDurable, Groups.IsRecorded, Lengths.snapshot_length, Openings.{IsAsLongAs, IsFull, IsNoLaterThan, LeavesRoom, gate_of}, Stores.{Follows, left_by, Holds, HoldsEither, IsOfOpening, IsRoomy, Makes}, StoreKept.{Stands, Storage, IsStore, HaveKept}}
-use Rattle.pf_store.proofs.{Leading.{leads-push}, Refusing.{one_at, one_gate, one_held}}
+use Rattle.pf_store.specs.{Durables.IsDurable, Groups.IsRecorded, Lengths.snapshot_length, Openings.{IsAsLongAs, IsFull, IsNoLaterThan, IsOfOpening, LeavesRoom, gate_of, generation_of}, Stores.{Follows, left_by, Holds, HoldsEither, IsRoomy, Makes}, StoreKept.{Stands, Storage, IsStore, HaveKept}}
+use Rattle.pf_store.proofs.{Leading.{leads-push}, Refusing.{one_at, one_gate, one_held}, Sized.{raised_roomy}}
 
 pub not_less : (a b : ℕ) → (a < b → ⊥) → b ≤ a
 not_less a b none = omega (arith, none)
@@ -23,6 +23,15 @@ on_ok (Err e) P Q f p = tt
 pub on_both : {T E : Type 0} (r : Result T E) (P Q R : T → Type 0) → ((x : T) → P x → Q x → R x) → IfOk r P → IfOk r Q → IfOk r R
 on_both (Ok x) P Q R f p q = f x p q
 on_both (Err e) P Q R f p q = tt
+
+-- of three things of a result a fourth
+pub on_three : {T E : Type 0} (r : Result T E) (P Q R S : T → Type 0) → ((x : T) → P x → Q x → R x → S x) → IfOk r P → IfOk r Q → IfOk r R → IfOk r S
+on_three (Ok x) P Q R S f p q s = f x p q s
+on_three (Err e) P Q R S f p q s = tt
+
+pub on_three_err : {T E : Type 0} (r : Result T E) (P Q R S : E → Type 0) → ((e : E) → P e → Q e → R e → S e) → IfErr r P → IfErr r Q → IfErr r R → IfErr r S
+on_three_err (Ok x) P Q R S f p q s = tt
+on_three_err (Err e) P Q R S f p q s = f e p q s
 
 pub on_err : {T E : Type 0} (r : Result T E) (P Q : E → Type 0) → ((e : E) → P e → Q e) → IfErr r P → IfErr r Q
 on_err (Ok x) P Q f p = tt
@@ -170,14 +179,6 @@ module _ {D : Type 0} (seen : D → List ℕ) (unsynced : D → ℕ → Bool) wh
     pub turned_and_moved : (old mid new : D) (d e : Kept) → EachMoment moment left_since old mid (λ c. Holds c d) → EachMoment moment left_since mid new (HoldsEither d e) → EachMoment moment left_since old new (HoldsEither d e)
     turned_and_moved old mid new d e first second = and_then moment left_since old mid new (HoldsEither d e) (before old mid d e first) second
 
-    -- a device is read, and what was read gets the next epoch
-    pub opened : (old mid new : D) (d : Kept) → Holds (seen old) d → EachMoment moment left_since old mid (IsImage (seen old) (unsynced old)) → EachMoment moment left_since mid new (HoldsEither d (raised d)) → EachMoment moment left_since old new (IsOfOpening (seen old) (unsynced old))
-    opened old mid new d holds first second =
-        let P = IsOfOpening (seen old) (unsynced old) in
-        and_then moment left_since old mid new P
-        (weakened moment left_since old mid (IsImage (seen old) (unsynced old)) P first (λ c image. inl image))
-        (weakened moment left_since mid new (HoldsEither d (raised d)) P second (λ c has. inr (d, holds, has)))
-
     -- how long each image is
     pub unmoved_lengths : (disk : D) → ((c : List ℕ) → left_since disk (moment disk) c → IsImage (seen disk) (unsynced disk) c) → EachMoment moment left_since disk disk (IsAsLongAs (seen disk))
     unmoved_lengths disk only = started moment left_since disk (IsAsLongAs (seen disk)) (λ c left. (only c left).same_length)
@@ -200,3 +201,24 @@ module _ {D : Type 0} (seen : D → List ℕ) (unsynced : D → ℕ → Bool) wh
     run_roomy old new d e one other lengths run =
         weakened moment left_since old new (λ c. IsAsLongAs (seen old) c × HoldsEither d e c) LeavesRoom (both moment left_since old new (IsAsLongAs (seen old)) (HoldsEither d e) lengths run)
         (λ c is. roomy_either (seen old) d e one other c is.0 is.1)
+
+    -- a device is read, and what was read gets the next epoch
+    pub opened : (old mid new : D) (d : Kept) (held : Holds (seen old) d) (g : ℕ) → g ≤ generation_of (seen old) d held + 1 → length (seen mid) ≡ length (seen old)
+        → EachMoment moment left_since old mid (IsImage (seen old) (unsynced old)) → EachMoment moment left_since mid new (HoldsEither d (raised d))
+        → EachMoment moment left_since mid new (IsNoLaterThan g) → EachMoment moment left_since mid new (IsAsLongAs (seen mid))
+        → EachMoment moment left_since old new (IsOfOpening (seen old) (unsynced old))
+    opened old mid new d held g low same first second later long =
+        let P = IsOfOpening (seen old) (unsynced old) in
+        let H = HoldsEither d (raised d) in
+        let L = IsAsLongAs (seen mid) in
+        let two = both moment left_since mid new H (IsNoLaterThan g) second later in
+        and_then moment left_since old mid new P
+        (weakened moment left_since old mid (IsImage (seen old) (unsynced old)) P first (λ c image. inl image))
+        (weakened moment left_since mid new (λ c. (H c × IsNoLaterThan g c) × L c) P
+        (both moment left_since mid new (λ c. H c × IsNoLaterThan g c) L two long) (λ c is. inr (record {
+          kept = d;
+          held = held;
+          holds = is.0.0;
+          generation = λ e there. let by : generation_of c e there ≤ g = is.0.1 e there in omega (arith, by, low);
+          roomy = λ room. roomy_either (seen old) d (raised d) (room d held) (raised_roomy (bank_size (length (seen old))) d (room d held)) c (cc (is.1, same)) is.0.0;
+        })))

@@ -54,31 +54,38 @@ formed version r told fits = subst (λ x. has_form x ≡ true) told (formed_of v
 
 -- what bytes record has bytes
 pub recorded_formed : (version : ℕ) (r : Recorded) (payload : List ℕ) → IsRecorded version r payload → has_form r ≡ true
-unfolding group_form
-recorded_formed version r payload is = subst (λ x. has_form x ≡ true) (sym is.told) (formed_of version is.plain is.spelled.fits)
+recorded_formed version r payload is = formed version r (sym is.told) is.spelled.fits
 
 -- ---- its bytes
 
 pub spelled : (version : ℕ) (r : Recorded) (bytes : List ℕ) → record_in (plain_record r) ≡ r → Spells (group_form version) (plain_record r) bytes
     → IsRecorded version r bytes
-spelled version r bytes told is = record { plain = plain_record r; spelled = is; told = sym told }
+spelled version r bytes told is = record { spelled = is; told = sym told }
 
 -- it is put behind the group's first byte
+pub group_pushed : (version : ℕ) (r : Recorded) (out : List ℕ) → Fits (change_form version) (plain_record r)
+    → out ≡ onto (change_form version) (plain_record r) (1 ∷ []) → Spells (group_form version) (plain_record r) out
+unfolding group_form
+group_pushed version r out fits is = record { fits = fits; written = is ∙ onto_is (change_form version) (plain_record r) (1 ∷ []) }
+
 pub pushed : (version : ℕ) (r : Recorded) (out : List ℕ) → record_in (plain_record r) ≡ r → Fits (change_form version) (plain_record r)
     → out ≡ onto (change_form version) (plain_record r) (1 ∷ []) → IsRecorded version r out
-unfolding group_form
-pushed version r out told fits is = spelled version r out told (record { fits = fits; written = is ∙ onto_is (change_form version) (plain_record r) (1 ∷ []) })
+pushed version r out told fits is = spelled version r out told (group_pushed version r out fits is)
 
 -- those of an opening
-pub opening_pushed : (version epoch : ℕ) (out : List ℕ) → epoch < 256 ^ 4 → out ≡ onto (number 4) epoch (1 ∷ 7 ∷ []) → IsRecorded version (opens epoch) out
+pub opening_spelled : (version epoch : ℕ) (out : List ℕ) → epoch < 256 ^ 4 → out ≡ onto (number 4) epoch (1 ∷ 7 ∷ [])
+    → Spells (group_form version) (plain_record (opens epoch)) out
 unfolding change_form
-opening_pushed version epoch out lt is = pushed version (opens epoch) out refl ((((((lt, refl), refl), refl), refl), refl), refl) is
+opening_spelled version epoch out lt is = group_pushed version (opens epoch) out ((((((lt, refl), refl), refl), refl), refl), refl) is
+
+pub opening_pushed : (version epoch : ℕ) (out : List ℕ) → epoch < 256 ^ 4 → out ≡ onto (number 4) epoch (1 ∷ 7 ∷ []) → IsRecorded version (opens epoch) out
+opening_pushed version epoch out lt is = spelled version (opens epoch) out refl (opening_spelled version epoch out lt is)
 
 -- bytes are those of one record at most
 pub one_record : (version : ℕ) (r s : Recorded) (bytes : List ℕ) → IsRecorded version r bytes → IsRecorded version s bytes → r ≡ s
-one_record version r s bytes a b = a.told ∙ ap record_in (one_value (group_form version) bytes a.plain b.plain a.spelled b.spelled) ∙ sym b.told
+one_record version r s bytes a b = a.told ∙ ap record_in (one_value (group_form version) bytes (plain_record r) (plain_record s) a.spelled b.spelled) ∙ sym b.told
 
 -- and what is recorded has the bytes of some data that tell it
 pub none_told : {A : Type 0} (version : ℕ) (r : Recorded) (bytes : List ℕ) → ((v : Value ChangeShape) → Spells (group_form version) v bytes → A)
     → IsRecorded version r bytes → A
-none_told version r bytes refuses is = refuses is.plain is.spelled
+none_told version r bytes refuses is = refuses (plain_record r) is.spelled

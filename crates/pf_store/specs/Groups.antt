@@ -118,8 +118,7 @@ has_form (made (acts steps)) = is_short steps
 has_form (made (removes name)) = true
 has_form (opens epoch) = nat_lt epoch (2 ^ 32)
 
--- The payload is the bytes of what is recorded, in a version.
+-- The payload is the bytes of what is recorded, in a version: its data spell them, and tell it.
 pub record IsRecorded (version : ℕ) (r : Recorded) (payload : List ℕ) : Type 0 where
-  pub plain : Value ChangeShape
-  pub spelled : Spells (group_form version) plain payload
-  pub told : r ≡ record_in plain
+  pub spelled : Spells (group_form version) (plain_record r) payload
+  pub told : r ≡ record_in (plain_record r)

@@ -1,12 +1,14 @@
 -- Why a device isn't opened. Own.
-use Rattle.std.specs.Prelude.{◌≡◌, ◌⊎◌, ◌<◌, ◌≤◌, ℕ, ◌+◌, ◌^◌, List, ◌∷◌, ◌++◌, length}
+use Rattle.std.specs.Prelude.{◌≡◌, ◌⊎◌, ◌<◌, ◌≤◌, ℕ, ◌+◌, ◌^◌, Bool, List, ◌∷◌, ◌++◌, length}
+use Rattle.pf_disk.specs.Disk.{IsImage}
 use Rattle.pf_journal.specs.Records.{records, region, IsFront}
 use Rattle.pf_snap.specs.{Banks.{AreBanks, Content, Counts, HasSnapshot, bank_size, records_start}, Faults.IsRefused, declared.header.TheConstants.HEADER}
 use Rattle.pf_snap.specs.Banks as snap
 use Rattle.pf_snap.specs.declared.fault.LookFault.TheVariants as looking
-use Rattle.pf_core.specs.{Durable.Edits.{Kept}, Worlds.last_epoch}
-use Rattle.pf_store.specs.{Durables.IsDurable, Groups.IsRecorded, Lengths.snapshot_length, Stores.{Follows, Holds, IsRoomy, Leads, Makes}}
+use Rattle.pf_core.specs.{Durable.Edits.{Kept}, Worlds.{last_epoch, raised}}
+use Rattle.pf_store.specs.{Durables.IsDurable, Groups.IsRecorded, Lengths.snapshot_length, Stores.{Follows, Holds, HoldsEither, IsRoomy, Leads, Makes}}
 use Rattle.pf_store.specs.declared.{groups.change.Recorded.Recorded, store.fault.OpenFault.OpenFault, store.fault.OpenFault.TheVariants.{BadSize, NoBank, Corrupt, Memory, Fault, EpochsExhausted, Full, Places}}
+use Rattle.pf_store.specs.declared.limits.TheConstants.{OPENING_RECORD}
 
 -- The snapshot of the bank of this version at this place is of nothing.
 abbrev pub NoSnapshot : (version at : ℕ) → List ℕ → ℕ → Type 0
@@ -72,23 +74,36 @@ IsAsLongAs seen image = length image ≡ length seen
 abbrev pub LeavesRoom : List ℕ → Type 0
 LeavesRoom image = (d : Kept) → Holds image d → IsRoomy (bank_size (length image)) d
 
+-- The image holds what the device that was opened held, its epoch perhaps one greater, by the generation from before or the next one, and
+-- leaves room where that did.
+pub record FollowsOn (seen image : List ℕ) : Type 0 where
+  pub kept : Kept
+  pub held : Holds seen kept
+  pub holds : HoldsEither kept (raised kept) image
+  pub generation : IsNoLaterThan (generation_of seen kept held + 1) image
+  pub roomy : LeavesRoom seen → LeavesRoom image
+
+-- an image from the opening's start, or one that holds what was read
+abbrev pub IsOfOpening : List ℕ → (ℕ → Bool) → List ℕ → Type 0
+IsOfOpening seen unsynced image = IsImage seen unsynced image ⊎ FollowsOn seen image
+
 -- The record of an opening has room neither behind the others nor in a bank behind a snapshot of what is held: it takes 12 bytes with the
 -- gate behind it.
 pub record IsFull (seen : List ℕ) (d : Kept) : Type 0 where
   pub held : Holds seen d
   pub early : generation_of seen d held < 2 ^ 63
   pub low : d.epoch < last_epoch
-  pub here : held.bank.at + bank_size (length seen) < gate_of seen d held + 12
-  pub there : bank_size (length seen) < HEADER + snapshot_length d + 12
+  pub here : held.bank.at + bank_size (length seen) < gate_of seen d held + OPENING_RECORD
+  pub there : bank_size (length seen) < HEADER + snapshot_length d + OPENING_RECORD
 
--- What is so of the bytes that a device reads as, where it isn't opened. A fault of the device may come in place of each, and want of memory in
--- place of what stands behind a header.
+-- What is so of the bytes that a device reads as, where it isn't opened. A fault of the device may come in place of each but that of the
+-- size, and want of memory in place of what stands behind a header.
 abbrev pub IsUnopened : OpenFault → List ℕ → Type 0
 IsUnopened BadSize seen = IsRefused looking.BadSize seen
 IsUnopened NoBank seen = IsRefused looking.NoBank seen
 IsUnopened (Corrupt at) seen = IsRefused (looking.Corrupt at) seen ⊎ BreaksBehind seen at
 IsUnopened Memory seen = IsRefused looking.Memory seen
-IsUnopened Fault seen = Unit {0}
+IsUnopened Fault seen = IsRefused looking.Fault seen
 IsUnopened EpochsExhausted seen = (d : Kept) × (held : Holds seen d) × (generation_of seen d held < 2 ^ 63) × (d.epoch ≡ last_epoch)
 IsUnopened Full seen = (d : Kept) × IsFull seen d
 IsUnopened Places seen = ⊥

@@ -4,18 +4,19 @@ use Rattle.pf_snap.specs.declared.header.TheConstants.{HEADER}
 use Rattle.pf_core.specs.{Durable.Edits.{Kept, Edit, after}, Worlds.{Setting, flat}}
 use Rattle.pf_store.specs.{Groups.has_form, Lengths.{total, recorded_length, snapshot_length}}
 use Rattle.pf_store.specs.declared.groups.change.Recorded.TheVariants as recorded
+use Rattle.pf_store.specs.declared.limits.TheConstants.{AROUND, ROOM_TO_OPEN}
 
 -- a group's payload: how many changes it has, in one byte, and each behind its kind
 unfoldable pub group_length : List Edit → ℕ
-group_length es = 1 + total (λ e. 1 + recorded_length (recorded.Made e)) es
+group_length es = 1 + total (λ e. recorded_length (recorded.Made e)) es
 
 -- A group finds room in banks of so many bytes: each of its changes has bytes; a bank has 64 bytes left behind a snapshot of what is kept
 -- then; and it has room for the group's record behind one of what was kept before.
 unfoldable pub group_fits : (size : ℕ) → (before next : Kept) → List Edit → Bool
 group_fits size before next es =
     list_all (λ e. has_form (recorded.Made e)) es
-    && (nat_le (HEADER + snapshot_length next + 64) size
-    && nat_le (HEADER + snapshot_length before + (group_length es + 6)) size)
+    && (nat_le (HEADER + snapshot_length next + ROOM_TO_OPEN) size
+    && nat_le (HEADER + snapshot_length before + (group_length es + AROUND)) size)
 
 -- What an opening is given to keep within: so many changes, and banks of so many bytes.
 abbrev pub on_device : (limit size : ℕ) → Setting

@@ -1,11 +1,11 @@
 -- What a device's image holds: what was kept first and what changes have made of it since. Own.
-use Rattle.std.specs.Prelude.{◌≡◌, ◌⊎◌, ◌≤◌, ℕ, ◌+◌, Bool, true, List, [], ◌∷◌, Ok}
-use Rattle.pf_disk.specs.Disk.{IsImage}
+use Rattle.std.specs.Prelude.{◌≡◌, ◌⊎◌, ◌≤◌, ℕ, ◌+◌, true, List, [], ◌∷◌, Ok}
 use Rattle.pf_snap.specs.{Banks.Content, declared.header.TheConstants.HEADER}
 use Rattle.pf_snap.specs.Banks as snap
-use Rattle.pf_core.specs.{Durable.Edits.{Kept, Edit, in_epoch, applied, fits}, Worlds.raised}
+use Rattle.pf_core.specs.{Durable.Edits.{Kept, Edit, in_epoch, applied, fits}}
 use Rattle.pf_store.specs.{Durables.IsDurable, Groups.{IsRecorded, has_form}, Lengths.{snapshot_length, payload_length}, declared.groups.change.Recorded.Recorded}
 use Rattle.pf_store.specs.declared.groups.change.Recorded.TheVariants as recorded
+use Rattle.pf_store.specs.declared.limits.TheConstants.{AROUND, ROOM_TO_OPEN}
 
 -- ---- what is held
 
@@ -41,21 +41,17 @@ pub record Holds (image : List ℕ) (d : Kept) : Type 0 where
 abbrev pub HoldsEither : Kept → Kept → List ℕ → Type 0
 HoldsEither before next image = Holds image before ⊎ Holds image next
 
--- an image from the opening's start, or one that holds what was read, its epoch perhaps one greater
-abbrev pub IsOfOpening : List ℕ → (ℕ → Bool) → List ℕ → Type 0
-IsOfOpening seen unsynced image = IsImage seen unsynced image ⊎ ((d : Kept) × Holds seen d × HoldsEither d (raised d) image)
-
 -- ---- room
 
 -- A bank of so many bytes has 64 left behind a snapshot of what is kept: enough for an opening's record.
 abbrev pub IsRoomy : (size : ℕ) → Kept → Type 0
-IsRoomy size d = HEADER + snapshot_length d + 64 ≤ size
+IsRoomy size d = HEADER + snapshot_length d + ROOM_TO_OPEN ≤ size
 
 -- A payload of n bytes finds room in banks of so many bytes: one has 64 bytes left behind a snapshot of what is kept then, and room for
 -- the payload's record behind one of what is kept before.
 pub record HasRoom (size : ℕ) (before next : Kept) (n : ℕ) : Type 0 where
   pub then : IsRoomy size next
-  pub behind : HEADER + snapshot_length before + (n + 6) ≤ size
+  pub behind : HEADER + snapshot_length before + (n + AROUND) ≤ size
 
 -- a change that has a payload, and its payload finds room
 pub record FindsRoom (size : ℕ) (before next : Kept) (e : Edit) : Type 0 where

@@ -5,13 +5,16 @@
 //! - `groups`: what a record's payload means: a change, or an opening.
 //! - `snapshots`: what a snapshot means: all that is kept.
 //! - `store`: [`Store`], a device that holds what is kept: a snapshot, and a record for each change since. It uses the other two.
+//! - `limits`: how much room a bank keeps.
 #![tactic(auto)]
 
 pub mod groups;
+mod limits;
 pub mod snapshots;
 pub mod store;
 
 pub use groups::{GroupFault, Recorded, read_group, write_group};
+pub use limits::{AROUND, OPENING_RECORD, ROOM_TO_OPEN};
 pub use pf_snap::FormatFault;
 pub use snapshots::{read_durable, write_durable};
 pub use store::{OpenFault, SaveFault, Store, format};

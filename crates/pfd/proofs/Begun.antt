@@ -3,7 +3,7 @@ use Rattle.std.proofs.{Common.{◌≡◌, ◌∙◌, inl, inr, sym, ℕ, ◌+◌
 use Rattle.pf_core.specs.{Durable.Edits.{Kept, kept_nothing}, Worlds.raised}
 use Rattle.pf_store.specs.{Banks.{IsSize, bank_size}, Openings.{IsFull, IsUnopened, generation_of}, Stores.Holds}
 use Rattle.pf_store.specs.declared.{store.fault.OpenFault.OpenFault, store.fault.OpenFault.TheVariants.{BadSize, NoBank, Corrupt, Memory, Fault, EpochsExhausted, Full, Places}}
-use Rattle.pf_store.proofs.Refusing.{held_is_found, one_held, roomy_is_not_full}
+use Rattle.pf_store.proofs.{Refusing.{held_is_found, one_held, roomy_is_not_full}, Sized.{nothing_long}}
 use Rattle.pf_disk.specs.Disk.{IsImage}
 use Rattle.pfd_files.specs.Faults.{told_of_opening}
 use Rattle.pf_book.specs.Books.{IsUnshown}
@@ -27,7 +27,7 @@ module _ (seen : List ℕ) (size : ℕ) (is : IsSize size) (same : length seen �
   unopened-hinders Fault why = is
   unopened-hinders EpochsExhausted (d, other, early, last) = absurd (omega (arith, ap (λ (k : Kept). k.epoch) (one_held seen d (kept_nothing 0) other held), last))
   unopened-hinders Full (d, full) =
-      absurd (roomy_is_not_full seen (kept_nothing 0) (omega (arith, roomy size is, ap bank_size same)) (subst (IsFull seen) (one_held seen d (kept_nothing 0) full.held held) full))
+      absurd (roomy_is_not_full seen (kept_nothing 0) (omega (arith, roomy size is, ap bank_size same, nothing_long 0)) (subst (IsFull seen) (one_held seen d (kept_nothing 0) full.held held) full))
   unopened-hinders Places why = absurd why
 
 pub unshown-hinders : (size : ℕ) (e : OpenFault) → IsSize size → IsUnshown e → Hinders size (told_of_opening e)

@@ -5,7 +5,7 @@
 --   the tables: their number in four bytes, and each
 --   the states: their number in four bytes, and each state, in the order of their names; no two have one flow
 use Rattle.std.specs.Prelude.{ℕ, map}
-use Rattle.pf_addr.specs.Bytes.Forms.{Shape, nat, both, list, Value, Form, number, pair}
+use Rattle.pf_addr.specs.Bytes.Forms.{Shape, nat, both, list, Value, Form, number, pair, length_of}
 use Rattle.pf_anchor.specs.Forms.{RulesShape, rulesets_form, plain_ruled, ruled_in, PlacedShape, kept_tables_form, plain_tabled, tabled_in, configured}
 use Rattle.pf_state.specs.Layouts.States.{StateShape, states_form, plain_states, state_in}
 use Rattle.pf_core.specs.Durable.Edits.{Kept, kept}
@@ -21,3 +21,7 @@ plain_durable d = (d.epoch, (map plain_ruled d.config.rulesets, (map plain_table
 
 abbrev pub durable_in : Value DurableShape → Kept
 durable_in v = kept v.0 (configured (map ruled_in v.1.0) (map tabled_in v.1.1.0)) (map state_in v.1.1.1)
+
+-- how many bytes a snapshot has
+abbrev pub durable_length : ℕ → Kept → ℕ
+durable_length version d = length_of (durable_form version) (plain_durable d)

@@ -1,11 +1,12 @@
 //! What is kept.
-ghost use Rattle.std.specs.{Prelude.{◌≡◌, ◌==◌, ◌++◌, [], T, not, true, map, length, IfOk, OnOk}, FinMap.is_sorted, List.list_all, Arc.arc_value};
+ghost use Rattle.std.specs.{Prelude.{◌≡◌, ◌==◌, ◌++◌, ◌<◌, ◌^◌, ℕ, [], T, not, true, map, length, IfOk, OnOk}, FinMap.is_sorted, List.list_all, Arc.arc_value};
 ghost use Rattle.pf_addr.specs.{Refusing.{refused_at, OrMemory, Meets}, Path.Names.name_order};
 ghost use Rattle.pf_anchor.specs.Configurations.{with_rulesets};
 ghost use Rattle.pf_table.specs.{Edits.{added, additions, deleted, deletions, replaced}, Tables.deciding};
 ghost use Rattle.pf_state.specs.Steps.{after, counts, without_state};
 ghost use Rattle.pf_ticket.specs.Replies.{twice_behind};
 ghost use Rattle.pf_core.specs.declared.durable.refusal.ChangeRefusal.TheVariants.{Twice, Memory};
+ghost use Rattle.pf_core.specs.Durable.Forms.{durable_length};
 ghost use Rattle.pf_core.specs.Durable.Edits.{is_in_order, name_of, kept, kept_nothing, commits, adds, deletes, sets, acts, rulesets_in, replaces_main, placed, tables_in, entries_at, sum_of, main_sum, with_entries, with_states, in_epoch, room_for_table, fits, applied, changed, verdict};
 
 use crate::durable::change::{Change, ChangeKind, Item, names_of};
@@ -16,6 +17,7 @@ use pf_addr::path::TableName;
 use pf_anchor::{Config, Path, Placed, PlacedTable};
 use pf_rule::Packet;
 use pf_rule::sum::ruleset_sum;
+use pf_state::layouts::states_length;
 use pf_state::{Counts, StateName, StateTable, Step};
 use pf_table::{Addition, Deletion, Entry, Table};
 use pf_ticket::{Defined, named_twice};
@@ -171,6 +173,15 @@ impl Durable {
         ensures { result ≡ main_sum self.now }
     {
         self.sum
+    }
+
+    /// How many bytes its snapshot has, in each version. It looks at no rule, entry or state, and takes no memory.
+    #[tactic(auto, unfolding(crate::specs::Durable::Forms::durable_form))]
+    pub fn byte_length(&self) -> u128
+        ensures exact { (version : ℕ) → result ≡ durable_length version self.now }
+        ensures light { result < 2 ^ 99 }
+    {
+        4 + self.config.byte_length() + states_length(&self.states) as u128
     }
 
     /// What happens to a packet: the state of its flow passes it; without one the rule decides that the evaluation of the main

@@ -1,13 +1,13 @@
 //! States and steps in bytes, many at a time, behind their number in four bytes.
-ghost use Rattle.std.specs.Prelude.{◌≡◌, ◌<◌, ◌^◌, ◌++◌, length, map, IfOk, OnOk};
-ghost use Rattle.pf_addr.specs.{Bytes.Forms.{Form, Fits, onto}, Bytes.Readers.Reads};
-ghost use Rattle.pf_state.specs.Layouts.{Rows.IsTableOf, States.{states_form, plain_states}, Steps.{steps_form, plain_steps}};
+ghost use Rattle.std.specs.Prelude.{◌≡◌, ◌<◌, ◌^◌, ◌++◌, ℕ, true, length, map, IfOk, OnOk};
+ghost use Rattle.pf_addr.specs.{Bytes.Forms.{Form, Fits, onto, length_of}, Bytes.Readers.Reads};
+ghost use Rattle.pf_state.specs.{Layouts.{Rows.IsTableOf, States.{states_form, plain_states}, Steps.{steps_form, plain_steps}}, States.are_whole};
 
 use crate::keys::States;
-use crate::layouts::state::{StoredState, push_state};
+use crate::layouts::state::{STATE_BYTES, StoredState, push_state};
 use crate::layouts::step::push_step;
 use crate::limits::STATE_LIMIT;
-use crate::state::State;
+use crate::state::{State, tell_whole};
 use crate::step::{Step, StepList};
 use crate::table::StateTable;
 use pf_addr::bytes::{Fault, Rest, Stop, are_in_order, push_u32, read_list};
@@ -58,11 +58,14 @@ fn table_of(alloc: Global, rows: &[StoredState]) -> Result<Option<StateTable>, A
 }
 
 // Their states, each with one owner more.
+#[tactic(auto, using(crate::proofs::Whole::whole_pushed))]
 fn states_of(alloc: Global, rows: &[StoredState]) -> Result<Vec<State>, AllocError>
-    ensures { IfOk result (λ v. v.items ≡ map (λ row. row.state) rows.now) }
+    ensures value { IfOk result (λ v. v.items ≡ map (λ row. row.state) rows.now) }
+    ensures whole { IfOk result (λ v. are_whole v.items ≡ true) }
 {
     let mut states = Vec::with_capacity(alloc, rows.len())?;
     for row in rows {
+        tell_whole(&row.state);
         states.push(row.state.shared()?)?;
     }
     Ok(states)
@@ -91,4 +94,13 @@ pub fn push_steps(out: &mut Vec<u8>, version: u8, steps: &StepList) -> Result<()
         push_step(out, version, step)?;
     }
     Ok(())
+}
+
+/// How many bytes states take where they are kept, behind their number, in each version. It looks at none of them.
+#[tactic(auto, using(crate::proofs::Widths::states_long))]
+pub fn states_length(states: &StateTable) -> usize
+    ensures { (version : ℕ) → result ≡ length_of (states_form version) (plain_states states.now) }
+{
+    states.tell_whole();
+    4 + STATE_BYTES * states.len()
 }

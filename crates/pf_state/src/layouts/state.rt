@@ -12,6 +12,9 @@ use pf_addr::bytes::{
 };
 use std::alloc::{AllocError, Global};
 
+/// How many bytes a state takes where it is kept.
+pub(crate) const STATE_BYTES: usize = 96;
+
 /// A state as a row of what a store keeps.
 #[derive(Drop)]
 pub struct StoredState {

@@ -1,9 +1,10 @@
 //! Steps in bytes, as a store keeps them.
-ghost use Rattle.std.specs.Prelude.{◌≡◌, ◌++◌, OnOk};
-ghost use Rattle.pf_addr.specs.{Bytes.Forms.{Form, Fits, onto}, Bytes.Readers.Reads};
+ghost use Rattle.std.specs.Prelude.{◌≡◌, ◌++◌, ℕ, OnOk};
+ghost use Rattle.pf_addr.specs.{Bytes.Forms.{Form, Fits, onto, length_of}, Bytes.Readers.Reads};
 ghost use Rattle.pf_state.specs.Layouts.Steps.{step_form, plain_step};
 
-use crate::layouts::state::{push_name, push_state, read_name, read_state};
+use crate::layouts::state::{STATE_BYTES, push_name, push_state, read_name, read_state};
+use crate::state::tell_whole;
 use crate::step::Step;
 use pf_addr::bytes::{Layout, Rest, Stop, expect, push_bytes, push_key, push_u32, read_u32, takes};
 use std::alloc::{AllocError, Global};
@@ -66,5 +67,20 @@ pub fn push_step(out: &mut Vec<u8>, version: u8, step: &Step) -> Result<(), Allo
             push_bytes(out, &[CLEAR])?;
             push_u32(out, *creator)
         }
+    }
+}
+
+/// How many bytes a step takes where it is kept, in each version. It looks at no state.
+#[tactic(auto, using(crate::proofs::Widths::state_long), unfolding(crate::specs::Layouts::Steps::step_form, crate::specs::Layouts::States::name_form))]
+pub fn step_length(step: &Step) -> usize
+    ensures { (version : ℕ) → result ≡ length_of (step_form version) (plain_step step.now) }
+{
+    match step {
+        Step::Insert(state) => {
+            tell_whole(state);
+            1 + STATE_BYTES
+        }
+        Step::Delete(_) => 13,
+        Step::Clear { .. } => 5,
     }
 }

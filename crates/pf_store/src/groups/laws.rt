@@ -5,7 +5,7 @@ ghost use Rattle.pf_store.specs.{Groups.{has_form, IsRecorded}, Lengths.payload_
 
 /// In each version a payload is that of one change or opening at most. This one has a form, and the payload as many bytes as its kind
 /// and its lengths tell.
-#[tactic(auto, using(crate::proofs::Told::one_record, crate::proofs::Told::recorded_formed, crate::proofs::Payloads::payload_long))]
+#[tactic(auto, using(crate::proofs::Told::one_record, crate::proofs::Told::recorded_formed, crate::proofs::Sized::payload_long))]
 pub fn payloads_tell_one_record()
     ensures one { (version : ℕ) (r s : Recorded) (payload : List ℕ) → IsRecorded version r payload → IsRecorded version s payload → r ≡ s }
     ensures formed { (version : ℕ) (r : Recorded) (payload : List ℕ) → IsRecorded version r payload → has_form r ≡ true }

@@ -106,7 +106,10 @@ pub fn write_durable(alloc: Global, version: u8, durable: &Durable) -> Result<Ve
         return Err(GroupFault::NoForm);
     }
     tell_durable(durable);
-    let mut out = Vec::new(alloc);
+    let Ok(length) = usize::try_from(durable.byte_length()) else {
+        return Err(GroupFault::Memory);
+    };
+    let mut out = Vec::with_capacity(alloc, length)?;
     push_durable(&mut out, version, durable)?;
     Ok(out)
 }

@@ -7,6 +7,7 @@ ghost use Rattle.pf_store.specs.declared.groups.change.Recorded.{Recorded};
 ghost use Rattle.pf_store.specs.{Groups.IsRecorded, Lengths.snapshot_length, StoreFaults.is_add_fault, StoreKept.HaveKept, Openings.{IsAsLongAs, IsNoLaterThan}, Stores.{Follows, left_by, Holds, HoldsEither}};
 
 use crate::groups::GroupFault;
+use crate::limits::AROUND;
 use crate::snapshots::write_durable;
 use crate::store::fault::AddFault;
 use crate::store::lengths::has_room;
@@ -15,9 +16,6 @@ use pf_disk::Disk;
 use pf_journal::Record;
 use pf_snap::{Banks, HEADER, NEWEST, SwitchFault};
 use std::alloc::Global;
-
-/// Bytes that a record takes beside its payload: its gate, the payload's length, and the gate behind it.
-const AROUND: usize = 6;
 
 /// Adds a record of what follows what is kept, with this payload, in ten moments of the device at most. Where the bank that counts has no
 /// room for it, the other one is begun before with a snapshot of what is kept. All memory is taken before the device's first call.
@@ -35,7 +33,7 @@ pub(crate) fn add<D: Disk>(
     requires kept { HaveKept D.seen banks.old durable.now }
     requires early { banks.old.generation + 1 < 2 ^ 64 }
     requires few { D.fault_count banks.old.journal.disk < 2 ^ 63 }
-    requires small { length payload.now + 6 < 2 ^ 64 }
+    requires small { length payload.now + AROUND < 2 ^ 64 }
     ensures any_moment { (x : Recorded) → IsRecorded banks.old.version x payload.now → Follows durable.now x
         → EachMoment D.moment D.left_since banks.old.journal.disk banks.new.journal.disk (HoldsEither durable.now (left_by durable.now x)) }
     ensures generations { EachMoment D.moment D.left_since banks.old.journal.disk banks.new.journal.disk
@@ -45,15 +43,15 @@ pub(crate) fn add<D: Disk>(
     ensures kept { OnOk result ((x : Recorded) → IsRecorded banks.old.version x payload.now → Follows durable.now x
         → HaveKept D.seen banks.new (left_by durable.now x)) }
     ensures ready { OnOk result (IsReady D.seen D.unsynced banks.new) }
-    ensures full { IsErrOf result AddFault.Full ↔ ((banks.old.journal.end < banks.old.journal.gate + (length payload.now + 6))
-        × (bank_size (length (D.seen banks.old.journal.disk)) < HEADER + snapshot_length durable.now + (length payload.now + 6))) }
+    ensures full { IsErrOf result AddFault.Full ↔ ((banks.old.journal.end < banks.old.journal.gate + (length payload.now + AROUND))
+        × (bank_size (length (D.seen banks.old.journal.disk)) < HEADER + snapshot_length durable.now + (length payload.now + AROUND))) }
     ensures unchanged_where_full { IsErrOf result AddFault.Full → banks.new ≡ banks.old }
     ensures unchanged_without_memory { IsErrOf result AddFault.Memory → banks.new ≡ banks.old }
     ensures generation { banks.new.generation ≤ banks.old.generation + 1 }
     ensures generation_stays { banks.old.generation ≤ banks.new.generation }
-    ensures here { OnOk result (banks.old.journal.gate + (length payload.now + 6) ≤ banks.old.journal.end
+    ensures here { OnOk result (banks.old.journal.gate + (length payload.now + AROUND) ≤ banks.old.journal.end
         → banks.new.generation ≡ banks.old.generation) }
-    ensures there { OnOk result (banks.old.journal.end < banks.old.journal.gate + (length payload.now + 6)
+    ensures there { OnOk result (banks.old.journal.end < banks.old.journal.gate + (length payload.now + AROUND)
         → banks.new.generation ≡ banks.old.generation + 1) }
     ensures same_size { length (D.seen banks.new.journal.disk) ≡ length (D.seen banks.old.journal.disk) }
     ensures moments { D.moment banks.new.journal.disk ≤ D.moment banks.old.journal.disk + 10 }

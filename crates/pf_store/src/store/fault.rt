@@ -41,7 +41,8 @@ pub enum OpenFault {
     EpochsExhausted,
     /// The record of an opening has no room, and none in the other bank behind a snapshot of what is held.
     Full,
-    /// There is no place for a reader of what is published. A store never says so: it is for whoever shows what a store keeps.
+    /// There is no place for a reader of what is published, or none at the front of the history. A store never says so: it is for whoever
+    /// shows what a store keeps.
     Places,
 }
 

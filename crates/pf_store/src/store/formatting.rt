@@ -3,7 +3,7 @@ ghost use Rattle.std.specs.Prelude.{◌≡◌, ◌↔◌, ◌+◌, ◌^◌, ◌<
 ghost use Rattle.pf_disk.specs.{Disk.{EachMoment, IsImage, IsSynced}, declared.image.TheConstants.OPEN_GATE};
 ghost use Rattle.pf_snap.specs.{Banks.{IsSize, bank_size, IsOfFormat}, Faults.is_format_fault};
 ghost use Rattle.pf_core.specs.Durable.Edits.{kept_nothing};
-ghost use Rattle.pf_store.specs.{Openings.generation_of, Stores.Holds};
+ghost use Rattle.pf_store.specs.{Openings.{generation_of, LeavesRoom}, Stores.Holds};
 
 use pf_disk::Disk;
 use pf_snap::FormatFault;
@@ -21,6 +21,9 @@ pub fn format<D: Disk>(alloc: Global, disk: &mut D) -> Result<(), FormatFault>
     // By the first generation.
     ensures first { OnOk result ((c : List ℕ) → IsImage (D.seen disk.new) (D.unsynced disk.new) c
         → (held : Holds c (kept_nothing 0)) → generation_of c (kept_nothing 0) held ≡ 1) }
+
+    // What each of them holds leaves room for an opening.
+    ensures roomy { OnOk result ((c : List ℕ) → IsImage (D.seen disk.new) (D.unsynced disk.new) c → LeavesRoom c) }
 
     ensures other { OnOk result ((c : List ℕ) → IsImage (D.seen disk.new) (D.unsynced disk.new) c
         → slice_index c (bank_size (length (D.seen disk.old))) ≢ OPEN_GATE) }

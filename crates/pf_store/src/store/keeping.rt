@@ -5,8 +5,9 @@ ghost use Rattle.pf_snap.specs.{Banks.bank_size, Ready.IsReady};
 ghost use Rattle.pf_core.specs.{Durable.Edits.{Kept, applied, fits}, Laws.Durable.IsWithin, Worlds.{last_epoch, raised}};
 ghost use Rattle.pf_store.specs.declared.store.fault.SaveFault.TheVariants as saving;
 ghost use Rattle.pf_store.specs.declared.store.fault.OpenFault.TheVariants as opening;
+ghost use Rattle.pf_store.specs.declared.limits.TheConstants.{AROUND};
 ghost use Rattle.pf_store.specs.declared.groups.change.Recorded.TheVariants as recorded;
-ghost use Rattle.pf_store.specs.{Groups.IsRecorded, Lengths.payload_length, Stores.{Holds, HoldsEither, IsOfOpening, FindsRoom}, StoreKept.{Stands, HaveKept}, StoreFaults.{is_save_fault, TellsRoom, is_fault}, Openings.{IsUnopened, IsFull, IsNoLaterThan, LeavesRoom, generation_of}};
+ghost use Rattle.pf_store.specs.{Groups.IsRecorded, Lengths.payload_length, Stores.{Holds, HoldsEither, FindsRoom}, StoreKept.{Stands, HaveKept}, StoreFaults.{is_save_fault, TellsRoom, is_fault}, Openings.{IsUnopened, IsFull, IsOfOpening, IsAsLongAs, IsNoLaterThan, LeavesRoom, generation_of}};
 
 use crate::groups::{GroupFault, write_group, write_opening};
 use crate::store::adding::add;
@@ -91,9 +92,9 @@ impl<D: Disk> Store<D> {
         ensures generation_stays { self.old.generation ≤ self.new.generation }
 
         // It switches where its record has no room in the bank that counts, and there alone.
-        ensures here { OnOk result (payload_length (recorded.Made change.now) + 6 ≤ self.old.room
+        ensures here { OnOk result (payload_length (recorded.Made change.now) + AROUND ≤ self.old.room
             → self.new.generation ≡ self.old.generation) }
-        ensures there { OnOk result (self.old.room < payload_length (recorded.Made change.now) + 6
+        ensures there { OnOk result (self.old.room < payload_length (recorded.Made change.now) + AROUND
             → self.new.generation ≡ self.old.generation + 1) }
 
         ensures size { self.new.size ≡ self.old.size }
@@ -144,7 +145,8 @@ impl<D: Disk> Store<D> {
         ensures within { IfOk result (λ r. IsWithin r.0) }
         ensures room { IfOk result (λ r. (d : Kept) → ¬ IsFull (D.seen disk) d) }
 
-        // At each moment an image is one from the start, or holds what was read, its epoch perhaps one greater.
+        // At each moment an image is one from the start, or holds what was read, its epoch perhaps one greater: by the generation that was
+        // found or the next one, and with room for another opening where there was room.
         ensures any_moment { IfOk result (λ r. EachMoment D.moment D.left_since disk r.1.disk (IsOfOpening (D.seen disk) (D.unsynced disk))) }
         ensures any_moment_err { IfErr result (λ e. EachMoment D.moment D.left_since disk e.1
             (IsOfOpening (D.seen disk) (D.unsynced disk))) }
@@ -206,6 +208,12 @@ fn raise_on<D: Disk>(
         (HoldsEither durable.now (raised durable.now))) }
     ensures any_moment_err { IfErr result (λ e. EachMoment D.moment D.left_since banks.journal.disk e.1
         (HoldsEither durable.now (raised durable.now))) }
+    ensures by { IfOk result (λ r. EachMoment D.moment D.left_since banks.journal.disk r.1.disk (IsNoLaterThan (banks.generation + 1))) }
+    ensures by_err { IfErr result (λ e. EachMoment D.moment D.left_since banks.journal.disk e.1 (IsNoLaterThan (banks.generation + 1))) }
+    ensures lengths { IfOk result (λ r. EachMoment D.moment D.left_since banks.journal.disk r.1.disk
+        (IsAsLongAs (D.seen banks.journal.disk))) }
+    ensures lengths_err { IfErr result (λ e. EachMoment D.moment D.left_since banks.journal.disk e.1
+        (IsAsLongAs (D.seen banks.journal.disk))) }
     ensures refused { IfErr result (λ e. IsUnopened e.0 (D.seen banks.journal.disk)) }
     ensures untouched { IfErr result (λ e. is_fault e.0 ≡ false → e.1 ≡ banks.journal.disk) }
     ensures not_size { IfErr result (λ e. e.0 ≡ opening.BadSize → ⊥) }

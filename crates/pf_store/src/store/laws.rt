@@ -1,7 +1,7 @@
 //! Laws of what is held. Each function does nothing; its clauses are what is proved.
 ghost use Rattle.std.specs.Prelude.{◌≡◌, ◌⊎◌, ◌↔◌, ◌^◌, ◌<◌, true, [], ◌∷◌, List, ℕ, length};
 ghost use Rattle.pf_snap.specs.Banks.{bank_size};
-ghost use Rattle.pf_core.specs.{Durable.Edits.{Kept, Edit}, Laws.Durable.IsWithin, Worlds.last_epoch};
+ghost use Rattle.pf_core.specs.{Durable.Edits.{Kept, Edit}, Laws.Durable.IsWithin, Worlds.{last_epoch, raised}};
 ghost use Rattle.pf_store.specs.declared.store.fault.{OpenFault.OpenFault, OpenFault.TheVariants.{Memory, Fault}};
 ghost use Rattle.pf_store.specs.declared.groups.change.Recorded.TheVariants as recorded;
 ghost use Rattle.pf_store.specs.{Lengths.payload_length, Rooms.{group_fits, group_length}, Stores.{FindsRoom, Holds, IsRoomy}, StoreFaults.SaysNone, Openings.{IsFull, IsUnopened, generation_of}};
@@ -19,11 +19,12 @@ pub fn held_state_is_found()
 
 /// Where the epoch isn't the last one, and an opening's record has room here or in the other bank, only want of memory or a fault of the
 /// device keeps a state from being opened that is held by a generation below 2^63. It has room where a bank has 64 bytes left behind a
-/// snapshot of that state. Own.
+/// snapshot of that state, and the next epoch takes no more of them. Own.
 pub fn state_with_room_is_refused_by_chance_alone()
     ensures chance { (image : List ℕ) (fault : OpenFault) (d : Kept) (held : Holds image d) → generation_of image d held < 2 ^ 63
         → d.epoch < last_epoch → ¬ IsFull image d → IsUnopened fault image → (fault ≡ Memory) ⊎ (fault ≡ Fault) }
     ensures room { (image : List ℕ) (d : Kept) → IsRoomy (bank_size (length image)) d → ¬ IsFull image d }
+    ensures next { (size : ℕ) (d : Kept) → IsRoomy size d → IsRoomy size (raised d) }
 {}
 
 /// What is held is within all limits, whatever bytes hold it. Own.

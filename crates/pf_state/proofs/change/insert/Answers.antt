@@ -9,4 +9,4 @@ effect j (inr is) = ap has_effect is
 
 pub with-requires : goal.with-requires
 with-requires c =
-    is_free c.args.states c.args.new.now c.requires (ap has_effect (sym c.judge-judged.ensures) ∙ effect c.judge-judged.result c.in-Replaced.is)
+    is_free c.args.states c.args.new.now c.requires.names (ap has_effect (sym c.judge-judged.ensures) ∙ effect c.judge-judged.result c.in-Replaced.is)

@@ -38,4 +38,4 @@ returns-in-Ok-clause-generation g c =
 pub returns-clause-refused : goal.returns-clause-refused
 returns-clause-refused g c =
     let o = c.in_ok-durable.ensures.opened in
-    held_in_want (g.D.Disk.seen c.args.disk) o.0 o.1
+    held_in_want (g.D.Disk.seen c.args.disk) o.0 o.1 o.5

@@ -10,5 +10,5 @@ returns-in-Some c =
     let rows = c.args.rows.now in
     let made = subst (λ (o : Option (List Stated)). IsIndexOf key_order (λ held. key_of held.flow) c.deref.result.now o) c.in-Some.is c.in_ok-states-2.ensures in
     let are : (es ≡ map (λ row. row.state) rows) × (no_flow_twice key_order (λ held. key_of held.flow) (map (λ row. row.state) rows) ≡ true) =
-    subst (λ (l : List Stated). (es ≡ l) × (no_flow_twice key_order (λ held. key_of held.flow) l ≡ true)) (c.deref.ensures.value ∙ c.in_ok-states.ensures) made in
+    subst (λ (l : List Stated). (es ≡ l) × (no_flow_twice key_order (λ held. key_of held.flow) l ≡ true)) (c.deref.ensures.value ∙ c.in_ok-states.ensures.value) made in
     rw c.of-in-Some.ensures (is_table rows es (sym c.are_in_order.ensures ∙ c.if-not-are_in_order.false) c.if-rows-gt-STATE_LIMIT.false are.0 are.1)

@@ -2,7 +2,7 @@ use Rattle.std.proofs.Common.{◌≡◌, ℕ, List, [], ◌∷◌, ◌++◌, ◌
 use Rattle.pf_addr.specs.Bytes.Forms.{onto}
 use Rattle.pf_store.specs.declared.groups.change.Recorded.TheVariants.{Made}
 use Rattle.pf_store.specs.Groups.{change_form, plain_record}
-use Rattle.pf_store.proofs.{Payloads.payload_long, Told.pushed}
+use Rattle.pf_store.proofs.{Sized.payload_long, Told.{group_pushed, pushed}}
 use Rattle.pf_store.proofs.groups.change.write_group.Goals as goal
 
 pub returns-clause-written : goal.returns-clause-written
@@ -20,4 +20,4 @@ returns-clause-length c =
     let begun : c.push_bytes.new.out.items ≡ 1 ∷ [] =
     c.in_ok-push_bytes.ensures.constant ∙ ap (λ (l : List ℕ). l ++ 1 ∷ []) c.new-out.ensures.items in
     let is = c.in_ok-push_change.ensures.written ∙ ap (onto (change_form c.args.version) (plain_record r)) begun in
-    payload_long c.args.version r out (pushed c.args.version r out c.tell_change.ensures c.in_ok-push_change.ensures.fits is)
+    payload_long c.args.version r out (group_pushed c.args.version r out c.in_ok-push_change.ensures.fits is)

@@ -3,10 +3,10 @@ use Rattle.pf_disk.specs.Disk.{EachMoment}
 use Rattle.pf_disk.proofs.Images.{only_read}
 use Rattle.pf_snap.specs.Banks as snap
 use Rattle.pf_core.specs.{Durable.Edits.Kept, Worlds.raised}
-use Rattle.pf_store.specs.{Groups.IsRecorded, Openings.IsUnopened, Stores.{Holds, HoldsEither}}
+use Rattle.pf_store.specs.{Groups.IsRecorded, Openings.{IsAsLongAs, IsNoLaterThan, IsUnopened}, Stores.{Holds, HoldsEither}}
 use Rattle.pf_store.specs.declared.groups.change.Recorded.TheVariants.{Opens as opens}
 use Rattle.pf_store.proofs.Refusing.{held_in_want}
-use Rattle.pf_store.proofs.Saving.{before, have_held, is_full, no_later, stores, tells_full, unmoved}
+use Rattle.pf_store.proofs.Saving.{before, have_held, is_full, no_later, stores, tells_full, unmoved, unmoved_generations, unmoved_lengths}
 use Rattle.pf_store.proofs.store.keeping.raise_on.Goals as goal
 
 pub returns-in-Err-clause-any_moment_err : goal.returns-in-Err-clause-any_moment_err
@@ -57,7 +57,7 @@ returns-in-Err-clause-refused g c =
     let k = c.requires.kept in
     let mine = have_held d.seen d.unsynced d.fault_count c.args.banks c.args.durable.now k in
     ⊎_elim
-    (λ is. subst (λ e. IsUnopened e seen) (sym is.0) (held_in_want seen c.args.durable.now mine))
+    (λ is. subst (λ e. IsUnopened e seen) (sym is.0) (held_in_want seen c.args.durable.now mine (omega (arith, c.requires.early, k.keeps.generation))))
     (λ last. subst (λ e. IsUnopened e seen) (sym last.0) (c.args.durable.now, mine, omega (arith, c.requires.early, k.keeps.generation), last.1))
     c.in-Err.ensures.refused
 
@@ -75,7 +75,11 @@ returns-in-Ok-add-clause-generations g c image is_image =
 pub returns-in-Err-Memory-clause-refused : goal.returns-in-Err-Memory-clause-refused
 returns-in-Err-Memory-clause-refused g c =
     let d = g.D.Disk in
-    held_in_want (d.seen c.args.banks.journal.disk) c.args.durable.now (have_held d.seen d.unsynced d.fault_count c.args.banks c.args.durable.now c.requires.kept)
+    held_in_want (d.seen c.args.banks.journal.disk) c.args.durable.now
+    (have_held d.seen d.unsynced d.fault_count c.args.banks c.args.durable.now c.requires.kept) (omega (arith, c.requires.early, c.requires.kept.keeps.generation))
+
+pub returns-clause-refused : goal.returns-clause-refused
+returns-clause-refused g c = c.requires.kept.keeps.holds.size
 
 pub returns-in-Ok-add-clause-any_moment : goal.returns-in-Ok-add-clause-any_moment
 returns-in-Ok-add-clause-any_moment g c =
@@ -109,3 +113,56 @@ returns-clause-any_moment_err g c =
     let is = subst (IsRecorded b.version (opens (k.epoch + 1))) (sym c.deref.ensures.value) (c.in-Ok.ensures.payload b.version) in
     subst (λ e. EachMoment d.moment d.left_since b.journal.disk e (HoldsEither k (raised k))) (sym c.into_disk-in-Err-Fault.ensures)
     (c.add.ensures.any_moment (opens (k.epoch + 1)) is refl)
+
+-- no call was made
+pub returns-in-Err-clause-by_err : goal.returns-in-Err-clause-by_err
+returns-in-Err-clause-by_err g c =
+    let d = g.D.Disk in
+    let b = c.args.banks in
+    let k = c.requires.kept in
+    subst (λ e. EachMoment d.moment d.left_since b.journal.disk e (IsNoLaterThan (b.generation + 1))) (sym c.into_disk.ensures)
+    (unmoved_generations d.seen d.unsynced d.moment d.left_since b.journal.disk (b.generation + 1) k.content (omega (arith, k.keeps.generation)) c.requires.ready.journal.synced
+    (record { at = b.at; other = b.other; holds = k.keeps.holds }) (g.met.D.Disk.only_now b.journal.disk))
+
+pub returns-in-Err-clause-lengths_err : goal.returns-in-Err-clause-lengths_err
+returns-in-Err-clause-lengths_err g c =
+    let d = g.D.Disk in
+    let b = c.args.banks in
+    subst (λ e. EachMoment d.moment d.left_since b.journal.disk e (IsAsLongAs (d.seen b.journal.disk))) (sym c.into_disk.ensures)
+    (unmoved_lengths d.seen d.unsynced d.moment d.left_since b.journal.disk (g.met.D.Disk.only_now b.journal.disk))
+
+pub returns-in-Err-Memory-clause-by_err : goal.returns-in-Err-Memory-clause-by_err
+returns-in-Err-Memory-clause-by_err g c =
+    let d = g.D.Disk in
+    let b = c.args.banks in
+    subst (λ e. EachMoment d.moment d.left_since b.journal.disk e (IsNoLaterThan (b.generation + 1))) (sym c.into_disk-in-Err-Memory.ensures) c.add.ensures.generations
+
+pub returns-in-Err-Memory-clause-lengths_err : goal.returns-in-Err-Memory-clause-lengths_err
+returns-in-Err-Memory-clause-lengths_err g c =
+    let d = g.D.Disk in
+    let b = c.args.banks in
+    subst (λ e. EachMoment d.moment d.left_since b.journal.disk e (IsAsLongAs (d.seen b.journal.disk))) (sym c.into_disk-in-Err-Memory.ensures) c.add.ensures.lengths
+
+pub returns-in-Err-Full-clause-by_err : goal.returns-in-Err-Full-clause-by_err
+returns-in-Err-Full-clause-by_err g c =
+    let d = g.D.Disk in
+    let b = c.args.banks in
+    subst (λ e. EachMoment d.moment d.left_since b.journal.disk e (IsNoLaterThan (b.generation + 1))) (sym c.into_disk-in-Err-Full.ensures) c.add.ensures.generations
+
+pub returns-in-Err-Full-clause-lengths_err : goal.returns-in-Err-Full-clause-lengths_err
+returns-in-Err-Full-clause-lengths_err g c =
+    let d = g.D.Disk in
+    let b = c.args.banks in
+    subst (λ e. EachMoment d.moment d.left_since b.journal.disk e (IsAsLongAs (d.seen b.journal.disk))) (sym c.into_disk-in-Err-Full.ensures) c.add.ensures.lengths
+
+pub returns-clause-by_err : goal.returns-clause-by_err
+returns-clause-by_err g c =
+    let d = g.D.Disk in
+    let b = c.args.banks in
+    subst (λ e. EachMoment d.moment d.left_since b.journal.disk e (IsNoLaterThan (b.generation + 1))) (sym c.into_disk-in-Err-Fault.ensures) c.add.ensures.generations
+
+pub returns-clause-lengths_err : goal.returns-clause-lengths_err
+returns-clause-lengths_err g c =
+    let d = g.D.Disk in
+    let b = c.args.banks in
+    subst (λ e. EachMoment d.moment d.left_since b.journal.disk e (IsAsLongAs (d.seen b.journal.disk))) (sym c.into_disk-in-Err-Fault.ensures) c.add.ensures.lengths

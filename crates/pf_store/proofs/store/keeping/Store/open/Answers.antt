@@ -1,8 +1,8 @@
-use Rattle.std.proofs.Common.{◌≡◌, ℕ, true, List, sym, subst, arith}
+use Rattle.std.proofs.Common.{◌≡◌, ◌≤◌, ◌+◌, ℕ, true, List, length, sym, ap, subst, arith}
 use Rattle.pf_snap.specs.{Looked.content_of}
 use Rattle.pf_snap.specs.Banks as snap
-use Rattle.pf_store.specs.{Openings.IsFull, Stores.Holds}
-use Rattle.pf_store.proofs.{Limiting.made_within, Refusing.unopened, Saving.{on_ok, on_both, opened, standing}}
+use Rattle.pf_store.specs.{Openings.{IsFull, generation_of}, Stores.Holds}
+use Rattle.pf_store.proofs.{Limiting.made_within, Refusing.unopened, Saving.{on_ok, on_both, on_three, on_three_err, opened, standing}}
 use Rattle.pf_store.proofs.store.keeping.Store.open.Goals as goal
 
 pub returns-in-Ok-replay-clause-opened : goal.returns-in-Ok-replay-clause-opened
@@ -43,7 +43,29 @@ returns-in-Ok-replay-clause-any_moment g c =
       bank = subst (λ (x : List ℕ). snap.Holds x (content_of l)) c.in-Ok.ensures.seen (record { at = b.at; other = b.other; holds = keeps.holds });
       makes = c.in-Ok-replay.ensures.made;
     } in
-    on_ok c.raise_on.result _ _ (λ r run. opened d.seen d.unsynced d.moment d.left_since c.args.disk b.journal.disk r.1.disk k held c.in-Ok.ensures.any_moment run) c.raise_on.ensures.any_moment
+    let low : b.generation + 1 ≤ generation_of (d.seen c.args.disk) k held + 1 = omega (arith, keeps.generation) in
+    let same : length (d.seen b.journal.disk) ≡ length (d.seen c.args.disk) = ap length c.in-Ok.ensures.seen in
+    on_three c.raise_on.result _ _ _ _
+    (λ r run by long. opened d.seen d.unsynced d.moment d.left_since c.args.disk b.journal.disk r.1.disk k held (b.generation + 1) low same c.in-Ok.ensures.any_moment run by long)
+    c.raise_on.ensures.any_moment c.raise_on.ensures.by c.raise_on.ensures.lengths
+
+pub returns-in-Ok-replay-clause-any_moment_err : goal.returns-in-Ok-replay-clause-any_moment_err
+returns-in-Ok-replay-clause-any_moment_err g c =
+    let d = g.D.Disk in
+    let l = c.in-Ok.looked in
+    let b = c.in-Ok.banks in
+    let k = c.in-Ok-replay.durable in
+    let keeps = c.in-Ok.ensures.keeps c.in-Ok-replay.ensures.whole in
+    let held : Holds (d.seen c.args.disk) k = record {
+      content = content_of l;
+      bank = subst (λ (x : List ℕ). snap.Holds x (content_of l)) c.in-Ok.ensures.seen (record { at = b.at; other = b.other; holds = keeps.holds });
+      makes = c.in-Ok-replay.ensures.made;
+    } in
+    let low : b.generation + 1 ≤ generation_of (d.seen c.args.disk) k held + 1 = omega (arith, keeps.generation) in
+    let same : length (d.seen b.journal.disk) ≡ length (d.seen c.args.disk) = ap length c.in-Ok.ensures.seen in
+    on_three_err c.raise_on.result _ _ _ _
+    (λ e run by long. opened d.seen d.unsynced d.moment d.left_since c.args.disk b.journal.disk e.1 k held (b.generation + 1) low same c.in-Ok.ensures.any_moment run by long)
+    c.raise_on.ensures.any_moment_err c.raise_on.ensures.by_err c.raise_on.ensures.lengths_err
 
 pub returns-in-Ok-clause-refused : goal.returns-in-Ok-clause-refused
 returns-in-Ok-clause-refused g c =
