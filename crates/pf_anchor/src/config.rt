@@ -1,6 +1,6 @@
 //! What is active: rulesets and tables.
 ghost use Rattle.std.specs.{Prelude.{◌≡◌, ◌<◌, ◌^◌, ℕ, [], ◌∷◌, length, IfOk, nat_lt}, Option.{MatchOption, option_map}};
-ghost use Rattle.pf_anchor.specs.{Forms.config_length, Tables.{tabled, table_found, tables_at, named_table, IsTableMap}, Rulesets.{ruled, rules_at, children, IsMap}, Configurations.{nothing, with_rulesets, with_tables}, Limits.{ruleset_refusal, table_refusal}, Evaluation.judged};
+ghost use Rattle.pf_anchor.specs.{Forms.{config_length, configured}, Tables.{tabled, table_found, tables_at, named_table, IsTableMap}, Rulesets.{ruled, rules_at, children, IsMap}, Configurations.{nothing, with_rulesets, with_tables}, Limits.{ruleset_refusal, table_refusal}, Evaluation.judged};
 ghost use Rattle.pf_addr.specs.Refusing.{Refuses};
 ghost use Rattle.pf_anchor.specs.declared.fault.ConfigFault.TheVariants.{Memory};
 
@@ -50,6 +50,24 @@ impl Config {
             rulesets: PagedMap::empty(),
             tables: PagedMap::empty(),
         }
+    }
+
+    /// These rulesets and tables, each list in the order of their places, no place twice, and none of them empty. The rules are put in
+    /// columns, by which packets are judged. No rule and no entry is copied. `AllocError`: nothing is made.
+    pub fn of(
+        alloc: Global,
+        rulesets: &[Placed],
+        tables: &[PlacedTable],
+    ) -> Result<Config, AllocError>
+        requires rulesets { IsMap rulesets.now }
+        requires tables { IsTableMap tables.now }
+        ensures { IfOk result (λ c. c ≡ configured rulesets.now tables.now) }
+    {
+        let rulesets = in_columns(alloc, rulesets)?;
+        Ok(Config {
+            rulesets: PagedMap::of(alloc, rulesets.as_slice())?,
+            tables: PagedMap::of(alloc, tables)?,
+        })
     }
 
     /// After a commit of these rulesets, in order. Their rules are put in columns, by which packets are judged. All else is shared, and

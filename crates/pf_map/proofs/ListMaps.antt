@@ -53,3 +53,11 @@ lists_grow R items es = all_grow R unless_empty items es
 -- a map of kept lists has no empty one
 pub list_map_is : {K X : Type 0} {R : K → K → Ordering} (es : List (K × List X)) → IsMap R unless_empty es → IsListMap R es
 list_map_is es is = record { sorted = is.sorted; filled = λ k there. absurd (cc (is.some k [] there)) }
+
+kept_some : {X : Type 0} (xs : List X) → xs ≢ [] → unless_empty xs ≡ Some xs
+kept_some [] some = absurd (some refl)
+kept_some (x ∷ xs) some = refl
+
+-- and of one that has no empty list all are kept
+pub is_kept_map : {K X : Type 0} {R : K → K → Ordering} (es : List (K × List X)) → IsListMap R es → IsMap R unless_empty es
+is_kept_map es is = record { sorted = is.sorted; some = λ k v there. kept_some v (λ empty. is.filled k (there ∙ ap (λ xs. Some xs) empty)) }

@@ -94,6 +94,19 @@ fn with_change<K: Key, V: Content>(
     }
 }
 
+// What entries weigh together.
+fn weight_of_all<K: Key, V: Content, W: Weigher<K, V>>(entries: &[Entry<K, V>]) -> u128
+    ensures { IsWeighed W.weight entries.now result }
+{
+    // there are fewer than 2^64, so the sum fits
+    let _count = entries.len();
+    let mut weight = 0;
+    for entry in entries {
+        weight += u128::from(W::weigh(entry));
+    }
+    weight
+}
+
 impl<K: Key, V: Content, W: Weigher<K, V>> PagedMap<K, V, W> {
     /// The map of nothing. It takes no memory.
     pub fn empty() -> PagedMap<K, V, W>
@@ -104,6 +117,19 @@ impl<K: Key, V: Content, W: Weigher<K, V>> PagedMap<K, V, W> {
             weight: 0,
             of: PhantomData,
         }
+    }
+
+    /// The map of these entries, which stand in the order of their keys, no key twice, and of which no value stands for none. Its pages
+    /// are full but for the last ones. `AllocError`: nothing is made.
+    pub fn of(alloc: Global, entries: &[Entry<K, V>]) -> Result<PagedMap<K, V, W>, AllocError>
+        requires { IsMap K.order V.kept entries.now }
+        ensures { IfOk result (λ m. m ≡ entries.now) }
+    {
+        Ok(PagedMap {
+            map: TreeMap::of(alloc, entries)?,
+            weight: weight_of_all::<K, V, W>(entries),
+            of: PhantomData,
+        })
     }
 
     /// What its entries weigh together. It looks at none of them.

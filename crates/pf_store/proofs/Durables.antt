@@ -1,17 +1,15 @@
 -- What is kept: what its types keep fits its form, its data tell it, and its bytes.
-use Rattle.std.proofs.{Common.{◌*◌, ◌^◌, ◌≡◌, ◌≢◌, ◌≤◌, ◌==◌, ◌&&◌, ◌++◌, not, ℕ, Bool, true, false, T, List, [], ◌∷◌, length, map, cond, Some, None, Ok, refl, sym, ap, ◌∙◌, subst, true≢false, append_assoc, arith}, lemmas.{List.{length-map, append-nil}, Bool.{and_parts, Decides.nat_tests}, Cmp.{alike_right, tied_itself, nat_list_cmp_total}}}
-use Rattle.std.specs.{Prelude.{fold, nat_le, replicate}, declared.{cmp.Ordering.Ordering, cmp.Ordering.TheVariants.Less, cmp.Ordering.TheVariants.Equal, cmp.Ordering.TheVariants.Greater}, Cmp.IsTotalOrder, FinMap.{find, is_sorted}, FinMap.Entries.below_all, List.{list_all, AllByRecursion}, Ordering.{is_eq, is_lt, ordering_reverse}}
+use Rattle.std.proofs.{Common.{◌*◌, ◌^◌, ◌≡◌, ◌≢◌, ◌≤◌, ◌==◌, ◌&&◌, not, ℕ, Bool, true, false, T, List, [], ◌∷◌, length, map, cond, Some, None, Ok, refl, sym, ap, ◌∙◌, true≢false, arith}, lemmas.{List.length-map, Bool.{and_parts, Decides.nat_tests}, Cmp.{alike_right, tied_itself, nat_list_cmp_total}}}
+use Rattle.std.specs.{Prelude.{nat_le, replicate}, declared.{cmp.Ordering.Ordering, cmp.Ordering.TheVariants.Less, cmp.Ordering.TheVariants.Equal, cmp.Ordering.TheVariants.Greater}, Cmp.IsTotalOrder, FinMap.{find, is_sorted}, FinMap.Entries.below_all, List.{list_all, AllByRecursion}, Ordering.{is_eq, is_lt, ordering_reverse}}
 use Rattle.pf_addr.specs.{Bytes.{Parts.number_bytes, Forms.{Shape, Value, Form, that, Fits, Spells, reads, writes, onto}, Lists.{in_order, ordered}}, Laws.Bytes.{Onto.onto_is, Texts.one_value}, Path.Paths.path_order}
 use Rattle.pf_addr.specs.{Bytes.Codes.below, NetForms.family, Path.PathForms.{path_form, table_name_form}}
-use Rattle.pf_anchor.specs.{declared.limits.TheConstants.{RULESET_LIMIT, TABLE_COUNT_LIMIT}, Configurations.{Configuration, nothing, with_rulesets, with_tables}, Rulesets.{Ruled, IsMap}, Tables.{Tabled, table_order, IsTableMap}}
+use Rattle.pf_anchor.specs.{declared.limits.TheConstants.{RULESET_LIMIT, TABLE_COUNT_LIMIT}, Rulesets.{Ruled, IsMap}, Tables.{Tabled, table_order, IsTableMap}}
 use Rattle.pf_anchor.proofs.TableMaps.{table_order_total}
 use Rattle.pf_core.specs.Durable.Edits.{Kept, kept, kept_nothing}
 use Rattle.pf_rule.specs.Sum.{Layouts.plain_rule}
 use Rattle.pf_state.proofs.LayoutsBack.{states_back}
-use Rattle.pf_state.specs.Layouts.States.{state_in}
 use Rattle.pf_table.specs.EntryForms.{entry, plain_entry}
-use Rattle.pf_map.specs.ListMaps.{with_list}
-use Rattle.pf_map.proofs.{Ordered.{in_order_of, sorted_of, sorted_front, put_last}, Tests.{first_of, second_of, less_of}}
+use Rattle.pf_map.proofs.{Ordered.{in_order_of, sorted_of}, Tests.{first_of, second_of, less_of}}
 use Rattle.pf_store.specs.declared.snapshots.{rulesets.StoredRuleset.StoredRuleset, tables.StoredPlaced.StoredPlaced}
 use Rattle.pf_anchor.specs.Forms.{at_most, RulesShape, rules_form, named_form, entries_form, has_some, ruleset_before, are_rulesets, rulesets_form, plain_ruled, PlacedShape, placed_before, are_tables, placed_form, kept_tables_form, plain_tabled, ruled_in, tabled_in, configured}
 use Rattle.pf_core.specs.Durable.Forms.{DurableShape, durable_form, plain_durable, durable_in}
@@ -47,25 +45,9 @@ seen_again : {A B C : Type 0} (f : A → B) (g : B → C) (xs : List A) → map 
 seen_again f g [] = refl
 seen_again f g (x ∷ xs) = ap (λ ys. g (f x) ∷ ys) (seen_again f g xs)
 
--- ---- lists in order, put into a map
+-- ---- maps of lists
 
 module _ {K X : Type 0} {R : K → K → Ordering} (o : IsTotalOrder R) where
-  with_last : (es : List (K × List X)) (k : K) (xs : List X) → has_some xs ≡ true → T (is_sorted R (es ++ (k, xs) ∷ []))
-      → with_list R es (k, xs) ≡ es ++ (k, xs) ∷ []
-  with_last es k [] some is = absurd (cc (some))
-  with_last es k (x ∷ xs) some is = put_last o es k (x ∷ xs) is
-
-  -- they stand behind those that are there
-  put_behind : (items es : List (K × List X)) → T (is_sorted R (es ++ items)) → list_all (λ e. has_some e.1) items ≡ true
-      → fold (with_list R) es items ≡ es ++ items
-  put_behind [] es is some = sym (append-nil es)
-  put_behind (i ∷ items) es is some =
-      let parts = and_parts (has_some i.1) (list_all (λ e. has_some e.1) items) some in
-      let regrouped : (es ++ i ∷ []) ++ items ≡ es ++ i ∷ items = append_assoc es (i ∷ []) items in
-      let whole : T (is_sorted R ((es ++ i ∷ []) ++ items)) = subst (λ l. T (is_sorted R l)) (sym regrouped) is in
-      let last : with_list R es i ≡ es ++ i ∷ [] = with_last es i.0 i.1 parts.0 (sorted_front o (es ++ i ∷ []) items whole) in
-      ap (λ l. fold (with_list R) l items) last ∙ put_behind items (es ++ i ∷ []) whole parts.1 ∙ regrouped
-
   -- what is behind a key isn't found at it
   tied_none : (k x : K) → R k x ≡ Equal → (es : List (K × List X)) → T (below_all R x es) → find R k es ≡ None
   tied_none k x tied [] low = refl
@@ -151,11 +133,6 @@ rulesets_read version rows before rest read is =
     (map (λ r. plain_ruled (placed r)) rows) read (rulesets_are rows ∙ is)
     ∙ ap (λ (vs : List (Value RulesShape)). Ok (vs, rest)) (seen_again placed plain_ruled rows)
 
--- put onto nothing they are the rulesets
-rulesets_alone : (rs : List Ruled) → T (is_sorted path_order rs) → list_all (λ r. has_some r.1) rs ≡ true
-    → with_rulesets nothing rs ≡ configured rs []
-rulesets_alone rs is some = ap (λ (es : List Ruled). configured es []) (put_behind nat_list_cmp_total rs [] is some)
-
 -- ---- tables
 
 entries_kept : (ts : List Tabled) → list_all (λ v. has_some v.1.1) (map plain_tabled ts) ≡ list_all (λ t. has_some t.1) ts
@@ -215,17 +192,6 @@ tables_read rows before rest read is =
     that_read are_tables (ordered placed_before 4 placed_form) before rest
     (map (λ r. plain_tabled (placed r)) rows) read (tables_are rows ∙ is)
     ∙ ap (λ (vs : List (Value PlacedShape)). Ok (vs, rest)) (seen_again placed plain_tabled rows)
-
-tables_alone : (rs : List Ruled) (ts : List Tabled) → T (is_sorted table_order ts) → list_all (λ t. has_some t.1) ts ≡ true
-    → with_tables (configured rs []) ts ≡ configured rs ts
-tables_alone rs ts is some = ap (λ (es : List Tabled). configured rs es) (put_behind table_order_total ts [] is some)
-
--- both put onto nothing
-pub configuration_is : (c : Configuration) (rs : List Ruled) (ts : List Tabled) → c ≡ with_rulesets nothing rs
-    → T (is_sorted path_order rs) → list_all (λ r. has_some r.1) rs ≡ true
-    → T (is_sorted table_order ts) → list_all (λ t. has_some t.1) ts ≡ true → with_tables c ts ≡ configured rs ts
-configuration_is c rs ts is rs_sorted rs_some ts_sorted ts_some =
-    ap (λ (k : Configuration). with_tables k ts) (is ∙ rulesets_alone rs rs_sorted rs_some) ∙ tables_alone rs ts ts_sorted ts_some
 
 -- ---- told by its data
 

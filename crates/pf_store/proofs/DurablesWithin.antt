@@ -27,7 +27,7 @@ module _ {K X : Type 0} (R : K → K → Ordering) where
     by true rest = each.0
     by false rest = rest
 
-  filled : (es : List (K × List X)) → list_all (λ e. has_some e.1) es ≡ true → (k : K) → find R k es ≢ Some []
+  pub filled : (es : List (K × List X)) → list_all (λ e. has_some e.1) es ≡ true → (k : K) → find R k es ≢ Some []
   filled [] some k there = cc (there)
   filled (e ∷ es) some k there = by (eq_by_cmp R k e.0) there (λ later. filled es parts.1 k later) where
     parts : (has_some e.1 ≡ true) × (list_all (λ x. has_some x.1) es ≡ true)

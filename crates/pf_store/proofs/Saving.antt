@@ -8,8 +8,11 @@ use Rattle.pf_snap.specs.Banks as snap
 use Rattle.pf_snap.proofs.Holding.{one_content}
 use Rattle.pf_core.specs.{Durable.Edits.{Kept}, Worlds.{last_epoch, raised}}
 use Rattle.pf_store.specs.declared.groups.change.Recorded.{Recorded}
-use Rattle.pf_store.specs.{Durables.IsDurable, Groups.IsRecorded, Lengths.snapshot_length, Openings.{IsAsLongAs, IsFull, IsNoLaterThan, IsOfOpening, LeavesRoom, gate_of, generation_of}, Stores.{Follows, left_by, Holds, HoldsEither, IsRoomy, Makes}, StoreKept.{Stands, Storage, IsStore, HaveKept}}
-use Rattle.pf_store.proofs.{Leading.{leads-push}, Refusing.{one_at, one_gate, one_held}, Sized.{raised_roomy}}
+use Rattle.pf_store.specs.{Durables.IsDurable, Groups.IsRecorded, Lengths.snapshot_length, Openings.{HasRoomHere, IsAsLongAs, IsFull, IsNoLaterThan, IsOfOpening, LeavesRoom, gate_of, generation_of}, Stores.{Follows, left_by, Holds, HoldsEither, IsRoomy, Makes}, StoreKept.{Stands, Storage, IsStore, HaveKept}}
+use Rattle.pf_store.proofs.{Leading.{leads-push}, Refusing.{one_at, one_gate, one_held}, Sized.{raised_roomy, roomy_in}}
+
+not_greater : (a b : ℕ) → (a ≤ b → ⊥) → b < a
+not_greater a b none = omega (arith, none)
 
 pub not_less : (a b : ℕ) → (a < b → ⊥) → b ≤ a
 not_less a b none = omega (arith, none)
@@ -67,7 +70,8 @@ neither_later g a b one other c (inr has) = no_later g b other c has
 -- what either of two leaves room for
 roomy_as : (seen : List ℕ) (d : Kept) → IsRoomy (bank_size (length seen)) d → (c : List ℕ) → IsAsLongAs seen c → Holds c d → LeavesRoom c
 roomy_as seen d roomy c long has e holds =
-    subst (λ (k : Kept). IsRoomy (bank_size (length c)) k) (one_held c d e has holds) (subst (λ (n : ℕ). IsRoomy (bank_size n) d) (sym long) roomy)
+    roomy_in NEWEST holds.content.version (bank_size (length c)) e
+    (subst (λ (k : Kept). IsRoomy (bank_size (length c)) k) (one_held c d e has holds) (subst (λ (n : ℕ). IsRoomy (bank_size n) d) (sym long) roomy))
 
 pub roomy_either : (seen : List ℕ) (d e : Kept) → IsRoomy (bank_size (length seen)) d → IsRoomy (bank_size (length seen)) e
     → (c : List ℕ) → IsAsLongAs seen c → HoldsEither d e c → LeavesRoom c
@@ -122,6 +126,27 @@ module _ {D : Type 0} (seen : D → List ℕ) (unsynced : D → ℕ → Bool) wh
         here = omega (arith, full.0, k.keeps.start, k.keeps.gate, ready.end, six);
         there = omega (arith, full.1, six);
       }
+
+      -- an opening's record has room in the bank that counts, or hasn't
+      module _ (e : Kept) (held : Holds (seen banks.journal.disk) e) where
+        abbrev image : List ℕ
+        image = seen banks.journal.disk
+
+        at : held.bank.at ≡ banks.at
+        at = one_at image e d held (have_held k)
+
+        gate : gate_of image e held ≡ gate_of image d (have_held k)
+        gate = one_gate image e d held (have_held k)
+
+        pub room_here : HasRoomHere image e held → banks.journal.gate + (n + 6) ≤ banks.journal.end
+        room_here here = omega (arith, here, at, gate, k.keeps.start, k.keeps.gate, ready.end, six)
+
+        pub no_room_here : ¬ HasRoomHere image e held → banks.journal.end < banks.journal.gate + (n + 6)
+        no_room_here full =
+            not_greater _ _ (λ fits. full (omega (arith, fits, at, gate, k.keeps.start, k.keeps.gate, ready.end, six)))
+
+        pub by_generation : generation_of image e held ≡ banks.generation
+        by_generation = ap (λ (c : Content). c.generation) (one_content image held.content k.content held.bank (have_held k).bank) ∙ sym k.keeps.generation
 
   -- there is one version so far
   one_version : (banks : Banks D) (d : Kept) (k : HaveKept seen banks d) → banks.version ≡ 1
@@ -220,5 +245,7 @@ module _ {D : Type 0} (seen : D → List ℕ) (unsynced : D → ℕ → Bool) wh
           held = held;
           holds = is.0.0;
           generation = λ e there. let by : generation_of c e there ≤ g = is.0.1 e there in omega (arith, by, low);
-          roomy = λ room. roomy_either (seen old) d (raised d) (room d held) (raised_roomy (bank_size (length (seen old))) d (room d held)) c (cc (is.1, same)) is.0.0;
+          roomy = λ room.
+              let own = roomy_in held.content.version NEWEST (bank_size (length (seen old))) d (room d held) in
+              roomy_either (seen old) d (raised d) own (raised_roomy (bank_size (length (seen old))) d own) c (cc (is.1, same)) is.0.0;
         })))

@@ -9,7 +9,7 @@ use Rattle.pf_anchor.specs.Forms.{rule_list_form, rules_form, rulesets_form, kep
 use Rattle.pf_state.specs.{declared.step.Step.Step, Layouts.{States.{held_form, state_form}, Steps.{step_form, plain_step}}}
 use Rattle.pf_core.specs.{declared.durable.change.Item.Item, Durable.{Edits.{Kept, kept_nothing}, Forms.{durable_form, plain_durable, durable_length}}, Worlds.raised}
 use Rattle.pf_ticket.specs.NamedTables.{Named}
-use Rattle.pf_store.specs.{declared.groups.change.Recorded.{Recorded, TheVariants.Opens as opens}, Groups.{item_form, plain_item, items_form, defined_form, tables_form, edit_form, change_form, group_form, plain_record}, Lengths.{total, snapshot_length, item_length, named_length, edit_length, step_length, payload_length}, Stores.IsRoomy}
+use Rattle.pf_store.specs.{declared.groups.change.Recorded.{Recorded, TheVariants.Opens as opens}, Groups.{item_form, plain_item, items_form, defined_form, tables_form, edit_form, change_form, group_form, plain_record}, Lengths.{total, snapshot_length, item_length, named_length, edit_length, step_length, payload_length}, Stores.{IsRoomy, IsRoomyIn}}
 
 -- ---- in each version
 
@@ -41,6 +41,10 @@ nothing_long epoch = refl
 raised_long : (d : Kept) → snapshot_length (raised d) ≡ snapshot_length d
 unfolding durable_form
 raised_long d = refl
+
+-- room in one version is room in each
+pub roomy_in : (version other size : ℕ) (d : Kept) → IsRoomyIn version size d → IsRoomyIn other size d
+roomy_in version other size d roomy = omega (arith, same_snapshot version other d, roomy)
 
 pub raised_roomy : (size : ℕ) (d : Kept) → IsRoomy size d → IsRoomy size (raised d)
 raised_roomy size d roomy = omega (arith, raised_long d, roomy)

@@ -6,13 +6,13 @@ use Rattle.pf_snap.specs.{Banks.{AreBanks, Content, Counts, HasSnapshot, bank_si
 use Rattle.pf_snap.specs.Banks as snap
 use Rattle.pf_snap.specs.declared.fault.LookFault.TheVariants as looking
 use Rattle.pf_core.specs.{Durable.Edits.{Kept}, Worlds.{last_epoch, raised}}
-use Rattle.pf_store.specs.{Durables.IsDurable, Groups.IsRecorded, Lengths.snapshot_length, Stores.{Follows, Holds, HoldsEither, IsRoomy, Leads, Makes}}
+use Rattle.pf_store.specs.{Durables.IsDurable, Groups.IsRecorded, Lengths.snapshot_length, Stores.{Follows, Holds, HoldsEither, IsRoomyIn, Leads, Makes}}
 use Rattle.pf_store.specs.declared.{groups.change.Recorded.Recorded, store.fault.OpenFault.OpenFault, store.fault.OpenFault.TheVariants.{BadSize, NoBank, Corrupt, Memory, Fault, EpochsExhausted, Full, Places}}
 use Rattle.pf_store.specs.declared.limits.TheConstants.{OPENING_RECORD}
 
 -- The snapshot of the bank of this version at this place is of nothing.
-abbrev pub NoSnapshot : (version at : ℕ) → List ℕ → ℕ → Type 0
-NoSnapshot version at snapshot place = ((d : Kept) → ¬ IsDurable version d snapshot) × (place ≡ at + HEADER)
+abbrev pub BreaksInSnapshot : (version at : ℕ) → List ℕ → ℕ → Type 0
+BreaksInSnapshot version at snapshot place = ((d : Kept) → ¬ IsDurable version d snapshot) × (place ≡ at + HEADER)
 
 -- One of the payloads is of nothing that follows what the ones before it leave, where the first record's gate stands at `start`.
 pub record StopsAt (version : ℕ) (first : Kept) (start : ℕ) (payloads : List (List ℕ)) (place : ℕ) : Type 0 where
@@ -41,7 +41,7 @@ pub record IsTorn (torn : Type 0) (bank : ℕ) (content : Content) (place : ℕ)
 -- What the bank at a place has makes nothing: it breaks off at this place.
 abbrev pub MakesNone : Type 0 → (bank : ℕ) → Content → ℕ → Type 0
 MakesNone torn bank content place =
-    NoSnapshot content.version bank content.snapshot place ⊎ (NoGroup bank content place ⊎ IsTorn torn bank content place)
+    BreaksInSnapshot content.version bank content.snapshot place ⊎ (NoGroup bank content place ⊎ IsTorn torn bank content place)
 
 -- Behind the header of the bank that counts, which is one that is read, snapshot and records break off at this place.
 pub record BreaksBehind (seen : List ℕ) (place : ℕ) : Type 0 where
@@ -70,9 +70,13 @@ IsNoLaterThan g seen = (d : Kept) (held : Holds seen d) → generation_of seen d
 abbrev pub IsAsLongAs : List ℕ → List ℕ → Type 0
 IsAsLongAs seen image = length image ≡ length seen
 
--- A bank has 64 bytes left behind a snapshot of what the image holds.
+-- A bank has 64 bytes left behind a snapshot of what the image holds, in its own version.
 abbrev pub LeavesRoom : List ℕ → Type 0
-LeavesRoom image = (d : Kept) → Holds image d → IsRoomy (bank_size (length image)) d
+LeavesRoom image = (d : Kept) (held : Holds image d) → IsRoomyIn held.content.version (bank_size (length image)) d
+
+-- The record of an opening has room behind the others in the bank that counts.
+abbrev pub HasRoomHere : (seen : List ℕ) (d : Kept) → Holds seen d → Type 0
+HasRoomHere seen d held = gate_of seen d held + OPENING_RECORD ≤ held.bank.at + bank_size (length seen)
 
 -- The image holds what the device that was opened held, its epoch perhaps one greater, by the generation from before or the next one, and
 -- leaves room where that did.

@@ -1,8 +1,8 @@
 -- What a device's image holds: what was kept first and what changes have made of it since. Own.
 use Rattle.std.specs.Prelude.{◌≡◌, ◌⊎◌, ◌≤◌, ℕ, ◌+◌, true, List, [], ◌∷◌, Ok}
-use Rattle.pf_snap.specs.{Banks.Content, declared.header.TheConstants.HEADER}
+use Rattle.pf_snap.specs.{Banks.Content, declared.header.TheConstants.{HEADER, NEWEST}}
 use Rattle.pf_snap.specs.Banks as snap
-use Rattle.pf_core.specs.{Durable.Edits.{Kept, Edit, in_epoch, applied, fits}}
+use Rattle.pf_core.specs.Durable.{Edits.{Kept, Edit, in_epoch, applied, fits}, Forms.durable_length}
 use Rattle.pf_store.specs.{Durables.IsDurable, Groups.{IsRecorded, has_form}, Lengths.{snapshot_length, payload_length}, declared.groups.change.Recorded.Recorded}
 use Rattle.pf_store.specs.declared.groups.change.Recorded.TheVariants as recorded
 use Rattle.pf_store.specs.declared.limits.TheConstants.{AROUND, ROOM_TO_OPEN}
@@ -43,9 +43,13 @@ HoldsEither before next image = Holds image before ⊎ Holds image next
 
 -- ---- room
 
--- A bank of so many bytes has 64 left behind a snapshot of what is kept: enough for an opening's record.
+-- A bank of so many bytes has 64 left behind a snapshot of what is kept, in a version: enough for an opening's record.
+abbrev pub IsRoomyIn : (version size : ℕ) → Kept → Type 0
+IsRoomyIn version size d = HEADER + durable_length version d + ROOM_TO_OPEN ≤ size
+
+-- in the version that is written
 abbrev pub IsRoomy : (size : ℕ) → Kept → Type 0
-IsRoomy size d = HEADER + snapshot_length d + ROOM_TO_OPEN ≤ size
+IsRoomy size d = IsRoomyIn NEWEST size d
 
 -- A payload of n bytes finds room in banks of so many bytes: one has 64 bytes left behind a snapshot of what is kept then, and room for
 -- the payload's record behind one of what is kept before.

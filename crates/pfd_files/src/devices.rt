@@ -1,5 +1,5 @@
 //! What the program does with a disk, whatever it lies on.
-ghost use Rattle.std.specs.Prelude.{◌≡◌, ◌≤◌, ◌<◌, ◌^◌, ◌↔◌, ◌+◌, if◌then◌else◌, ℕ, List, length, IfErr, IfOk, IsErrOf, IsTrue, OnOk};
+ghost use Rattle.std.specs.Prelude.{◌≡◌, ◌≤◌, ◌<◌, ◌^◌, ◌↔◌, ◌+◌, if◌then◌else◌, ℕ, List, length, IfErr, IfOk, IsErrOf, OnOk};
 ghost use Rattle.pf_addr.specs.Writing.{Continues, Writes};
 ghost use Rattle.pf_disk.specs.Disk.{IsImage};
 ghost use Rattle.pf_anchor.specs.declared.limits.TheConstants.{RULESET_LIMIT, TABLE_COUNT_LIMIT};
@@ -16,13 +16,6 @@ use pf_line::write_reply;
 use pf_store::{Store, format};
 use std::alloc::Global;
 use std::io::{self, Write};
-
-/// Whether a disk may have so many bytes: an even number of them, from 256 to 2^30. Own.
-pub fn is_size(size: usize) -> bool
-    ensures { IsTrue result ↔ IsSize size }
-{
-    size % 2 == 0 && size >= 256 && size <= 1 << 30
-}
 
 /// Makes a disk hold nothing but the epoch 0, whatever it held. `BadSize` and `Memory`: the disk is as before. `Fault`: a call of it
 /// failed, and it may hold what it held, or nothing but the epoch 0, or have no bank. Own.

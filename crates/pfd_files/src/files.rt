@@ -3,9 +3,10 @@ ghost use Rattle.std.specs.Prelude.{◌≡◌, ◌⊎◌, Err, Ok, IfErr, IfOk, 
 ghost use Rattle.pf_store.specs.Banks.{IsSize};
 ghost use Rattle.pfd_files.specs.Showing.{IsOfFile, ShownOfFile};
 
-use crate::devices::{format_on, is_size, show_on};
+use crate::devices::{format_on, show_on};
 use crate::fault::Fault;
 use pf_disk::{Disk, FileDisk};
+use pf_snap::is_size;
 use std::alloc::Global;
 use std::fs::{File, Files, OpenOptions, TryLockError};
 use std::io::Write;

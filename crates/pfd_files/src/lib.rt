@@ -12,6 +12,7 @@ mod devices;
 mod fault;
 mod files;
 
-pub use devices::{format_on, is_size, show_on};
+pub use devices::{format_on, show_on};
 pub use fault::Fault;
 pub use files::{format_file, open_file, show_file};
+pub use pf_snap::is_size;

@@ -2,7 +2,7 @@
 ghost use Rattle.std.specs.Prelude.{◌≡◌, ◌<◌, ◌^◌, true, false, length, List, ℕ, IfOk, IfErr, OnOk};
 ghost use Rattle.pf_addr.specs.{Bytes.Forms.{onto, Fits}, Bytes.Readers.Reads};
 ghost use Rattle.pf_anchor.specs.Forms.{plain_entries};
-ghost use Rattle.pf_store.specs.{Groups.{EditShape, edit_form, change_form, plain_record, has_form, IsRecorded}, Lengths.payload_length};
+ghost use Rattle.pf_store.specs.{declared.limits.TheConstants.OPENING_PAYLOAD, Groups.{EditShape, edit_form, change_form, plain_record, has_form, IsRecorded}, Lengths.payload_length};
 
 use crate::groups::fault::GroupFault;
 use crate::groups::items::{have_form, push_items, read_items};
@@ -218,12 +218,13 @@ pub(crate) fn has_change_form(change: &Change) -> bool
 /// The bytes of a group of one change in a version, 2 and more.
 ///
 /// `NoForm`: it has none, as a commit of nothing, of more than 64 rulesets, or of more tables at a path than a ticket takes.
-/// `Memory`: a growth was refused. Own.
+/// `Memory`: it has one, and a growth was refused. Own.
 pub fn write_group(alloc: Global, version: u8, change: &Change) -> Result<Vec<u8>, GroupFault>
     ensures written { IfOk result (λ v. IsRecorded version (Recorded.Made change.now) v.items) }
     ensures length { IfOk result (λ v. length v.items ≡ payload_length (Recorded.Made change.now)) }
     ensures formed { OnOk result (has_form (Recorded.Made change.now) ≡ true) }
     ensures formless { IfErr result (λ e. e ≡ GroupFault.NoForm → has_form (Recorded.Made change.now) ≡ false) }
+    ensures memory { IfErr result (λ e. e ≡ GroupFault.Memory → has_form (Recorded.Made change.now) ≡ true) }
 {
     if !has_change_form(change) {
         return Err(GroupFault::NoForm);
@@ -235,10 +236,10 @@ pub fn write_group(alloc: Global, version: u8, change: &Change) -> Result<Vec<u8
     Ok(out)
 }
 
-/// The 6 bytes of an opening with this epoch, which are the same in each version. `AllocError`: memory was refused.
+/// The bytes of an opening with this epoch, which are the same in each version. `AllocError`: memory was refused.
 pub(crate) fn write_opening(alloc: Global, epoch: u32) -> Result<Vec<u8>, AllocError>
     ensures written { IfOk result (λ v. (version : ℕ) → IsRecorded version (Recorded.Opens epoch) v.items) }
-    ensures length { IfOk result (λ v. length v.items ≡ 6) }
+    ensures length { IfOk result (λ v. length v.items ≡ OPENING_PAYLOAD) }
 {
     let mut out = Vec::new(alloc);
     push_bytes(&mut out, &[1, OPEN])?;

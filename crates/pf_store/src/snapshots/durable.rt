@@ -65,8 +65,7 @@ fn config_of(
     requires entries { list_all (λ t. has_some t.1) tables.now ≡ true }
     ensures { IfOk result (λ c. c ≡ configured rulesets.now tables.now) }
 {
-    let config = Config::empty().with_rulesets(alloc, rulesets)?;
-    config.with_tables(alloc, tables)
+    Config::of(alloc, rulesets, tables)
 }
 
 #[tactic(auto, unfolding(pf_core::specs::Durable::Forms::durable_form))]

@@ -3,14 +3,15 @@ ghost use Rattle.std.specs.Prelude.{◌≡◌, ◌↔◌, ◌+◌, ◌^◌, ◌<
 ghost use Rattle.pf_disk.specs.{Disk.{EachMoment, IsImage, IsSynced}, declared.image.TheConstants.OPEN_GATE};
 ghost use Rattle.pf_snap.specs.{Banks.{IsSize, bank_size, IsOfFormat}, Faults.is_format_fault};
 ghost use Rattle.pf_core.specs.Durable.Edits.{kept_nothing};
-ghost use Rattle.pf_store.specs.{Openings.{generation_of, LeavesRoom}, Stores.Holds};
+ghost use Rattle.pf_store.specs.{declared.limits.TheConstants.EMPTY_LENGTH, Openings.{generation_of, LeavesRoom}, Stores.Holds};
 
+use crate::limits::EMPTY_LENGTH;
 use pf_disk::Disk;
 use pf_snap::FormatFault;
 use std::alloc::Global;
 
 /// A snapshot of nothing in the epoch 0.
-const EMPTY_SNAPSHOT: [u8; 16] = [0; 16];
+const EMPTY_SNAPSHOT: [u8; EMPTY_LENGTH] = [0; EMPTY_LENGTH];
 
 /// Makes a device hold nothing but the epoch 0, whatever it held, in seven moments of the device at most. `Err`: the device is as before,
 /// or a call of it failed. Own.
@@ -31,7 +32,7 @@ pub fn format<D: Disk>(alloc: Global, disk: &mut D) -> Result<(), FormatFault>
 
     // At each moment an image is as before but for the banks' gates, or both are closed, or it holds a bank of nothing.
     ensures any_moment { EachMoment D.moment D.left_since disk.old disk.new
-        (IsOfFormat (D.seen disk.old) (D.unsynced disk.old) (replicate 16 0)) }
+        (IsOfFormat (D.seen disk.old) (D.unsynced disk.old) (replicate EMPTY_LENGTH 0)) }
 
     ensures bad_size { IsErrOf result FormatFault.BadSize ↔ ¬ IsSize (length (D.seen disk.old)) }
     ensures unchanged_at_bad_size { IsErrOf result FormatFault.BadSize → disk.new ≡ disk.old }

@@ -5,9 +5,9 @@ ghost use Rattle.pf_snap.specs.{Banks.bank_size, Ready.IsReady};
 ghost use Rattle.pf_core.specs.{Durable.Edits.{Kept, applied, fits}, Laws.Durable.IsWithin, Worlds.{last_epoch, raised}};
 ghost use Rattle.pf_store.specs.declared.store.fault.SaveFault.TheVariants as saving;
 ghost use Rattle.pf_store.specs.declared.store.fault.OpenFault.TheVariants as opening;
-ghost use Rattle.pf_store.specs.declared.limits.TheConstants.{AROUND};
+ghost use Rattle.pf_store.specs.declared.limits.TheConstants.{AROUND, OPENING_PAYLOAD};
 ghost use Rattle.pf_store.specs.declared.groups.change.Recorded.TheVariants as recorded;
-ghost use Rattle.pf_store.specs.{Groups.IsRecorded, Lengths.payload_length, Stores.{Holds, HoldsEither, FindsRoom}, StoreKept.{Stands, HaveKept}, StoreFaults.{is_save_fault, TellsRoom, is_fault}, Openings.{IsUnopened, IsFull, IsOfOpening, IsAsLongAs, IsNoLaterThan, LeavesRoom, generation_of}};
+ghost use Rattle.pf_store.specs.{Groups.IsRecorded, Lengths.payload_length, Stores.{Holds, HoldsEither, FindsRoom}, StoreKept.{Stands, HaveKept}, StoreFaults.{is_save_fault, TellsRoom, is_fault}, Openings.{HasRoomHere, IsUnopened, IsFull, IsOfOpening, IsAsLongAs, IsNoLaterThan, LeavesRoom, generation_of}};
 
 use crate::groups::{GroupFault, write_group, write_opening};
 use crate::store::adding::add;
@@ -137,6 +137,12 @@ impl<D: Disk> Store<D> {
         ensures images { IfOk result (λ r. (c : List ℕ) → IsImage (D.seen r.1.disk) (D.unsynced r.1.disk) c → Holds c r.0) }
         ensures fresh { IfOk result (λ r. r.1.halted ≡ false) }
 
+        // It switches to the other bank exactly where its record has no room behind the others.
+        ensures here { IfOk result (λ r. (d : Kept) (held : Holds (D.seen disk) d) → HasRoomHere (D.seen disk) d held
+            → r.1.generation ≡ generation_of (D.seen disk) d held) }
+        ensures there { IfOk result (λ r. (d : Kept) (held : Holds (D.seen disk) d) → ¬ HasRoomHere (D.seen disk) d held
+            → r.1.generation ≡ generation_of (D.seen disk) d held + 1) }
+
         // By the generation that was found, which is below 2^63, or the next one.
         ensures early { IfOk result (λ r. r.1.generation ≤ 2 ^ 63) }
         ensures generations { IfOk result (λ r. (c : List ℕ) → IsImage (D.seen r.1.disk) (D.unsynced r.1.disk) c
@@ -202,6 +208,10 @@ fn raise_on<D: Disk>(
     ensures stands { IfOk result (λ r. Stands D.seen D.unsynced r.1 r.0) }
     ensures fresh { IfOk result (λ r. r.1.halted ≡ false) }
     ensures generation { IfOk result (λ r. r.1.generation ≤ banks.generation + 1) }
+    ensures here { IfOk result (λ r. (d : Kept) (held : Holds (D.seen banks.journal.disk) d)
+        → HasRoomHere (D.seen banks.journal.disk) d held → r.1.generation ≡ generation_of (D.seen banks.journal.disk) d held) }
+    ensures there { IfOk result (λ r. (d : Kept) (held : Holds (D.seen banks.journal.disk) d)
+        → ¬ HasRoomHere (D.seen banks.journal.disk) d held → r.1.generation ≡ generation_of (D.seen banks.journal.disk) d held + 1) }
     ensures generations { IfOk result (λ r. (c : List ℕ) → IsImage (D.seen r.1.disk) (D.unsynced r.1.disk) c
         → IsNoLaterThan r.1.generation c) }
     ensures any_moment { IfOk result (λ r. EachMoment D.moment D.left_since banks.journal.disk r.1.disk
@@ -247,7 +257,7 @@ fn raise_on<D: Disk>(
 fn raise(alloc: Global, durable: &Durable) -> Result<(Durable, Vec<u8>), OpenFault>
     ensures raised { IfOk result (λ r. r.0 ≡ raised durable.now) }
     ensures payload { IfOk result (λ r. (version : ℕ) → IsRecorded version (recorded.Opens (durable.now.epoch + 1)) r.1.items) }
-    ensures length { IfOk result (λ r. length r.1.items ≡ 6) }
+    ensures length { IfOk result (λ r. length r.1.items ≡ OPENING_PAYLOAD) }
     ensures next { IfOk result (λ r. durable.now.epoch < last_epoch) }
     ensures refused { IfErr result (λ e. ((e ≡ opening.Memory) × (durable.now.epoch < last_epoch))
         ⊎ ((e ≡ opening.EpochsExhausted) × (durable.now.epoch ≡ last_epoch))) }

@@ -1,12 +1,12 @@
 //! What a bank's snapshot and payloads make.
-ghost use Rattle.std.specs.Prelude.{◌≡◌, ◌+◌, ◌^◌, ◌<◌, true, false, ℕ, List, length, IfOk, IfErr};
+ghost use Rattle.std.specs.Prelude.{◌≡◌, ◌↔◌, ◌+◌, ◌^◌, ◌<◌, true, false, ℕ, List, length, IfOk, IfErr};
 ghost use Rattle.pf_journal.specs.Records.{records, contents};
 ghost use Rattle.pf_snap.specs.{Banks.records_start, Looked.content_of};
 ghost use Rattle.pf_core.specs.Durable.Edits.{Kept};
 ghost use Rattle.pf_core.specs.declared.durable.refusal.ChangeRefusal.TheVariants as refusing;
 ghost use Rattle.pf_store.specs.declared.groups.fault.GroupFault.TheVariants as group;
 ghost use Rattle.pf_store.specs.declared.groups.change.Recorded.{Recorded};
-ghost use Rattle.pf_store.specs.{Durables.IsDurable, Groups.IsRecorded, Stores.{Follows, left_by, Leads, Makes}, StoreFaults.BreaksOff, Openings.{NoSnapshot, StopsAt, MakesNone}};
+ghost use Rattle.pf_store.specs.{Durables.IsDurable, Groups.IsRecorded, Stores.{Follows, left_by, Leads, Makes}, StoreFaults.BreaksOff, Openings.{BreaksInSnapshot, StopsAt, MakesNone}};
 
 use crate::groups::{GroupFault, Recorded, read_group};
 use crate::snapshots::read_durable;
@@ -68,7 +68,7 @@ fn first_kept(
 ) -> Result<Durable, OpenFault>
     requires { bank + HEADER < 2 ^ 64 }
     ensures kept { IfOk result (λ d. IsDurable version d snapshot.now) }
-    ensures refused { IfErr result (λ e. BreaksOff e (NoSnapshot version bank snapshot.now)) }
+    ensures refused { IfErr result (λ e. BreaksOff e (BreaksInSnapshot version bank snapshot.now)) }
 {
     match read_durable(alloc, version, snapshot) {
         Ok(durable) => Ok(durable),
@@ -144,7 +144,8 @@ fn left_by(alloc: Global, durable: &Durable, next: &Recorded) -> Result<Durable,
 
 // Memory alone is no reason that lies in the change.
 fn unfit(refusal: ChangeRefusal) -> GroupFault
-    ensures { result ≡ group.NoForm → refusal ≡ refusing.Memory → ⊥ }
+    ensures memory { (result ≡ group.Memory) ↔ (refusal ≡ refusing.Memory) }
+    ensures other { result ≡ group.NoForm → refusal ≡ refusing.Memory → ⊥ }
 {
     match refusal {
         ChangeRefusal::Memory => GroupFault::Memory,

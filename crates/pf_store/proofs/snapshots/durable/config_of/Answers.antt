@@ -1,14 +1,10 @@
-use Rattle.std.proofs.Common.{◌≡◌, ◌∙◌, ap, subst}
-use Rattle.std.specs.Prelude.{IfOk}
-use Rattle.pf_anchor.specs.Configurations.{Configuration, with_rulesets}
-use Rattle.pf_store.proofs.Durables.{configuration_is}
+use Rattle.pf_addr.specs.Path.Paths.{path_order}
+use Rattle.pf_anchor.specs.Tables.{table_order}
+use Rattle.pf_store.proofs.DurablesWithin.{filled}
 use Rattle.pf_store.proofs.snapshots.durable.config_of.Goals as goal
 
-pub returns : goal.returns
-returns c =
-    let rs = c.args.rulesets.now in
-    let ts = c.args.tables.now in
-    let alone = c.in_ok-config.ensures ∙ ap (λ (k : Configuration). with_rulesets k rs) c.empty.ensures in
-    subst (λ (k : Configuration). IfOk c.with_tables.result (λ d. d ≡ k))
-    (configuration_is c.in_ok-config.config rs ts alone c.requires.rulesets c.requires.rules c.requires.tables c.requires.entries)
-    c.with_tables.ensures
+pub of-requires-clause-rulesets : goal.of-requires-clause-rulesets
+of-requires-clause-rulesets c = record { sorted = c.requires.rulesets; filled = filled path_order c.args.rulesets.now c.requires.rules }
+
+pub of-requires-clause-tables : goal.of-requires-clause-tables
+of-requires-clause-tables c = record { sorted = c.requires.tables; filled = filled table_order c.args.tables.now c.requires.entries }

@@ -5,7 +5,7 @@ use Rattle.pf_snap.specs.{Banks.{Content, HoldsAt, bank_size, begun}, declared.h
 use Rattle.pf_snap.specs.Banks as snap
 use Rattle.pf_snap.proofs.Holding.{one_content}
 use Rattle.pf_store.specs.{Openings.LeavesRoom, Stores.{Holds, IsRoomy}}
-use Rattle.pf_store.proofs.{Durables.{zeros_are}, Refusing.{one_held}, Sized.{nothing_long}}
+use Rattle.pf_store.proofs.{Durables.{zeros_are}, Refusing.{one_held}, Sized.{nothing_long, roomy_in}}
 use Rattle.pf_store.proofs.store.formatting.format.Goals as goal
 
 mapped : {A E P Q : Type 0} (r : Result A E) → (P → Q) → OnOk r P → OnOk r Q
@@ -35,7 +35,8 @@ returns-clause-first g c =
 leaves_room : (image : List ℕ) (other : ℕ) → HoldsAt 0 other image (begun NEWEST 1 (replicate 16 0)) → LeavesRoom image
 leaves_room image other bank = λ d has.
     let same : kept_nothing 0 ≡ d = one_held image (kept_nothing 0) d (holding image other bank) has in
-    subst (λ (k : Kept). IsRoomy (bank_size (length image)) k) same (omega (arith, bank.size.least, nothing_long 0))
+    roomy_in NEWEST has.content.version (bank_size (length image)) d
+    (subst (λ (k : Kept). IsRoomy (bank_size (length image)) k) same (omega (arith, bank.size.least, nothing_long 0)))
 
 pub returns-clause-roomy : goal.returns-clause-roomy
 returns-clause-roomy g c =

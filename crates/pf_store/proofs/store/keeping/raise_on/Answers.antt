@@ -6,7 +6,7 @@ use Rattle.pf_core.specs.{Durable.Edits.Kept, Worlds.raised}
 use Rattle.pf_store.specs.{Groups.IsRecorded, Openings.{IsAsLongAs, IsNoLaterThan, IsUnopened}, Stores.{Holds, HoldsEither}}
 use Rattle.pf_store.specs.declared.groups.change.Recorded.TheVariants.{Opens as opens}
 use Rattle.pf_store.proofs.Refusing.{held_in_want}
-use Rattle.pf_store.proofs.Saving.{before, have_held, is_full, no_later, stores, tells_full, unmoved, unmoved_generations, unmoved_lengths}
+use Rattle.pf_store.proofs.Saving.{before, by_generation, have_held, is_full, no_later, no_room_here, room_here, stores, tells_full, unmoved, unmoved_generations, unmoved_lengths}
 use Rattle.pf_store.proofs.store.keeping.raise_on.Goals as goal
 
 pub returns-in-Err-clause-any_moment_err : goal.returns-in-Err-clause-any_moment_err
@@ -31,6 +31,24 @@ returns-in-Ok-add-clause-room g c e full =
     let d = g.D.Disk in
     let six : length c.deref.result.now ≡ 6 = ap length c.deref.ensures.value ∙ c.in-Ok.ensures.length in
     cc (c.in-Ok-add.ensures.full.1 (tells_full d.seen d.unsynced d.fault_count c.args.banks c.args.durable.now c.requires.ready c.requires.kept (length c.deref.result.now) six e full))
+
+pub returns-in-Ok-add-clause-here : goal.returns-in-Ok-add-clause-here
+returns-in-Ok-add-clause-here g c e held room =
+    let d = g.D.Disk in
+    let b = c.args.banks in
+    let six : length c.deref.result.now ≡ 6 = ap length c.deref.ensures.value ∙ c.in-Ok.ensures.length in
+    let here = room_here d.seen d.unsynced d.fault_count b c.args.durable.now c.requires.ready c.requires.kept (length c.deref.result.now) six e held room in
+    let by = by_generation d.seen d.unsynced d.fault_count b c.args.durable.now c.requires.ready c.requires.kept (length c.deref.result.now) six e held in
+    c.in-Ok-add.ensures.here here ∙ sym by
+
+pub returns-in-Ok-add-clause-there : goal.returns-in-Ok-add-clause-there
+returns-in-Ok-add-clause-there g c e held full =
+    let d = g.D.Disk in
+    let b = c.args.banks in
+    let six : length c.deref.result.now ≡ 6 = ap length c.deref.ensures.value ∙ c.in-Ok.ensures.length in
+    let there = no_room_here d.seen d.unsynced d.fault_count b c.args.durable.now c.requires.ready c.requires.kept (length c.deref.result.now) six e held full in
+    let by = by_generation d.seen d.unsynced d.fault_count b c.args.durable.now c.requires.ready c.requires.kept (length c.deref.result.now) six e held in
+    c.in-Ok-add.ensures.there there ∙ ap (λ (n : ℕ). n + 1) (sym by)
 
 pub returns-in-Ok-add-clause-stands : goal.returns-in-Ok-add-clause-stands
 returns-in-Ok-add-clause-stands g c =

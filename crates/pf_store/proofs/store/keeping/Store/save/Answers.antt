@@ -1,9 +1,10 @@
 use Rattle.std.proofs.Common.{◌≡◌, ◌+◌, ◌<◌, ◌≤◌, ◌∙◌, false, length, sym, ap, subst, arith}
 use Rattle.pf_disk.specs.Disk.{EachMoment}
 use Rattle.pf_core.specs.Durable.Edits.{Kept, applied}
-use Rattle.pf_snap.specs.Banks.{bank_size}
-use Rattle.pf_store.specs.{Groups.IsRecorded, Lengths.payload_length, Openings.{IsNoLaterThan, LeavesRoom}, Stores.{FindsRoom, Holds, IsRoomy}, StoreKept.Storage}
+use Rattle.pf_snap.specs.{Banks.bank_size, declared.header.TheConstants.NEWEST}
+use Rattle.pf_store.specs.{Groups.IsRecorded, Lengths.payload_length, Openings.{IsNoLaterThan, LeavesRoom}, Stores.{FindsRoom, Holds, HoldsEither, IsRoomy}, StoreKept.Storage}
 use Rattle.pf_store.specs.declared.groups.change.Recorded.TheVariants.{Made as made}
+use Rattle.pf_store.proofs.Sized.{roomy_in}
 use Rattle.pf_store.proofs.Saving.{before, have_held, held_synced, run_roomy, store_has, stores, unmoved, unmoved_generations, unmoved_roomy}
 use Rattle.pf_store.proofs.store.keeping.Store.save.Goals as goal
 
@@ -88,6 +89,39 @@ returns-in-Err-Memory-clause-roomy g c going leaves =
     let disk = c.args.self.now.disk in
     unmoved_roomy d.seen d.unsynced d.moment d.left_since disk (c.requires.stands going).synced leaves (g.met.D.Disk.only_now disk)
 
+pub returns-in-Ok-add-clause-any_moment : goal.returns-in-Ok-add-clause-any_moment
+returns-in-Ok-add-clause-any_moment g c going =
+    let d = g.D.Disk in
+    let b = c.self.inside.banks in
+    let change = c.args.change.now in
+    let before = c.args.before.now in
+    let is = subst (IsRecorded b.version (made change)) (sym c.deref.ensures.value) c.in-Ok.ensures.written in
+    let run = c.add.ensures.any_moment (made change) is c.requires.fits in
+    subst (λ (v : Storage g.row.D.Denot). EachMoment d.moment d.left_since v.disk c.add.new.banks.journal.disk (HoldsEither before c.args.after.now)) c.self.view_is
+    (subst (λ (k : Kept). EachMoment d.moment d.left_since b.journal.disk c.add.new.banks.journal.disk (HoldsEither before k)) (sym c.requires.leads) run)
+
+pub returns-in-Err-Memory-add-clause-any_moment : goal.returns-in-Err-Memory-add-clause-any_moment
+returns-in-Err-Memory-add-clause-any_moment g c going =
+    let d = g.D.Disk in
+    let b = c.self.inside.banks in
+    let change = c.args.change.now in
+    let before = c.args.before.now in
+    let is = subst (IsRecorded b.version (made change)) (sym c.deref.ensures.value) c.in-Ok.ensures.written in
+    let run = c.add.ensures.any_moment (made change) is c.requires.fits in
+    subst (λ (v : Storage g.row.D.Denot). EachMoment d.moment d.left_since v.disk c.add.new.banks.journal.disk (HoldsEither before c.args.after.now)) c.self.view_is
+    (subst (λ (k : Kept). EachMoment d.moment d.left_since b.journal.disk c.add.new.banks.journal.disk (HoldsEither before k)) (sym c.requires.leads) run)
+
+pub returns-clause-any_moment : goal.returns-clause-any_moment
+returns-clause-any_moment g c going =
+    let d = g.D.Disk in
+    let b = c.self.inside.banks in
+    let change = c.args.change.now in
+    let before = c.args.before.now in
+    let is = subst (IsRecorded b.version (made change)) (sym c.deref.ensures.value) c.in-Ok.ensures.written in
+    let run = c.add.ensures.any_moment (made change) is c.requires.fits in
+    subst (λ (v : Storage g.row.D.Denot). EachMoment d.moment d.left_since v.disk c.add.new.banks.journal.disk (HoldsEither before c.args.after.now)) c.self.view_is
+    (subst (λ (k : Kept). EachMoment d.moment d.left_since b.journal.disk c.add.new.banks.journal.disk (HoldsEither before k)) (sym c.requires.leads) run)
+
 pub returns-in-Ok-add-clause-roomy : goal.returns-in-Ok-add-clause-roomy
 returns-in-Ok-add-clause-roomy g c going =
     let d = g.D.Disk in
@@ -100,7 +134,7 @@ returns-in-Ok-add-clause-roomy g c going =
     subst (λ (v : Storage g.row.D.Denot). IsRoomy v.size (applied before change)) (sym c.self.view_is) (subst (λ (k : Kept). IsRoomy c.args.self.now.size k) c.requires.leads found.room.then) in
     let holds : Holds (d.seen b.journal.disk) before = subst (λ (v : Storage g.row.D.Denot). Holds (d.seen v.disk) before) (sym c.self.view_is) (c.requires.stands going).holds in
     subst (λ (v : Storage g.row.D.Denot). LeavesRoom (d.seen v.disk) → EachMoment d.moment d.left_since v.disk c.add.new.banks.journal.disk LeavesRoom) c.self.view_is
-    (λ leaves. run_roomy d.seen d.unsynced d.moment d.left_since b.journal.disk c.add.new.banks.journal.disk before (applied before change) (leaves before holds) then c.add.ensures.lengths
+    (λ leaves. run_roomy d.seen d.unsynced d.moment d.left_since b.journal.disk c.add.new.banks.journal.disk before (applied before change) (roomy_in holds.content.version NEWEST (bank_size (length (d.seen b.journal.disk))) before (leaves before holds)) then c.add.ensures.lengths
     (c.add.ensures.any_moment (made change) is c.requires.fits))
 
 pub returns-in-Err-Memory-add-clause-roomy : goal.returns-in-Err-Memory-add-clause-roomy
@@ -115,7 +149,7 @@ returns-in-Err-Memory-add-clause-roomy g c going =
     subst (λ (v : Storage g.row.D.Denot). IsRoomy v.size (applied before change)) (sym c.self.view_is) (subst (λ (k : Kept). IsRoomy c.args.self.now.size k) c.requires.leads found.room.then) in
     let holds : Holds (d.seen b.journal.disk) before = subst (λ (v : Storage g.row.D.Denot). Holds (d.seen v.disk) before) (sym c.self.view_is) (c.requires.stands going).holds in
     subst (λ (v : Storage g.row.D.Denot). LeavesRoom (d.seen v.disk) → EachMoment d.moment d.left_since v.disk c.add.new.banks.journal.disk LeavesRoom) c.self.view_is
-    (λ leaves. run_roomy d.seen d.unsynced d.moment d.left_since b.journal.disk c.add.new.banks.journal.disk before (applied before change) (leaves before holds) then c.add.ensures.lengths
+    (λ leaves. run_roomy d.seen d.unsynced d.moment d.left_since b.journal.disk c.add.new.banks.journal.disk before (applied before change) (roomy_in holds.content.version NEWEST (bank_size (length (d.seen b.journal.disk))) before (leaves before holds)) then c.add.ensures.lengths
     (c.add.ensures.any_moment (made change) is c.requires.fits))
 
 pub returns-in-Err-Full-clause-roomy : goal.returns-in-Err-Full-clause-roomy
@@ -130,7 +164,7 @@ returns-in-Err-Full-clause-roomy g c going =
     subst (λ (v : Storage g.row.D.Denot). IsRoomy v.size (applied before change)) (sym c.self.view_is) (subst (λ (k : Kept). IsRoomy c.args.self.now.size k) c.requires.leads found.room.then) in
     let holds : Holds (d.seen b.journal.disk) before = subst (λ (v : Storage g.row.D.Denot). Holds (d.seen v.disk) before) (sym c.self.view_is) (c.requires.stands going).holds in
     subst (λ (v : Storage g.row.D.Denot). LeavesRoom (d.seen v.disk) → EachMoment d.moment d.left_since v.disk c.add.new.banks.journal.disk LeavesRoom) c.self.view_is
-    (λ leaves. run_roomy d.seen d.unsynced d.moment d.left_since b.journal.disk c.add.new.banks.journal.disk before (applied before change) (leaves before holds) then c.add.ensures.lengths
+    (λ leaves. run_roomy d.seen d.unsynced d.moment d.left_since b.journal.disk c.add.new.banks.journal.disk before (applied before change) (roomy_in holds.content.version NEWEST (bank_size (length (d.seen b.journal.disk))) before (leaves before holds)) then c.add.ensures.lengths
     (c.add.ensures.any_moment (made change) is c.requires.fits))
 
 pub returns-clause-roomy : goal.returns-clause-roomy
@@ -145,7 +179,7 @@ returns-clause-roomy g c going =
     subst (λ (v : Storage g.row.D.Denot). IsRoomy v.size (applied before change)) (sym c.self.view_is) (subst (λ (k : Kept). IsRoomy c.args.self.now.size k) c.requires.leads found.room.then) in
     let holds : Holds (d.seen b.journal.disk) before = subst (λ (v : Storage g.row.D.Denot). Holds (d.seen v.disk) before) (sym c.self.view_is) (c.requires.stands going).holds in
     subst (λ (v : Storage g.row.D.Denot). LeavesRoom (d.seen v.disk) → EachMoment d.moment d.left_since v.disk c.add.new.banks.journal.disk LeavesRoom) c.self.view_is
-    (λ leaves. run_roomy d.seen d.unsynced d.moment d.left_since b.journal.disk c.add.new.banks.journal.disk before (applied before change) (leaves before holds) then c.add.ensures.lengths
+    (λ leaves. run_roomy d.seen d.unsynced d.moment d.left_since b.journal.disk c.add.new.banks.journal.disk before (applied before change) (roomy_in holds.content.version NEWEST (bank_size (length (d.seen b.journal.disk))) before (leaves before holds)) then c.add.ensures.lengths
     (c.add.ensures.any_moment (made change) is c.requires.fits))
 
 pub returns-in-Ok-add-clause-here : goal.returns-in-Ok-add-clause-here
