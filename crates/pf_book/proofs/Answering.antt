@@ -6,7 +6,8 @@ use Rattle.pf_core.specs.declared.{command.Command.Command, command.HistoryComma
 use Rattle.pf_core.specs.{Calls.call, Commands.{step_by, may_change}, Durable.Edits.{Kept, Edit}, Pages.{Page, IsAt, Leads}, Worlds.{Setting, Held, down, Upshot, called, flat, log_of, durable_of, is_halted, acked_by, step_in, or_refused, due_at, due, group_in, heard, room_for, shown_by, State, StandsIn, LegalReply, LegalCall, IsLegal}}
 use Rattle.pf_core.proofs.{Fronts.flat-append, Groups.{IsKept, IsNotKept, kept-or-not}, Limits.unhalted, LongerWorlds.{flat-push, stands-on, in-two}}
 use Rattle.pf_book.proofs.Calling.{wants-may}
-use Rattle.pf_book.specs.{Books.{log_in, IsMore, IsTold}, Receipts.{Slip, EndsIn, ShownFits, token_of, IsAdded, IsGiven, Follows, IsReached, IsLast, IsChangeOf, IsAnswered}}
+use Rattle.pf_past.proofs.Fronts.{prefix_whole}
+use Rattle.pf_book.specs.{Books.{log_in, IsMore, IsNumbered, IsTold}, Receipts.{Slip, EndsIn, ShownFits, token_of, IsAdded, IsGiven, Follows, IsReached, IsLast, IsChangeOf, IsAnswered}}
 
 -- ---- lists
 
@@ -49,11 +50,15 @@ told-given Log r b new p q told = subst (λ (y : Reply). IsGiven y None p q) (sy
 told-given Publish r b new p q (inl told) = subst (λ (y : Reply). IsGiven y None p q) (sym told.0) refl
 told-given Publish r b new p q (inr told) = subst (λ (y : Reply). IsGiven y None p q) (sym told.0) refl
 
--- a change that was kept is the last of the history, all of which is acknowledged then
+-- all of the history is acknowledged then
+all-added : (change : Option Edit) (old new : Page) → IsAdded change old new → log_in new ≡ flat new.acked
+all-added change old new added = ap (λ (gs : List (List Edit)). flat (new.acked ++ gs)) added.none_after ∙ ap flat (append-nil new.acked)
+
+-- and the change is its last
 added-last : (change : Option Edit) (old new : Page) → IsAdded change old new → ForSome change (λ e. EndsIn (log_in new) e × (length (log_in new) ≤ length (flat new.acked)))
 added-last change old new added = λ e some.
     let same : added.edit ≡ e = cc (added.is, some) in
-    let all : log_in new ≡ flat new.acked = ap (λ (gs : List (List Edit)). flat (new.acked ++ gs)) added.none_after ∙ ap flat (append-nil new.acked) in
+    let all : log_in new ≡ flat new.acked = all-added change old new added in
     ((log_in old, subst (λ (x : Edit). log_in new ≡ log_in old ++ x ∷ []) same (log-added change old new added)), omega (arith, ap length all))
 
 pub given-last : (r : Reply) (change : Option Edit) (old new : Page) → IsGiven r change old new → ForSome change (λ e. EndsIn (log_in new) e × (length (log_in new) ≤ length (flat new.acked)))
@@ -62,12 +67,19 @@ given-last (Applied n o) change old new given = added-last change old new given
 given-last (Stored n o) change old new given = added-last change old new given
 given-last (Refused why) change old new given = λ e some. absurd (cc (given, some))
 
--- after `Applied` as many are shown as its number says
-pub shown-fits : (r : Reply) (before shown : ℕ) → shown ≡ shown_by r before → ShownFits r shown
-shown-fits (Answer a) before shown is = tt
-shown-fits (Applied n o) before shown is = is
-shown-fits (Stored n o) before shown is = tt
-shown-fits (Refused e) before shown is = tt
+-- after `Applied` all are shown
+pub shown-fits : (r : Reply) (change : Option Edit) (before : ℕ) (old new : Page) → new.shown ≡ shown_by r before → IsNumbered r new → IsGiven r change old new → ShownFits r new.shown (length (log_in new))
+shown-fits (Answer a) change before old new is numbered given = tt
+shown-fits (Applied n o) change before old new is numbered given = is ∙ numbered ∙ ap length (sym (all-added change old new given))
+shown-fits (Stored n o) change before old new is numbered given = tt
+shown-fits (Refused e) change before old new is numbered given = tt
+
+-- so what is shown then is all
+pub token-is : (r : Reply) (shown log : List Edit) → IsPrefix shown log → ShownFits r (length shown) (length log) → token_of r shown ≡ token_of r log
+token-is (Answer a) shown log begins fits = refl
+token-is (Applied n o) shown log begins fits = ap Some (prefix_whole shown log begins (omega (arith, fits)))
+token-is (Stored n o) shown log begins fits = refl
+token-is (Refused e) shown log begins fits = refl
 
 -- ---- one call under the lock
 
@@ -96,7 +108,7 @@ module _ (base : Kept) (setting : Setting) (old new : Page) (c : Command) (r : R
     stands = stands-on reached.first old new reached.world (call c r) t reached.stands (leads reached.stands.held reached.stands.at);
   }
 
-  pub answered : (slip : Slip) (last : Option Slip) → slip.front ≡ log_in new → slip.acked ≡ length (flat new.acked) → IsGiven r slip.change old new → slip.token ≡ token_of r
+  pub answered : (slip : Slip) (last : Option Slip) → slip.front ≡ log_in new → slip.acked ≡ length (flat new.acked) → IsGiven r slip.change old new → slip.token ≡ token_of r (log_in new)
       → Follows last (log_in old) (length (flat old.acked)) → IsAnswered base setting c r slip last
   answered slip last front acked given token follows =
       let h : Held = reached.stands.held in
@@ -114,7 +126,7 @@ module _ (base : Kept) (setting : Setting) (old new : Page) (c : Command) (r : R
         front = front ∙ log-at (heard h (call c r) t) new on.at;
         acked = acked ∙ ap (λ (gs : List (List Edit)). length (flat gs)) on.at.acked;
         change = change-is h c r t slip old new at on.at front given;
-        token = token;
+        token = token ∙ ap (token_of r) (sym front);
         follows = subst (λ (gs : List (List Edit)). Follows last (log_of h) (length (flat gs))) at.acked (subst (λ (l : List Edit). Follows last l (length (flat old.acked))) (log-at h old at) follows);
       }
 

@@ -3,8 +3,10 @@ use Rattle.std.proofs.Common.{◌≡◌, ℕ, zero, suc, ◌+◌, ◌≤◌, Lis
 use Rattle.std.specs.{Prelude.{IfSome, slice_get}, Option.ForSome}
 use mathlib.Core.List.{IsPrefix}
 use Rattle.pf_core.specs.{Durable.Edits.Edit, Worlds.flat}
-use Rattle.pf_book.specs.{Books.{singles, change_in}, Pasts.{Past, Begins}, Receipts.{EndsIn, IsReceipt}}
-use Rattle.pf_book.proofs.{Fronts.{prefix_length, prefix_get}, Parts.{whole-log, counted-acked}}
+use Rattle.pf_past.specs.Pasts.{Past, Begins}
+use Rattle.pf_past.proofs.Fronts.{prefix_length, prefix_get}
+use Rattle.pf_book.specs.{Books.{singles, change_in}, Receipts.{EndsIn, IsReceipt}}
+use Rattle.pf_book.proofs.Parts.{whole-log, counted-acked}
 
 -- the history begins with what a receipt saw
 pub begins-log : (past tip : Past) (log : List Edit) (acked : ℕ) → Begins past tip → tip.front ≡ log → IsPrefix past.front (flat (singles (take acked log) ++ singles (drop acked log)))

@@ -6,8 +6,9 @@ use Rattle.pf_disk.specs.Disk.{IsImage}
 use Rattle.pf_core.specs.{Durable.Edits.{Kept, Edit, applied, after}, Pages.{Page, IsFolded}, Wholes.Whole, Worlds.{Setting, flat}}
 use Rattle.pf_core.proofs.LongerWorlds.{flat-push}
 use Rattle.pf_store.specs.{Openings.{IsNoLaterThan, LeavesRoom}, Stores.{Holds, HoldsEither, IsRoomy}, StoreKept.{Stands, Storage}}
+use Rattle.pf_past.specs.Pasts.{Past, no_past, with_change, all_acked}
 use Rattle.pf_view.specs.Known.{Stage}
-use Rattle.pf_book.specs.{Books.{singles, page_of, HoldsFront, IsOpened, IsBook, shows_all}, Pasts.{Past, no_past, with_change}}
+use Rattle.pf_book.specs.{Books.{singles, page_of, HoldsFront, IsOpened, IsBook, shows_all}}
 use Rattle.pf_book.proofs.Openable.{later}
 use Rattle.pf_book.proofs.Parts.{flat-singles, all-acked, taken-more, taken-still, left-one, singles-more, prefix_is, prefix_short}
 
@@ -70,6 +71,14 @@ pending-page base whole log log' e acked setting setting' shown logged all same 
     ∙ ap (λ (gs : List (List Edit)). P gs (singles (drop acked (log ++ e ∷ [])))) (ap singles (taken-still log e acked (omega (arith, all))))
     ∙ ap (P (singles (take acked log))) (ap singles (left-one log e acked all))
 
+-- what is acknowledged then is a change longer
+front-more : (log : List Edit) (e : Edit) (acked : ℕ) (past : Past) → acked ≡ length log → past.front ≡ log → past.acked ≡ acked → with_change past e true ≡ all_acked (take (acked + 1) (log ++ e ∷ []))
+front-more log e acked past all log_is acked_is =
+    let whole : past.front ++ e ∷ [] ≡ take (acked + 1) (log ++ e ∷ []) =
+    ap (λ (l : List Edit). l ++ e ∷ []) log_is ∙ sym (taken-more log e acked all ∙ ap (λ (l : List Edit). l ++ e ∷ []) (take_all acked log (omega (arith, all)))) in
+    let long : past.acked + 1 ≡ length (take (acked + 1) (log ++ e ∷ [])) = omega (arith, acked_is, all, ap length whole, length-append past.front (e ∷ []), ap length log_is) in
+    λ i. record { front = whole i; acked = long i }
+
 -- a store that isn't halted
 pub goes-on : (halted : Bool) (log : List Edit) (acked : ℕ) → halted ≡ nat_lt acked (length log) → acked ≡ length log → halted ≡ false
 goes-on halted log acked is all = is ∙ grind (arith, nat_tests, all)
@@ -84,15 +93,15 @@ module _ {D : Type 0} (seen : D → List ℕ) (unsynced : D → ℕ → Bool) wh
       (0, subst (λ (k : Kept). Holds c k) (folded.durable ∙ ap (λ (gs : List (List Edit)). after base (flat gs)) (sym (append-nil (singles (take acked log))))) holds)
 
   -- a change was kept
-  pub more-book : (store store' : Storage D) (base : Kept) (whole whole' : Whole) (d d' : Kept) (log log' : List Edit) (e : Edit) (acked acked' offered : ℕ) (setting setting' : Setting) (stage : Stage) (past past' : Past)
-      → IsBook seen unsynced store (page_of base whole log acked setting stage.shown) d log acked offered stage past
-      → singles (drop acked log) ≡ [] → acked' ≡ acked + 1 → log' ≡ log ++ e ∷ [] → past' ≡ with_change past e true → whole'.durable ≡ applied whole.durable e → d' ≡ whole'.durable
+  pub more-book : (store store' : Storage D) (base : Kept) (whole whole' : Whole) (d d' : Kept) (log log' : List Edit) (e : Edit) (acked acked' offered : ℕ) (setting setting' : Setting) (stage : Stage) (past past' front front' : Past)
+      → IsBook seen unsynced store (page_of base whole log acked setting stage.shown) d log acked offered stage past front
+      → singles (drop acked log) ≡ [] → acked' ≡ acked + 1 → log' ≡ log ++ e ∷ [] → past' ≡ with_change past e true → front' ≡ past' → whole'.durable ≡ applied whole.durable e → d' ≡ whole'.durable
       → store.halted ≡ false → store'.halted ≡ false → Stands seen unsynced store' whole'.durable → store'.generation ≤ store.generation + 1 → setting'.limit ≤ 2 ^ 20
       → ((c : List ℕ) → IsImage (seen store'.disk) (unsynced store'.disk) c → Holds c whole'.durable)
       → ((c : List ℕ) → IsImage (seen store'.disk) (unsynced store'.disk) c → IsNoLaterThan (store'.generation + 1) c)
       → (IsRoomy store'.size base → (c : List ℕ) → IsImage (seen store'.disk) (unsynced store'.disk) c → LeavesRoom c)
-      → IsBook seen unsynced store' (page_of base whole' log' acked' setting' stage.shown) d' log' acked' offered stage past'
-  more-book store store' base whole whole' d d' log log' e acked acked' offered setting setting' stage past past' i none counted logged noted left latest was on stands raised limit images generations roomy =
+      → IsBook seen unsynced store' (page_of base whole' log' acked' setting' stage.shown) d' log' acked' offered stage past' front'
+  more-book store store' base whole whole' d d' log log' e acked acked' offered setting setting' stage past past' front front' i none counted logged noted same left latest was on stands raised limit images generations roomy =
       let all : acked ≡ length log = all-acked log acked i.low none in
       let page : Page = page_of base whole' (log ++ e ∷ []) (acked + 1) setting' stage.shown in
       let folded : IsFolded page = folded-more base whole whole' log e acked setting setting' stage.shown all left i.folded in
@@ -101,6 +110,7 @@ module _ {D : Type 0} (seen : D → List ℕ) (unsynced : D → ℕ → Bool) wh
         folded = folded;
         log_is = ap (λ (p : Past). p.front) noted ∙ ap (λ (l : List Edit). l ++ e ∷ []) i.log_is;
         acked_is = ap (λ (p : Past). p.acked) noted ∙ ap (λ (n : ℕ). n + 1) i.acked_is;
+        front_is = same ∙ noted ∙ front-more log e acked past all i.log_is i.acked_is;
         low = omega (arith, all, long);
         high = omega (arith, all, long);
         halted = on ∙ sym (grind (arith, nat_tests, all, long));
@@ -117,14 +127,14 @@ module _ {D : Type 0} (seen : D → List ℕ) (unsynced : D → ℕ → Bool) wh
       })
 
   -- the device failed while one was
-  pub fault-book : (store store' : Storage D) (base : Kept) (whole : Whole) (d : Kept) (log log' : List Edit) (e : Edit) (acked offered : ℕ) (setting setting' : Setting) (stage : Stage) (past past' : Past)
-      → IsBook seen unsynced store (page_of base whole log acked setting stage.shown) d log acked offered stage past
+  pub fault-book : (store store' : Storage D) (base : Kept) (whole : Whole) (d : Kept) (log log' : List Edit) (e : Edit) (acked offered : ℕ) (setting setting' : Setting) (stage : Stage) (past past' front : Past)
+      → IsBook seen unsynced store (page_of base whole log acked setting stage.shown) d log acked offered stage past front
       → singles (drop acked log) ≡ [] → log' ≡ log ++ e ∷ [] → past' ≡ with_change past e false → store'.halted ≡ true → setting'.limit ≤ 2 ^ 20
       → ((c : List ℕ) → IsImage (seen store'.disk) (unsynced store'.disk) c → HoldsEither whole.durable (applied whole.durable e) c)
       → ((c : List ℕ) → IsImage (seen store'.disk) (unsynced store'.disk) c → IsNoLaterThan (store'.generation + 1) c)
       → (IsRoomy store'.size base → (c : List ℕ) → IsImage (seen store'.disk) (unsynced store'.disk) c → LeavesRoom c)
-      → IsBook seen unsynced store' (page_of base whole log' acked setting' stage.shown) d log' acked offered stage past'
-  fault-book store store' base whole d log log' e acked offered setting setting' stage past past' i none logged noted off limit images generations roomy =
+      → IsBook seen unsynced store' (page_of base whole log' acked setting' stage.shown) d log' acked offered stage past' front
+  fault-book store store' base whole d log log' e acked offered setting setting' stage past past' front i none logged noted off limit images generations roomy =
       let all : acked ≡ length log = all-acked log acked i.low none in
       let long : length (log ++ e ∷ []) ≡ length log + 1 = length-append log (e ∷ []) in
       let folded : IsFolded (page_of base whole (log ++ e ∷ []) acked setting' stage.shown) = folded-pending base whole log e acked setting setting' stage.shown i.low i.folded in
@@ -133,6 +143,7 @@ module _ {D : Type 0} (seen : D → List ℕ) (unsynced : D → ℕ → Bool) wh
         folded = folded;
         log_is = ap (λ (p : Past). p.front) noted ∙ ap (λ (l : List Edit). l ++ e ∷ []) i.log_is;
         acked_is = omega (arith, ap (λ (p : Past). p.acked) noted, i.acked_is);
+        front_is = i.front_is ∙ ap all_acked (sym (taken-still log e acked i.low));
         low = omega (arith, i.low, long);
         high = omega (arith, all, long);
         halted = off ∙ sym (grind (arith, nat_tests, all, long));
@@ -163,14 +174,15 @@ module _ {D : Type 0} (seen : D → List ℕ) (unsynced : D → ℕ → Bool) wh
           (1, subst (λ (k : Kept). Holds c k) is next)
 
   -- more is offered, and perhaps shown
-  pub shown-book : (store : Storage D) (base : Kept) (whole : Whole) (d : Kept) (log : List Edit) (acked offered : ℕ) (setting : Setting) (stage stage' : Stage) (past : Past)
-      → IsBook seen unsynced store (page_of base whole log acked setting stage.shown) d log acked offered stage past
+  pub shown-book : (store : Storage D) (base : Kept) (whole : Whole) (d : Kept) (log : List Edit) (acked offered : ℕ) (setting : Setting) (stage stage' : Stage) (past front : Past)
+      → IsBook seen unsynced store (page_of base whole log acked setting stage.shown) d log acked offered stage past front
       → stage'.offered ≡ take acked log → IsPrefix stage'.shown stage'.offered
-      → IsBook seen unsynced store (page_of base whole log acked setting stage'.shown) d log acked acked stage' past
-  shown-book store base whole d log acked offered setting stage stage' past i is front = record {
-    folded = folded-shown base whole log acked setting setting stage.shown stage'.shown (subst (λ (l : List Edit). IsPrefix stage'.shown l) is front) i.folded;
+      → IsBook seen unsynced store (page_of base whole log acked setting stage'.shown) d log acked acked stage' past front
+  shown-book store base whole d log acked offered setting stage stage' past front i is begins = record {
+    folded = folded-shown base whole log acked setting setting stage.shown stage'.shown (subst (λ (l : List Edit). IsPrefix stage'.shown l) is begins) i.folded;
     log_is = i.log_is;
     acked_is = i.acked_is;
+    front_is = i.front_is;
     low = i.low;
     high = i.high;
     halted = i.halted;
@@ -182,18 +194,19 @@ module _ {D : Type 0} (seen : D → List ℕ) (unsynced : D → ℕ → Bool) wh
     roomy = i.roomy;
     offered_low = omega arith;
     offered_is = is;
-    shown_is = front;
+    shown_is = begins;
     latest = i.latest;
   }
 
   -- other tickets
-  pub other-tickets : (store : Storage D) (base : Kept) (whole whole' : Whole) (d : Kept) (log : List Edit) (acked offered : ℕ) (setting : Setting) (stage : Stage) (past : Past)
-      → IsBook seen unsynced store (page_of base whole log acked setting stage.shown) d log acked offered stage past → whole'.durable ≡ whole.durable
-      → IsBook seen unsynced store (page_of base whole' log acked setting stage.shown) d log acked offered stage past
-  other-tickets store base whole whole' d log acked offered setting stage past i same = record {
+  pub other-tickets : (store : Storage D) (base : Kept) (whole whole' : Whole) (d : Kept) (log : List Edit) (acked offered : ℕ) (setting : Setting) (stage : Stage) (past front : Past)
+      → IsBook seen unsynced store (page_of base whole log acked setting stage.shown) d log acked offered stage past front → whole'.durable ≡ whole.durable
+      → IsBook seen unsynced store (page_of base whole' log acked setting stage.shown) d log acked offered stage past front
+  other-tickets store base whole whole' d log acked offered setting stage past front i same = record {
     folded = record { durable = same ∙ i.folded.durable; within = i.folded.within; published = i.folded.published };
     log_is = i.log_is;
     acked_is = i.acked_is;
+    front_is = i.front_is;
     low = i.low;
     high = i.high;
     halted = i.halted;
@@ -210,13 +223,14 @@ module _ {D : Type 0} (seen : D → List ℕ) (unsynced : D → ℕ → Bool) wh
   }
 
   -- a new Book
-  pub new-book : (store : Storage D) (base : Kept) (whole : Whole) (d : Kept) (log : List Edit) (setting : Setting) (stage : Stage) (past : Past)
-      → IsOpened seen unsynced store d → log ≡ [] → past ≡ no_past → d ≡ base → whole.durable ≡ d → setting.limit ≤ 2 ^ 20 → stage.shown ≡ [] → stage.offered ≡ []
-      → IsBook seen unsynced store (page_of base whole log 0 setting stage.shown) d log 0 0 stage past
-  new-book store base whole d log setting stage past o none empty same kept limit shown offered = rw none (record {
+  pub new-book : (store : Storage D) (base : Kept) (whole : Whole) (d : Kept) (log : List Edit) (setting : Setting) (stage : Stage) (past front : Past)
+      → IsOpened seen unsynced store d → log ≡ [] → past ≡ no_past → front ≡ past → d ≡ base → whole.durable ≡ d → setting.limit ≤ 2 ^ 20 → stage.shown ≡ [] → stage.offered ≡ []
+      → IsBook seen unsynced store (page_of base whole log 0 setting stage.shown) d log 0 0 stage past front
+  new-book store base whole d log setting stage past front o none empty start same kept limit shown offered = rw none (record {
     folded = record { durable = kept ∙ same; within = omega (arith, ap length shown); published = ap (after base) shown ∙ sym (ap (λ (n : ℕ). after base (take n [])) (ap length shown)) };
     log_is = ap (λ (p : Past). p.front) empty;
     acked_is = ap (λ (p : Past). p.acked) empty;
+    front_is = start ∙ empty;
     low = omega arith;
     high = omega arith;
     halted = o.goes_on;

@@ -4,7 +4,7 @@ use Rattle.std.proofs.{lemmas.Bool.Decides.nat_tests, Common.{◌≡◌, ℕ, ze
 use mathlib.Core.List.{IsPrefix}
 use Rattle.pf_core.specs.{Durable.Edits.Edit, Worlds.{flat, is_halted}}
 use Rattle.pf_core.proofs.Fronts.{flat-append}
-use Rattle.pf_view.proofs.Fronts.{prefix_self, prefix_trans}
+use Rattle.pf_past.proofs.Fronts.{prefix_self, prefix_trans}
 use Rattle.pf_book.specs.Books.{singles}
 
 map-take : {A B : Type 0} (f : A → B) (xs : List A) (n : ℕ) → map f (take n xs) ≡ take n (map f xs)
@@ -27,6 +27,9 @@ take_longer [] (suc o) zero le = absurd (omega arith)
 take_longer [] (suc o) (suc a) le = ([], refl)
 take_longer (x ∷ xs) (suc o) zero le = absurd (omega arith)
 take_longer (x ∷ xs) (suc o) (suc a) le = let r = take_longer xs o a (omega arith) in (r.0, ap (λ ys. x ∷ ys) r.1)
+
+pub take_begins : (xs : List Edit) (n : ℕ) → IsPrefix (take n xs) xs
+take_begins xs n = (drop n xs, take-append-drop n xs)
 
 -- a front of the first o is one of the first a, where o ≤ a
 pub prefix_take : (xs seen : List Edit) (o a : ℕ) → o ≤ a → IsPrefix seen (take o xs) → IsPrefix seen (take a xs)

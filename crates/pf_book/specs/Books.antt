@@ -10,8 +10,8 @@ use Rattle.pf_core.specs.declared.reply.Answer.TheVariants as answer
 use Rattle.pf_core.specs.{Calls.{Call, call}, Durable.Edits.{Kept, Edit, after, voided_by, verdict}, Laws.{Durable.IsWithin, Openings.Leaves}, Pages.{Page, IsFolded}, Wholes.Whole, Worlds.{Setting, Held, Doing, flat, is_fault, last_epoch, raised}}
 use Rattle.pf_store.specs.declared.{store.fault.OpenFault.OpenFault, store.fault.OpenFault.TheVariants.Memory as OutOfMemory, store.fault.OpenFault.TheVariants.Places as Places}
 use Rattle.pf_store.specs.{Openings.{IsNoLaterThan, LeavesRoom}, Rooms.on_device, Stores.{Holds, IsRoomy}, StoreKept.{Stands, Storage}}
+use Rattle.pf_past.specs.Pasts.{Past, all_acked}
 use Rattle.pf_view.specs.Known.{Stage}
-use Rattle.pf_book.specs.Pasts.{Past}
 
 -- ---- an opened device
 
@@ -30,6 +30,10 @@ opened_store store d history = record { disk = store.disk; given = d; size = sto
 -- what the opening keeps within, with so many changes as its history may have
 abbrev pub setting_of : {D : Type 0} → Opened D → ℕ → Setting
 setting_of o limit = on_device limit o.size
+
+-- what a Book over a store keeps within
+abbrev pub setting_in : {D : Type 0} → Storage D → ℕ → Setting
+setting_in store limit = on_device limit store.size
 
 -- The opening, with so many changes as its history may have, is named by these: what it gave, its history, and what it keeps within.
 abbrev pub IsNamed : {D : Type 0} → Kept → Book → Setting → Opened D → ℕ → Type 0
@@ -125,10 +129,11 @@ HoldsLeft h doing image = (d : Kept) × Holds image d × Leaves h doing d
 
 -- what a Book's type keeps
 pub record IsBook {D : Type 0} (seen : D → List ℕ) (unsynced : D → ℕ → Bool)
-    (store : Storage D) (b : Page) (d : Kept) (log : List Edit) (acked offered : ℕ) (stage : Stage) (past : Past) : Type 0 where
+    (store : Storage D) (b : Page) (d : Kept) (log : List Edit) (acked offered : ℕ) (stage : Stage) (past front : Past) : Type 0 where
   pub folded : IsFolded b
   pub log_is : past.front ≡ log
   pub acked_is : past.acked ≡ acked
+  pub front_is : front ≡ all_acked (take acked log)
   pub low : acked ≤ length log
   pub high : length log ≤ acked + 1
   pub halted : store.halted ≡ nat_lt acked (length log)
@@ -228,6 +233,11 @@ pub record StaysOpenable {D : Type 0} (moment : D → ℕ) (left_since : D → �
   pub size : new.size ≡ old.size
   pub early : EachMoment moment left_since old.disk new.disk (IsNoLaterThan (old.generation + 1))
   pub roomy : IsRoomy old.size old.base → EachMoment moment left_since old.disk new.disk LeavesRoom
+
+-- What the device's images hold, they hold by the next generation at most, and leave room for an opening where what the last one gave does.
+pub record IsOpenable {D : Type 0} (seen : D → List ℕ) (unsynced : D → ℕ → Bool) (b : Ledger D) : Type 0 where
+  pub generations : (c : List ℕ) → IsImage (seen b.disk) (unsynced b.disk) c → IsNoLaterThan (b.generation + 1) c
+  pub roomy : IsRoomy b.size b.base → (c : List ℕ) → IsImage (seen b.disk) (unsynced b.disk) c → LeavesRoom c
 
 -- No call of the device is made for what is answered without a change, nor where a command is refused but for a fault.
 abbrev pub StaysUnlessKept : {D : Type 0} → Reply → Ledger D → Ledger D → Type 0

@@ -1,5 +1,3 @@
-pub mod Pasts
-pub mod Rules
 pub mod Books
 pub mod Receipts
 -- what public clauses cite of the crates below
@@ -8,6 +6,7 @@ pub use Rattle.pf_core.specs.Calls
 pub use Rattle.pf_core.specs.Durable.Edits
 pub use Rattle.pf_core.specs.Pages
 pub use Rattle.pf_core.specs.Worlds
+pub use Rattle.pf_past.specs.Pasts
 pub use Rattle.pf_store.specs.Openings
 pub use Rattle.pf_store.specs.Rooms
 pub use Rattle.pf_store.specs.Stores

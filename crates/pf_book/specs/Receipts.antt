@@ -3,17 +3,19 @@ use Rattle.std.specs.{Prelude.{◌≡◌, ℕ, ◌≤◌, List, [], ◌∷◌, �
 use mathlib.Core.List.{IsPrefix}
 use Rattle.pf_core.specs.declared.{command.Command.Command, reply.Reply.Reply, reply.Reply.TheVariants.{Answer, Applied, Stored, Refused}}
 use Rattle.pf_core.specs.{Calls.call, Durable.Edits.{Kept, Edit}, Pages.{Page, StandsFor}, Worlds.{Setting, Held, Upshot, Event, up, down, called, flat, log_of, group_in, heard, state_after, IsWorld}}
-use Rattle.pf_book.specs.{Books.{change_in}, Pasts.Past}
+use Rattle.pf_past.specs.Pasts.{Past}
+use Rattle.pf_view.specs.Known.{Known, learns}
+use Rattle.pf_book.specs.Books.{change_in}
 
 -- ---- receipts
 
 -- A receipt: the changes that the history had at the reply, with those before it, and how many of them were acknowledged; the change that
--- the call made, if it was kept; and how many changes were shown then, after `Applied`.
+-- the call made, if it was kept; and after `Applied` the changes that were shown then.
 pub record Slip : Type 0 where
   pub front : List Edit
   pub acked : ℕ
   pub change : Option Edit
-  pub token : Option ℕ
+  pub token : Option (List Edit)
 
 -- the change is the last of the front
 abbrev pub EndsIn : List Edit → Edit → Type 0
@@ -31,12 +33,17 @@ Confirms log slip = (length slip.front ≤ length log) × IfSome slip.change (λ
 
 -- ---- replies with receipts
 
--- after `Applied` a token of as many changes as the change's number
-abbrev pub token_of : Reply → Option ℕ
-token_of (Answer a) = None
-token_of (Applied seq outcome) = Some seq
-token_of (Stored seq outcome) = None
-token_of (Refused e) = None
+-- after `Applied` a token of the whole history at the reply
+abbrev pub token_of : Reply → List Edit → Option (List Edit)
+token_of (Answer a) log = None
+token_of (Applied seq outcome) log = Some log
+token_of (Stored seq outcome) log = None
+token_of (Refused e) log = None
+
+-- what a seer knows that has learnt a token, if there is one
+abbrev pub learns_from : Option (List Edit) → Known → Known
+learns_from None known = known
+learns_from (Some token) known = learns token known
 
 -- the change was kept and acknowledged behind all others
 pub record IsAdded (change : Option Edit) (old new : Page) : Type 0 where
@@ -53,12 +60,12 @@ IsGiven (Applied seq outcome) change old new = IsAdded change old new
 IsGiven (Stored seq outcome) change old new = IsAdded change old new
 IsGiven (Refused e) change old new = change ≡ None
 
--- so many are shown after `Applied`
-abbrev pub ShownFits : Reply → ℕ → Type 0
-ShownFits (Answer a) shown = ⊤
-ShownFits (Applied seq outcome) shown = shown ≡ seq
-ShownFits (Stored seq outcome) shown = ⊤
-ShownFits (Refused e) shown = ⊤
+-- all are shown after `Applied`
+abbrev pub ShownFits : Reply → ℕ → ℕ → Type 0
+ShownFits (Answer a) shown all = ⊤
+ShownFits (Applied seq outcome) shown all = shown ≡ all
+ShownFits (Stored seq outcome) shown all = ⊤
+ShownFits (Refused e) shown all = ⊤
 
 -- The front of a receipt that is handed in begins the history, and what was acknowledged at its reply is, as is the receipt's change, where
 -- it has one.
@@ -105,6 +112,6 @@ pub record IsAnswered (base : Kept) (setting : Setting) (c : Command) (r : Reply
   pub front : slip.front ≡ log_of (heard before (call c r) came)
   pub acked : slip.acked ≡ length (flat (heard before (call c r) came).acked)
   pub change : IsChangeOf r before c slip
-  pub token : slip.token ≡ token_of r
+  pub token : slip.token ≡ token_of r slip.front
   -- the front of the receipt that was handed in begins the history before it, where what it has as acknowledged is so
   pub follows : Follows last (log_of before) (length (flat before.acked))

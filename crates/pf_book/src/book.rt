@@ -7,11 +7,11 @@ ghost use Rattle.pf_core.specs.{Calls.call, Commands.may_change, Durable.Edits.{
 ghost use Rattle.pf_store.specs.Stores.{FindsRoom, HoldsEither};
 ghost use Rattle.pf_view.specs.Known.{IsNewSeer};
 ghost use Rattle.pf_book.specs.Receipts.{IsGiven, IsReached};
-ghost use Rattle.pf_book.specs.Books.{page, HoldsLeft, IsMore, IsUnkept, IsUnshown, IsMade, IsTold, Stays, StaysOpenable, StaysUnlessKept, shows_all, change_in, log_in, is_fault_reply, is_fault_result, IsNumbered, IsJudged, IsNamed, setting_of, judging};
+ghost use Rattle.pf_book.specs.Books.{page, HoldsLeft, IsMore, IsUnkept, IsUnshown, IsMade, IsTold, Stays, IsOpenable, StaysOpenable, StaysUnlessKept, shows_all, change_in, log_in, is_fault_reply, is_fault_result, IsNumbered, IsJudged, IsNamed, setting_of, judging};
 
 mod receipts;
 
-use crate::history::{Chapter, Tip};
+use crate::chapter::Chapter;
 use crate::opening::Opening;
 use crate::showing::offer_rest;
 use pf_core::{
@@ -19,6 +19,7 @@ use pf_core::{
     Reply, Verdict,
 };
 use pf_disk::Disk;
+use pf_past::{Front, Tip};
 use pf_rule::Packet;
 use pf_store::{OpenFault, SaveFault, Store};
 use pf_view::{Seer, Shower, ViewFault, views};
@@ -42,21 +43,22 @@ pub struct Book<D: Disk + Drop, J: Chapter, R: Wait + Drop> {
     limit: usize,
     shower: Shower<J, R>,
     tip: Tip<J>,
+    // the history as far as it was acknowledged
+    front: Front<J>,
 }
 
 impl<D: Disk + Drop, J: Chapter, R: Wait + Drop> Model for Book<D, J, R> {
     ghost use Rattle.std.specs.Prelude.{map};
     ghost use Rattle.std.specs.Arc.{arc_value};
-    ghost use Rattle.pf_store.specs.Rooms.{on_device};
-    ghost use Rattle.pf_book.specs.Books.{Ledger, ledger, page_of, IsBook};
+    ghost use Rattle.pf_book.specs.Books.{Ledger, ledger, page_of, IsBook, setting_in};
 
     ghost Value = { Ledger D };
 
     ghost view = { λ b. ledger b.store.disk J.base b.core (map arc_value b.log.items) b.acked b.limit b.store.size b.store.generation b.shower.shown };
 
     ghost invariant = { λ b. IsBook D.seen D.unsynced b.store
-        (page_of J.base b.core (map arc_value b.log.items) b.acked (on_device b.limit b.store.size) b.shower.shown)
-        (arc_value b.durable) (map arc_value b.log.items) b.acked b.offered b.shower b.tip };
+        (page_of J.base b.core (map arc_value b.log.items) b.acked (setting_in b.store b.limit) b.shower.shown)
+        (arc_value b.durable) (map arc_value b.log.items) b.acked b.offered b.shower b.tip b.front };
 }
 
 // A change for the log, for the history, and for a receipt.
@@ -145,7 +147,8 @@ impl<D: Disk + Drop, J: Chapter, R: Wait + Drop> Book<D, J, R> {
         let Ok(shared) = Arc::try_clone(&durable) else {
             return Err((OpenFault::Memory, store.into_disk()));
         };
-        match views::<J, R>(rt, alloc, &durable, seers) {
+        let front = tip.front();
+        match views::<J, R>(rt, alloc, &durable, &front, seers) {
             Ok((shower, all)) => {
                 let book = Book {
                     alloc,
@@ -158,6 +161,7 @@ impl<D: Disk + Drop, J: Chapter, R: Wait + Drop> Book<D, J, R> {
                     limit: history_limit,
                     shower,
                     tip,
+                    front,
                 };
                 Ok((book, all))
             }
@@ -238,6 +242,7 @@ impl<D: Disk + Drop, J: Chapter, R: Wait + Drop> Book<D, J, R> {
             Ok(()) => {
                 self.log.push_reserved(change);
                 self.tip.add(noted, true);
+                self.front = self.tip.front();
                 self.acked += 1;
                 self.core.accept(next);
                 self.durable = after;
@@ -268,6 +273,7 @@ impl<D: Disk + Drop, J: Chapter, R: Wait + Drop> Book<D, J, R> {
             self.offered,
             self.acked,
             &self.durable,
+            &self.front,
         ) {
             return false;
         }
@@ -407,8 +413,9 @@ impl<D: Disk + Drop, J: Chapter, R: Wait + Drop> Book<D, J, R> {
 
     // Between two calls each image holds what a crash then leaves of the opening.
     pub(crate) fn rests(&self)
-        ensures { (h : Held) → IsAt h (page self.now) → (c : List ℕ)
+        ensures images { (h : Held) → IsAt h (page self.now) → (c : List ℕ)
             → IsImage (D.seen self.now.disk) (D.unsynced self.now.disk) c → HoldsLeft h idle c }
+        ensures openable { IsOpenable D.seen D.unsynced self.now }
     {
         // looked at, so that what a Book keeps is known here
         let _ = &self.core;
@@ -487,6 +494,7 @@ impl<D: Disk + Drop, J: Chapter, R: Wait + Drop> Book<D, J, R> {
             limit: _,
             shower: _,
             tip: _,
+            front: _,
         } = self;
         store.into_disk()
     }

@@ -1,13 +1,14 @@
 //! One history over a device: what an opening gave, each change since, saved before it is answered, and shown to packet workers.
 //!
-//! The crate joins `pf_core`, which tells the one step that a command may get, `pf_store`, which saves a change, and `pf_view`, which shows
-//! it. It knows no text, no bytes of a change and no rule. The modules:
+//! The crate joins `pf_core`, which tells the one step that a command may get, `pf_store`, which saves a change, `pf_past`, which notes it in the
+//! history, and `pf_view`, which shows it. It knows no text, no bytes of a change and no rule. The modules:
 //!
 //! - `opening`: [`Opening`], a device that was opened.
 //! - `book`: [`Book`], the history of an opening, which answers commands.
 //! - `showing`: what is shown of a history; `book` uses it.
-//! - `history`: [`Chapter`], the name of an opening, and its history as proofs know it; `rule`: who may add to that.
+//! - `chapter`: [`Chapter`], the name of an opening.
 //! - `receipt`: [`Receipt`], what a caller is given with a reply.
+//! - `worker`: what a worker does with a receipt: [`judge_after`].
 //! - `shared`: [`Shared`], a Book under a lock.
 //! - `laws`: what receipts come to, and openings after crashes.
 //!
@@ -19,20 +20,22 @@
 #![tactic(auto)]
 
 mod book;
-mod history;
+mod chapter;
 pub mod laws;
 mod opening;
 mod receipt;
-mod rule;
 mod shared;
 mod showing;
+mod worker;
 
 pub use book::Book;
-pub use history::Chapter;
+pub use chapter::Chapter;
 pub use opening::Opening;
 pub use pf_core::Reply;
 pub use pf_disk::{Disk, FileDisk, FileFault, FuseDisk, MemDisk};
+pub use pf_past::{Front, Naming};
 pub use pf_store::{OpenFault, Store, format};
-pub use pf_view::{Gone, Naming, Seer, Token};
+pub use pf_view::{Gone, Seer, Token};
 pub use receipt::Receipt;
 pub use shared::Shared;
+pub use worker::{judge_after, learn_from};

@@ -5,9 +5,9 @@ ghost use Rattle.pf_core.specs.{Durable.Edits.Kept, Laws.Durable.IsWithin, World
 ghost use Rattle.pf_store.specs.declared.store.fault.OpenFault.TheVariants.{BadSize, Memory};
 ghost use Rattle.pf_store.specs.{Banks.bank_size, Stores.{Holds}, StoreFaults.is_fault, Openings.{IsFull, IsNoLaterThan, IsOfOpening, IsUnopened, generation_of}};
 
-use crate::history::NewHistory;
 use pf_core::Durable;
 use pf_disk::Disk;
+use pf_past::NewHistory;
 use pf_store::{OpenFault, Store};
 use std::alloc::Global;
 use std::marker::Model;

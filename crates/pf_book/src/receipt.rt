@@ -3,8 +3,9 @@ ghost use Rattle.std.specs.Prelude.{◌≡◌, length};
 ghost use Rattle.std.specs.{Arc.arc_value, Option.{ForSome, option_copied, option_map}};
 ghost use Rattle.pf_book.specs.Receipts.{EndsIn};
 
-use crate::history::{Chapter, Front};
+use crate::chapter::Chapter;
 use pf_core::Change;
+use pf_past::Front;
 use pf_view::Token;
 use std::marker::Model;
 use std::sync::Arc;
@@ -49,7 +50,8 @@ impl<J: Chapter> Receipt<J> {
         }
     }
 
-    /// What a worker may learn, so that it judges by the reply's change: there is one exactly after `Applied`. Own.
+    /// What a worker may learn, so that it judges by the whole history at the reply, whose last change is the reply's: there is one exactly
+    /// after `Applied`. Own.
     pub fn token(&self) -> Option<&Token<J>>
         ensures { option_copied result ≡ self.now.token }
     {

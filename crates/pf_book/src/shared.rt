@@ -2,10 +2,10 @@
 ghost use Rattle.std.specs.{Option.option_copied, Prelude.{ℕ, List}};
 ghost use Rattle.pf_disk.specs.Disk.{EachMoment, IsImage};
 ghost use Rattle.pf_core.specs.{Pages.IsAt, Worlds.{Held, idle, calling}};
-ghost use Rattle.pf_book.specs.{Books.{HoldsLeft, StaysUnlessKept, page}, Receipts.{IsReached, IsAnswered}};
+ghost use Rattle.pf_book.specs.{Books.{HoldsLeft, IsOpenable, StaysOpenable, StaysUnlessKept, page}, Receipts.{IsReached, IsAnswered}};
 
 use crate::book::Book;
-use crate::history::Chapter;
+use crate::chapter::Chapter;
 use crate::receipt::Receipt;
 use pf_core::{Command, Reply};
 use pf_disk::Disk;
@@ -34,6 +34,7 @@ impl<D: Disk + Drop, J: Chapter, R: Wait + Drop> Desk<D, J, R> {
         ensures answered { IsAnswered J.base J.setting command.now result.0 result.1 (option_copied last.entry) }
         ensures any_moment { (h : Held) → IsAt h (page self.old)
             → EachMoment D.moment D.left_since self.old.disk self.new.disk (HoldsLeft h (calling command.now)) }
+        ensures openable { StaysOpenable D.moment D.left_since self.old self.new }
         ensures stays { StaysUnlessKept result.0 self.old self.new }
     {
         self.book.answer(command, last)
@@ -73,11 +74,13 @@ impl<D: Disk + Drop, J: Chapter, R: Wait + Drop> Shared<D, J, R> {
     }
 
     /// The Book, once all callers have ended. It confirms each receipt of this opening, and each image of its device holds what a crash
-    /// leaves of the opening, as behind each call of `Book::run`. Own.
+    /// leaves of the opening, as behind each call of `Book::run`, by the next generation at most and with room for an opening where what
+    /// the last one gave leaves it. Own.
     pub fn close(self) -> Book<D, J, R>
         ensures reached { IsReached J.base J.setting (page result) }
         ensures images { (h : Held) → IsAt h (page result) → (c : List ℕ)
             → IsImage (D.seen result.disk) (D.unsynced result.disk) c → HoldsLeft h idle c }
+        ensures openable { IsOpenable D.seen D.unsynced result }
     {
         let Shared { desk } = self;
         let Desk { book } = desk.into_inner();

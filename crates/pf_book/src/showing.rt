@@ -2,9 +2,11 @@
 ghost use Rattle.std.specs.Prelude.{◌≡◌, ◌≤◌, length, map, take, IfOk, MatchBool};
 ghost use Rattle.std.specs.Arc.{arc_value};
 ghost use Rattle.pf_core.specs.Durable.Edits.{after};
+ghost use Rattle.pf_past.specs.Pasts.{all_acked};
 
 use pf_core::{Change, Durable};
-use pf_view::{Naming, Shower};
+use pf_past::{Front, Naming};
+use pf_view::Shower;
 use std::alloc::{AllocError, Global};
 use std::sync::{Arc, Wait};
 
@@ -19,8 +21,8 @@ fn shared(alloc: Global, changes: &[Arc<Change>]) -> Result<Vec<Arc<Change>>, Al
     Ok(all)
 }
 
-/// Offers what was acknowledged and not offered yet, with what all of it leaves, and says whether all that was acknowledged is offered
-/// then. It isn't where memory was refused.
+/// Offers what was acknowledged and not offered yet, with what all of it leaves and the front of the history that all of it is, and says
+/// whether all that was acknowledged is offered then. It isn't where memory was refused.
 pub(crate) fn offer_rest<J: Naming, R: Wait + Drop>(
     shower: &mut Shower<J, R>,
     alloc: Global,
@@ -28,10 +30,12 @@ pub(crate) fn offer_rest<J: Naming, R: Wait + Drop>(
     offered: usize,
     acked: usize,
     durable: &Arc<Durable>,
+    front: &Front<J>,
 ) -> bool
     requires within { (offered ≤ acked) × (acked ≤ length log.now) }
     requires offered { shower.old.offered ≡ take offered (map arc_value log.now) }
     requires chain { arc_value durable.now ≡ after J.base (take acked (map arc_value log.now)) }
+    requires front { front.now ≡ all_acked (take acked (map arc_value log.now)) }
     ensures offered { MatchBool result (shower.new.offered ≡ take acked (map arc_value log.now)) (shower.new.offered ≡ shower.old.offered) }
     ensures shown { shower.new.shown ≡ shower.old.shown }
 {
@@ -44,7 +48,7 @@ pub(crate) fn offer_rest<J: Naming, R: Wait + Drop>(
     let Ok(durable) = Arc::try_clone(durable) else {
         return false;
     };
-    match shower.offer(changes, durable) {
+    match shower.offer(changes, durable, front) {
         Ok(()) => true,
         Err(_) => false,
     }

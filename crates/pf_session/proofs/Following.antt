@@ -4,7 +4,8 @@ use Rattle.pf_rule.specs.Packets.{PlainPacket}
 use Rattle.pf_core.specs.declared.{command.Command.Command, command.Command.TheVariants.States, command.StateCommand.TheVariants.Peer, reply.Reply.Reply}
 use Rattle.pf_core.specs.{Durable.Edits.Kept, Worlds.Setting}
 use Rattle.pf_book.specs.Receipts.{Slip, IsAnswered}
-use Rattle.pf_book.proofs.{Answering.front-begins, Fronts.{prefix_self, prefix_trans}}
+use Rattle.pf_past.proofs.Fronts.{prefix_self, prefix_trans}
+use Rattle.pf_book.proofs.Answering.{front-begins}
 use Rattle.pf_session.specs.declared.line_engine.fault.EngineFault.{EngineFault}
 use Rattle.pf_session.specs.declared.line_engine.fault.EngineFault.TheVariants as fault
 use Rattle.pf_session.specs.LineEngine.Sessions as sessions

@@ -14,9 +14,9 @@ pub fn takes_over<D: Disk>()
     ensures fresh { FreshTakesOver D.fault_count }
 {}
 
-/// The seer of a session over a shared Book has learnt of no fewer changes behind a line than before it, and behind a change that the session
-/// was told is applied of no fewer than its number: with what `Seer::judge` promises the session is judged after at least so many changes from
-/// then on.
+/// What the seer of a session over a shared Book has learnt behind a line begins with what it had learnt before it, and behind a change that
+/// the session was told is applied with the whole history at that reply, which has as many changes as the change's number says: with what
+/// `Seer::judge` promises each verdict from then on is by a front of the history that begins with it.
 pub fn sessions_learn<G: Gate>()
     ensures kept { (gate : G) (session : ℕ) → LearnsNoLess (G.passed gate session) }
     ensures applied { LearnsApplied }

@@ -1,15 +1,19 @@
 //! A shower and its seers.
-ghost use Rattle.std.specs.{Prelude.{◌≡◌, ◌<◌, ◌≤◌, [], vec_len, All, IfOk}, Arc.arc_value};
+ghost use Rattle.std.specs.{Prelude.{◌≡◌, ◌<◌, ◌≤◌, [], drop, vec_len, All, IfOk}, Arc.arc_value};
 ghost use Rattle.pf_view.specs.declared.opening.ViewFault.TheVariants.{Memory};
-ghost use Rattle.pf_view.specs.{Copies.changes_of, Known.{IsNewSeer, IsNewShower}};
+ghost use Rattle.left_right.specs.Sides.{view};
+ghost use Rattle.pf_past.specs.Pasts.{all_acked, mark};
+ghost use Rattle.pf_view.specs.{Copies.{IsChain, version}, Known.{IsNewSeer, IsNewShower, SitsAt}};
 
-use crate::law::{Front, Law, Naming};
-use crate::seer::Seer;
+use crate::law::{Law, Sight};
+use crate::seer::{CopyReader, Seer};
 use crate::shower::{CopyWriter, Shower};
 use crate::shown::Shown;
+use crate::token::Token;
 use left_right::reader::Factory;
 use left_right::writer::Writer;
 use pf_core::Durable;
+use pf_past::{Front, Naming};
 use std::alloc::{AllocError, Global};
 use std::sync::{Arc, Wait};
 
@@ -31,23 +35,25 @@ impl From<AllocError> for ViewFault {
     }
 }
 
-/// The copies of what an opening gave, with no change, and so many seers, 1 to 64. The shower keeps the handle. On an `Err` nothing is
-/// left.
+/// The copies of what an opening gave, with no change, whose front is a start of the history, and so many seers, 1 to 64, at the copies to
+/// which the shower publishes. The shower keeps the handle. On an `Err` nothing is left.
 pub fn views<J: Naming, R: Wait + Drop>(
     rt: R,
     alloc: Global,
     base: &Arc<Durable>,
+    start: &Front<J>,
     seers: usize,
 ) -> Result<(Shower<J, R>, Vec<Seer<J>>), ViewFault>
     requires base { arc_value base.now ≡ J.base }
+    requires start { start.now ≡ all_acked [] }
     requires seers { (0 < seers) × (seers ≤ 64) }
     ensures shower { IfOk result (λ r. IsNewShower r.0) }
     ensures seers { IfOk result (λ r. vec_len r.1 ≡ seers) }
     ensures new { IfOk result (λ r. All IsNewSeer r.1.items) }
+    ensures seated { IfOk result (λ r. All (SitsAt r.0.copies) r.1.items) }
 {
-    let (first, second) = (copy_of(alloc, base)?, copy_of(alloc, base)?);
-    let writer: CopyWriter<J> = Writer::new(alloc, first, second, seers)?;
-    match seated(alloc, writer.factory(), seers) {
+    let writer: CopyWriter<J> = two_copies(alloc, base, start, seers)?;
+    match seated(alloc, writer.factory(), start, seers) {
         Ok(all) => Ok((Shower::new(writer, rt), all)),
         Err(fault) => {
             drop(writer.take(&rt));
@@ -56,26 +62,53 @@ pub fn views<J: Naming, R: Wait + Drop>(
     }
 }
 
+// Two copies with no change, and places for so many seers.
+fn two_copies<J: Naming>(
+    alloc: Global,
+    base: &Arc<Durable>,
+    start: &Front<J>,
+    seers: usize,
+) -> Result<CopyWriter<J>, ViewFault>
+    requires base { arc_value base.now ≡ J.base }
+    requires start { start.now ≡ all_acked [] }
+    requires seers { (0 < seers) × (seers ≤ 64) }
+    ensures base { IfOk result (λ w. IsChain J.base J.history w.desk.shown.value) }
+    ensures nothing_shown { IfOk result (λ w. (w.desk.shown.value.changes ≡ []) × (view w.desk.place ≡ [])) }
+    ensures nothing_pending { IfOk result (λ w. drop w.behind w.log.items ≡ []) }
+    ensures seated { IfOk result (λ w. w.desk.place.table_id ≡ (arc_value w.desk.from.board).shared.table_id) }
+{
+    let first = copy_of(alloc, base, start)?;
+    let second = copy_of(alloc, base, start)?;
+    Ok(Writer::new(alloc, first, second, seers)?)
+}
+
 // A copy with no change.
-fn copy_of(alloc: Global, base: &Arc<Durable>) -> Result<Shown, AllocError>
-    ensures changes { IfOk result (λ s. changes_of s ≡ []) }
-    ensures durable { IfOk result (λ s. arc_value s.durable ≡ arc_value base.now) }
+fn copy_of<J: Naming>(
+    alloc: Global,
+    base: &Arc<Durable>,
+    start: &Front<J>,
+) -> Result<Shown, AllocError>
+    ensures { IfOk result (λ s. s ≡ version [] (arc_value base.now) (mark J.history start.now)) }
 {
     let durable = Arc::try_clone(base)?;
     Ok(Shown {
         changes: Vec::new(alloc),
         durable,
+        front: start.trace(),
     })
 }
 
 // So many seers that saw nothing.
 fn seated<J: Naming>(
     alloc: Global,
-    factory: &Factory<Shown, Front, Law<J>>,
+    factory: &Factory<Shown, Sight, Law<J>>,
+    start: &Front<J>,
     seers: usize,
 ) -> Result<Vec<Seer<J>>, ViewFault>
+    requires start { start.now ≡ all_acked [] }
     ensures count { IfOk result (λ v. vec_len v ≡ seers) }
     ensures new { IfOk result (λ v. All IsNewSeer v.items) }
+    ensures seated { IfOk result (λ v. All (SitsAt (arc_value factory.now.board).shared.table_id) v.items) }
 {
     let mut all = Vec::with_capacity(alloc, seers)?;
     for _ in 0..seers {
@@ -83,7 +116,18 @@ fn seated<J: Naming>(
         let Ok(reader) = factory.reader() else {
             return Err(ViewFault::Places);
         };
-        all.push_reserved(Seer::new(reader));
+        all.push_reserved(new_seer(reader, start));
     }
     Ok(all)
+}
+
+// A seer that saw nothing and learnt nothing.
+fn new_seer<J: Naming>(reader: CopyReader<J>, start: &Front<J>) -> Seer<J>
+    requires start { start.now ≡ all_acked [] }
+    requires nothing { view reader.place ≡ [] }
+    ensures new { IsNewSeer result }
+    ensures seated { SitsAt reader.place.table_id result }
+{
+    let nothing = Token::new(start.again(), 0);
+    Seer::new(reader, start.again(), nothing)
 }

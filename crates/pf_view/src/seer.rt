@@ -1,103 +1,149 @@
 //! What judges by the published copies.
-ghost use Rattle.std.specs.{Prelude.{◌≡◌, ◌⊎◌, ◌<◌, ◌≤◌, max, [], length, IfOk, OnErr}, Arc.arc_value};
+ghost use Rattle.std.specs.Prelude.{◌≡◌, ◌<◌, ◌≤◌, length, IfOk, IfSome, OnErr, MatchOption};
 ghost use mathlib.Core.List.{IsPrefix};
 ghost use Rattle.left_right.specs.Sides.{view};
 ghost use Rattle.pf_core.specs.Durable.Edits.{after, verdict};
-ghost use Rattle.pf_view.specs.{Copies.changes_of, Known.{IsNewSeer, SeesTooFew}};
+ghost use Rattle.pf_past.specs.Pasts.{all_acked};
+ghost use Rattle.pf_view.specs.Known.{SeesTooFew, learns};
 
-use crate::law::{Front, Law, Naming, Seeing};
+use crate::law::{Law, Seeing, Sight};
 use crate::shown::Shown;
 use crate::token::Token;
 use core::mem::replace_with;
 use left_right::reader::Reader;
 use pf_core::Verdict;
+use pf_past::{Front, Naming};
 use pf_rule::Packet;
 use std::marker::Model;
 
-/// The published copies gave no entry, as after their shower was dropped, or one with fewer changes than the seer had learnt of.
+/// The published copies gave no entry, as after their shower was dropped, or one with fewer changes than the seer had learnt.
 #[derive(Clone, Copy, Debug, PartialEq, Eq)]
 pub struct Gone;
 
-pub(crate) type CopyReader<J> = Reader<Shown, Front, Law<J>>;
+pub(crate) type CopyReader<J> = Reader<Shown, Sight, Law<J>>;
 
-/// A worker's own way into the published copies. Contracts see what it saw and what it was told (`Known`).
+/// A worker's own way into the published copies. Contracts see what it saw and what it learnt, both of them fronts of the history whose
+/// changes were all acknowledged, and at which copies it sits (`Known`).
 #[derive(Drop)]
 pub struct Seer<J: Naming> {
     reader: CopyReader<J>,
-    // the greatest number of changes that it learnt of
-    floor: usize,
+    // the changes of the copy that it saw last, which are the most that it saw
+    saw: Front<J>,
+    // the most that it learnt
+    learnt: Token<J>,
 }
 
 impl<J: Naming> Model for Seer<J> {
+    ghost use Rattle.std.specs.Prelude.{◌≡◌};
+    ghost use Rattle.pf_past.specs.Pasts.{all_acked};
     ghost use Rattle.pf_view.specs.Known.{Known};
 
     ghost Value = { Known };
 
-    ghost view = { λ s. record { seen = s.reader.place.me.0.client; told = s.floor } };
+    ghost view = { λ s. record { seen = s.saw.front; learnt = s.learnt; copies = s.reader.place.table_id } };
+
+    ghost invariant = { λ s. s.saw ≡ all_acked s.reader.place.me.0.client };
 }
 
 impl<J: Naming> Seer<J> {
-    // One that was told nothing by a token.
-    pub(crate) fn new(reader: CopyReader<J>) -> Seer<J>
+    // One that saw this front and learnt this token.
+    pub(crate) fn new(reader: CopyReader<J>, saw: Front<J>, learnt: Token<J>) -> Seer<J>
+        requires saw { saw ≡ all_acked (view reader.place) }
         ensures seen { result.seen ≡ view reader.place }
-        ensures told { result.told ≡ 0 }
+        ensures learnt { result.learnt ≡ learnt }
+        ensures copies { result.copies ≡ reader.place.table_id }
     {
-        Seer { reader, floor: 0 }
+        Seer {
+            reader,
+            saw,
+            learnt,
+        }
     }
 
-    /// What happens to a packet by the copy that is shown: what the opening gave after some of the changes that were shown, from the
-    /// first one on. They begin with all that this seer saw, and are no fewer than it learnt of. It takes no lock, no memory and no
-    /// handle, and waits for nobody. `Gone`: it judged nothing, and has seen nothing new, or a copy with fewer changes than it learnt of.
+    /// What happens to a packet by the copy that is shown: what the opening gave after a front of the history. This front begins with all
+    /// that this seer saw and with all that it learnt, and each change of it is acknowledged. It takes no lock, no memory and no handle, and
+    /// waits for nobody. `Gone`: it judged nothing, and has seen nothing new, or a copy with fewer changes than it learnt.
     pub fn judge(&mut self, packet: &Packet) -> Result<Verdict, Gone>
         ensures verdict { IfOk result (λ v. v ≡ verdict (after J.base self.new.seen) packet.now) }
         ensures seen { IsPrefix self.old.seen self.new.seen }
-        ensures enough { IfOk result (λ _. self.old.told ≤ length self.new.seen) }
+        ensures learnt { IfOk result (λ _. IsPrefix self.old.learnt self.new.seen) }
         ensures gone { OnErr result (SeesTooFew self.old self.new) }
-        ensures told { self.new.told ≡ self.old.told }
+        ensures same { self.new.learnt ≡ self.old.learnt }
     {
-        let floor = self.floor;
-        replace_with(&mut self.reader, packet, |reader, packet| {
+        let floor = self.learnt.count();
+        let looked = replace_with(&mut self.reader, packet, |reader, packet| {
             judged::<J>(reader, floor, packet)
-        })
+        });
+        let Some((saw, verdict)) = looked else {
+            return Err(Gone);
+        };
+        self.saw = saw;
+        let Some(verdict) = verdict else {
+            return Err(Gone);
+        };
+        self.learnt.begins(&self.saw);
+        Ok(verdict)
     }
 
-    /// Learns of the changes that a token stands for: from now on it judges by no fewer.
+    /// Learns a token, if it has more changes than what was learnt before: from now on each verdict is by a front that begins with the
+    /// token's changes.
     pub fn learn(&mut self, token: &Token<J>)
-        ensures told { self.new.told ≡ max self.old.told token.now }
-        ensures seen { self.new.seen ≡ self.old.seen }
+        ensures learnt { self.new ≡ learns token.now self.old }
+        ensures begins { IsPrefix token.now self.new.learnt }
+        ensures kept { IsPrefix self.old.learnt self.new.learnt }
     {
-        self.floor = self.floor.max(token.count());
+        if self.learnt.count() < token.count() {
+            self.learnt.begins(&token.front());
+            self.learnt = token.again();
+        } else {
+            token.begins(&self.learnt.front());
+        }
+    }
+
+    /// The front that it saw.
+    pub fn seen(&self) -> Front<J>
+        ensures { result ≡ all_acked self.now.seen }
+    {
+        self.saw.again()
+    }
+
+    /// The front that it learnt.
+    pub fn learnt(&self) -> Front<J>
+        ensures { result ≡ all_acked self.now.learnt }
+    {
+        self.learnt.front()
     }
 }
 
-// Judges within one entry.
+// Judges within one entry, which gives the front that it sees. `None` within that: the copy has too few changes.
 fn judged<J: Naming>(
     reader: CopyReader<J>,
     floor: usize,
     packet: &Packet,
-) -> (CopyReader<J>, Result<Verdict, Gone>)
-    ensures verdict { IfOk result.1 (λ v. v ≡ verdict (after J.base (view result.0.place)) packet.now) }
+) -> (CopyReader<J>, Option<(Front<J>, Option<Verdict>)>)
+    ensures front { IfSome result.1 (λ looked. looked.0 ≡ all_acked (view result.0.place)) }
+    ensures verdict { IfSome result.1 (λ looked. MatchOption looked.1 (length (view result.0.place) < floor)
+        (λ v. (v ≡ verdict (after J.base (view result.0.place)) packet.now) × (floor ≤ length (view result.0.place)))) }
     ensures seen { IsPrefix (view reader.place) (view result.0.place) }
-    ensures enough { IfOk result.1 (λ _. floor ≤ length (view result.0.place)) }
-    ensures gone { OnErr result.1 ((view result.0.place ≡ view reader.place) ⊎ (length (view result.0.place) < floor)) }
+    ensures none { MatchOption result.1 (view result.0.place ≡ view reader.place) (λ looked. Unit {0}) }
 {
     match reader.enter_as::<Seeing<J>>() {
         Ok(reading) => {
-            let answer = judged_by(reading.get(), floor, packet);
-            (reading.leave(), answer)
+            let saw = reading.get().front.again().named::<J>();
+            let verdict = judged_by(reading.get(), floor, packet);
+            (reading.leave(), Some((saw, verdict)))
         }
-        Err(reader) => (reader, Err(Gone)),
+        Err(reader) => (reader, None),
     }
 }
 
 // What a copy says, if it has so many changes.
-fn judged_by(shown: &Shown, floor: usize, packet: &Packet) -> Result<Verdict, Gone>
-    ensures verdict { IfOk result (λ v. v ≡ verdict (arc_value shown.now.durable) packet.now) }
-    ensures enough { IfOk result (λ _. floor ≤ length (changes_of shown.now)) }
-    ensures gone { OnErr result (length (changes_of shown.now) < floor) }
+fn judged_by(shown: &Shown, floor: usize, packet: &Packet) -> Option<Verdict>
+    ensures { MatchOption result (length shown.now.changes < floor)
+        (λ v. (v ≡ verdict shown.now.durable packet.now) × (floor ≤ length shown.now.changes)) }
 {
     if shown.changes.len() < floor {
-        return Err(Gone);
+        return None;
     }
-    Ok(shown.durable.verdict(packet))
+    Some(shown.durable.verdict(packet))
 }

@@ -2,22 +2,24 @@
 ghost use Rattle.std.specs.{Prelude.{◌≡◌, ◌<◌, ◌++◌, [], length, drop, vec_len, IfSome, OnOk, OnErr}, Arc.arc_value};
 ghost use Rattle.left_right.specs.Sides.{view};
 ghost use Rattle.pf_core.specs.Durable.Edits.{after};
-ghost use Rattle.pf_view.specs.{Sharing.edits_of, Copies.{changes_of, state_of, offered_state, IsChain}, Known.IsNewShower};
+ghost use Rattle.pf_past.specs.Pasts.{all_acked};
+ghost use Rattle.pf_view.specs.{Sharing.edits_of, Copies.{offered_version, IsChain}, Known.IsNewShower};
 
-use crate::law::{Front, Law, Naming, Seeing, Telling};
+use crate::law::{Law, Seeing, Sight, Telling};
 use crate::seer::Seer;
 use crate::shown::{Operation, Shown};
 use crate::token::Token;
 use core::mem::replace_with;
 use left_right::writer::Writer;
 use pf_core::{Change, Durable};
+use pf_past::{Front, Naming};
 use std::alloc::AllocError;
 use std::marker::Model;
 use std::sync::{Arc, Wait};
 
-pub(crate) type CopyWriter<J> = Writer<Shown, Operation, Front, Law<J>>;
+pub(crate) type CopyWriter<J> = Writer<Shown, Operation, Sight, Law<J>>;
 
-/// Shows changes to all seers at once. Contracts see what is shown and what is offered (`Stage`).
+/// Shows changes to all seers at once. Contracts see what is shown, what is offered, and to which copies it publishes (`Stage`).
 ///
 /// It keeps a handle on the runtime, since [`Shower::show`] and its drop wait for the seers that are judging. After its drop they answer
 /// `Gone`.
@@ -39,39 +41,45 @@ impl<J: Naming, R: Wait + Drop> Model for Shower<J, R> {
 
     ghost Value = { Stage };
 
-    ghost view = { λ s. stage s.writer.desk.shown.value (drop s.writer.behind s.writer.log.items) };
+    ghost view = { λ s. stage s.writer.desk.shown.value (drop s.writer.behind s.writer.log.items) s.writer.desk.place.table_id };
 
     ghost invariant = { λ s.
-        IsStage J.base s.writer.desk.shown.value (drop s.writer.behind s.writer.log.items) s.writer.desk.place.me.0.client };
+        IsStage J.base J.history s.writer.desk.shown.value (drop s.writer.behind s.writer.log.items) s.writer.desk.place.me.0.client };
 }
 
 impl<J: Naming, R: Wait + Drop> Shower<J, R> {
     // Nothing is offered at a new writer.
     pub(crate) fn new(writer: CopyWriter<J>, rt: R) -> Shower<J, R>
-        requires base { IsChain J.base (state_of writer.desk.shown.value) }
-        requires nothing_shown { (changes_of writer.desk.shown.value ≡ []) × (view writer.desk.place ≡ []) }
+        requires base { IsChain J.base J.history writer.desk.shown.value }
+        requires nothing_shown { (writer.desk.shown.value.changes ≡ []) × (view writer.desk.place ≡ []) }
         requires nothing_pending { drop writer.behind writer.log.items ≡ [] }
-        ensures { IsNewShower result }
+        ensures new { IsNewShower result }
+        ensures copies { result.copies ≡ writer.desk.place.table_id }
     {
         Shower { writer, rt }
     }
 
-    /// Offers changes, one or more, and what is kept after them, which follow all that was offered before. No seer sees them yet.
-    /// `AllocError`: nothing was offered, and the changes may be offered again with those that follow.
+    /// Offers changes, one or more, and what is kept after them, which follow all that was offered before, and the front of the history that
+    /// all of them are, each acknowledged. No seer sees them yet. `AllocError`: nothing was offered, and the changes may be offered again
+    /// with those that follow.
     pub fn offer(
         &mut self,
         changes: Vec<Arc<Change>>,
         durable: Arc<Durable>,
+        front: &Front<J>,
     ) -> Result<(), AllocError>
         requires some { 0 < vec_len changes }
         requires chain { arc_value durable ≡ after J.base (self.old.offered ++ edits_of changes.items) }
+        requires front { front.now ≡ all_acked (self.old.offered ++ edits_of changes.items) }
         ensures ok { OnOk result (self.new.offered ≡ self.old.offered ++ edits_of changes.items) }
         ensures err { OnErr result (self.new.offered ≡ self.old.offered) }
         ensures shown { self.new.shown ≡ self.old.shown }
+        ensures copies { self.new.copies ≡ self.old.copies }
     {
         let operation = Operation {
             changes,
             after: durable,
+            front: front.trace(),
         };
         match self.writer.append(operation) {
             Ok(()) => Ok(()),
@@ -95,12 +103,14 @@ impl<J: Naming, R: Wait + Drop> Shower<J, R> {
     /// many places as [`views`](crate::views) made seers, and one that is dropped leaves its place.
     pub fn told_seer(&mut self) -> Option<Seer<J>>
         ensures seen { IfSome result (λ s. s.seen ≡ self.old.shown) }
-        ensures told { IfSome result (λ s. s.told ≡ 0) }
-        ensures same { self.new ≡ self.old }
+        ensures learnt { IfSome result (λ s. s.learnt ≡ self.old.shown) }
+        ensures shown { self.new.shown ≡ self.old.shown }
+        ensures offered { self.new.offered ≡ self.old.offered }
     {
         let mut reader = self.writer.factory().reader().ok()?;
         reader.learn::<Telling>(self.writer.tell::<Telling>());
-        Some(Seer::new(reader))
+        let token = self.token();
+        Some(Seer::new(reader, token.front(), token))
     }
 
     /// What seers are shown.
@@ -119,9 +129,10 @@ impl<J: Naming, R: Wait + Drop> Shower<J, R> {
 
     /// A token of all that is shown, for seers to learn.
     pub fn token(&self) -> Token<J>
-        ensures { result ≡ length self.now.shown }
+        ensures { result ≡ self.now.shown }
     {
-        Token::new(self.len())
+        let shown = self.writer.published();
+        Token::new(shown.front.again().named::<J>(), shown.changes.len())
     }
 }
 
@@ -130,14 +141,14 @@ fn publish<J: Naming, R: Wait>(
     writer: CopyWriter<J>,
     rt: &R,
 ) -> (CopyWriter<J>, Result<(), AllocError>)
-    requires { IsChain J.base (offered_state writer.desk.shown.value (drop writer.behind writer.log.items)) }
+    requires { IsChain J.base J.history (offered_version writer.desk.shown.value (drop writer.behind writer.log.items)) }
     ensures shown { OnOk result.1
-        (state_of result.0.desk.shown.value ≡ offered_state writer.desk.shown.value (drop writer.behind writer.log.items)) }
+        (result.0.desk.shown.value ≡ offered_version writer.desk.shown.value (drop writer.behind writer.log.items)) }
     ensures nothing_pending { OnOk result.1 (drop result.0.behind result.0.log.items ≡ []) }
     ensures err { OnErr result.1 ((result.0.desk.shown.value ≡ writer.desk.shown.value)
         × (drop result.0.behind result.0.log.items ≡ drop writer.behind writer.log.items)) }
-    ensures seen { view writer.desk.place ≡ changes_of writer.desk.shown.value →
-        view result.0.desk.place ≡ changes_of result.0.desk.shown.value }
+    ensures seen { view writer.desk.place ≡ writer.desk.shown.value.changes →
+        view result.0.desk.place ≡ result.0.desk.shown.value.changes }
 {
     writer.publish_as::<Seeing<J>, R>(rt)
 }

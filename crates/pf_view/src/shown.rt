@@ -4,29 +4,52 @@ ghost use Rattle.pf_view.specs.Sharing.{edits_of};
 
 use left_right::Absorb;
 use pf_core::{Change, Durable};
+use pf_past::Trace;
 use std::alloc::AllocError;
+use std::marker::Model;
 use std::sync::Arc;
 
-/// Changes, in order, and what is kept after them.
+/// Changes, in order, what is kept after them, and the front of a history that they are. Contracts see it as a `Version`.
 #[derive(Drop)]
 pub struct Shown {
     pub changes: Vec<Arc<Change>>,
     pub durable: Arc<Durable>,
+    pub front: Trace,
 }
 
-/// Changes behind those that a copy has, and what is kept after all.
+impl Model for Shown {
+    ghost use Rattle.std.specs.Arc.{arc_value};
+    ghost use Rattle.pf_view.specs.{Sharing.edits_of, Copies.{Version, version}};
+
+    ghost Value = { Version };
+
+    ghost view = { λ s. version (edits_of s.changes.items) (arc_value s.durable) s.front };
+}
+
+/// Changes behind those that a copy has, what is kept after all, and the front of a history that all of them are. Contracts see it as a
+/// `Version`, which has its own changes alone.
 #[derive(Drop)]
 pub struct Operation {
     pub changes: Vec<Arc<Change>>,
     pub after: Arc<Durable>,
+    pub front: Trace,
+}
+
+impl Model for Operation {
+    ghost use Rattle.std.specs.Arc.{arc_value};
+    ghost use Rattle.pf_view.specs.{Sharing.edits_of, Copies.{Version, version}};
+
+    ghost Value = { Version };
+
+    ghost view = { λ o. version (edits_of o.changes.items) (arc_value o.after) o.front };
 }
 
 impl Absorb<Operation> for Shown {
-    ghost use Rattle.pf_view.specs.Copies.{state_of, with_operation};
+    ghost use Rattle.pf_view.specs.Copies.{with_operation};
 
-    type State = ([Change; 0], Durable);
+    type State = Shown;
 
-    ghost state = { state_of };
+    ghost state = { λ s. s };
 
     ghost applied = { with_operation };
 
@@ -34,6 +57,7 @@ impl Absorb<Operation> for Shown {
         let after = Arc::try_clone(&operation.after)?;
         push_shared(&mut self.changes, operation.changes.as_slice())?;
         self.durable = after;
+        self.front = operation.front.again();
         Ok(())
     }
 }

@@ -1,39 +1,69 @@
 //! What a shower gives for a seer to learn.
-ghost use Rattle.std.specs.Prelude.{◌≡◌};
+ghost use Rattle.std.specs.Prelude.{◌≡◌, ◌≤◌, length};
+ghost use mathlib.Core.List.{IsPrefix};
+ghost use Rattle.pf_past.specs.Pasts.{all_acked};
 
-use crate::law::Naming;
-use std::marker::{Model, PhantomData};
+use pf_past::{Front, Naming};
+use std::marker::Model;
 
-/// How many changes were shown when it was made. Contracts see it as their number.
+/// A front of the history, each change of it acknowledged: all that was shown when it was made. Contracts see it as its changes.
 #[derive(Drop)]
 pub struct Token<J: Naming> {
+    front: Front<J>,
     count: usize,
-    of: PhantomData<J>,
 }
 
 impl<J: Naming> Model for Token<J> {
-    ghost use Rattle.std.specs.Prelude.{ℕ};
+    ghost use Rattle.std.specs.Prelude.{◌≡◌, List, length};
+    ghost use Rattle.pf_core.specs.Durable.Edits.{Edit};
+    ghost use Rattle.pf_past.specs.Pasts.{all_acked};
 
-    ghost Value = { ℕ };
+    ghost Value = { List Edit };
 
-    ghost view = { λ t. t.count };
+    ghost view = { λ t. t.front.front };
+
+    ghost invariant = { λ t. (t.count ≡ length t.front.front) × (t.front ≡ all_acked t.front.front) };
 }
 
 impl<J: Naming> Token<J> {
-    // A token of so many changes.
-    pub(crate) fn new(count: usize) -> Token<J>
-        ensures { result ≡ count }
+    // A token of this front, which has so many changes.
+    pub(crate) fn new(front: Front<J>, count: usize) -> Token<J>
+        requires count { count ≡ length front.front }
+        requires acked { front ≡ all_acked front.front }
+        ensures { result ≡ front.front }
+    {
+        Token { front, count }
+    }
+
+    // The same once more.
+    pub(crate) fn again(&self) -> Token<J>
+        ensures { result ≡ self.now }
     {
         Token {
-            count,
-            of: PhantomData,
+            front: self.front.again(),
+            count: self.count,
         }
     }
 
-    /// How many changes it stands for.
+    // It begins a front with no fewer changes.
+    pub(crate) fn begins(&self, front: &Front<J>)
+        requires { length self.now ≤ length front.now.front }
+        ensures { IsPrefix self.now front.now.front }
+    {
+        self.front.begins(front);
+    }
+
+    /// How many changes it has.
     pub fn count(&self) -> usize
-        ensures { result ≡ self.now }
+        ensures { result ≡ length self.now }
     {
         self.count
+    }
+
+    /// The front that it is.
+    pub fn front(&self) -> Front<J>
+        ensures { result ≡ all_acked self.now }
+    {
+        self.front.again()
     }
 }

@@ -7,11 +7,23 @@ ghost use Rattle.pf_core.specs.{Calls.call, Pages.{IsAt, Leads}, Worlds.{Held, c
 ghost use Rattle.pf_book.specs.{Books.{HoldsLeft, StaysOpenable, StaysUnlessKept, page, log_in}, Receipts.{token_of, Confirms, EndsIn, Follows, IsGiven, ShownFits}};
 
 use crate::book::Book;
-use crate::history::Chapter;
+use crate::chapter::Chapter;
 use crate::receipt::Receipt;
 use pf_core::{Change, Command, Reply};
 use pf_disk::Disk;
+use pf_past::Front;
+use pf_view::{Seer, Shower, Token};
 use std::sync::{Arc, Wait};
+
+// After `Applied` a token of what is shown.
+fn token_after<J: Chapter, R: Wait + Drop>(reply: &Reply, shower: &Shower<J, R>) -> Option<Token<J>>
+    ensures { result ≡ token_of reply.now shower.now.shown }
+{
+    match reply {
+        Reply::Applied { .. } => Some(shower.token()),
+        Reply::Answer(_) | Reply::Stored { .. } | Reply::Refused(_) => None,
+    }
+}
 
 impl<D: Disk + Drop, J: Chapter, R: Wait + Drop> Book<D, J, R> {
     /// One call, with a receipt whose front is the whole history, behind a caller that may hand in a receipt.
@@ -28,7 +40,7 @@ impl<D: Disk + Drop, J: Chapter, R: Wait + Drop> Book<D, J, R> {
         ensures front { result.1.front ≡ log_in (page self.new) }
         ensures acked { result.1.acked ≡ length (flat self.new.acked) }
         ensures given { IsGiven result.0 result.1.change (page self.old) (page self.new) }
-        ensures token { result.1.token ≡ token_of result.0 }
+        ensures token { result.1.token ≡ token_of result.0 (log_in (page self.new)) }
         ensures stays { StaysUnlessKept result.0 self.old self.new }
         ensures follows { Follows (option_copied last.entry) (log_in (page self.old)) (length (flat self.old.acked)) }
         ensures base { self.new.base ≡ self.old.base }
@@ -58,21 +70,17 @@ impl<D: Disk + Drop, J: Chapter, R: Wait + Drop> Book<D, J, R> {
     fn receipt(&self, reply: &Reply, change: Option<Arc<Change>>) -> Receipt<J>
         requires last { ForSome (option_map arc_value change) (λ e. EndsIn (log_in (page self.now)) e
             × (length (log_in (page self.now)) ≤ length (flat self.now.acked))) }
-        requires shown { ShownFits reply.now self.now.shown }
+        requires shown { ShownFits reply.now self.now.shown (length (log_in (page self.now))) }
         ensures front { result.front ≡ log_in (page self.now) }
         ensures acked { result.acked ≡ length (flat self.now.acked) }
         ensures change { result.change ≡ option_map arc_value change }
-        ensures token { result.token ≡ token_of reply.now }
+        ensures token { result.token ≡ token_of reply.now (log_in (page self.now)) }
     {
-        let token = match reply {
-            Reply::Applied { .. } => Some(self.shower.token()),
-            Reply::Answer(_) | Reply::Stored { .. } | Reply::Refused(_) => None,
-        };
         Receipt {
             front: self.tip.front(),
             seq: self.log.len(),
             change,
-            token,
+            token: token_after(reply, &self.shower),
         }
     }
 
@@ -87,5 +95,27 @@ impl<D: Disk + Drop, J: Chapter, R: Wait + Drop> Book<D, J, R> {
     {
         self.begins_with(receipt);
         receipt.seq <= self.log.len()
+    }
+
+    /// The history begins with all that a seer of this opening saw and with all that it learnt, and all of this is acknowledged. So it is for
+    /// each seer at any time, while the Book lay under its lock and afterwards: this is known of their types, and nothing is compared. Own.
+    pub fn covers(&mut self, seer: &Seer<J>)
+        ensures seen { IsPrefix seer.now.seen (log_in (page self.old)) }
+        ensures learnt { IsPrefix seer.now.learnt (log_in (page self.old)) }
+        ensures seen_acked { length seer.now.seen ≤ length (flat self.old.acked) }
+        ensures learnt_acked { length seer.now.learnt ≤ length (flat self.old.acked) }
+        ensures same { self.new ≡ self.old }
+    {
+        self.contains(&seer.seen());
+        self.contains(&seer.learnt());
+    }
+
+    // It begins with each front of its history, of which no more was acknowledged.
+    fn contains(&mut self, front: &Front<J>)
+        ensures begins { IsPrefix front.now.front (log_in (page self.old)) }
+        ensures acked { front.now.acked ≤ length (flat self.old.acked) }
+        ensures same { self.new ≡ self.old }
+    {
+        self.tip.contains(front);
     }
 }

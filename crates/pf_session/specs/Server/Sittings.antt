@@ -1,12 +1,12 @@
 -- A session over a Book that others use too: which lines come to which calls, and what they are told. Own.
-use Rattle.std.specs.Prelude.{◌≡◌, ℕ, ◌+◌, ◌≤◌, List, [], ◌∷◌, ◌++◌, codes, length, max, min, Option, Some, None, Result, ◌⊎◌}
+use Rattle.std.specs.{Prelude.{◌≡◌, ℕ, ◌+◌, List, [], ◌∷◌, ◌++◌, codes, min, Option, Some, None, Result, ◌⊎◌}, Option.ForSome}
 use mathlib.Core.List.{IsPrefix}
 use Rattle.pf_rule.specs.Packets.{PlainPacket}
 use Rattle.pf_core.specs.declared.{command.Command.Command, command.Command.TheVariants.Ask, command.Question.TheVariants.Judge, reply.Answer.TheVariants.Judged, reply.Reply.Reply, reply.Reply.TheVariants.Answer}
 use Rattle.pf_core.specs.{Durable.Edits.{Kept, after, verdict}, Worlds.Setting}
 use Rattle.pf_view.specs.Known.{Known, SeesTooFew}
 use Rattle.pf_line.specs.Reply.Replies.{reply_text}
-use Rattle.pf_book.specs.Receipts.{Slip, IsAnswered}
+use Rattle.pf_book.specs.Receipts.{Slip, IsAnswered, learns_from}
 use Rattle.pf_session.specs.declared.line_engine.fault.EngineFault.{EngineFault}
 use Rattle.pf_session.specs.{LineEngine.Sessions.IsSession, Server.Chains.Chain, Telling.IsToldBy}
 
@@ -28,27 +28,22 @@ next_line n = min (n + 1) 4294967295
 abbrev pub at_next_line : Sitting → Sitting
 at_next_line s = record s { line = next_line s.line }
 
--- what a seer knows that has learnt of so many changes, if it was told of any
-abbrev pub learns : Option ℕ → Known → Known
-learns None known = known
-learns (Some n) known = record known { told = max known.told n }
-
 -- ---- calls
 
 -- what is told where no published copy could judge a packet
 abbrev pub gone_text : List ℕ
 gone_text = codes "err gone" ++ 10 ∷ []
 
--- The packet was judged by a published copy that this seer saw and that has all it learnt of; or no copy could.
+-- The packet was judged by a published copy that this seer saw, whose changes begin with all that it learnt; or no copy could.
 abbrev pub IsVerdict : Kept → PlainPacket → Known → Known → List ℕ → Type 0
 IsVerdict base packet old new text =
-    ((old.told ≤ length new.seen) × (text ≡ reply_text (Answer (Judged (verdict (after base new.seen) packet)))))
+    (IsPrefix old.learnt new.seen × (text ≡ reply_text (Answer (Judged (verdict (after base new.seen) packet)))))
     ⊎ (SeesTooFew old new × (text ≡ gone_text))
 
 -- A seer judged the packet, and learnt nothing by it.
 pub record HasJudged (base : Kept) (packet : PlainPacket) (old new : Known) (text : List ℕ) : Type 0 where
   pub sees : IsPrefix old.seen new.seen
-  pub told : new.told ≡ old.told
+  pub learnt : new.learnt ≡ old.learnt
   pub verdict : IsVerdict base packet old new text
 
 -- The session's seer judged the packet, without the Book.
@@ -57,13 +52,15 @@ pub record IsJudged (base : Kept) (packet : PlainPacket) (old new : Sitting) (te
   pub same : new ≡ record old { seer = new.seer }
 
 -- The Book ran the command, with the receipt of the session's last call handed in. The session keeps the receipt that it got, and its seer
--- learns of the token in it, if there is one.
+-- learns the token in it, if there is one: what it learnt then begins with the token, and with all that it had learnt.
 pub record IsRun (base : Kept) (setting : Setting) (c : Command) (old new : Sitting) (text : List ℕ) : Type 0 where
   pub reply : Reply
   pub slip : Slip
   pub answered : IsAnswered base setting c reply slip old.last
   pub told : text ≡ reply_text reply
-  pub kept : new ≡ record old { last = Some slip; seer = learns slip.token old.seer }
+  pub kept : new ≡ record old { last = Some slip; seer = learns_from slip.token old.seer }
+  pub learnt : ForSome slip.token (λ token. IsPrefix token new.seer.learnt)
+  pub still : IsPrefix old.seer.learnt new.seer.learnt
 
 -- the packet of which it is asked what happens to it
 abbrev pub packet_in : Command → Option PlainPacket

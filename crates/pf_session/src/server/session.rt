@@ -9,7 +9,7 @@ use crate::line_engine::{self, AnswerLine, EngineFault};
 use crate::server::gate::Gate;
 use crate::telling::refuse;
 use pf_addr::write_text;
-use pf_book::{Chapter, Disk, Gone, Receipt, Seer, Shared};
+use pf_book::{Chapter, Disk, Gone, Receipt, Seer, Shared, learn_from};
 use pf_core::{Command, Question, Reply};
 use pf_line::{may_judge, parse_judge, parse_line, write_judged, write_reply};
 use pf_rule::Packet;
@@ -62,9 +62,7 @@ impl<'a, W: Wait, D: Disk + Drop, J: Chapter, H: Wait + Drop, G: Gate> Session<'
         ensures run { IsRun J.base J.setting command (sitting self.old) (sitting self.new) (reply_text result) }
     {
         let (reply, receipt) = self.shared.run(self.rt, command, self.last.as_ref());
-        if let Some(token) = receipt.token() {
-            self.seer.learn(token);
-        }
+        learn_from(self.seer, &receipt);
         *self.last = Some(receipt);
         reply
     }
@@ -168,8 +166,8 @@ fn attend<W: Wait, D: Disk + Drop, J: Chapter, H: Wait + Drop, G: Gate, R: Read,
 ///
 /// Before each line it passes the gate, with the number of the session and that of the line. A `judge` is answered by the session's seer,
 /// with no lock; where no published copy could judge, the reply is `err gone`. Every other command goes through `Shared::run` with the
-/// receipt of the session's last call, so that it is answered by no less than that was. The seer learns of each change that this session
-/// was told is applied, before its reply is written.
+/// receipt of the session's last call, so that it is answered by no less than that was. The seer learns each change that this session
+/// was told is applied, with all before it, before its reply is written.
 ///
 /// It waits for the reader, the writer, the gate and the Book's lock, and holds that lock within `Shared::run` alone. Faults as
 /// [`serve_alone`](crate::serve_alone)'s; what was learnt stays learnt.

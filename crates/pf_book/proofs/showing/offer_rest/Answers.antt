@@ -1,6 +1,7 @@
 use Rattle.std.proofs.Common.{◌≡◌, ◌-◌, ◌++◌, map, take, ap, sym, ◌∙◌, arith}
 use Rattle.std.specs.Arc.{arc_value}
 use Rattle.pf_core.specs.Durable.Edits.{after}
+use Rattle.pf_past.specs.Pasts.{all_acked}
 use Rattle.pf_book.proofs.Parts.{seam}
 use Rattle.pf_book.proofs.showing.offer_rest.Goals as goal
 
@@ -17,3 +18,10 @@ returns-in-Ok-offer-clause-offered g c =
     let whole = seam arc_value a.log.now a.offered a.acked (a.acked - a.offered) (omega (arith, c.requires.within.0)) in
     let all : a.shower.now.offered ++ map arc_value c.in-Ok.changes.items ≡ take a.acked (map arc_value a.log.now) = rw (c.requires.offered, c.in-Ok.ensures) whole in
     c.in-Ok-offer.ensures.ok ∙ all
+
+pub offer-requires-clause-front : goal.offer-requires-clause-front
+offer-requires-clause-front g c =
+    let a = c.args in
+    let whole = seam arc_value a.log.now a.offered a.acked (a.acked - a.offered) (omega (arith, c.requires.within.0)) in
+    let all : a.shower.now.offered ++ map arc_value c.in-Ok.changes.items ≡ take a.acked (map arc_value a.log.now) = rw (c.requires.offered, c.in-Ok.ensures) whole in
+    c.requires.front ∙ ap all_acked (sym all)

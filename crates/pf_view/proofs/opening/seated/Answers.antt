@@ -2,4 +2,4 @@ use Rattle.pf_view.proofs.Steps.{admits}
 use Rattle.pf_view.proofs.opening.seated.Goals as goal
 
 pub reader-requires : goal.reader-requires
-reader-requires g c = admits g.J.Naming.base
+reader-requires g c = admits g.J.Naming.base g.J.Naming.history

@@ -3,7 +3,7 @@ use Rattle.pfd.proofs.program.run_on.Given as goal
 
 -- the opening is named by what it gave, its history, and what it keeps within
 abbrev pub ghosts-serve_opening-J-Naming : goal.ghosts-serve_opening-J-Naming
-ghosts-serve_opening-J-Naming g a = record { base = a.opening.given }
+ghosts-serve_opening-J-Naming g a = record { base = a.opening.given; history = a.opening.history }
 
 abbrev pub ghosts-serve_opening-J-Chapter : goal.ghosts-serve_opening-J-Chapter
-ghosts-serve_opening-J-Chapter g a = record { history = a.opening.history; setting = setting_of a.opening a.history }
+ghosts-serve_opening-J-Chapter g a = record { setting = setting_of a.opening a.history }

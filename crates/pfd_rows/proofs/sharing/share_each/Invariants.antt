@@ -3,7 +3,7 @@ use Rattle.pfd_rows.proofs.sharing.share_each.Given as goal
 
 -- the opening is named by what it gave, its history, and what it keeps within
 abbrev pub ghosts-share-J-Naming : goal.ghosts-share-J-Naming
-ghosts-share-J-Naming g a = record { base = a.opening.given }
+ghosts-share-J-Naming g a = record { base = a.opening.given; history = a.opening.history }
 
 abbrev pub ghosts-share-J-Chapter : goal.ghosts-share-J-Chapter
-ghosts-share-J-Chapter g a = record { history = a.opening.history; setting = setting_of a.opening a.history }
+ghosts-share-J-Chapter g a = record { setting = setting_of a.opening a.history }

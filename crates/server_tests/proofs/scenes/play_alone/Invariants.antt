@@ -4,7 +4,7 @@ use Rattle.server_tests.proofs.scenes.play_alone.Given as goal
 
 -- the opening is named by what it gave, its history, and what it keeps within
 abbrev pub ghosts-play-J-Naming : goal.ghosts-play-J-Naming
-ghosts-play-J-Naming g a = record { base = a.opening.given }
+ghosts-play-J-Naming g a = record { base = a.opening.given; history = a.opening.history }
 
 abbrev pub ghosts-play-J-Chapter : goal.ghosts-play-J-Chapter
-ghosts-play-J-Chapter g a = record { history = a.opening.history; setting = setting_of a.opening HISTORY_LIMIT }
+ghosts-play-J-Chapter g a = record { setting = setting_of a.opening HISTORY_LIMIT }

@@ -14,7 +14,8 @@ receipt-receipt-requires-clause-last g c = given-last c.call-reply.result.0 (opt
 pub receipt-receipt-requires-clause-shown : goal.receipt-receipt-requires-clause-shown
 receipt-receipt-requires-clause-shown g c =
     let before = page c.match-last.self in
-    shown-fits c.call-reply.result.0 before.shown c.call-reply.new.self.shown (c.call-reply.ensures.leads (own before) (own-at before)).legal.shown
+    let e = c.call-reply.ensures in
+    shown-fits c.call-reply.result.0 (option_map arc_value c.call-reply.result.1) before.shown before (page c.call-reply.new.self) (e.leads (own before) (own-at before)).legal.shown e.numbered e.given
 
 -- a receipt that is handed in changes nothing
 pub returns-clause-any_moment : goal.returns-clause-any_moment

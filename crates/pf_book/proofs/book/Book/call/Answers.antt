@@ -3,8 +3,7 @@ use Rattle.std.specs.{Arc.arc_value, Option.option_map, Prelude.nat_lt}
 use Rattle.pf_disk.specs.Disk.{EachMoment}
 use Rattle.pf_core.specs.declared.reply.{Reply.TheVariants.{Answer}}
 use Rattle.pf_core.specs.{Calls.call, Durable.Edits.{Edit, fits}, Laws.Wanted.wants_what_fits, Pages.{Page, IsAt, Leads}, Wholes.Whole, Worlds.{Held, calling, upshot}}
-use Rattle.pf_store.specs.Rooms.{on_device}
-use Rattle.pf_book.specs.{Books.{Ledger, ledger, page, page_of, HoldsLeft, IsMade, IsTold, is_fault_reply}, Receipts.IsGiven}
+use Rattle.pf_book.specs.{Books.{Ledger, ledger, page, page_of, HoldsLeft, IsMade, IsTold, is_fault_reply, setting_in}, Receipts.IsGiven}
 use Rattle.pf_book.proofs.Answering.{told-given}
 use Rattle.pf_book.proofs.Calling.{with_core, IsFree, unchanging, none-behind, no-fault, not-more, fault-flag, answer-leads, history-leads, made-leads, made-stays, made-moment, still-left, err-not-fault}
 use Rattle.pf_book.proofs.Openable.{same-openable, saved-openable, still-openable}
@@ -29,11 +28,11 @@ returns-in-Ok-Done-clause-leads g c =
     let k = c.args.command.now in
     let disk = s.store.disk in
     let log : List Edit = map arc_value s.log.items in
-    let b : Page = page_of g.J.Naming.base s.core log s.acked (on_device s.limit s.store.size) s.shower.shown in
+    let b : Page = page_of g.J.Naming.base s.core log s.acked (setting_in s.store s.limit) s.shower.shown in
     let counted : c.len.result ≡ length log = grind (arith, common_steps, c.len.ensures) in
     let free : IsFree b k = elim c.else-self-len.branch [
       | else-self-len-via-then-self-len+else-may_change w ↦ unchanging b k (sym w.may_change.ensures ∙ w.if-may_change.false)
-      | else-self-len-via-else-self-len w ↦ none-behind g.J.Naming.base s.core log s.acked (on_device s.limit s.store.size) s.shower.shown k c.self.invariant.low (omega (arith, counted, w.if-self-len.false))
+      | else-self-len-via-else-self-len w ↦ none-behind g.J.Naming.base s.core log s.acked (setting_in s.store s.limit) s.shower.shown k c.self.invariant.low (omega (arith, counted, w.if-self-len.false))
     ] in
     let e = rw c.in-Ok-Done.field-0-is at c.in-Ok-Done.ensures in
     let f : ℕ = g.D.Disk.fault_count disk in
@@ -54,11 +53,11 @@ returns-in-Ok-Wants-clause-leads g c =
     let k = c.args.command.now in
     let disk = s.store.disk in
     let log : List Edit = map arc_value s.log.items in
-    let b : Page = page_of g.J.Naming.base s.core log s.acked (on_device s.limit s.store.size) s.shower.shown in
+    let b : Page = page_of g.J.Naming.base s.core log s.acked (setting_in s.store s.limit) s.shower.shown in
     let counted : c.len.result ≡ length log = grind (arith, common_steps, c.len.ensures) in
     let free : IsFree b k = elim c.else-self-len.branch [
       | else-self-len-via-then-self-len+else-may_change w ↦ unchanging b k (sym w.may_change.ensures ∙ w.if-may_change.false)
-      | else-self-len-via-else-self-len w ↦ none-behind g.J.Naming.base s.core log s.acked (on_device s.limit s.store.size) s.shower.shown k c.self.invariant.low (omega (arith, counted, w.if-self-len.false))
+      | else-self-len-via-else-self-len w ↦ none-behind g.J.Naming.base s.core log s.acked (setting_in s.store s.limit) s.shower.shown k c.self.invariant.low (omega (arith, counted, w.if-self-len.false))
     ] in
     let e = rw c.in-Ok-Wants.field-0-is at c.in-Ok-Wants.ensures in
     let change = c.in-Ok-Wants.change in
@@ -75,11 +74,11 @@ returns-in-Ok-Wants-clause-any_moment g c =
     let k = c.args.command.now in
     let disk = s.store.disk in
     let log : List Edit = map arc_value s.log.items in
-    let b : Page = page_of g.J.Naming.base s.core log s.acked (on_device s.limit s.store.size) s.shower.shown in
+    let b : Page = page_of g.J.Naming.base s.core log s.acked (setting_in s.store s.limit) s.shower.shown in
     let counted : c.len.result ≡ length log = grind (arith, common_steps, c.len.ensures) in
     let free : IsFree b k = elim c.else-self-len.branch [
       | else-self-len-via-then-self-len+else-may_change w ↦ unchanging b k (sym w.may_change.ensures ∙ w.if-may_change.false)
-      | else-self-len-via-else-self-len w ↦ none-behind g.J.Naming.base s.core log s.acked (on_device s.limit s.store.size) s.shower.shown k c.self.invariant.low (omega (arith, counted, w.if-self-len.false))
+      | else-self-len-via-else-self-len w ↦ none-behind g.J.Naming.base s.core log s.acked (setting_in s.store s.limit) s.shower.shown k c.self.invariant.low (omega (arith, counted, w.if-self-len.false))
     ] in
     let e = rw c.in-Ok-Wants.field-0-is at c.in-Ok-Wants.ensures in
     let change = c.in-Ok-Wants.change in
@@ -94,7 +93,7 @@ pub returns-in-Ok-Wants-clause-stays : goal.returns-in-Ok-Wants-clause-stays
 returns-in-Ok-Wants-clause-stays g c =
     let s = c.self.inside in
     let log : List Edit = map arc_value s.log.items in
-    let b : Page = page_of g.J.Naming.base s.core log s.acked (on_device s.limit s.store.size) s.shower.shown in
+    let b : Page = page_of g.J.Naming.base s.core log s.acked (setting_in s.store s.limit) s.shower.shown in
     let e = rw c.in-Ok-Wants.field-0-is at c.in-Ok-Wants.ensures in
     let change = c.in-Ok-Wants.change in
     let outcome = c.in-Ok-Wants.outcome in
@@ -109,7 +108,7 @@ returns-in-Ok-OfHistory-clause-leads g c =
     let k = c.args.command.now in
     let disk = s.store.disk in
     let log : List Edit = map arc_value s.log.items in
-    let b : Page = page_of g.J.Naming.base s.core log s.acked (on_device s.limit s.store.size) s.shower.shown in
+    let b : Page = page_of g.J.Naming.base s.core log s.acked (setting_in s.store s.limit) s.shower.shown in
     let e = rw c.in-Ok-OfHistory.field-0-is at c.in-Ok-OfHistory.ensures in
     let x = c.in-Ok-OfHistory.command in
     let new = c.tell.new.self in
@@ -137,7 +136,7 @@ returns-in-Err-clause-any_moment g c =
 pub returns-in-Err-clause-faults : goal.returns-in-Err-clause-faults
 returns-in-Err-clause-faults g c =
     let s = c.self.inside in
-    let b : Page = page_of g.J.Naming.base s.core (map arc_value s.log.items) s.acked (on_device s.limit s.store.size) s.shower.shown in
+    let b : Page = page_of g.J.Naming.base s.core (map arc_value s.log.items) s.acked (setting_in s.store s.limit) s.shower.shown in
     let quiet = err-not-fault b c.args.command.now c.in-Err.refusal c.in-Err.ensures.reply in
     let same : g.D.Disk.fault_count s.store.disk ≡ g.D.Disk.fault_count c.args.self.now.disk = ap (λ (l : Ledger g.row.D.Denot). g.D.Disk.fault_count l.disk) c.self.view_is in
     rw quiet (omega (arith, same))
@@ -145,7 +144,7 @@ returns-in-Err-clause-faults g c =
 pub returns-in-Err-clause-stays : goal.returns-in-Err-clause-stays
 returns-in-Err-clause-stays g c =
     let s = c.self.inside in
-    let b : Page = page_of g.J.Naming.base s.core (map arc_value s.log.items) s.acked (on_device s.limit s.store.size) s.shower.shown in
+    let b : Page = page_of g.J.Naming.base s.core (map arc_value s.log.items) s.acked (setting_in s.store s.limit) s.shower.shown in
     let quiet = err-not-fault b c.args.command.now c.in-Err.refusal c.in-Err.ensures.reply in
     record {
       same = λ is. (ap (with_core b) c.in-Err.ensures.left ∙ ap page c.self.view_is, ap (λ (l : Ledger g.row.D.Denot). l.disk) c.self.view_is);
@@ -156,7 +155,7 @@ pub returns-in-Ok-Wants-clause-given : goal.returns-in-Ok-Wants-clause-given
 returns-in-Ok-Wants-clause-given g c =
     let s = c.self.inside in
     let log : List Edit = map arc_value s.log.items in
-    let b : Page = page_of g.J.Naming.base s.core log s.acked (on_device s.limit s.store.size) s.shower.shown in
+    let b : Page = page_of g.J.Naming.base s.core log s.acked (setting_in s.store s.limit) s.shower.shown in
     let e = rw c.in-Ok-Wants.field-0-is at c.in-Ok-Wants.ensures in
     let new = c.make.new.self in
     subst (λ (l : Ledger g.row.D.Denot). IsGiven c.make.result.0 (option_map arc_value c.make.result.1) (page l) (page new)) c.self.view_is

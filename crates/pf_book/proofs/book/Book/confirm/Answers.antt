@@ -2,7 +2,8 @@ use Rattle.std.proofs.{Common.{◌≡◌, ◌≤◌, List, length, map, sym, ap,
 use Rattle.std.specs.{Arc.arc_value, Option.ForSome}
 use Rattle.pf_core.specs.Durable.Edits.{Edit}
 use Rattle.pf_book.specs.{Books.{Ledger, page, log_in}, Receipts.{Slip, EndsIn}}
-use Rattle.pf_book.proofs.{Confirming.confirmed, Fronts.prefix_length, Parts.whole-log}
+use Rattle.pf_past.proofs.Fronts.{prefix_length}
+use Rattle.pf_book.proofs.{Confirming.confirmed, Parts.whole-log}
 use Rattle.pf_book.proofs.book.Book.confirm.Goals as goal
 
 pub returns-clause-yes : goal.returns-clause-yes

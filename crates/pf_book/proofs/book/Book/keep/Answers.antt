@@ -2,8 +2,8 @@ use Rattle.std.proofs.{Common.{◌≡◌, ◌≤◌, ◌<◌, ℕ, List, [], len
 use Rattle.std.specs.{Arc.arc_value, Prelude.not}
 use Rattle.pf_disk.specs.Disk.{EachMoment}
 use Rattle.pf_core.specs.{Durable.Edits.{Edit, after, applied}, Nexts.Ready, Pages.Page, Worlds.{Setting, flat}}
-use Rattle.pf_store.specs.{Rooms.{group_fits, on_device}, Stores.{FindsRoom, HoldsEither}}
-use Rattle.pf_book.specs.{Books.{HasRoom, Ledger, page, page_of, singles}}
+use Rattle.pf_store.specs.{Rooms.group_fits, Stores.{FindsRoom, HoldsEither}}
+use Rattle.pf_book.specs.{Books.{HasRoom, Ledger, page, page_of, singles, setting_in}}
 use Rattle.pf_book.proofs.{Calling.still-either, Finding.{device-fits, device-full, room-of}, Keeping.{acked-is, goes-on}, Openable.same-openable, Parts.{all-acked}}
 use Rattle.pf_book.proofs.book.Book.keep.Goals as goal
 
@@ -15,7 +15,7 @@ returns-then-len-self-clause-err g c =
     let log : List Edit = map arc_value s.log.items in
     let none : singles (drop s.acked log) ≡ [] = ap (λ (l : Ledger g.row.D.Denot). l.pending) c.self.view_is ∙ c.requires.free in
     let all : s.acked ≡ length log = all-acked log s.acked i.low none in
-    let setting : Setting = on_device s.limit s.store.size in
+    let setting : Setting = setting_in s.store s.limit in
     let b : Page = page_of g.J.Naming.base s.core log s.acked setting s.shower.shown in
     let disk = s.store.disk in
     let counted : c.len.result ≡ length log = grind (arith, common_steps, c.len.ensures) in
@@ -30,7 +30,7 @@ returns-then-len-self-clause-any_moment g c =
     let log : List Edit = map arc_value s.log.items in
     let none : singles (drop s.acked log) ≡ [] = ap (λ (l : Ledger g.row.D.Denot). l.pending) c.self.view_is ∙ c.requires.free in
     let all : s.acked ≡ length log = all-acked log s.acked i.low none in
-    let setting : Setting = on_device s.limit s.store.size in
+    let setting : Setting = setting_in s.store s.limit in
     let b : Page = page_of g.J.Naming.base s.core log s.acked setting s.shower.shown in
     let disk = s.store.disk in
     subst (λ (l : Ledger g.row.D.Denot). EachMoment g.D.Disk.moment g.D.Disk.left_since l.disk l.disk (HoldsEither l.whole.durable (applied l.whole.durable e))) c.self.view_is
@@ -44,7 +44,7 @@ returns-in_err-after-clause-any_moment g c =
     let log : List Edit = map arc_value s.log.items in
     let none : singles (drop s.acked log) ≡ [] = ap (λ (l : Ledger g.row.D.Denot). l.pending) c.self.view_is ∙ c.requires.free in
     let all : s.acked ≡ length log = all-acked log s.acked i.low none in
-    let setting : Setting = on_device s.limit s.store.size in
+    let setting : Setting = setting_in s.store s.limit in
     let b : Page = page_of g.J.Naming.base s.core log s.acked setting s.shower.shown in
     let disk = s.store.disk in
     subst (λ (l : Ledger g.row.D.Denot). EachMoment g.D.Disk.moment g.D.Disk.left_since l.disk l.disk (HoldsEither l.whole.durable (applied l.whole.durable e))) c.self.view_is
@@ -58,7 +58,7 @@ returns-in_default-clause-any_moment g c =
     let log : List Edit = map arc_value s.log.items in
     let none : singles (drop s.acked log) ≡ [] = ap (λ (l : Ledger g.row.D.Denot). l.pending) c.self.view_is ∙ c.requires.free in
     let all : s.acked ≡ length log = all-acked log s.acked i.low none in
-    let setting : Setting = on_device s.limit s.store.size in
+    let setting : Setting = setting_in s.store s.limit in
     let b : Page = page_of g.J.Naming.base s.core log s.acked setting s.shower.shown in
     let disk = s.store.disk in
     subst (λ (l : Ledger g.row.D.Denot). EachMoment g.D.Disk.moment g.D.Disk.left_since l.disk l.disk (HoldsEither l.whole.durable (applied l.whole.durable e))) c.self.view_is
@@ -101,7 +101,7 @@ returns-then-not-has_room-clause-any_moment g c =
     let log : List Edit = map arc_value s.log.items in
     let none : singles (drop s.acked log) ≡ [] = ap (λ (l : Ledger g.row.D.Denot). l.pending) c.self.view_is ∙ c.requires.free in
     let all : s.acked ≡ length log = all-acked log s.acked i.low none in
-    let setting : Setting = on_device s.limit s.store.size in
+    let setting : Setting = setting_in s.store s.limit in
     let b : Page = page_of g.J.Naming.base s.core log s.acked setting s.shower.shown in
     let disk = s.store.disk in
     subst (λ (l : Ledger g.row.D.Denot). EachMoment g.D.Disk.moment g.D.Disk.left_since l.disk l.disk (HoldsEither l.whole.durable (applied l.whole.durable e))) c.self.view_is
@@ -147,7 +147,7 @@ returns-in_err-after-clause-err g c =
     let left : c.args.next.durable ≡ applied s.core.durable e = ap (λ (r : Ready). r.durable) c.requires.made ∙ ap (λ (l : Ledger g.row.D.Denot). applied l.whole.durable e) (sym c.self.view_is) in
     let there : FindsRoom s.store.size s.core.durable (applied s.core.durable e) e =
     room-of s.store.size c.durable.result.now s.core.durable c.after.result.now (applied s.core.durable e) e e c.durable.ensures (c.after.ensures ∙ left) refl (c.has_room.ensures.0 c.if-not-has_room.false).1 in
-    let room : HasRoom (page_of g.J.Naming.base s.core log s.acked (on_device s.limit s.store.size) s.shower.shown) e =
+    let room : HasRoom (page_of g.J.Naming.base s.core log s.acked (setting_in s.store s.limit) s.shower.shown) e =
     record { few = few; device = device-fits s.store.size g.J.Naming.base s.core.durable (applied s.core.durable e) (singles (take s.acked log)) e i.folded.durable refl there } in
     let p = err_from_is_err_and c.from_residual.result c.from_residual.ensures.1 in
     rw (p.1, p.2) (refl, subst (λ (l : Ledger g.row.D.Denot). HasRoom (page l) e) c.self.view_is room)
@@ -165,6 +165,6 @@ returns-in_default-clause-err g c =
     let left : c.args.next.durable ≡ applied s.core.durable e = ap (λ (r : Ready). r.durable) c.requires.made ∙ ap (λ (l : Ledger g.row.D.Denot). applied l.whole.durable e) (sym c.self.view_is) in
     let there : FindsRoom s.store.size s.core.durable (applied s.core.durable e) e =
     room-of s.store.size c.durable.result.now s.core.durable c.after.result.now (applied s.core.durable e) e e c.durable.ensures (c.after.ensures ∙ left) refl (c.has_room.ensures.0 c.if-not-has_room.false).1 in
-    let room : HasRoom (page_of g.J.Naming.base s.core log s.acked (on_device s.limit s.store.size) s.shower.shown) e =
+    let room : HasRoom (page_of g.J.Naming.base s.core log s.acked (setting_in s.store s.limit) s.shower.shown) e =
     record { few = few; device = device-fits s.store.size g.J.Naming.base s.core.durable (applied s.core.durable e) (singles (take s.acked log)) e i.folded.durable refl there } in
     (refl, subst (λ (l : Ledger g.row.D.Denot). HasRoom (page l) e) c.self.view_is room)

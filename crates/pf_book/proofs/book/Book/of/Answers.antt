@@ -4,8 +4,7 @@ use Rattle.pf_ticket.specs.Tickets.{fresh}
 use Rattle.pf_core.specs.{Durable.Edits.Kept, Wholes.Whole, Worlds.{Setting, begun, opened, down}}
 use Rattle.pf_core.specs.Worlds.{raised as raised'}
 use Rattle.pf_core.proofs.LongerWorlds.{stands-by, stands-opened}
-use Rattle.pf_store.specs.Rooms.{on_device}
-use Rattle.pf_book.specs.Books.{Opened, singles}
+use Rattle.pf_book.specs.Books.{Opened, singles, setting_in, setting_of}
 use Rattle.pf_book.proofs.Keeping.{new-book}
 use Rattle.pf_book.proofs.book.Book.of.Goals as goal
 
@@ -14,33 +13,33 @@ invariant_of-book g c =
     let store = c.opening.inside.store in
     let d = arc_value c.opening.inside.durable in
     let given : d ≡ g.J.Naming.base = ap (λ (x : Opened g.row.D.Denot). x.given) c.opening.view_is ∙ c.requires.name.0 in
-    new-book g.D.Disk.seen g.D.Disk.unsynced store g.J.Naming.base c.new.result d _ (on_device c.args.history_limit store.size) _ _ c.opening.invariant
-    (ap (λ xs. map arc_value xs) c.new-in-Ok-views.ensures.items) c.in-Some.ensures given (ap (λ (w : Whole). w.durable) c.new.ensures ∙ c.in-Ok.ensures) (omega (arith, c.requires.high))
+    new-book g.D.Disk.seen g.D.Disk.unsynced store g.J.Naming.base c.new.result d _ (setting_in store c.args.history_limit) _ _ _ c.opening.invariant
+    (ap (λ xs. map arc_value xs) c.new-in-Ok-views.ensures.items) c.in-Some.ensures c.front-front.ensures given (ap (λ (w : Whole). w.durable) c.new.ensures ∙ c.in-Ok.ensures) (omega (arith, c.requires.high))
     c.in-Ok-views.ensures.shower.0 c.in-Ok-views.ensures.shower.1
 
 pub returns-in-Ok-views-clause-worlds : goal.returns-in-Ok-views-clause-worlds
 returns-in-Ok-views-clause-worlds g c = λ first d world legal comes low raised.
     let o = c.args.opening in
     let given : arc_value c.in-Ok.shared ≡ o.given = c.in-Ok.ensures ∙ ap (λ (x : Opened g.row.D.Denot). x.given) c.opening.view_is in
-    stands-by first _ world (opened (on_device c.args.history_limit o.size)) (down d) (begun (on_device c.args.history_limit o.size) (raised' d)) legal comes low refl (record {
+    stands-by first _ world (opened (setting_of o c.args.history_limit)) (down d) (begun (setting_of o c.args.history_limit) (raised' d)) legal comes low refl (record {
       base = sym c.requires.name.0 ∙ raised;
       tickets = ap (λ (w : Whole). w.tickets) c.new.ensures ∙ ap (λ (k : Kept). fresh k.epoch) (given ∙ raised);
       acked = refl;
       pending = ap (λ xs. singles (map arc_value xs)) c.new-in-Ok-views.ensures.items;
       shown = ap length c.in-Ok-views.ensures.shower.0;
-      setting = ap (λ (x : Opened g.row.D.Denot). on_device c.args.history_limit x.size) c.opening.view_is;
+      setting = ap (λ (x : Opened g.row.D.Denot). setting_of x c.args.history_limit) c.opening.view_is;
     })
 
 pub returns-in-Ok-views-clause-reached : goal.returns-in-Ok-views-clause-reached
 returns-in-Ok-views-clause-reached g c =
     let o = c.args.opening in
     let epoch = c.opening.invariant.epoch in
-    let setting : Setting = on_device c.args.history_limit o.size in
+    let setting : Setting = setting_of o c.args.history_limit in
     let given : arc_value c.in-Ok.shared ≡ o.given = c.in-Ok.ensures ∙ ap (λ (x : Opened g.row.D.Denot). x.given) c.opening.view_is in
     let raises : o.given ≡ raised' epoch.before = ap (λ (x : Opened g.row.D.Denot). x.given) (sym c.opening.view_is) ∙ epoch.raises in
     record {
       base_is = refl;
-      setting_is = ap (λ (x : Opened g.row.D.Denot). on_device c.args.history_limit x.size) c.opening.view_is ∙ c.requires.name.2;
+      setting_is = ap (λ (x : Opened g.row.D.Denot). setting_of x c.args.history_limit) c.opening.view_is ∙ c.requires.name.2;
       first = epoch.before;
       world = opened setting ∷ [];
       stands = stands-opened epoch.before _ setting epoch.low (record {
@@ -49,6 +48,6 @@ returns-in-Ok-views-clause-reached g c =
         acked = refl;
         pending = ap (λ xs. singles (map arc_value xs)) c.new-in-Ok-views.ensures.items;
         shown = ap length c.in-Ok-views.ensures.shower.0;
-        setting = ap (λ (x : Opened g.row.D.Denot). on_device c.args.history_limit x.size) c.opening.view_is;
+        setting = ap (λ (x : Opened g.row.D.Denot). setting_of x c.args.history_limit) c.opening.view_is;
       });
     }

@@ -1,8 +1,11 @@
-use Rattle.std.proofs.{Common.{◌≡◌, ◌≤◌, List, length, map, sym, ap, ◌∙◌, subst, arith}, lemmas.Grind.common_steps}
+use Rattle.std.proofs.{Common.{◌≡◌, ◌≤◌, List, length, map, take, sym, ap, ◌∙◌, subst, arith}, lemmas.Grind.common_steps}
 use Rattle.std.specs.Arc.{arc_value}
+use mathlib.Core.List.{IsPrefix}
 use Rattle.pf_core.specs.{Durable.Edits.Edit, Worlds.flat}
-use Rattle.pf_book.specs.{Books.{Ledger, page, log_in}, Pasts.Past, Receipts.EndsIn}
-use Rattle.pf_book.proofs.Parts.{whole-log, counted-acked}
+use Rattle.pf_past.specs.Pasts.{Past}
+use Rattle.pf_book.specs.{Books.{Ledger, page, log_in}, Receipts.{EndsIn, ShownFits, token_of}}
+use Rattle.pf_past.proofs.Fronts.{prefix_trans}
+use Rattle.pf_book.proofs.{Answering.token-is, Parts.{take_begins, whole-log, counted-acked}}
 use Rattle.pf_book.proofs.book.Book.receipt.Goals as goal
 
 pub invariant_of-result : goal.invariant_of-result
@@ -35,3 +38,16 @@ returns-clause-acked g c =
     let s = c.self.inside in
     ap (λ (p : Past). p.acked) c.front.ensures ∙ c.self.invariant.acked_is ∙ counted-acked (map arc_value s.log.items) s.acked c.self.invariant.low
     ∙ ap (λ (l : Ledger g.row.D.Denot). length (flat l.acked)) c.self.view_is
+
+pub returns-clause-token : goal.returns-clause-token
+returns-clause-token g c =
+    let s = c.self.inside in
+    let i = c.self.invariant in
+    let r = c.args.reply.now in
+    let log : List Edit = map arc_value s.log.items in
+    let begins : IsPrefix s.shower.shown log = prefix_trans s.shower.shown (take s.offered log) log (subst (λ (l : List Edit). IsPrefix s.shower.shown l) i.offered_is i.shown_is) (take_begins log s.offered) in
+    let fits : ShownFits r (length s.shower.shown) (length log) =
+    subst (λ (l : List Edit). ShownFits r (length s.shower.shown) (length l)) (whole-log log s.acked)
+    (subst (λ (l : Ledger g.row.D.Denot). ShownFits r l.shown (length (log_in (page l)))) (sym c.self.view_is) c.requires.shown) in
+    let whole : log_in (page c.args.self.now) ≡ log = ap (λ (l : Ledger g.row.D.Denot). log_in (page l)) (sym c.self.view_is) ∙ whole-log log s.acked in
+    c.token_after.ensures ∙ token-is r s.shower.shown log begins fits ∙ ap (token_of r) (sym whole)

@@ -4,7 +4,8 @@ use Rattle.pf_disk.specs.Disk.{EachMoment}
 use Rattle.pf_ticket.specs.Mentions.{after as moved_by, switches}
 use Rattle.pf_core.specs.{Durable.Edits.{Kept, Edit, applied, after}, Nexts.Ready, Pages.Page, Wholes.Whole, Worlds.{Setting, flat}}
 use Rattle.pf_store.specs.{Rooms.{group_fits, on_device}, Stores.{Holds, HoldsEither, FindsRoom, IsRoomy}, StoreKept.{Stands, Storage}}
-use Rattle.pf_book.specs.{Books.{Ledger, page, page_of, singles, IsMore, IsPending, HasRoom}, Pasts.with_change}
+use Rattle.pf_past.specs.Pasts.{with_change}
+use Rattle.pf_book.specs.{Books.{Ledger, page, page_of, singles, IsMore, IsPending, HasRoom, setting_in}}
 use Rattle.pf_book.proofs.{Calling.still-either, Finding.{device-fits, device-full, room-of}, Keeping.{acked-is, acked-more, goes-on, pending-page, more-book, fault-book}, Openable.{itself, later, saved-openable, still-openable}, Parts.{all-acked, left-none}}
 use Rattle.pf_book.proofs.book.Book.save.Goals as goal
 
@@ -37,7 +38,7 @@ returns-in_err-reserve-clause-any_moment g c =
     let log : List Edit = map arc_value s.log.items in
     let none : singles (drop s.acked log) ≡ [] = ap (λ (l : Ledger g.row.D.Denot). l.pending) c.self.view_is ∙ c.requires.free in
     let all : s.acked ≡ length log = all-acked log s.acked i.low none in
-    let setting : Setting = on_device s.limit s.store.size in
+    let setting : Setting = setting_in s.store s.limit in
     let b : Page = page_of g.J.Naming.base s.core log s.acked setting s.shower.shown in
     let disk = s.store.disk in
     subst (λ (l : Ledger g.row.D.Denot). EachMoment g.D.Disk.moment g.D.Disk.left_since l.disk disk (HoldsEither l.whole.durable (applied l.whole.durable e))) c.self.view_is
@@ -51,7 +52,7 @@ invariant_of-self-in-Ok g c =
     let log : List Edit = map arc_value s.log.items in
     let none : singles (drop s.acked log) ≡ [] = ap (λ (l : Ledger g.row.D.Denot). l.pending) c.self.view_is ∙ c.requires.free in
     let all : s.acked ≡ length log = all-acked log s.acked i.low none in
-    let setting : Setting = on_device s.limit s.store.size in
+    let setting : Setting = setting_in s.store s.limit in
     let b : Page = page_of g.J.Naming.base s.core log s.acked setting s.shower.shown in
     let disk = s.store.disk in
     let going : s.store.halted ≡ false = goes-on s.store.halted log s.acked i.halted all in
@@ -61,12 +62,12 @@ invariant_of-self-in-Ok g c =
     let change : c.deref.result.now ≡ e = c.deref.ensures in
     let log' : List Edit = map arc_value c.push_reserved.new.self.items in
     let logged : log' ≡ log ++ e ∷ [] = grind (arith, common_steps, c.push_reserved.ensures.items, c.reserve.ensures.items) in
-    let setting' : Setting = on_device s.limit c.save.new.self.size in
+    let setting' : Setting = setting_in c.save.new.self s.limit in
     let d = c.in-Ok.ensures in
     let whole : c.accept.new.self.durable ≡ applied s.core.durable e = ap (λ (w : Whole). w.durable) c.accept.ensures ∙ left in
     let kept : c.deref-2.result.now ≡ c.accept.new.self.durable = next ∙ sym whole in
-    more-book g.D.Disk.seen g.D.Disk.unsynced s.store c.save.new.self g.J.Naming.base s.core c.accept.new.self (arc_value s.durable) (arc_value c.args.after) log log' e s.acked (s.acked + 1) s.offered setting setting' s.shower s.tip c.add.new.self
-    i none refl logged (c.add.ensures ∙ ap (λ (x : Edit). with_change s.tip x true) c.requires.noted) whole (c.requires.after ∙ left ∙ sym whole) going d.goes_on
+    more-book g.D.Disk.seen g.D.Disk.unsynced s.store c.save.new.self g.J.Naming.base s.core c.accept.new.self (arc_value s.durable) (arc_value c.args.after) log log' e s.acked (s.acked + 1) s.offered setting setting' s.shower s.tip c.add.new.self s.front c.front.result
+    i none refl logged (c.add.ensures ∙ ap (λ (x : Edit). with_change s.tip x true) c.requires.noted) c.front.ensures whole (c.requires.after ∙ left ∙ sym whole) going d.goes_on
     (subst (λ (k : Kept). Stands g.D.Disk.seen g.D.Disk.unsynced c.save.new.self k) kept d.stands)
     d.generation i.limit
     (λ image is. subst (λ (k : Kept). Holds image k) kept (d.images image is))
@@ -83,7 +84,7 @@ returns-in-Ok-clause-ok g c =
     let log : List Edit = map arc_value s.log.items in
     let none : singles (drop s.acked log) ≡ [] = ap (λ (l : Ledger g.row.D.Denot). l.pending) c.self.view_is ∙ c.requires.free in
     let all : s.acked ≡ length log = all-acked log s.acked i.low none in
-    let setting : Setting = on_device s.limit s.store.size in
+    let setting : Setting = setting_in s.store s.limit in
     let b : Page = page_of g.J.Naming.base s.core log s.acked setting s.shower.shown in
     let disk = s.store.disk in
     let going : s.store.halted ≡ false = goes-on s.store.halted log s.acked i.halted all in
@@ -100,7 +101,7 @@ returns-in-Ok-clause-ok g c =
     (subst (λ (k : Kept). FindsRoom s.store.size s.core.durable k c.deref.result.now) next
     (subst (λ (k : Kept). FindsRoom s.store.size k c.deref-2.result.now c.deref.result.now) before d.room)) in
     let room : HasRoom b e = record { few = few; device = device-fits s.store.size g.J.Naming.base s.core.durable (applied s.core.durable e) (singles (take s.acked log)) e i.folded.durable refl there } in
-    subst (λ (l : Ledger g.row.D.Denot). IsMore (page l) (page_of g.J.Naming.base c.accept.new.self log' (s.acked + 1) (on_device s.limit c.save.new.self.size) s.shower.shown) e) c.self.view_is (record {
+    subst (λ (l : Ledger g.row.D.Denot). IsMore (page l) (page_of g.J.Naming.base c.accept.new.self log' (s.acked + 1) (setting_in c.save.new.self s.limit) s.shower.shown) e) c.self.view_is (record {
       room = room;
       base = refl;
       tickets = ap (λ (w : Whole). w.tickets) c.accept.ensures ∙ ap (λ (r : Ready). moved_by s.core.tickets (switches r.voided)) c.requires.made;
@@ -118,7 +119,7 @@ returns-in-Ok-clause-any_moment g c =
     let log : List Edit = map arc_value s.log.items in
     let none : singles (drop s.acked log) ≡ [] = ap (λ (l : Ledger g.row.D.Denot). l.pending) c.self.view_is ∙ c.requires.free in
     let all : s.acked ≡ length log = all-acked log s.acked i.low none in
-    let setting : Setting = on_device s.limit s.store.size in
+    let setting : Setting = setting_in s.store s.limit in
     let b : Page = page_of g.J.Naming.base s.core log s.acked setting s.shower.shown in
     let disk = s.store.disk in
     let going : s.store.halted ≡ false = goes-on s.store.halted log s.acked i.halted all in
@@ -139,7 +140,7 @@ returns-in-Err-Memory-clause-any_moment g c =
     let log : List Edit = map arc_value s.log.items in
     let none : singles (drop s.acked log) ≡ [] = ap (λ (l : Ledger g.row.D.Denot). l.pending) c.self.view_is ∙ c.requires.free in
     let all : s.acked ≡ length log = all-acked log s.acked i.low none in
-    let setting : Setting = on_device s.limit s.store.size in
+    let setting : Setting = setting_in s.store s.limit in
     let b : Page = page_of g.J.Naming.base s.core log s.acked setting s.shower.shown in
     let disk = s.store.disk in
     let f = rw c.in-Err-Memory.field-0-is at c.in-Err-Memory.ensures in
@@ -156,7 +157,7 @@ returns-in-Err-Full-clause-err g c =
     let log : List Edit = map arc_value s.log.items in
     let none : singles (drop s.acked log) ≡ [] = ap (λ (l : Ledger g.row.D.Denot). l.pending) c.self.view_is ∙ c.requires.free in
     let all : s.acked ≡ length log = all-acked log s.acked i.low none in
-    let setting : Setting = on_device s.limit s.store.size in
+    let setting : Setting = setting_in s.store s.limit in
     let b : Page = page_of g.J.Naming.base s.core log s.acked setting s.shower.shown in
     let disk = s.store.disk in
     let going : s.store.halted ≡ false = goes-on s.store.halted log s.acked i.halted all in
@@ -173,8 +174,8 @@ returns-in-Err-Full-clause-err g c =
     (subst (λ (k : Kept). FindsRoom s.store.size k c.deref-2.result.now c.deref.result.now → ⊥) before f.room)) in
     let full : not (group_fits s.store.size (after b.base (flat b.acked)) (after b.base (flat b.acked ++ e ∷ [])) (e ∷ [])) ≡ true =
     device-full s.store.size g.J.Naming.base s.core.durable (applied s.core.durable e) (singles (take s.acked log)) e i.folded.durable refl nowhere in (
-      ap (λ xs. page_of g.J.Naming.base s.core (map arc_value xs) s.acked (on_device s.limit c.save.new.self.size) s.shower.shown) c.reserve.ensures.items
-          ∙ ap (λ (x : Storage g.row.D.Denot). page_of g.J.Naming.base s.core log s.acked (on_device s.limit x.size) s.shower.shown) same ∙ ap page c.self.view_is,
+      ap (λ xs. page_of g.J.Naming.base s.core (map arc_value xs) s.acked (setting_in c.save.new.self s.limit) s.shower.shown) c.reserve.ensures.items
+          ∙ ap (λ (x : Storage g.row.D.Denot). page_of g.J.Naming.base s.core log s.acked (setting_in x s.limit) s.shower.shown) same ∙ ap page c.self.view_is,
       subst (λ (l : Ledger g.row.D.Denot). length (flat l.acked) < l.limit) c.self.view_is few,
       subst (λ (l : Ledger g.row.D.Denot). not (group_fits l.size (after l.base (flat l.acked)) (after l.base (flat l.acked ++ e ∷ [])) (e ∷ [])) ≡ true) c.self.view_is full,
     )
@@ -187,7 +188,7 @@ returns-in-Err-Full-clause-any_moment g c =
     let log : List Edit = map arc_value s.log.items in
     let none : singles (drop s.acked log) ≡ [] = ap (λ (l : Ledger g.row.D.Denot). l.pending) c.self.view_is ∙ c.requires.free in
     let all : s.acked ≡ length log = all-acked log s.acked i.low none in
-    let setting : Setting = on_device s.limit s.store.size in
+    let setting : Setting = setting_in s.store s.limit in
     let b : Page = page_of g.J.Naming.base s.core log s.acked setting s.shower.shown in
     let disk = s.store.disk in
     let f = rw c.in-Err-Full.field-0-is at c.in-Err-Full.ensures in
@@ -204,7 +205,7 @@ invariant_of-self-in-Fault-1 g c =
     let log : List Edit = map arc_value s.log.items in
     let none : singles (drop s.acked log) ≡ [] = ap (λ (l : Ledger g.row.D.Denot). l.pending) c.self.view_is ∙ c.requires.free in
     let all : s.acked ≡ length log = all-acked log s.acked i.low none in
-    let setting : Setting = on_device s.limit s.store.size in
+    let setting : Setting = setting_in s.store s.limit in
     let b : Page = page_of g.J.Naming.base s.core log s.acked setting s.shower.shown in
     let disk = s.store.disk in
     let going : s.store.halted ≡ false = goes-on s.store.halted log s.acked i.halted all in
@@ -217,9 +218,9 @@ invariant_of-self-in-Fault-1 g c =
     (subst (λ (k : Kept). EachMoment g.D.Disk.moment g.D.Disk.left_since disk c.save.new.self.disk (HoldsEither k c.deref-2.result.now)) before (c.save.ensures.any_moment going)) in
     let log' : List Edit = map arc_value c.push_reserved-in-Err-Fault.new.self.items in
     let logged : log' ≡ log ++ e ∷ [] = grind (arith, common_steps, c.push_reserved-in-Err-Fault.ensures.items, c.reserve.ensures.items) in
-    let setting' : Setting = on_device s.limit c.save.new.self.size in
+    let setting' : Setting = setting_in c.save.new.self s.limit in
     let f = rw c.in-Err-Fault.field-0-is at c.in-Err-Fault.ensures in
-    fault-book g.D.Disk.seen g.D.Disk.unsynced s.store c.save.new.self g.J.Naming.base s.core (arc_value s.durable) log log' e s.acked s.offered setting setting' s.shower s.tip c.add-in-Err-Fault.new.self i none logged
+    fault-book g.D.Disk.seen g.D.Disk.unsynced s.store c.save.new.self g.J.Naming.base s.core (arc_value s.durable) log log' e s.acked s.offered setting setting' s.shower s.tip c.add-in-Err-Fault.new.self s.front i none logged
     (c.add-in-Err-Fault.ensures ∙ ap (λ (x : Edit). with_change s.tip x false) c.requires.noted) (f.halts refl) i.limit
     (λ image is. run.each image (g.met.D.Disk.counts_now c.save.new.self.disk (g.D.Disk.moment disk) image run.later is))
     (λ image is. let run = c.save.ensures.generations going in
@@ -235,7 +236,7 @@ returns-in-Err-Fault-clause-err g c =
     let log : List Edit = map arc_value s.log.items in
     let none : singles (drop s.acked log) ≡ [] = ap (λ (l : Ledger g.row.D.Denot). l.pending) c.self.view_is ∙ c.requires.free in
     let all : s.acked ≡ length log = all-acked log s.acked i.low none in
-    let setting : Setting = on_device s.limit s.store.size in
+    let setting : Setting = setting_in s.store s.limit in
     let b : Page = page_of g.J.Naming.base s.core log s.acked setting s.shower.shown in
     let disk = s.store.disk in
     let going : s.store.halted ≡ false = goes-on s.store.halted log s.acked i.halted all in
@@ -246,7 +247,7 @@ returns-in-Err-Fault-clause-err g c =
     let few : length (flat (singles (take s.acked log))) < s.limit = subst (λ (l : Ledger g.row.D.Denot). length (flat l.acked) < l.limit) (sym c.self.view_is) c.requires.few in
     let log' : List Edit = map arc_value c.push_reserved-in-Err-Fault.new.self.items in
     let logged : log' ≡ log ++ e ∷ [] = grind (arith, common_steps, c.push_reserved-in-Err-Fault.ensures.items, c.reserve.ensures.items) in
-    let setting' : Setting = on_device s.limit c.save.new.self.size in
+    let setting' : Setting = setting_in c.save.new.self s.limit in
     let f = rw c.in-Err-Fault.field-0-is at c.in-Err-Fault.ensures in
     let there : FindsRoom s.store.size s.core.durable (applied s.core.durable e) e =
     subst (λ (x : Edit). FindsRoom s.store.size s.core.durable (applied s.core.durable e) x) change
@@ -264,7 +265,7 @@ returns-in-Err-Fault-clause-any_moment g c =
     let log : List Edit = map arc_value s.log.items in
     let none : singles (drop s.acked log) ≡ [] = ap (λ (l : Ledger g.row.D.Denot). l.pending) c.self.view_is ∙ c.requires.free in
     let all : s.acked ≡ length log = all-acked log s.acked i.low none in
-    let setting : Setting = on_device s.limit s.store.size in
+    let setting : Setting = setting_in s.store s.limit in
     let b : Page = page_of g.J.Naming.base s.core log s.acked setting s.shower.shown in
     let disk = s.store.disk in
     let going : s.store.halted ≡ false = goes-on s.store.halted log s.acked i.halted all in
@@ -343,10 +344,10 @@ returns-in_err-reserve-clause-err g c =
     subst (λ (l : Ledger g.row.D.Denot). FindsRoom l.size l.whole.durable c.args.next.durable e) (sym c.self.view_is) c.requires.room in
     let there : FindsRoom s.store.size s.core.durable (applied s.core.durable e) e =
     room-of s.store.size s.core.durable s.core.durable c.args.next.durable (applied s.core.durable e) e e refl left refl found in
-    let room : HasRoom (page_of g.J.Naming.base s.core log s.acked (on_device s.limit s.store.size) s.shower.shown) e =
+    let room : HasRoom (page_of g.J.Naming.base s.core log s.acked (setting_in s.store s.limit) s.shower.shown) e =
     record { few = few; device = device-fits s.store.size g.J.Naming.base s.core.durable (applied s.core.durable e) (singles (take s.acked log)) e i.folded.durable refl there } in
     let p = err_from_is_err_and c.from_residual.result c.from_residual.ensures.1 in
-    let same = ap (λ xs. page_of g.J.Naming.base s.core (map arc_value xs) s.acked (on_device s.limit s.store.size) s.shower.shown) c.reserve.ensures.items ∙ ap page c.self.view_is in
+    let same = ap (λ xs. page_of g.J.Naming.base s.core (map arc_value xs) s.acked (setting_in s.store s.limit) s.shower.shown) c.reserve.ensures.items ∙ ap page c.self.view_is in
     rw (p.1, p.2) (same, subst (λ (l : Ledger g.row.D.Denot). HasRoom (page l) e) c.self.view_is room)
 
 pub returns-in-Err-Memory-clause-err : goal.returns-in-Err-Memory-clause-err
@@ -361,11 +362,11 @@ returns-in-Err-Memory-clause-err g c =
     subst (λ (l : Ledger g.row.D.Denot). FindsRoom l.size l.whole.durable c.args.next.durable e) (sym c.self.view_is) c.requires.room in
     let there : FindsRoom s.store.size s.core.durable (applied s.core.durable e) e =
     room-of s.store.size s.core.durable s.core.durable c.args.next.durable (applied s.core.durable e) e e refl left refl found in
-    let room : HasRoom (page_of g.J.Naming.base s.core log s.acked (on_device s.limit s.store.size) s.shower.shown) e =
+    let room : HasRoom (page_of g.J.Naming.base s.core log s.acked (setting_in s.store s.limit) s.shower.shown) e =
     record { few = few; device = device-fits s.store.size g.J.Naming.base s.core.durable (applied s.core.durable e) (singles (take s.acked log)) e i.folded.durable refl there } in
     let f = rw c.in-Err-Memory.field-0-is at c.in-Err-Memory.ensures in
     let same : c.save.new.self ≡ s.store = f.unchanged (λ x. cc (x)) in (
-      ap (λ xs. page_of g.J.Naming.base s.core (map arc_value xs) s.acked (on_device s.limit c.save.new.self.size) s.shower.shown) c.reserve.ensures.items
-          ∙ ap (λ (x : Storage g.row.D.Denot). page_of g.J.Naming.base s.core log s.acked (on_device s.limit x.size) s.shower.shown) same ∙ ap page c.self.view_is,
+      ap (λ xs. page_of g.J.Naming.base s.core (map arc_value xs) s.acked (setting_in c.save.new.self s.limit) s.shower.shown) c.reserve.ensures.items
+          ∙ ap (λ (x : Storage g.row.D.Denot). page_of g.J.Naming.base s.core log s.acked (setting_in x s.limit) s.shower.shown) same ∙ ap page c.self.view_is,
       subst (λ (l : Ledger g.row.D.Denot). HasRoom (page l) e) c.self.view_is room,
     )

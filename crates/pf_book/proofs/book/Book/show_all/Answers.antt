@@ -2,8 +2,7 @@ use Rattle.std.proofs.Common.{◌≡◌, List, map, take, sym, ap, ◌∙◌, su
 use Rattle.std.specs.{Arc.arc_value}
 use mathlib.Core.List.{IsPrefix}
 use Rattle.pf_core.specs.{Durable.Edits.{Edit, after}, Worlds.Setting}
-use Rattle.pf_store.specs.Rooms.{on_device}
-use Rattle.pf_book.specs.Books.{Ledger, page, page_of, shows_all}
+use Rattle.pf_book.specs.Books.{Ledger, page, page_of, shows_all, setting_in}
 use Rattle.pf_book.proofs.{Keeping.{shown-book, shows-page}, Parts.{flat-singles, prefix_take, shown_either}}
 use Rattle.pf_book.proofs.book.Book.show_all.Goals.{in-Ok, in-Err}
 use Rattle.pf_book.proofs.book.Book.show_all.Goals as goal
@@ -25,13 +24,13 @@ invariant_of-self-2 g c =
     let still : IsPrefix c.offer_rest.new.shower.shown c.offer_rest.new.shower.offered = subst (λ (l : List Edit). IsPrefix l c.offer_rest.new.shower.offered) (sym c.offer_rest.ensures.shown) before in
     let shown : IsPrefix c.show.new.self.shown c.offer_rest.new.shower.offered = shown_either c.show.result c.offer_rest.new.shower.shown c.show.new.self.shown c.offer_rest.new.shower.offered c.show.ensures.ok c.show.ensures.err still in
     shown-book g.D.Disk.seen g.D.Disk.unsynced s.store g.J.Naming.base s.core (arc_value s.durable) log s.acked s.offered
-    (on_device s.limit s.store.size) s.shower c.show.new.self s.tip i (c.show.ensures.offered ∙ offered) (subst (λ (l : List Edit). IsPrefix c.show.new.self.shown l) (sym c.show.ensures.offered) shown)
+    (setting_in s.store s.limit) s.shower c.show.new.self s.tip s.front i (c.show.ensures.offered ∙ offered) (subst (λ (l : List Edit). IsPrefix c.show.new.self.shown l) (sym c.show.ensures.offered) shown)
 
 pub returns-clause-page : goal.returns-clause-page
 returns-clause-page g c =
     let s = c.self.inside in
     let log : List Edit = map arc_value s.log.items in
-    let setting : Setting = on_device s.limit s.store.size in
+    let setting : Setting = setting_in s.store s.limit in
     let offered : c.offer_rest.new.shower.offered ≡ take s.acked log = c.if-not-offer_rest.ensures.offered ∙ ap (λ xs. take s.acked (map arc_value xs)) c.as_slice.ensures.value in
     elim c.match-show.branch [
       | in-Ok w ↦ rw w.result-is

@@ -4,7 +4,7 @@ use Rattle.pf_store_tests.proofs.saves.Bench.tell_replies.Given as goal
 
 -- the opening is named by what it gave, its history, and what it keeps within
 abbrev pub ghosts-replies_over-J-Naming : goal.ghosts-replies_over-J-Naming
-ghosts-replies_over-J-Naming g a = record { base = a.opening.given }
+ghosts-replies_over-J-Naming g a = record { base = a.opening.given; history = a.opening.history }
 
 abbrev pub ghosts-replies_over-J-Chapter : goal.ghosts-replies_over-J-Chapter
-ghosts-replies_over-J-Chapter g a = record { history = a.opening.history; setting = setting_of a.opening HISTORY_LIMIT }
+ghosts-replies_over-J-Chapter g a = record { setting = setting_of a.opening HISTORY_LIMIT }

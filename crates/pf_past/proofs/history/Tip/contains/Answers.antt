@@ -1,8 +1,8 @@
 use Rattle.std.proofs.Common.{◌≡◌, List, ap, sym, ◌∙◌, subst}
 use mathlib.Core.List.{IsPrefix}
-use Rattle.pf_book.specs.declared.rule.Entry.{Entry}
-use Rattle.pf_book.proofs.Entries.{stays, past_begins}
-use Rattle.pf_book.proofs.history.Tip.contains.Goals as goal
+use Rattle.pf_past.specs.declared.rule.Entry.{Entry}
+use Rattle.pf_past.proofs.Entries.{stays, past_begins}
+use Rattle.pf_past.proofs.history.Tip.contains.Goals as goal
 
 pub compare_exchange-requires : goal.compare_exchange-requires
 compare_exchange-requires g c =

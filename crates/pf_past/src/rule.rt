@@ -1,7 +1,7 @@
 //! The rule of a history: who may add to it, and the steps that do. All of it exists in proofs alone, and takes no memory.
 ghost use Rattle.std.specs.Prelude.{◌≡◌};
 ghost use Rattle.logbook.specs.Pages.{may_write};
-ghost use Rattle.pf_book.specs.Rules.{head_of};
+ghost use Rattle.pf_past.specs.Rules.{head_of};
 
 use logbook::{Gain, Offer, Pen, Plain, Play, Rule, Seen, Word};
 use pf_core::Change;
@@ -20,7 +20,7 @@ pub struct OnePen;
 impl Rule<Entry, u64> for OnePen {
     ghost use Rattle.std.specs.Prelude.{[]};
     ghost use base.Fml.{ftrue};
-    ghost use Rattle.pf_book.specs.Rules.{IsKept};
+    ghost use Rattle.pf_past.specs.Rules.{IsKept};
 
     ghost holds = { λ cells log. IsKept cells log };
 
@@ -61,7 +61,7 @@ pub(crate) struct Asked {
 pub struct Coming;
 
 impl Play<Entry, u64> for Coming {
-    ghost use Rattle.pf_book.specs.Rules.{Comes};
+    ghost use Rattle.pf_past.specs.Rules.{Comes};
 
     ghost then = { Comes };
 }
@@ -79,7 +79,7 @@ impl Plain<(), Entry, u64> for Coming {
 pub struct Starting;
 
 impl Play<Entry, u64> for Starting {
-    ghost use Rattle.pf_book.specs.Rules.{Starts};
+    ghost use Rattle.pf_past.specs.Rules.{Starts};
 
     ghost then = { Starts };
 }
@@ -97,7 +97,7 @@ impl Plain<Pen, Entry, u64> for Starting {
 pub struct Adding;
 
 impl Play<Entry, u64> for Adding {
-    ghost use Rattle.pf_book.specs.Rules.{Adds};
+    ghost use Rattle.pf_past.specs.Rules.{Adds};
 
     ghost then = { Adds };
 }
@@ -115,7 +115,7 @@ impl Plain<Asked, Entry, u64> for Adding {
 pub struct Staying;
 
 impl Play<Entry, u64> for Staying {
-    ghost use Rattle.pf_book.specs.Rules.{Stays};
+    ghost use Rattle.pf_past.specs.Rules.{Stays};
 
     ghost then = { Stays };
 }

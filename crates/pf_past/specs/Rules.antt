@@ -3,8 +3,8 @@ use Rattle.std.specs.{Prelude.{◌≡◌, ℕ, ◌<◌, length, List, [], ◌∷
 use mathlib.Core.List.{IsPrefix}
 use Rattle.logbook.specs.Pages.{Cell, cell, Step, View, Book, Named, Nib, may_make, may_write}
 use Rattle.pf_core.specs.Durable.Edits.{Edit}
-use Rattle.pf_book.specs.declared.rule.Entry.{Entry}
-use Rattle.pf_book.specs.Pasts.{Past}
+use Rattle.pf_past.specs.declared.rule.Entry.{Entry}
+use Rattle.pf_past.specs.Pasts.{Past}
 
 -- ---- what holds of the words and the entries
 

@@ -6,13 +6,13 @@ use Rattle.std.proofs.lemmas.Bool.Decides.{nat_tests}
 use mathlib.Core.List.{IsPrefix}
 use prog.Atomic.{either}
 use Rattle.logbook.specs.Pages.{Cell, cell, Nib, keeps, gives, adds, no_nib, step, may_write, Moves}
-use Rattle.pf_book.specs.declared.rule.Entry.{Entry}
+use Rattle.pf_past.specs.declared.rule.Entry.{Entry}
 use Rattle.std.specs.Prelude.{map, if◌then◌else◌, ◌≤◌}
 use Rattle.std.specs.List.{sum_by}
 use Rattle.std.proofs.lemmas.List.Sums.{sum_by-append}
-use Rattle.pf_book.specs.Pasts.{Begins, with_change}
-use Rattle.pf_book.specs.Rules.{lead, lead_of, IsSpent, IsChain, IsKept, Comes, Starts, Adds, Stays, after_first, past_of}
-use Rattle.pf_book.proofs.Fronts.{prefix_trans, prefix_whole, prefix_length}
+use Rattle.pf_past.specs.Pasts.{Begins, with_change}
+use Rattle.pf_past.specs.Rules.{lead, lead_of, IsSpent, IsChain, IsKept, Comes, Starts, Adds, Stays, after_first, past_of}
+use Rattle.pf_past.proofs.Fronts.{prefix_trans, prefix_shorter, prefix_whole, prefix_length}
 
 abbrev pub shown : List Entry → List Entry
 shown log = []
@@ -204,3 +204,7 @@ past_of-push (x ∷ xs) e some = λ i. record {
   where
     sum : sum_by (λ (y : Entry). if y.acked then 1 else 0) (xs ++ e ∷ []) ≡ sum_by (λ (y : Entry). if y.acked then 1 else 0) xs + (if e.acked then 1 else 0)
     sum = omega (arith, sum_by-append (λ (y : Entry). if y.acked then 1 else 0) xs (e ∷ []))
+
+-- of two fronts of one history the one with no more changes begins the other
+pub front_begins : (xs ys zs : List Entry) → IsPrefix xs zs → IsPrefix ys zs → length (past_of xs).front ≤ length (past_of ys).front → IsPrefix (past_of xs).front (past_of ys).front
+front_begins xs ys zs p q le = prefix_shorter (past_of xs).front (past_of ys).front (past_of zs).front (past_begins xs zs p).0 (past_begins ys zs q).0 le

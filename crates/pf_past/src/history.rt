@@ -1,40 +1,19 @@
-//! The history of one opening: all changes under it, each in its place for good. It exists in proofs alone: what is kept at run time is a
-//! word, by which a proof follows it.
-ghost use Rattle.std.specs.Prelude.{◌≡◌, IfSome};
+//! A history and fronts of it. All of it exists in proofs alone, and takes no memory: what is kept at run time is a word or two.
+ghost use Rattle.std.specs.Prelude.{◌≡◌, ◌≤◌, length, IfSome};
 ghost use Rattle.std.specs.Arc.{arc_value};
-ghost use Rattle.pf_book.specs.Pasts.{no_past, with_change, Begins};
+ghost use mathlib.Core.List.{IsPrefix};
+ghost use Rattle.pf_past.specs.Pasts.{no_past, with_change, Begins, mark};
 
+use crate::naming::Naming;
 use crate::rule::{Adding, Asked, Head, Nothing, SeenEntries, Starting, Staying, Step, new_pen};
 use logbook::{Pen, Seen, Start};
 use pf_core::Change;
-use pf_view::Naming;
-use std::marker::{Brand, Model, PhantomData};
+use std::marker::{Model, PhantomData};
 use std::sync::Arc;
-
-/// Names one opening with its history, so that a type can say of which one its values are. A program picks it once, when it has the
-/// opening.
-pub trait Chapter: Naming {
-    ghost use Rattle.logbook.specs.Pages.{Book};
-    ghost use Rattle.pf_core.specs.Worlds.{Setting};
-
-    /// Which history it is.
-    ghost history: { Book };
-
-    /// What the opening keeps within.
-    ghost setting: { Setting };
-}
-
-impl Chapter for Brand {
-    ghost use Rattle.pf_core.specs.Worlds.{in_memory};
-
-    ghost history = { record { number = 0; log_name = 0; cells_name = 0 } };
-
-    ghost setting = { in_memory 0 };
-}
 
 /// A new history, which has no change and no name yet. Contracts see which one it is.
 #[derive(Drop)]
-pub(crate) struct NewHistory {
+pub struct NewHistory {
     head: Head,
     seen: SeenEntries,
     // what may add the first change; no run is known to be without
@@ -44,7 +23,7 @@ pub(crate) struct NewHistory {
 impl Model for NewHistory {
     ghost use Rattle.std.specs.Prelude.{◌≡◌, IfSome};
     ghost use Rattle.logbook.specs.Pages.{Book};
-    ghost use Rattle.pf_book.specs.{Pasts.no_past, Rules.{past_of, IsTip}};
+    ghost use Rattle.pf_past.specs.{Pasts.no_past, Rules.{past_of, IsTip}};
 
     ghost Value = { Book };
 
@@ -55,7 +34,7 @@ impl Model for NewHistory {
 
 impl NewHistory {
     /// One that nobody has seen yet.
-    pub(crate) fn open() -> NewHistory {
+    pub fn open() -> NewHistory {
         let (mut seen, mut first, _second) = Seen::open(Start::alone(), 0, 0);
         let head = Head::tracked(0, &mut first);
         let pen = new_pen(&head, &seen);
@@ -80,7 +59,7 @@ impl NewHistory {
     }
 
     /// The history under its name. `None`: nobody may add to it; no run is known to meet this, and no contract says that none does.
-    pub(crate) fn named<J: Chapter>(self) -> Option<Tip<J>>
+    pub fn named<J: Naming>(self) -> Option<Tip<J>>
         requires { self ≡ J.history }
         ensures { IfSome result (λ tip. tip ≡ no_past) }
     {
@@ -95,16 +74,53 @@ impl NewHistory {
     }
 }
 
+/// A front of some history: for a type that can't have the name of one. Contracts see of which history it is a front, and the front (`Mark`).
+#[derive(Drop)]
+pub struct Trace {
+    seen: SeenEntries,
+}
+
+impl Model for Trace {
+    ghost use Rattle.pf_past.specs.{Pasts.{Mark, mark}, Rules.past_of};
+
+    ghost Value = { Mark };
+
+    ghost view = { λ t. mark t.seen.book (past_of t.seen.log) };
+}
+
+impl Trace {
+    /// The same once more.
+    pub fn again(&self) -> Trace
+        ensures { result ≡ self.now }
+    {
+        Trace {
+            seen: self.seen.again(),
+        }
+    }
+
+    /// The front under the name of its history.
+    pub fn named<J: Naming>(self) -> Front<J>
+        requires { self.book ≡ J.history }
+        ensures { result ≡ self.past }
+    {
+        let Trace { seen } = self;
+        Front {
+            seen,
+            of: PhantomData,
+        }
+    }
+}
+
 /// A front of the history. Contracts see its changes, and how many of them were acknowledged (`Past`).
 #[derive(Drop)]
-pub(crate) struct Front<J: Chapter> {
+pub struct Front<J: Naming> {
     seen: SeenEntries,
     of: PhantomData<J>,
 }
 
-impl<J: Chapter> Model for Front<J> {
+impl<J: Naming> Model for Front<J> {
     ghost use Rattle.std.specs.Prelude.{◌≡◌};
-    ghost use Rattle.pf_book.specs.{Pasts.Past, Rules.past_of};
+    ghost use Rattle.pf_past.specs.{Pasts.Past, Rules.past_of};
 
     ghost Value = { Past };
 
@@ -113,17 +129,47 @@ impl<J: Chapter> Model for Front<J> {
     ghost invariant = { λ f. f.seen.book ≡ J.history };
 }
 
+impl<J: Naming> Front<J> {
+    /// The same once more.
+    pub fn again(&self) -> Front<J>
+        ensures { result ≡ self.now }
+    {
+        Front {
+            seen: self.seen.again(),
+            of: PhantomData,
+        }
+    }
+
+    /// The same without the name of its history in its type.
+    pub fn trace(&self) -> Trace
+        ensures { result ≡ mark J.history self.now }
+    {
+        Trace {
+            seen: self.seen.again(),
+        }
+    }
+
+    /// Of two fronts of one history the one with no more changes begins the other.
+    pub fn begins(&self, other: &Front<J>)
+        requires { length self.now.front ≤ length other.now.front }
+        ensures { IsPrefix self.now.front other.now.front }
+    {
+        let mut both = self.seen.again();
+        both.learn(&other.seen);
+    }
+}
+
 /// The whole history, with the one right to add to it. Contracts see it as a `Past`.
 #[derive(Drop)]
-pub(crate) struct Tip<J: Chapter> {
+pub struct Tip<J: Naming> {
     head: Head,
     seen: SeenEntries,
     pen: Pen,
     of: PhantomData<J>,
 }
 
-impl<J: Chapter> Model for Tip<J> {
-    ghost use Rattle.pf_book.specs.{Pasts.Past, Rules.{past_of, IsTip}};
+impl<J: Naming> Model for Tip<J> {
+    ghost use Rattle.pf_past.specs.{Pasts.Past, Rules.{past_of, IsTip}};
 
     ghost Value = { Past };
 
@@ -132,9 +178,9 @@ impl<J: Chapter> Model for Tip<J> {
     ghost invariant = { λ t. IsTip J.history t.head t.seen.book t.pen.book t.pen.nib t.seen.log };
 }
 
-impl<J: Chapter> Tip<J> {
+impl<J: Naming> Tip<J> {
     /// A front that is all of it.
-    pub(crate) fn front(&self) -> Front<J>
+    pub fn front(&self) -> Front<J>
         ensures { result ≡ self.now }
     {
         Front {
@@ -144,7 +190,7 @@ impl<J: Chapter> Tip<J> {
     }
 
     /// Adds a change, which was acknowledged or not.
-    pub(crate) fn add(&mut self, change: Arc<Change>, acked: bool)
+    pub fn add(&mut self, change: Arc<Change>, acked: bool)
         ensures { self.new ≡ with_change self.old (arc_value change) acked }
     {
         let asked = Asked {
@@ -164,7 +210,7 @@ impl<J: Chapter> Tip<J> {
     }
 
     /// It begins with each front of this history.
-    pub(crate) fn contains(&mut self, front: &Front<J>)
+    pub fn contains(&mut self, front: &Front<J>)
         ensures begins { Begins front.now self.old }
         ensures same { self.new ≡ self.old }
     {

@@ -1,0 +1,41 @@
+//! What a worker does with the receipt of a reply.
+ghost use Rattle.std.specs.{Prelude.{◌≡◌, IfOk}, Option.ForSome};
+ghost use mathlib.Core.List.{IsPrefix};
+ghost use Rattle.pf_core.specs.Durable.Edits.{after, verdict};
+ghost use Rattle.pf_book.specs.Receipts.{learns_from};
+
+use crate::chapter::Chapter;
+use crate::receipt::Receipt;
+use pf_core::Verdict;
+use pf_rule::Packet;
+use pf_view::{Gone, Seer};
+
+/// Learns what a receipt tells: from now on each verdict is by a front that begins with the receipt's, where this is of an `Applied`. Own.
+pub fn learn_from<J: Chapter>(seer: &mut Seer<J>, receipt: &Receipt<J>)
+    ensures learnt { seer.new ≡ learns_from receipt.now.token seer.old }
+    ensures told { ForSome receipt.now.token (λ t. IsPrefix t seer.new.learnt) }
+    ensures kept { IsPrefix seer.old.learnt seer.new.learnt }
+{
+    if let Some(token) = receipt.token() {
+        seer.learn(token);
+    } else {
+        // looked at, so that what a seer keeps is known here
+        let _ = seer.learnt();
+    }
+}
+
+/// Learns what a receipt tells, and judges. The verdict is by a front of the history that begins with all that this seer saw and learnt
+/// before, and after `Applied` with the whole history at that reply, whose last change is the reply's. Own.
+pub fn judge_after<J: Chapter>(
+    seer: &mut Seer<J>,
+    receipt: &Receipt<J>,
+    packet: &Packet,
+) -> Result<Verdict, Gone>
+    ensures verdict { IfOk result (λ v. v ≡ verdict (after J.base seer.new.seen) packet.now) }
+    ensures told { IfOk result (λ _. ForSome receipt.now.token (λ t. IsPrefix t seer.new.seen)) }
+    ensures learnt { IfOk result (λ _. IsPrefix seer.old.learnt seer.new.seen) }
+    ensures seen { IsPrefix seer.old.seen seer.new.seen }
+{
+    learn_from(seer, receipt);
+    seer.judge(packet)
+}
