@@ -5,10 +5,11 @@ ghost use Rattle.pf_journal.specs.{Faults.is_append_fault, Journal.IsOf};
 ghost use Rattle.pf_snap.specs.{Banks.{bank_size, Content, with_payload, switched, Holds, HoldsAt, HoldsEither}, Ready.{IsReady, IsNext, Keeps}, Looked.{IsFound, content_of}, Faults.{IsRefused, is_fault, is_switch_fault}};
 ghost use Rattle.pf_snap.specs.declared.fault.LookFault.TheVariants as looking;
 
-use crate::beginning::{bank_bytes, begin_bank};
+use crate::beginning::begin_bank;
 use crate::fault::{LookFault, SwitchFault};
 use crate::header::{HEADER, NEWEST, is_size};
 use crate::looking::{Looked, look_synced};
+use crate::next_bank::NextBank;
 use pf_disk::{Disk, DiskFault};
 use pf_journal::{AppendFault, Journal, Record};
 use std::alloc::{AllocError, Global};
@@ -26,14 +27,6 @@ pub struct Banks<D: Disk> {
     pub other_is_open: bool,
     pub version: u8,
     pub generation: u64,
-}
-
-/// A bank that is to be begun: what is written behind its gate, made before the device is called. Own.
-#[derive(Drop)]
-pub struct NextBank {
-    pub behind: Vec<u8>,
-    /// Bytes of its snapshot.
-    pub length: usize,
 }
 
 impl<D: Disk> Banks<D> {
@@ -76,11 +69,7 @@ impl<D: Disk> Banks<D> {
         requires early { self.now.generation + 1 < 2 ^ 64 }
         ensures { IfOk result (λ next. IsNext self.now.generation next snapshot.now) }
     {
-        let behind = bank_bytes(alloc, NEWEST, self.generation + 1, snapshot)?;
-        Ok(NextBank {
-            behind,
-            length: snapshot.len(),
-        })
+        NextBank::of(alloc, NEWEST, self.generation + 1, snapshot)
     }
 
     /// Begins the other bank, with a snapshot and no records, in the newest version and with the next generation, so that it counts. It

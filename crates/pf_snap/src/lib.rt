@@ -18,6 +18,7 @@
 //!
 //! - `header`: the header's bytes, how many bytes a device may have.
 //! - `banks`: [`Banks`], a device with the bank that counts: opening it, adding records, switching to the other bank.
+//! - `next_bank`: [`NextBank`], which a switch begins, in the memory that it is written from.
 //! - `beginning`: a bank that is begun over whatever stood there: closing its gate, writing it, opening its gate.
 //! - `formatting`: [`format`], which makes a device hold a bank with a snapshot and no records.
 //! - `looking`: [`look`], which tells what a device holds, and changes nothing.
@@ -32,8 +33,9 @@ mod formatting;
 mod header;
 mod laws;
 mod looking;
+mod next_bank;
 
-pub use banks::{Banks, NextBank};
+pub use banks::Banks;
 pub use fault::{FormatFault, LookFault, SwitchFault};
 pub use formatting::format;
 pub use header::{HEADER, NEWEST, is_size};
@@ -41,3 +43,4 @@ pub use laws::{
     content_is_refused_by_chance_alone, header_has_these_bytes, image_holds_one_content,
 };
 pub use looking::{Looked, look};
+pub use next_bank::NextBank;

@@ -1,5 +1,6 @@
 pub mod LayoutsBack
 pub mod Pushing
+pub mod Pieced
 pub mod Rows
 pub mod Appended
 pub mod Grouped

@@ -5,3 +5,4 @@ pub mod Prefixes
 pub mod Lookups
 pub mod Edits
 pub mod TableLaws
+pub mod Written

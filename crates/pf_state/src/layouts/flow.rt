@@ -1,13 +1,13 @@
 //! Flows in bytes.
-ghost use Rattle.std.specs.Prelude.{◌≡◌, ◌++◌, ◌==◌, ◌&&◌, ◌||◌, true, IfOk, OnOk};
-ghost use Rattle.pf_addr.specs.{Address.family_of, Bytes.Forms.{Form, Fits, onto}, Bytes.Readers.Reads};
+ghost use Rattle.std.specs.Prelude.{◌≡◌, ◌++◌, ◌∷◌, [], ◌==◌, ◌&&◌, ◌||◌, true, replicate, IfOk, OnOk};
+ghost use Rattle.pf_addr.specs.{Address.family_of, Bytes.Forms.{Form, Fits, back, number, onto}, Bytes.Readers.Reads};
 ghost use Rattle.pf_rule.specs.{Bytes.{direction_byte, family_byte}, Value.Values.has_ports};
 ghost use Rattle.pf_state.specs.Layouts.Flows.{direction_form, family_form, protocol_form, addr_form, PortsShape, ports_form, plain_addr, flow_form, plain_flow};
 
 use crate::flow::Flow;
 use pf_addr::bytes::{
-    Fault, Layout, Rest, Stop, expect, push_bytes, push_u8, push_u16, push_u32, push_u128, read_u8,
-    read_u16, read_u32, read_u128,
+    Fault, Layout, Rest, Stop, expect, push_bytes, push_u128, read_u8, read_u16, read_u32,
+    read_u128,
 };
 use pf_addr::{Addr, Family};
 use pf_rule::value::{Direction, Protocol};
@@ -65,14 +65,33 @@ pub(crate) fn push_flow(out: &mut Vec<u8>, flow: &Flow) -> Result<(), AllocError
     ensures written { OnOk result (out.new.items ≡ onto flow_form (plain_flow flow.now) out.old.items) }
     ensures fits { Fits flow_form (plain_flow flow.now) }
 {
-    push_u8(out, direction_byte(flow.direction()))?;
-    push_u8(out, family_byte(flow.source()))?;
-    push_u8(out, flow.protocol().number())?;
-    push_bytes(out, &[0])?;
+    push_front(
+        out,
+        direction_byte(flow.direction()),
+        family_byte(flow.source()),
+        flow.protocol().number(),
+    )?;
     push_addr(out, flow.source())?;
     push_addr(out, flow.destination())?;
-    push_u16(out, flow.source_port())?;
-    push_u16(out, flow.destination_port())
+    push_ports(out, flow.source_port(), flow.destination_port())
+}
+
+// What stands in front of the addresses. Parts are put behind the bytes in few pieces, since a snapshot has tens of thousands of flows.
+#[tactic(auto, using(crate::proofs::Pieced::four_pushed))]
+fn push_front(out: &mut Vec<u8>, direction: u8, family: u8, protocol: u8) -> Result<(), AllocError>
+    ensures { OnOk result (out.new.items
+        ≡ onto (number 1) protocol (onto (number 1) family (onto (number 1) direction out.old.items)) ++ 0 ∷ []) }
+{
+    push_bytes(out, &[direction, family, protocol, 0])
+}
+
+#[tactic(auto, unfolding(pf_addr::specs::Bytes::Parts::number_bytes), using(crate::proofs::Pieced::two_pushed))]
+fn push_ports(out: &mut Vec<u8>, source: u16, destination: u16) -> Result<(), AllocError>
+    ensures { OnOk result (out.new.items ≡ onto (number 2) destination (onto (number 2) source out.old.items)) }
+{
+    let s = source.to_be_bytes();
+    let d = destination.to_be_bytes();
+    push_bytes(out, &[s[0], s[1], d[0], d[1]])
 }
 
 #[tactic(auto, unfolding(crate::specs::Layouts::Flows::direction_form))]
@@ -164,10 +183,18 @@ fn push_addr(out: &mut Vec<u8>, addr: Addr) -> Result<(), AllocError>
     ensures { OnOk result (out.new.items ≡ onto (addr_form (family_byte (family_of addr))) (plain_addr addr) out.old.items) }
 {
     match addr {
-        Addr::V4(number) => {
-            push_u32(out, number)?;
-            push_bytes(out, &[0; 12])
-        }
+        Addr::V4(number) => push_v4(out, number),
         Addr::V6(number) => push_u128(out, number),
     }
+}
+
+#[tactic(auto, unfolding(pf_addr::specs::Bytes::Parts::number_bytes), using(crate::proofs::Pieced::two_pushed))]
+fn push_v4(out: &mut Vec<u8>, address: u32) -> Result<(), AllocError>
+    ensures { OnOk result (out.new.items ≡ onto (back (number 4) (replicate 12 0)) address out.old.items) }
+{
+    let a = address.to_be_bytes();
+    push_bytes(
+        out,
+        &[a[0], a[1], a[2], a[3], 0, 0, 0, 0, 0, 0, 0, 0, 0, 0, 0, 0],
+    )
 }

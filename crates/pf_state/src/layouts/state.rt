@@ -1,6 +1,6 @@
 //! States in bytes, as a store keeps them.
-ghost use Rattle.std.specs.Prelude.{◌≡◌, ◌++◌, OnOk};
-ghost use Rattle.pf_addr.specs.{Bytes.Forms.{Form, Fits, times, onto}, Bytes.Readers.Reads};
+ghost use Rattle.std.specs.Prelude.{◌≡◌, ◌++◌, ◌∷◌, [], replicate, OnOk};
+ghost use Rattle.pf_addr.specs.{Bytes.Forms.{Form, Fits, back, front, times, onto}, Bytes.Readers.Reads};
 ghost use Rattle.pf_state.specs.Layouts.States.{name_form, plain_name, bound_form, plain_bound, held_form, plain_held, state_form, plain_state};
 
 use crate::flow::Flow;
@@ -108,18 +108,6 @@ fn read_held<'a>(alloc: Global, version: u8, from: &mut Rest<'a>) -> Result<Held
     })
 }
 
-#[tactic(auto, unfolding(crate::specs::Layouts::States::held_form))]
-fn push_held(out: &mut Vec<u8>, _version: u8, held: Held) -> Result<(), AllocError>
-    ensures written { OnOk result (out.new.items ≡ onto (held_form _version) (plain_held held) out.old.items) }
-    ensures fits { OnOk result (Fits (held_form _version) (plain_held held)) }
-{
-    push_u32(out, held.generation)?;
-    push_flow(out, &held.flow)?;
-    push_bytes(out, &[255; 8])?;
-    push_bound(out, &held.bound)?;
-    push_bytes(out, &[0; 8])
-}
-
 #[tactic(auto, unfolding(crate::specs::Layouts::States::bound_form))]
 fn read_bound<'a>(from: &mut Rest<'a>) -> Result<Bound, Stop>
     ensures { Reads plain_bound bound_form result from.old.now from.new.now }
@@ -134,19 +122,59 @@ fn read_bound<'a>(from: &mut Rest<'a>) -> Result<Bound, Stop>
     Ok(Bound::Rule { number, sum })
 }
 
+#[tactic(auto, unfolding(crate::specs::Layouts::States::held_form))]
+fn push_held(out: &mut Vec<u8>, _version: u8, held: Held) -> Result<(), AllocError>
+    ensures written { OnOk result (out.new.items ≡ onto (held_form _version) (plain_held held) out.old.items) }
+    ensures fits { OnOk result (Fits (held_form _version) (plain_held held)) }
+{
+    push_u32(out, held.generation)?;
+    push_flow(out, &held.flow)?;
+    push_rest(out, &held.bound)
+}
+
+// What stands behind the flow: ones, what the state is bound to, and zeros; in few pieces, since a snapshot has tens of thousands of states.
 #[tactic(auto, unfolding(crate::specs::Layouts::States::bound_form))]
-fn push_bound(out: &mut Vec<u8>, bound: &Bound) -> Result<(), AllocError>
-    ensures written { OnOk result (out.new.items ≡ onto bound_form (plain_bound bound.now) out.old.items) }
+fn push_rest(out: &mut Vec<u8>, bound: &Bound) -> Result<(), AllocError>
+    ensures written { OnOk result
+        (out.new.items ≡ onto (front (replicate 8 255) (back bound_form (replicate 8 0))) (plain_bound bound.now) out.old.items) }
     ensures fits { OnOk result (Fits bound_form (plain_bound bound.now)) }
 {
     match bound {
-        Bound::Default => push_bytes(out, &[0; 24]),
+        Bound::Default => push_default(out),
         Bound::Rule { number, sum } => {
-            push_bytes(out, &[1, 0, 0, 0])?;
-            push_u32(out, *number)?;
-            push_sum(out, sum)
+            push_rule(out, *number)?;
+            push_sum(out, sum)?;
+            push_bytes(out, &[0; 8])
         }
     }
+}
+
+#[tactic(auto, using(crate::proofs::Pieced::four_pieces))]
+fn push_default(out: &mut Vec<u8>) -> Result<(), AllocError>
+    ensures { OnOk result
+        (out.new.items ≡ (((out.old.items ++ replicate 8 255) ++ 0 ∷ []) ++ replicate 23 0) ++ replicate 8 0) }
+{
+    push_bytes(
+        out,
+        &[
+            255, 255, 255, 255, 255, 255, 255, 255, 0, 0, 0, 0, 0, 0, 0, 0, 0, 0, 0, 0, 0, 0, 0, 0,
+            0, 0, 0, 0, 0, 0, 0, 0, 0, 0, 0, 0, 0, 0, 0, 0,
+        ],
+    )
+}
+
+#[tactic(auto, unfolding(pf_addr::specs::Bytes::Parts::number_bytes), using(crate::proofs::Pieced::three_pushed))]
+fn push_rule(out: &mut Vec<u8>, number: u32) -> Result<(), AllocError>
+    ensures { OnOk result
+        (out.new.items ≡ onto (Form.number 4) number ((out.old.items ++ replicate 8 255) ++ 1 ∷ 0 ∷ 0 ∷ 0 ∷ [])) }
+{
+    let n = number.to_be_bytes();
+    push_bytes(
+        out,
+        &[
+            255, 255, 255, 255, 255, 255, 255, 255, 1, 0, 0, 0, n[0], n[1], n[2], n[3],
+        ],
+    )
 }
 
 fn push_sum(out: &mut Vec<u8>, sum: &[u8; 16]) -> Result<(), AllocError>
