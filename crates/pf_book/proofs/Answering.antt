@@ -4,7 +4,7 @@ use Rattle.std.specs.{Prelude.◌&&◌, Option.ForSome}
 use mathlib.Core.List.{IsPrefix}
 use Rattle.pf_core.specs.declared.{command.Command.Command, command.HistoryCommand.HistoryCommand, command.HistoryCommand.TheVariants.{Log, Publish}, reply.Outcome.Outcome, reply.Refusal.Refusal, reply.Refusal.TheVariants.Halted, reply.Reply.Reply, reply.Reply.TheVariants.{Answer, Applied, Stored, Refused}, step.Step.Step, step.Step.TheVariants.{Done, Wants, OfHistory}}
 use Rattle.pf_core.specs.{Calls.call, Commands.{step_by, may_change}, Durable.Edits.{Kept, Edit}, Pages.{Page, IsAt, Leads}, Worlds.{Setting, Held, down, Upshot, called, flat, log_of, durable_of, is_halted, acked_by, step_in, or_refused, due_at, due, group_in, heard, room_for, shown_by, State, StandsIn, LegalReply, LegalCall, IsLegal}}
-use Rattle.pf_core.proofs.{Fronts.flat-append, Groups.{IsKept, IsNotKept, kept-or-not}, Limits.unhalted, LongerWorlds.{flat-push, stands-on, in-two}}
+use Rattle.pf_core.proofs.{Fronts.flat-append, Groups.{IsKept, IsNotKept, kept-or-not}, Stepping.unhalted, LongerWorlds.{flat-push, stands-on, in-two}}
 use Rattle.pf_book.proofs.Calling.{wants-may}
 use Rattle.pf_past.proofs.Fronts.{prefix_whole}
 use Rattle.pf_book.specs.{Books.{log_in, IsMore, IsNumbered, IsTold}, Receipts.{Slip, EndsIn, ShownFits, token_of, IsAdded, IsGiven, Follows, IsReached, IsLast, IsChangeOf, IsAnswered}}

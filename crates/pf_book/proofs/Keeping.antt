@@ -1,15 +1,18 @@
 -- What a Book's type keeps, from each thing that changes it.
-use Rattle.std.proofs.{Common.{◌≡◌, inl, inr, ℕ, ◌+◌, ◌<◌, ◌≤◌, ◌^◌, Bool, true, false, List, [], ◌∷◌, ◌++◌, length, take, drop, refl, ap, sym, ◌∙◌, subst, append-nil, arith}, lemmas.{Bool.Decides.nat_tests, List.{length-append, take_all, take-append-le}, List.Sums.{fold_push}}}
+use Rattle.std.proofs.{Common.{◌≡◌, inl, inr, ℕ, ◌+◌, ◌≤◌, ◌^◌, Bool, true, false, List, [], ◌∷◌, ◌++◌, length, take, drop, refl, ap, sym, ◌∙◌, subst, append-nil, arith, Result}, lemmas.{Bool.Decides.nat_tests, List.{length-append, take_all, take-append-le}, List.Sums.{fold_push}}}
 use Rattle.std.specs.Prelude.{nat_lt}
 use mathlib.Core.List.{IsPrefix}
 use Rattle.pf_disk.specs.Disk.{IsImage}
-use Rattle.pf_core.specs.{Durable.Edits.{Kept, Edit, applied, after}, Pages.{Page, IsFolded}, Wholes.Whole, Worlds.{Setting, flat}}
+use Rattle.pf_ticket.specs.Laws.Tickets.{IsWithin as AreTicketsWithin}
+use Rattle.pf_core.specs.declared.{command.Command.Command, reply.Refusal.Refusal, step.Step.Step}
+use Rattle.pf_core.specs.{Commands.step_by, Durable.Edits.{Kept, Edit, applied, after}, Pages.{Page, IsFolded}, Refusals.OrMemory, Wholes.{Whole, stepped}, Worlds.{Setting, flat}}
 use Rattle.pf_core.proofs.LongerWorlds.{flat-push}
 use Rattle.pf_store.specs.{Openings.{IsNoLaterThan, LeavesRoom}, Stores.{Holds, HoldsEither, IsRoomy}, StoreKept.{Stands, Storage}}
 use Rattle.pf_past.specs.Pasts.{Past, no_past, with_change, all_acked}
 use Rattle.pf_view.specs.Known.{Stage}
 use Rattle.pf_book.specs.{Books.{singles, page_of, HoldsFront, IsOpened, IsBook, shows_all}}
 use Rattle.pf_book.proofs.Openable.{later}
+use Rattle.pf_book.proofs.Wanting.{stepped-within}
 use Rattle.pf_book.proofs.Parts.{flat-singles, all-acked, taken-more, taken-still, left-one, singles-more, prefix_is, prefix_short}
 
 -- ---- pages
@@ -95,19 +98,20 @@ module _ {D : Type 0} (seen : D → List ℕ) (unsynced : D → ℕ → Bool) wh
   -- a change was kept
   pub more-book : (store store' : Storage D) (base : Kept) (whole whole' : Whole) (d d' : Kept) (log log' : List Edit) (e : Edit) (acked acked' offered : ℕ) (setting setting' : Setting) (stage : Stage) (past past' front front' : Past)
       → IsBook seen unsynced store (page_of base whole log acked setting stage.shown) d log acked offered stage past front
-      → singles (drop acked log) ≡ [] → acked' ≡ acked + 1 → log' ≡ log ++ e ∷ [] → past' ≡ with_change past e true → front' ≡ past' → whole'.durable ≡ applied whole.durable e → d' ≡ whole'.durable
+      → singles (drop acked log) ≡ [] → acked' ≡ acked + 1 → log' ≡ log ++ e ∷ [] → past' ≡ with_change past e true → front' ≡ past' → whole'.durable ≡ applied whole.durable e → AreTicketsWithin whole'.tickets → d' ≡ whole'.durable
       → store.halted ≡ false → store'.halted ≡ false → Stands seen unsynced store' whole'.durable → store'.generation ≤ store.generation + 1 → setting'.limit ≤ 2 ^ 20
       → ((c : List ℕ) → IsImage (seen store'.disk) (unsynced store'.disk) c → Holds c whole'.durable)
       → ((c : List ℕ) → IsImage (seen store'.disk) (unsynced store'.disk) c → IsNoLaterThan (store'.generation + 1) c)
       → (IsRoomy store'.size base → (c : List ℕ) → IsImage (seen store'.disk) (unsynced store'.disk) c → LeavesRoom c)
       → IsBook seen unsynced store' (page_of base whole' log' acked' setting' stage.shown) d' log' acked' offered stage past' front'
-  more-book store store' base whole whole' d d' log log' e acked acked' offered setting setting' stage past past' front front' i none counted logged noted same left latest was on stands raised limit images generations roomy =
+  more-book store store' base whole whole' d d' log log' e acked acked' offered setting setting' stage past past' front front' i none counted logged noted same left tickets latest was on stands raised limit images generations roomy =
       let all : acked ≡ length log = all-acked log acked i.low none in
       let page : Page = page_of base whole' (log ++ e ∷ []) (acked + 1) setting' stage.shown in
       let folded : IsFolded page = folded-more base whole whole' log e acked setting setting' stage.shown all left i.folded in
       let long : length (log ++ e ∷ []) ≡ length log + 1 = length-append log (e ∷ []) in
       rw (counted, logged) (record {
         folded = folded;
+        tickets = tickets;
         log_is = ap (λ (p : Past). p.front) noted ∙ ap (λ (l : List Edit). l ++ e ∷ []) i.log_is;
         acked_is = ap (λ (p : Past). p.acked) noted ∙ ap (λ (n : ℕ). n + 1) i.acked_is;
         front_is = same ∙ noted ∙ front-more log e acked past all i.log_is i.acked_is;
@@ -141,6 +145,7 @@ module _ {D : Type 0} (seen : D → List ℕ) (unsynced : D → ℕ → Bool) wh
       let out : store'.halted ≡ false → ⊥ = λ h. cc (h, off) in
       rw logged (record {
         folded = folded;
+        tickets = i.tickets;
         log_is = ap (λ (p : Past). p.front) noted ∙ ap (λ (l : List Edit). l ++ e ∷ []) i.log_is;
         acked_is = omega (arith, ap (λ (p : Past). p.acked) noted, i.acked_is);
         front_is = i.front_is ∙ ap all_acked (sym (taken-still log e acked i.low));
@@ -180,6 +185,7 @@ module _ {D : Type 0} (seen : D → List ℕ) (unsynced : D → ℕ → Bool) wh
       → IsBook seen unsynced store (page_of base whole log acked setting stage'.shown) d log acked acked stage' past front
   shown-book store base whole d log acked offered setting stage stage' past front i is begins = record {
     folded = folded-shown base whole log acked setting setting stage.shown stage'.shown (subst (λ (l : List Edit). IsPrefix stage'.shown l) is begins) i.folded;
+    tickets = i.tickets;
     log_is = i.log_is;
     acked_is = i.acked_is;
     front_is = i.front_is;
@@ -198,19 +204,21 @@ module _ {D : Type 0} (seen : D → List ℕ) (unsynced : D → ℕ → Bool) wh
     latest = i.latest;
   }
 
-  -- other tickets
-  pub other-tickets : (store : Storage D) (base : Kept) (whole whole' : Whole) (d : Kept) (log : List Edit) (acked offered : ℕ) (setting : Setting) (stage : Stage) (past front : Past)
-      → IsBook seen unsynced store (page_of base whole log acked setting stage.shown) d log acked offered stage past front → whole'.durable ≡ whole.durable
+  -- a step of the core
+  pub stepped-book : (store : Storage D) (base : Kept) (whole whole' : Whole) (d : Kept) (log : List Edit) (acked offered : ℕ) (setting : Setting) (stage : Stage) (past front : Past) (c : Command) (takes : Bool) (r : Result Step Refusal)
+      → IsBook seen unsynced store (page_of base whole log acked setting stage.shown) d log acked offered stage past front
+      → OrMemory takes r (step_by whole.tickets whole.durable c) → whole' ≡ stepped whole c r
       → IsBook seen unsynced store (page_of base whole' log acked setting stage.shown) d log acked offered stage past front
-  other-tickets store base whole whole' d log acked offered setting stage past front i same = record {
-    folded = record { durable = same ∙ i.folded.durable; within = i.folded.within; published = i.folded.published };
+  stepped-book store base whole whole' d log acked offered setting stage past front c takes r i steps left = rw left (record {
+    folded = record { durable = i.folded.durable; within = i.folded.within; published = i.folded.published };
+    tickets = stepped-within whole.tickets whole.durable c takes r steps i.tickets;
     log_is = i.log_is;
     acked_is = i.acked_is;
     front_is = i.front_is;
     low = i.low;
     high = i.high;
     halted = i.halted;
-    stands = λ h. subst (λ (k : Kept). Stands seen unsynced store k) (sym same) (i.stands h);
+    stands = i.stands;
     early = i.early;
     limit = i.limit;
     images = i.images;
@@ -219,15 +227,16 @@ module _ {D : Type 0} (seen : D → List ℕ) (unsynced : D → ℕ → Bool) wh
     offered_low = i.offered_low;
     offered_is = i.offered_is;
     shown_is = i.shown_is;
-    latest = i.latest ∙ sym same;
-  }
+    latest = i.latest;
+  })
 
   -- a new Book
   pub new-book : (store : Storage D) (base : Kept) (whole : Whole) (d : Kept) (log : List Edit) (setting : Setting) (stage : Stage) (past front : Past)
-      → IsOpened seen unsynced store d → log ≡ [] → past ≡ no_past → front ≡ past → d ≡ base → whole.durable ≡ d → setting.limit ≤ 2 ^ 20 → stage.shown ≡ [] → stage.offered ≡ []
+      → IsOpened seen unsynced store d → log ≡ [] → past ≡ no_past → front ≡ past → d ≡ base → whole.durable ≡ d → AreTicketsWithin whole.tickets → setting.limit ≤ 2 ^ 20 → stage.shown ≡ [] → stage.offered ≡ []
       → IsBook seen unsynced store (page_of base whole log 0 setting stage.shown) d log 0 0 stage past front
-  new-book store base whole d log setting stage past front o none empty start same kept limit shown offered = rw none (record {
+  new-book store base whole d log setting stage past front o none empty start same kept tickets limit shown offered = rw none (record {
     folded = record { durable = kept ∙ same; within = omega (arith, ap length shown); published = ap (after base) shown ∙ sym (ap (λ (n : ℕ). after base (take n [])) (ap length shown)) };
+    tickets = tickets;
     log_is = ap (λ (p : Past). p.front) empty;
     acked_is = ap (λ (p : Past). p.acked) empty;
     front_is = start ∙ empty;

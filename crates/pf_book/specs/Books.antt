@@ -4,7 +4,7 @@ use mathlib.Core.List.{IsPrefix}
 use Rattle.logbook.specs.Pages.{Book}
 use Rattle.pf_disk.specs.Disk.{EachMoment, IsImage}
 use Rattle.pf_rule.specs.Packets.{PlainPacket}
-use Rattle.pf_ticket.specs.{Mentions.{after as moved_by, switches}}
+use Rattle.pf_ticket.specs.{Laws.Tickets.IsWithin as AreTicketsWithin, Mentions.{after as moved_by, switches}}
 use Rattle.pf_core.specs.declared.{command.Command.Command, command.Command.TheVariants.{Ask}, command.HistoryCommand.HistoryCommand, command.HistoryCommand.TheVariants.{Log, Publish}, command.Question.TheVariants.Judge, durable.verdict.Verdict.Verdict, reply.Outcome.Outcome, reply.Refusal.Refusal, reply.Refusal.TheVariants.{HistoryFull, Full, Fault, Memory}, reply.Reply.Reply, reply.Reply.TheVariants.{Answer, Applied, Stored, Refused}}
 use Rattle.pf_core.specs.declared.reply.Answer.TheVariants as answer
 use Rattle.pf_core.specs.{Calls.{Call, call}, Durable.Edits.{Kept, Edit, after, voided_by, verdict}, Laws.{Durable.IsWithin, Openings.Leaves}, Pages.{Page, IsFolded}, Wholes.Whole, Worlds.{Setting, Held, Doing, flat, is_fault, last_epoch, raised}}
@@ -131,6 +131,8 @@ HoldsLeft h doing image = (d : Kept) × Holds image d × Leaves h doing d
 pub record IsBook {D : Type 0} (seen : D → List ℕ) (unsynced : D → ℕ → Bool)
     (store : Storage D) (b : Page) (d : Kept) (log : List Edit) (acked offered : ℕ) (stage : Stage) (past front : Past) : Type 0 where
   pub folded : IsFolded b
+  -- so whatever a command wants has bytes, where the device has room for them
+  pub tickets : AreTicketsWithin b.whole.tickets
   pub log_is : past.front ≡ log
   pub acked_is : past.acked ≡ acked
   pub front_is : front ≡ all_acked (take acked log)

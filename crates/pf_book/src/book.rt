@@ -1,10 +1,10 @@
 //! One history over a device. Its replies with receipts stand in `receipts`.
-ghost use Rattle.std.specs.Prelude.{◌≡◌, ℕ, ◌+◌, ◌<◌, ◌≤◌, [], ◌∷◌, ◌++◌, List, All, Ok, false, IfOk, IfErr, IfSome, OnOk, OnErr, IsErrOf, MatchBool, MatchResult, length, take, slice_get, nat_lt, not, if◌then◌else◌};
+ghost use Rattle.std.specs.Prelude.{◌≡◌, ℕ, ◌+◌, ◌<◌, ◌≤◌, [], ◌∷◌, ◌++◌, List, All, Ok, true, false, IfOk, IfErr, IfSome, OnOk, OnErr, IsErrOf, MatchBool, MatchResult, length, take, slice_get, nat_lt, not, if◌then◌else◌};
 ghost use Rattle.std.specs.{Arc.arc_value, Option.option_map};
 ghost use Rattle.pf_disk.specs.Disk.{EachMoment, IsImage};
 ghost use Rattle.pf_core.specs.declared.reply.Refusal.TheVariants as told;
 ghost use Rattle.pf_core.specs.{Calls.call, Commands.may_change, Durable.Edits.{Kept, applied, after, fits, verdict}, Pages.{IsAt, IsFolded, StandsFor, Leads}, Wholes.left_by, Worlds.{Held, idle, calling, begun, upshot, Event, called, opened, is_fault, flat, raised, last_epoch, down, state_after, IsWorld, LegalReply, shown_by}};
-ghost use Rattle.pf_store.specs.Stores.{FindsRoom, HoldsEither};
+ghost use Rattle.pf_store.specs.{Groups.can_be_wanted, Stores.{FindsRoom, HoldsEither}};
 ghost use Rattle.pf_view.specs.Known.{IsNewSeer};
 ghost use Rattle.pf_book.specs.Receipts.{IsGiven, IsReached};
 ghost use Rattle.pf_book.specs.Books.{page, HoldsLeft, IsMore, IsUnkept, IsUnshown, IsMade, IsTold, Stays, IsOpenable, StaysOpenable, StaysUnlessKept, shows_all, change_in, log_in, is_fault_reply, is_fault_result, IsNumbered, IsJudged, IsNamed, setting_of, judging};
@@ -173,6 +173,7 @@ impl<D: Disk + Drop, J: Chapter, R: Wait + Drop> Book<D, J, R> {
     fn keep(&mut self, change: Change, next: Next) -> Result<Arc<Change>, Refusal>
         requires made { next ≡ left_by self.old.whole.durable change }
         requires fits { fits self.old.whole.durable change ≡ Ok tt }
+        requires wanted { can_be_wanted change ≡ true }
         requires free { self.old.pending ≡ [] }
         ensures ok { OnOk result (IsMore (page self.old) (page self.new) change) }
         ensures given { IfOk result (λ given. arc_value given ≡ change) }
@@ -249,7 +250,7 @@ impl<D: Disk + Drop, J: Chapter, R: Wait + Drop> Book<D, J, R> {
                 Ok(())
             }
             Err(SaveFault::Memory) => Err(Refusal::Memory),
-            Err(SaveFault::Full) => Err(Refusal::Full),
+            Err(SaveFault::Full) => unreachable!(),
             Err(SaveFault::Fault) => {
                 self.log.push_reserved(change);
                 self.tip.add(noted, false);
@@ -288,6 +289,7 @@ impl<D: Disk + Drop, J: Chapter, R: Wait + Drop> Book<D, J, R> {
     fn make(&mut self, change: Change, next: Next, outcome: Outcome) -> (Reply, Option<Arc<Change>>)
         requires made { next ≡ left_by self.old.whole.durable change }
         requires fits { fits self.old.whole.durable change ≡ Ok tt }
+        requires wanted { can_be_wanted change ≡ true }
         requires free { self.old.pending ≡ [] }
         ensures made { IsMade result.0 outcome change (page self.old) (page self.new) }
         ensures given { IsGiven result.0 (option_map arc_value result.1) (page self.old) (page self.new) }
@@ -367,10 +369,11 @@ impl<D: Disk + Drop, J: Chapter, R: Wait + Drop> Book<D, J, R> {
     ///
     /// `Applied`: the change is on the device, and shown with all before it. `Stored`: it is on the device, and not shown yet, as memory
     /// was refused for that. The refusals, in their order: `Halted`, where the device failed in an earlier call and the command may change
-    /// something; the core's own; `HistoryFull`, where the history has as many changes as it may have; `Full`, where the device has no room
-    /// for the change; `Fault`, where a call of the device failed. `Memory` may come instead of any reply but that to a judge, a test, a
-    /// sum, a rollback and a `log`; but once the core has made what a change leaves, the two limits come before any further want of memory. All
-    /// growths but those for showing come before the device is written.
+    /// something; the core's own; `HistoryFull`, where the history has as many changes as it may have; `Full`, exactly where a bank has no room
+    /// for the change's record behind a snapshot of what was kept before, or less than 64 bytes left behind one of what is kept then; `Fault`,
+    /// where a call of the device failed. `Memory` may come instead of any reply but that to a judge, a test, a sum, a rollback and a `log`; but
+    /// once the core has made what a change leaves, the two limits come before any further want of memory. All growths but those for showing
+    /// come before the device is written.
     ///
     /// For an answer no call of the device is made. After every refusal but `Fault` all is as before. After `Fault` the change stands in the
     /// history, not acknowledged, all else is as before, and each later command that may change something is `Halted`. Own.

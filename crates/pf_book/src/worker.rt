@@ -1,5 +1,5 @@
 //! What a worker does with the receipt of a reply.
-ghost use Rattle.std.specs.{Prelude.{◌≡◌, IfOk}, Option.ForSome};
+ghost use Rattle.std.specs.{Prelude.{◌≡◌, IfOk, OnErr}, Option.ForSome};
 ghost use mathlib.Core.List.{IsPrefix};
 ghost use Rattle.pf_core.specs.Durable.Edits.{after, verdict};
 ghost use Rattle.pf_book.specs.Receipts.{learns_from};
@@ -25,7 +25,8 @@ pub fn learn_from<J: Chapter>(seer: &mut Seer<J>, receipt: &Receipt<J>)
 }
 
 /// Learns what a receipt tells, and judges. The verdict is by a front of the history that begins with all that this seer saw and learnt
-/// before, and after `Applied` with the whole history at that reply, whose last change is the reply's. Own.
+/// before, and after `Applied` with the whole history at that reply, whose last change is the reply's. `Gone`: it judged nothing and saw
+/// nothing new, but has learnt what the receipt tells. Own.
 pub fn judge_after<J: Chapter>(
     seer: &mut Seer<J>,
     receipt: &Receipt<J>,
@@ -35,6 +36,10 @@ pub fn judge_after<J: Chapter>(
     ensures told { IfOk result (λ _. ForSome receipt.now.token (λ t. IsPrefix t seer.new.seen)) }
     ensures learnt { IfOk result (λ _. IsPrefix seer.old.learnt seer.new.seen) }
     ensures seen { IsPrefix seer.old.seen seer.new.seen }
+    ensures knows { seer.new.learnt ≡ (learns_from receipt.now.token seer.old).learnt }
+    ensures knows_token { ForSome receipt.now.token (λ t. IsPrefix t seer.new.learnt) }
+    ensures kept { IsPrefix seer.old.learnt seer.new.learnt }
+    ensures gone { OnErr result (seer.new.seen ≡ seer.old.seen) }
 {
     learn_from(seer, receipt);
     seer.judge(packet)

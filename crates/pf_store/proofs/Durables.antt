@@ -13,7 +13,7 @@ use Rattle.pf_map.proofs.{Ordered.{in_order_of, sorted_of}, Tests.{first_of, sec
 use Rattle.pf_store.specs.declared.snapshots.{rulesets.StoredRuleset.StoredRuleset, tables.StoredPlaced.StoredPlaced}
 use Rattle.pf_anchor.specs.Forms.{at_most, RulesShape, rules_form, named_form, entries_form, has_some, ruleset_before, are_rulesets, rulesets_form, plain_ruled, PlacedShape, placed_before, are_tables, placed_form, kept_tables_form, plain_tabled, ruled_in, tabled_in, configured}
 use Rattle.pf_core.specs.Durable.Forms.{DurableShape, durable_form, plain_durable, durable_in}
-use Rattle.pf_store.specs.{Durables.{durable_has_form, IsDurable, example_kept, example_bytes}, Snapshots.empty_form}
+use Rattle.pf_store.specs.{Durables.{durable_has_form, IsDurable, example_kept, example_bytes}, Snapshots.{empty_form, EndsInSnapshot}}
 use Rattle.pf_store.proofs.Told.{entries_told}
 
 -- ---- lists
@@ -230,13 +230,14 @@ pub durable_spelled : (version : ℕ) (d : Kept) (bytes : List ℕ) → durable_
     → IsDurable version d bytes
 durable_spelled version d bytes told is = record { spelled = is; told = sym told }
 
-pub snapshot_pushed : (version : ℕ) (d : Kept) (out : List ℕ) → Fits (durable_form version) (plain_durable d)
-    → out ≡ onto (durable_form version) (plain_durable d) [] → Spells (durable_form version) (plain_durable d) out
-snapshot_pushed version d out fits is = record { fits = fits; written = is ∙ onto_is (durable_form version) (plain_durable d) [] }
-
-pub durable_pushed : (version : ℕ) (d : Kept) (out : List ℕ) → durable_in (plain_durable d) ≡ d → Fits (durable_form version) (plain_durable d)
-    → out ≡ onto (durable_form version) (plain_durable d) [] → IsDurable version d out
-durable_pushed version d out told fits is = durable_spelled version d out told (snapshot_pushed version d out fits is)
+-- they are put behind others
+pub ends_in_snapshot : (version : ℕ) (d : Kept) (before bytes : List ℕ) → durable_in (plain_durable d) ≡ d → Fits (durable_form version) (plain_durable d)
+    → bytes ≡ onto (durable_form version) (plain_durable d) before → EndsInSnapshot version d before bytes
+ends_in_snapshot version d before bytes told fits is = record {
+  snapshot = writes (durable_form version) (plain_durable d);
+  written = durable_spelled version d (writes (durable_form version) (plain_durable d)) told (record { fits = fits; written = refl });
+  behind = is ∙ onto_is (durable_form version) (plain_durable d) before;
+}
 
 -- bytes are those of one thing kept at most
 pub one_durable : (version : ℕ) (d e : Kept) (bytes : List ℕ) → IsDurable version d bytes → IsDurable version e bytes → d ≡ e

@@ -5,6 +5,7 @@ pub mod Sized
 pub mod Leading
 pub mod Refusing
 pub mod Saving
+pub mod Preparing
 pub mod Rooming
 pub mod Limiting
 pub mod Durables

@@ -15,7 +15,7 @@ use Rattle.std.specs.{Prelude.{◌≡◌, ℕ, ◌==◌, ◌^◌, ◌&&◌, not,
 use Rattle.std.proofs.Common.{inl, inr}
 use Rattle.pf_addr.specs.{Bytes.{Forms.{Shape, nat, both, either, list, Value, Form, Spells, number, front, or, pair, counted, that}, Lists.ordered}, Path.{Names.name_order, PathForms.{TextShape, path_form, table_name_form}}}
 use Rattle.pf_anchor.specs.Forms.{at_most, RulesShape, rules_form, plain_ruled, ruled_in, NamedShape, named_form, plain_entries, plain_named, entries_in, named_in}
-use Rattle.pf_core.specs.{declared.durable.change.Item.Item, Durable.Edits.{commits, adds, deletes, sets, acts, removes}}
+use Rattle.pf_core.specs.{declared.durable.change.Item.Item, Durable.Edits.{Edit, commits, adds, deletes, sets, acts, removes}}
 use Rattle.pf_core.specs.declared.durable.change.Item.TheVariants as item
 use Rattle.pf_store.specs.declared.groups.change.Recorded.{Recorded, TheVariants.Made as made, TheVariants.Opens as opens}
 use Rattle.pf_state.specs.Layouts.{States.{NameShape, name_form, plain_name, name_in}, Steps.{StepShape, step_form, plain_step, step_in}}
@@ -108,7 +108,7 @@ abbrev pub has_item_form : Item → Bool
 has_item_form (item.Rules r) = true
 has_item_form (item.Tables p named) = at_most OFFERED_TABLE_LIMIT named
 
--- those that a command can want: of a commit as many as it may name, and lists whose numbers have four bytes
+-- of a commit as many as it may name, each with as many tables as a ticket takes, and lists whose numbers have four bytes
 abbrev pub has_form : Recorded → Bool
 has_form (made (commits items)) = is_commit items && list_all has_item_form items
 has_form (made (adds p name xs)) = is_short xs
@@ -117,6 +117,15 @@ has_form (made (sets p name xs)) = is_short xs
 has_form (made (acts steps)) = is_short steps
 has_form (made (removes name)) = true
 has_form (opens epoch) = nat_lt epoch (2 ^ 32)
+
+-- What a command can want has bytes, where it isn't longer than any bank: then lists are short too.
+abbrev pub can_be_wanted : Edit → Bool
+can_be_wanted (commits items) = is_commit items && list_all has_item_form items
+can_be_wanted (adds p name xs) = true
+can_be_wanted (deletes p name xs) = true
+can_be_wanted (sets p name xs) = true
+can_be_wanted (acts steps) = true
+can_be_wanted (removes name) = true
 
 -- The payload is the bytes of what is recorded, in a version: its data spell them, and tell it.
 pub record IsRecorded (version : ℕ) (r : Recorded) (payload : List ℕ) : Type 0 where

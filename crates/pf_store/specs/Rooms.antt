@@ -1,8 +1,8 @@
 -- Whether a device has room for a group of changes more. Own.
-use Rattle.std.specs.{Prelude.{ℕ, ◌+◌, ◌&&◌, not, nat_le, Bool, List, ◌++◌}, List.list_all}
+use Rattle.std.specs.Prelude.{ℕ, ◌+◌, ◌&&◌, not, nat_le, Bool, List, ◌++◌}
 use Rattle.pf_snap.specs.declared.header.TheConstants.{HEADER}
 use Rattle.pf_core.specs.{Durable.Edits.{Kept, Edit, after}, Worlds.{Setting, flat}}
-use Rattle.pf_store.specs.{Groups.has_form, Lengths.{total, recorded_length, snapshot_length}}
+use Rattle.pf_store.specs.Lengths.{total, recorded_length, snapshot_length}
 use Rattle.pf_store.specs.declared.groups.change.Recorded.TheVariants as recorded
 use Rattle.pf_store.specs.declared.limits.TheConstants.{AROUND, ROOM_TO_OPEN}
 
@@ -10,13 +10,12 @@ use Rattle.pf_store.specs.declared.limits.TheConstants.{AROUND, ROOM_TO_OPEN}
 unfoldable pub group_length : List Edit → ℕ
 group_length es = 1 + total (λ e. recorded_length (recorded.Made e)) es
 
--- A group finds room in banks of so many bytes: each of its changes has bytes; a bank has 64 bytes left behind a snapshot of what is kept
--- then; and it has room for the group's record behind one of what was kept before.
+-- A group finds room in banks of so many bytes: a bank has 64 bytes left behind a snapshot of what is kept then, and room for the group's
+-- record behind one of what was kept before.
 unfoldable pub group_fits : (size : ℕ) → (before next : Kept) → List Edit → Bool
 group_fits size before next es =
-    list_all (λ e. has_form (recorded.Made e)) es
-    && (nat_le (HEADER + snapshot_length next + ROOM_TO_OPEN) size
-    && nat_le (HEADER + snapshot_length before + (group_length es + AROUND)) size)
+    nat_le (HEADER + snapshot_length next + ROOM_TO_OPEN) size
+    && nat_le (HEADER + snapshot_length before + (group_length es + AROUND)) size
 
 -- What an opening is given to keep within: so many changes, and banks of so many bytes.
 abbrev pub on_device : (limit size : ℕ) → Setting

@@ -13,6 +13,7 @@ mod rulesets;
 mod tables;
 mod telling;
 
+pub(crate) use durable::push_snapshot;
 pub use durable::{read_durable, write_durable};
 pub use laws::{
     snapshot_is_of_one_durable, snapshot_of_nothing_is_its_epoch, snapshots_are_so_long,

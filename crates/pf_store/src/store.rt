@@ -28,4 +28,5 @@ pub use keeping::Store;
 pub use laws::{
     group_of_one_fits_where_its_record_does, held_state_is_found, held_state_is_within_limits,
     image_holds_one_state, state_with_room_is_refused_by_chance_alone,
+    what_can_be_wanted_has_bytes,
 };

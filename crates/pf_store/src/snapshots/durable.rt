@@ -5,7 +5,7 @@ ghost use Rattle.pf_anchor.specs.Tables.{table_order};
 ghost use Rattle.pf_core.specs.Durable.Edits.{Kept};
 ghost use Rattle.pf_anchor.specs.Forms.{has_some, configured};
 ghost use Rattle.pf_core.specs.Durable.Forms.{durable_form, plain_durable};
-ghost use Rattle.pf_store.specs.{Durables.{durable_has_form, IsDurable}, Lengths.snapshot_length};
+ghost use Rattle.pf_store.specs.{Durables.{durable_has_form, IsDurable}, Lengths.snapshot_length, Snapshots.EndsInSnapshot};
 
 use crate::groups::GroupFault;
 use crate::snapshots::rulesets::{push_rulesets, read_rulesets};
@@ -92,6 +92,19 @@ fn has_form(alloc: Global, durable: &Durable) -> Result<bool, AllocError>
     Ok(!config.would_be_too_many_tables(alloc, &[])?)
 }
 
+/// Puts the bytes of a snapshot of what is kept, which has them, behind the bytes. Fails only where memory is refused.
+pub(crate) fn push_snapshot(
+    out: &mut Vec<u8>,
+    version: u8,
+    durable: &Durable,
+) -> Result<(), AllocError>
+    requires { durable_has_form durable.now ≡ true }
+    ensures { OnOk result (EndsInSnapshot version durable.now out.old.items out.new.items) }
+{
+    tell_durable(durable);
+    push_durable(out, version, durable)
+}
+
 /// The bytes of a snapshot of what is kept in a version, 16 and more.
 ///
 /// `NoForm`: it has none, since there are more than 1,024 rulesets or tables. `Memory`: a growth was refused. Own.
@@ -104,12 +117,11 @@ pub fn write_durable(alloc: Global, version: u8, durable: &Durable) -> Result<Ve
     if !has_form(alloc, durable)? {
         return Err(GroupFault::NoForm);
     }
-    tell_durable(durable);
     let Ok(length) = usize::try_from(durable.byte_length()) else {
         return Err(GroupFault::Memory);
     };
     let mut out = Vec::with_capacity(alloc, length)?;
-    push_durable(&mut out, version, durable)?;
+    push_snapshot(&mut out, version, durable)?;
     Ok(out)
 }
 

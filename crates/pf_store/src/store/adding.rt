@@ -1,24 +1,24 @@
 //! Adding a record, behind a switch to the other bank where it has no room.
-ghost use Rattle.std.specs.Prelude.{◌≡◌, ◌↔◌, ◌+◌, ◌^◌, ◌<◌, ◌≤◌, List, ℕ, length, OnOk, OnErr, IsErrOf, if◌then◌else◌};
+ghost use Rattle.std.specs.Prelude.{◌≡◌, ◌↔◌, ◌+◌, ◌^◌, ◌<◌, ◌≤◌, true, List, ℕ, length, OnOk, OnErr, IsErrOf, if◌then◌else◌};
 ghost use Rattle.pf_disk.specs.Disk.{EachMoment};
 ghost use Rattle.pf_snap.specs.{Banks.bank_size, Faults.is_switch_fault, Ready.IsReady};
 ghost use Rattle.pf_core.specs.Durable.Edits.{Kept};
 ghost use Rattle.pf_store.specs.declared.groups.change.Recorded.{Recorded};
-ghost use Rattle.pf_store.specs.{Groups.IsRecorded, Lengths.snapshot_length, StoreFaults.is_add_fault, StoreKept.HaveKept, Openings.{IsAsLongAs, IsNoLaterThan}, Stores.{Follows, left_by, Holds, HoldsEither}};
+ghost use Rattle.pf_store.specs.{Durables.durable_has_form, Groups.IsRecorded, Lengths.snapshot_length, Snapshots.IsBankOf, StoreFaults.is_add_fault, StoreKept.HaveKept, Openings.{IsAsLongAs, IsNoLaterThan}, Stores.{Follows, left_by, Holds, HoldsEither}};
 
-use crate::groups::GroupFault;
 use crate::limits::AROUND;
-use crate::snapshots::write_durable;
+use crate::snapshots::push_snapshot;
 use crate::store::fault::AddFault;
 use crate::store::lengths::has_room;
 use pf_core::Durable;
 use pf_disk::Disk;
 use pf_journal::Record;
-use pf_snap::{Banks, HEADER, NEWEST, SwitchFault};
-use std::alloc::Global;
+use pf_snap::{Banks, HEADER, NEWEST, NextBank, SwitchFault};
+use std::alloc::{AllocError, Global};
 
 /// Adds a record of what follows what is kept, with this payload, in ten moments of the device at most. Where the bank that counts has no
-/// room for it, the other one is begun before with a snapshot of what is kept. All memory is taken before the device's first call.
+/// room for it, the other one is begun before with a snapshot of what is kept, in the memory of the next bank. All memory is taken before
+/// the device's first call.
 ///
 /// The payload is in the version of the bank that counts, which is that of the other one too: there is one so far.
 ///
@@ -26,6 +26,7 @@ use std::alloc::Global;
 pub(crate) fn add<D: Disk>(
     alloc: Global,
     banks: &mut Banks<D>,
+    next: &mut NextBank,
     durable: &Durable,
     payload: &[u8],
 ) -> Result<(), AddFault>
@@ -68,15 +69,15 @@ pub(crate) fn add<D: Disk>(
         banks.append_record(&record)?;
         return Ok(());
     }
-    switch(alloc, banks, durable)?;
+    switch(banks, next, durable)?;
     banks.append_record(&record)?;
     Ok(())
 }
 
 // Begins the other bank with a snapshot of what is kept.
 fn switch<D: Disk>(
-    alloc: Global,
     banks: &mut Banks<D>,
+    next: &mut NextBank,
     durable: &Durable,
 ) -> Result<(), SwitchFault>
     requires ready { IsReady D.seen D.unsynced banks.old }
@@ -100,10 +101,22 @@ fn switch<D: Disk>(
     ensures faults { D.fault_count banks.new.journal.disk
         ≡ D.fault_count banks.old.journal.disk + (if is_switch_fault result then 1 else 0) }
 {
-    let snapshot = match write_durable(alloc, NEWEST, durable) {
-        Ok(snapshot) => snapshot,
-        Err(GroupFault::Memory) => return Err(SwitchFault::Memory),
-        Err(GroupFault::NoForm) => unreachable!(),
-    };
-    banks.switch(alloc, &snapshot)
+    prepare(next, banks.generation, durable)?;
+    banks.begin(next)?;
+    Ok(())
+}
+
+// Makes the bank that follows one of this generation, with a snapshot of what is kept.
+fn prepare(next: &mut NextBank, generation: u64, durable: &Durable) -> Result<(), AllocError>
+    requires formed { durable_has_form durable.now ≡ true }
+    requires fits { HEADER + snapshot_length durable.now + 1 < 2 ^ 32 }
+    requires early { generation + 1 < 2 ^ 64 }
+    ensures made { OnOk result (IsBankOf generation next.new durable.now) }
+    ensures long { OnOk result (next.new.length ≡ snapshot_length durable.now) }
+    ensures all { OnOk result (length next.new.behind.items ≡ HEADER + snapshot_length durable.now) }
+{
+    let length = durable.byte_length() as usize;
+    next.start(NEWEST, generation + 1, length)?;
+    push_snapshot(&mut next.behind, NEWEST, durable)?;
+    next.close()
 }

@@ -7,7 +7,7 @@ ghost use Rattle.pf_store.specs.declared.store.fault.SaveFault.TheVariants as sa
 ghost use Rattle.pf_store.specs.declared.store.fault.OpenFault.TheVariants as opening;
 ghost use Rattle.pf_store.specs.declared.limits.TheConstants.{AROUND, OPENING_PAYLOAD};
 ghost use Rattle.pf_store.specs.declared.groups.change.Recorded.TheVariants as recorded;
-ghost use Rattle.pf_store.specs.{Groups.IsRecorded, Lengths.payload_length, Stores.{Holds, HoldsEither, FindsRoom}, StoreKept.{Stands, HaveKept}, StoreFaults.{is_save_fault, TellsRoom, is_fault}, Openings.{HasRoomHere, IsUnopened, IsFull, IsOfOpening, IsAsLongAs, IsNoLaterThan, LeavesRoom, generation_of}};
+ghost use Rattle.pf_store.specs.{Groups.{can_be_wanted, IsRecorded}, Lengths.payload_length, Stores.{Holds, HoldsEither, FindsRoom, HasRoom}, StoreKept.{Stands, HaveKept}, StoreFaults.{is_save_fault, TellsRoom, is_fault}, Openings.{HasRoomHere, IsUnopened, IsFull, IsOfOpening, IsAsLongAs, IsNoLaterThan, LeavesRoom, generation_of}};
 
 use crate::groups::{GroupFault, write_group, write_opening};
 use crate::store::adding::add;
@@ -16,7 +16,7 @@ use crate::store::lengths::finds_room;
 use crate::store::replaying::replay;
 use pf_core::{Change, Durable};
 use pf_disk::Disk;
-use pf_snap::Banks;
+use pf_snap::{Banks, NextBank};
 use std::alloc::Global;
 use std::marker::Model;
 
@@ -24,6 +24,8 @@ use std::marker::Model;
 #[derive(Drop)]
 pub struct Store<D: Disk> {
     banks: Banks<D>,
+    // where a switch makes the next bank: fresh pages for a snapshot cost as much as half of its bytes
+    next: NextBank,
     // whether a call of the device has failed in a save
     halted: bool,
 }
@@ -40,9 +42,13 @@ impl<D: Disk> Model for Store<D> {
 }
 
 impl<D: Disk> Store<D> {
-    /// Whether a change that leaves this finds room. It doesn't where the store is halted. It takes no memory. Own.
+    /// Whether a change that leaves this finds room. It doesn't where the store is halted. It takes no memory.
+    ///
+    /// Of a change that a command can want that is exactly whether its payload has room: it has bytes where it has room. Own.
     pub fn has_room(&self, before: &Durable, change: &Change, after: &Durable) -> bool
-        ensures { IsTrue result ↔ ((self.now.halted ≡ false) × FindsRoom self.now.size before.now after.now change.now) }
+        ensures found { IsTrue result ↔ ((self.now.halted ≡ false) × FindsRoom self.now.size before.now after.now change.now) }
+        ensures exact { can_be_wanted change.now ≡ true → IsTrue result ↔ ((self.now.halted ≡ false)
+            × HasRoom self.now.size before.now after.now (payload_length (recorded.Made change.now))) }
     {
         !self.halted && finds_room(before, change, after, self.banks.size())
     }
@@ -113,7 +119,7 @@ impl<D: Disk> Store<D> {
             Err(GroupFault::Memory) => return Err(SaveFault::Memory),
             Err(GroupFault::NoForm) => unreachable!(),
         };
-        match add(alloc, &mut self.banks, before, &payload) {
+        match add(alloc, &mut self.banks, &mut self.next, before, &payload) {
             Ok(()) => Ok(()),
             Err(AddFault::Memory) => Err(SaveFault::Memory),
             Err(AddFault::Full) => Err(SaveFault::Full),
@@ -188,7 +194,11 @@ impl<D: Disk> Store<D> {
     pub fn into_disk(self) -> D
         ensures { result ≡ self.disk }
     {
-        let Store { banks, halted: _ } = self;
+        let Store {
+            banks,
+            next: _,
+            halted: _,
+        } = self;
         banks.into_disk()
     }
 }
@@ -239,11 +249,13 @@ fn raise_on<D: Disk>(
         Err(fault) => return Err((fault, banks.into_disk())),
     };
     let mut banks = banks;
-    match add(alloc, &mut banks, durable, &payload) {
+    let mut next = NextBank::new(alloc);
+    match add(alloc, &mut banks, &mut next, durable, &payload) {
         Ok(()) => Ok((
             raised,
             Store {
                 banks,
+                next,
                 halted: false,
             },
         )),

@@ -4,7 +4,7 @@ ghost use Rattle.pf_snap.specs.Banks.{bank_size};
 ghost use Rattle.pf_core.specs.{Durable.Edits.{Kept, Edit}, Laws.Durable.IsWithin, Worlds.{last_epoch, raised}};
 ghost use Rattle.pf_store.specs.declared.store.fault.{OpenFault.OpenFault, OpenFault.TheVariants.{Memory, Fault}};
 ghost use Rattle.pf_store.specs.declared.groups.change.Recorded.TheVariants as recorded;
-ghost use Rattle.pf_store.specs.{Lengths.payload_length, Rooms.{group_fits, group_length}, Stores.{FindsRoom, Holds, IsRoomy}, StoreFaults.SaysNone, Openings.{IsFull, IsUnopened, generation_of}};
+ghost use Rattle.pf_store.specs.{Groups.can_be_wanted, Lengths.payload_length, Rooms.{group_fits, group_length}, Stores.{FindsRoom, HasRoom, Holds, IsRoomy}, StoreFaults.SaysNone, Openings.{IsFull, IsUnopened, generation_of}};
 
 /// An image holds one state of what is kept at most. Own.
 pub fn image_holds_one_state()
@@ -32,9 +32,15 @@ pub fn held_state_is_within_limits()
     ensures { (image : List ℕ) (d : Kept) → Holds image d → IsWithin d }
 {}
 
-/// A change's record finds room exactly where a group of it alone fits, and is as long. Own.
+/// A change's payload finds room exactly where a group of it alone fits, and is as long. Own.
 pub fn group_of_one_fits_where_its_record_does()
     ensures fits { (size : ℕ) (before next : Kept) (e : Edit)
-        → (group_fits size before next (e ∷ []) ≡ true) ↔ FindsRoom size before next e }
+        → (group_fits size before next (e ∷ []) ≡ true) ↔ HasRoom size before next (payload_length (recorded.Made e)) }
     ensures length { (e : Edit) → group_length (e ∷ []) ≡ payload_length (recorded.Made e) }
+{}
+
+/// What a command can want has bytes where banks of a size that a device may have have room for so many. Own.
+pub fn what_can_be_wanted_has_bytes()
+    ensures { (size : ℕ) (before next : Kept) (e : Edit) → size < 2 ^ 32 → can_be_wanted e ≡ true
+        → HasRoom size before next (payload_length (recorded.Made e)) → FindsRoom size before next e }
 {}

@@ -2,11 +2,13 @@ use Rattle.std.proofs.{Common.{◌≡◌, ℕ, List, length, map, Ok, refl, sym,
 use Rattle.std.specs.{Arc.arc_value, Option.option_map, Prelude.nat_lt}
 use Rattle.pf_disk.specs.Disk.{EachMoment}
 use Rattle.pf_core.specs.declared.reply.{Reply.TheVariants.{Answer}}
-use Rattle.pf_core.specs.{Calls.call, Durable.Edits.{Edit, fits}, Laws.Wanted.wants_what_fits, Pages.{Page, IsAt, Leads}, Wholes.Whole, Worlds.{Held, calling, upshot}}
+use Rattle.pf_core.specs.{Calls.call, Commands.takes_memory, Durable.Edits.{Edit, fits}, Laws.Wanted.wants_what_fits, Pages.{Page, IsAt, Leads}, Wholes.{Whole, plain}, Worlds.{Held, calling, upshot}}
 use Rattle.pf_book.specs.{Books.{Ledger, ledger, page, page_of, HoldsLeft, IsMade, IsTold, is_fault_reply, setting_in}, Receipts.IsGiven}
 use Rattle.pf_book.proofs.Answering.{told-given}
 use Rattle.pf_book.proofs.Calling.{with_core, IsFree, unchanging, none-behind, no-fault, not-more, fault-flag, answer-leads, history-leads, made-leads, made-stays, made-moment, still-left, err-not-fault}
+use Rattle.pf_book.proofs.Keeping.{stepped-book}
 use Rattle.pf_book.proofs.Openable.{same-openable, saved-openable, still-openable}
+use Rattle.pf_book.proofs.Wanting.{wanted-can}
 use Rattle.pf_book.proofs.book.Book.call.Goals.{else-self-len-via-then-self-len+else-may_change, else-self-len-via-else-self-len}
 use Rattle.pf_book.proofs.book.Book.call.Goals as goal
 
@@ -16,11 +18,26 @@ returns-then-may_change-clause-any_moment g c =
     subst (λ (l : Ledger g.row.D.Denot). (h : Held) → IsAt h (page l) → EachMoment g.D.Disk.moment g.D.Disk.left_since l.disk l.disk (HoldsLeft h (calling k))) c.self.view_is
     (λ h at. still-left g.D.Disk.seen g.D.Disk.unsynced g.D.Disk.moment g.D.Disk.left_since h _ (calling k) c.self.inside.store.disk (g.met.D.Disk.only_now c.self.inside.store.disk) c.self.invariant.images at)
 
+-- what a step was answered leaves the transactions within their limits
+pub invariant_of-self : goal.invariant_of-self
+invariant_of-self g c =
+    let s = c.self.inside in
+    let k = c.args.command.now in
+    let e = c.step_ready.ensures in
+    stepped-book g.D.Disk.seen g.D.Disk.unsynced s.store g.J.Naming.base s.core c.step_ready.new.self (arc_value s.durable) (map arc_value s.log.items) s.acked s.offered
+    (setting_in s.store s.limit) s.shower s.tip s.front k (takes_memory s.core.durable k) (plain c.step_ready.result) c.self.invariant e.reply e.left
+
 pub make-requires-clause-fits : goal.make-requires-clause-fits
 make-requires-clause-fits g c =
     let s = c.self.inside in
     let e = rw c.in-Ok-Wants.field-0-is at c.in-Ok-Wants.ensures in
     subst (λ (w : Whole). fits w.durable c.in-Ok-Wants.change ≡ Ok tt) (sym e.left) (wants_what_fits s.core.tickets s.core.durable c.args.command.now c.in-Ok-Wants.change c.in-Ok-Wants.outcome (sym (e.reply.0 (λ m. cc (m)))))
+
+pub make-requires-clause-wanted : goal.make-requires-clause-wanted
+make-requires-clause-wanted g c =
+    let s = c.self.inside in
+    let e = rw c.in-Ok-Wants.field-0-is at c.in-Ok-Wants.ensures in
+    wanted-can s.core.tickets s.core.durable c.args.command.now c.in-Ok-Wants.change c.in-Ok-Wants.outcome c.self.invariant.tickets (sym (e.reply.0 (λ m. cc (m))))
 
 pub returns-in-Ok-Done-clause-leads : goal.returns-in-Ok-Done-clause-leads
 returns-in-Ok-Done-clause-leads g c =

@@ -1,10 +1,10 @@
 use Rattle.std.proofs.{Common.{◌≡◌, ◌≤◌, ◌<◌, ℕ, List, [], length, map, take, drop, refl, sym, ap, ◌∙◌, subst, true, false, ◌++◌, ◌∷◌, arith}, lemmas.{Grind.common_steps, Result.err_from_is_err_and}}
 use Rattle.std.specs.{Arc.arc_value, Prelude.not}
 use Rattle.pf_disk.specs.Disk.{EachMoment}
-use Rattle.pf_core.specs.{Durable.Edits.{Edit, after, applied}, Nexts.Ready, Pages.Page, Worlds.{Setting, flat}}
+use Rattle.pf_core.specs.{Durable.Edits.{Kept, Edit, after, applied}, Nexts.Ready, Pages.Page, Worlds.{Setting, flat}}
 use Rattle.pf_store.specs.{Rooms.group_fits, Stores.{FindsRoom, HoldsEither}}
 use Rattle.pf_book.specs.{Books.{HasRoom, Ledger, page, page_of, singles, setting_in}}
-use Rattle.pf_book.proofs.{Calling.still-either, Finding.{device-fits, device-full, room-of}, Keeping.{acked-is, goes-on}, Openable.same-openable, Parts.{all-acked}}
+use Rattle.pf_book.proofs.{Calling.still-either, Finding.{FitsThere, device-fits, device-full, same-room}, Keeping.{acked-is, goes-on}, Openable.same-openable, Parts.{all-acked}}
 use Rattle.pf_book.proofs.book.Book.keep.Goals as goal
 
 pub returns-then-len-self-clause-err : goal.returns-then-len-self-clause-err
@@ -125,8 +125,10 @@ returns-then-not-has_room-clause-err g c =
     let few : length (flat (singles (take s.acked log))) < s.limit = subst (λ (n : ℕ). n < s.limit) (counted ∙ ap length (sym (acked-is log s.acked all))) c.if-len-self.false in
     let left : c.args.next.durable ≡ applied s.core.durable e = ap (λ (r : Ready). r.durable) c.requires.made ∙ ap (λ (l : Ledger g.row.D.Denot). applied l.whole.durable e) (sym c.self.view_is) in
     let going : s.store.halted ≡ false = goes-on s.store.halted log s.acked i.halted all in
-    let nowhere : FindsRoom s.store.size s.core.durable (applied s.core.durable e) e → ⊥ = λ there.
-    cc (c.has_room.ensures.1 (going, room-of s.store.size s.core.durable c.durable.result.now (applied s.core.durable e) c.after.result.now e e (sym c.durable.ensures) (sym (c.after.ensures ∙ left)) refl there), c.if-not-has_room.true) in
+    let nowhere : FitsThere s.store.size e s.core.durable (applied s.core.durable e) → ⊥ = λ there.
+    let asked : FitsThere s.store.size e c.durable.result.now c.after.result.now =
+    same-room (FitsThere s.store.size e) s.core.durable c.durable.result.now (applied s.core.durable e) c.after.result.now (sym c.durable.ensures) (sym (c.after.ensures ∙ left)) there in
+    cc ((c.has_room.ensures.exact c.requires.wanted).1 (going, asked), c.if-not-has_room.true) in
     let full : not (group_fits s.store.size (after g.J.Naming.base (flat (singles (take s.acked log)))) (after g.J.Naming.base (flat (singles (take s.acked log)) ++ e ∷ [])) (e ∷ [])) ≡ true =
     device-full s.store.size g.J.Naming.base s.core.durable (applied s.core.durable e) (singles (take s.acked log)) e i.folded.durable refl nowhere in (
       refl,
@@ -146,7 +148,7 @@ returns-in_err-after-clause-err g c =
     let few : length (flat (singles (take s.acked log))) < s.limit = subst (λ (n : ℕ). n < s.limit) (counted ∙ ap length (sym (acked-is log s.acked all))) c.if-len-self.false in
     let left : c.args.next.durable ≡ applied s.core.durable e = ap (λ (r : Ready). r.durable) c.requires.made ∙ ap (λ (l : Ledger g.row.D.Denot). applied l.whole.durable e) (sym c.self.view_is) in
     let there : FindsRoom s.store.size s.core.durable (applied s.core.durable e) e =
-    room-of s.store.size c.durable.result.now s.core.durable c.after.result.now (applied s.core.durable e) e e c.durable.ensures (c.after.ensures ∙ left) refl (c.has_room.ensures.0 c.if-not-has_room.false).1 in
+    same-room (λ (k next : Kept). FindsRoom s.store.size k next e) c.durable.result.now s.core.durable c.after.result.now (applied s.core.durable e) c.durable.ensures (c.after.ensures ∙ left) (c.has_room.ensures.found.0 c.if-not-has_room.false).1 in
     let room : HasRoom (page_of g.J.Naming.base s.core log s.acked (setting_in s.store s.limit) s.shower.shown) e =
     record { few = few; device = device-fits s.store.size g.J.Naming.base s.core.durable (applied s.core.durable e) (singles (take s.acked log)) e i.folded.durable refl there } in
     let p = err_from_is_err_and c.from_residual.result c.from_residual.ensures.1 in
@@ -164,7 +166,7 @@ returns-in_default-clause-err g c =
     let few : length (flat (singles (take s.acked log))) < s.limit = subst (λ (n : ℕ). n < s.limit) (counted ∙ ap length (sym (acked-is log s.acked all))) c.if-len-self.false in
     let left : c.args.next.durable ≡ applied s.core.durable e = ap (λ (r : Ready). r.durable) c.requires.made ∙ ap (λ (l : Ledger g.row.D.Denot). applied l.whole.durable e) (sym c.self.view_is) in
     let there : FindsRoom s.store.size s.core.durable (applied s.core.durable e) e =
-    room-of s.store.size c.durable.result.now s.core.durable c.after.result.now (applied s.core.durable e) e e c.durable.ensures (c.after.ensures ∙ left) refl (c.has_room.ensures.0 c.if-not-has_room.false).1 in
+    same-room (λ (k next : Kept). FindsRoom s.store.size k next e) c.durable.result.now s.core.durable c.after.result.now (applied s.core.durable e) c.durable.ensures (c.after.ensures ∙ left) (c.has_room.ensures.found.0 c.if-not-has_room.false).1 in
     let room : HasRoom (page_of g.J.Naming.base s.core log s.acked (setting_in s.store s.limit) s.shower.shown) e =
     record { few = few; device = device-fits s.store.size g.J.Naming.base s.core.durable (applied s.core.durable e) (singles (take s.acked log)) e i.folded.durable refl there } in
     (refl, subst (λ (l : Ledger g.row.D.Denot). HasRoom (page l) e) c.self.view_is room)

@@ -1,6 +1,7 @@
-use Rattle.std.proofs.Common.{◌≡◌, [], ◌∷◌, length, map, refl, sym, ap, ◌∙◌, arith}
+use Rattle.std.proofs.Common.{◌≡◌, [], ◌∷◌, length, map, refl, sym, ap, ◌∙◌, subst, arith}
 use Rattle.std.specs.Arc.{arc_value}
-use Rattle.pf_ticket.specs.Tickets.{fresh}
+use Rattle.pf_ticket.specs.{Laws.Tickets.IsWithin as AreTicketsWithin, Tickets.fresh}
+use Rattle.pf_ticket.proofs.Keeping.{keeps_the_limits}
 use Rattle.pf_core.specs.{Durable.Edits.Kept, Wholes.Whole, Worlds.{Setting, begun, opened, down}}
 use Rattle.pf_core.specs.Worlds.{raised as raised'}
 use Rattle.pf_core.proofs.LongerWorlds.{stands-by, stands-opened}
@@ -14,7 +15,8 @@ invariant_of-book g c =
     let d = arc_value c.opening.inside.durable in
     let given : d ≡ g.J.Naming.base = ap (λ (x : Opened g.row.D.Denot). x.given) c.opening.view_is ∙ c.requires.name.0 in
     new-book g.D.Disk.seen g.D.Disk.unsynced store g.J.Naming.base c.new.result d _ (setting_in store c.args.history_limit) _ _ _ c.opening.invariant
-    (ap (λ xs. map arc_value xs) c.new-in-Ok-views.ensures.items) c.in-Some.ensures c.front-front.ensures given (ap (λ (w : Whole). w.durable) c.new.ensures ∙ c.in-Ok.ensures) (omega (arith, c.requires.high))
+    (ap (λ xs. map arc_value xs) c.new-in-Ok-views.ensures.items) c.in-Some.ensures c.front-front.ensures given (ap (λ (w : Whole). w.durable) c.new.ensures ∙ c.in-Ok.ensures)
+    (subst (λ (w : Whole). AreTicketsWithin w.tickets) (sym c.new.ensures) (keeps_the_limits.first (arc_value c.in-Ok.shared).epoch)) (omega (arith, c.requires.high))
     c.in-Ok-views.ensures.shower.0 c.in-Ok-views.ensures.shower.1
 
 pub returns-in-Ok-views-clause-worlds : goal.returns-in-Ok-views-clause-worlds

@@ -129,7 +129,7 @@ returns-in-Ok-add-clause-roomy g c going =
     let change = c.args.change.now in
     let before = c.args.before.now in
     let is = subst (IsRecorded c.self.inside.banks.version (made change)) (sym c.deref.ensures.value) c.in-Ok.ensures.written in
-    let found : FindsRoom c.args.self.now.size before c.args.after.now change = (c.has_room.ensures.0 c.if-not-has_room.false).1 in
+    let found : FindsRoom c.args.self.now.size before c.args.after.now change = (c.has_room.ensures.found.0 c.if-not-has_room.false).1 in
     let then : IsRoomy (bank_size (length (d.seen b.journal.disk))) (applied before change) =
     subst (λ (v : Storage g.row.D.Denot). IsRoomy v.size (applied before change)) (sym c.self.view_is) (subst (λ (k : Kept). IsRoomy c.args.self.now.size k) c.requires.leads found.room.then) in
     let holds : Holds (d.seen b.journal.disk) before = subst (λ (v : Storage g.row.D.Denot). Holds (d.seen v.disk) before) (sym c.self.view_is) (c.requires.stands going).holds in
@@ -144,7 +144,7 @@ returns-in-Err-Memory-add-clause-roomy g c going =
     let change = c.args.change.now in
     let before = c.args.before.now in
     let is = subst (IsRecorded c.self.inside.banks.version (made change)) (sym c.deref.ensures.value) c.in-Ok.ensures.written in
-    let found : FindsRoom c.args.self.now.size before c.args.after.now change = (c.has_room.ensures.0 c.if-not-has_room.false).1 in
+    let found : FindsRoom c.args.self.now.size before c.args.after.now change = (c.has_room.ensures.found.0 c.if-not-has_room.false).1 in
     let then : IsRoomy (bank_size (length (d.seen b.journal.disk))) (applied before change) =
     subst (λ (v : Storage g.row.D.Denot). IsRoomy v.size (applied before change)) (sym c.self.view_is) (subst (λ (k : Kept). IsRoomy c.args.self.now.size k) c.requires.leads found.room.then) in
     let holds : Holds (d.seen b.journal.disk) before = subst (λ (v : Storage g.row.D.Denot). Holds (d.seen v.disk) before) (sym c.self.view_is) (c.requires.stands going).holds in
@@ -159,7 +159,7 @@ returns-in-Err-Full-clause-roomy g c going =
     let change = c.args.change.now in
     let before = c.args.before.now in
     let is = subst (IsRecorded c.self.inside.banks.version (made change)) (sym c.deref.ensures.value) c.in-Ok.ensures.written in
-    let found : FindsRoom c.args.self.now.size before c.args.after.now change = (c.has_room.ensures.0 c.if-not-has_room.false).1 in
+    let found : FindsRoom c.args.self.now.size before c.args.after.now change = (c.has_room.ensures.found.0 c.if-not-has_room.false).1 in
     let then : IsRoomy (bank_size (length (d.seen b.journal.disk))) (applied before change) =
     subst (λ (v : Storage g.row.D.Denot). IsRoomy v.size (applied before change)) (sym c.self.view_is) (subst (λ (k : Kept). IsRoomy c.args.self.now.size k) c.requires.leads found.room.then) in
     let holds : Holds (d.seen b.journal.disk) before = subst (λ (v : Storage g.row.D.Denot). Holds (d.seen v.disk) before) (sym c.self.view_is) (c.requires.stands going).holds in
@@ -174,7 +174,7 @@ returns-clause-roomy g c going =
     let change = c.args.change.now in
     let before = c.args.before.now in
     let is = subst (IsRecorded c.self.inside.banks.version (made change)) (sym c.deref.ensures.value) c.in-Ok.ensures.written in
-    let found : FindsRoom c.args.self.now.size before c.args.after.now change = (c.has_room.ensures.0 c.if-not-has_room.false).1 in
+    let found : FindsRoom c.args.self.now.size before c.args.after.now change = (c.has_room.ensures.found.0 c.if-not-has_room.false).1 in
     let then : IsRoomy (bank_size (length (d.seen b.journal.disk))) (applied before change) =
     subst (λ (v : Storage g.row.D.Denot). IsRoomy v.size (applied before change)) (sym c.self.view_is) (subst (λ (k : Kept). IsRoomy c.args.self.now.size k) c.requires.leads found.room.then) in
     let holds : Holds (d.seen b.journal.disk) before = subst (λ (v : Storage g.row.D.Denot). Holds (d.seen v.disk) before) (sym c.self.view_is) (c.requires.stands going).holds in
