@@ -1,9 +1,9 @@
 -- Each step keeps the rule of the copies.
-use Rattle.std.proofs.Common.{◌≡◌, ◌≢◌, ◌⊎◌, ℕ, List, [], ◌∷◌, ◌++◌, fold, set, refl, sym, subst, inl, inr}
+use Rattle.std.proofs.Common.{◌≡◌, ◌≢◌, ◌⊎◌, ℕ, List, [], ◌∷◌, fold, set, refl, sym, subst, inl, inr}
 use mathlib.Core.List.{IsPrefix}
 use mathlib.Core.Option.{some}
 use lib.ListN.{get_elem?}
-use Rattle.crossbeam_utils.specs.Register.{Admits, TurnsAt, Forks, Merges}
+use Rattle.crossbeam_utils.specs.Register.{Admits, TurnsAt}
 use Rattle.atomic_table.proofs.Lists.{at_set, at_snoc}
 use Rattle.logbook.specs.Pages.{Book}
 use Rattle.pf_core.specs.Durable.Edits.{Kept, Edit}
@@ -52,39 +52,3 @@ pub publishes : (base : Kept) (history : Book) (seat : ℕ) (v : List Edit) (x y
 publishes base history seat v x y operations is chain = turns base history seat v x y
     (subst (λ (s : Version). IsPrefix x.changes s.changes) (sym is) (fold_grows x operations))
     (subst (λ (s : Version). IsChain base history s) (sym is) chain)
-
--- the shower tells all that it knows
-pub tells : (base : Kept) (history : Book) (seat : ℕ) (v : List Edit) → Forks (Keeps base history) seat v v v
-tells base history seat v x views h at = (h.0, fronts)
-  where
-    old : (j : ℕ) (u : List Edit) → ((j ≡ seat) × (v ≡ u)) ⊎ ((j ≢ seat) × (get_elem? views j ≡ some u)) → IsPrefix u x.changes
-    old j u (inl t) = subst (λ (l : List Edit). IsPrefix l x.changes) t.1 (h.1 seat v at)
-    old j u (inr t) = h.1 j u t.1
-
-    front : (j : ℕ) (u : List Edit) → (get_elem? (set views seat v) j ≡ some u) ⊎ (v ≡ u) → IsPrefix u x.changes
-    front j u (inl t) = old j u (at_set views seat j v u t)
-    front j u (inr same) = subst (λ (l : List Edit). IsPrefix l x.changes) same (h.1 seat v at)
-
-    fronts : (j : ℕ) (u : List Edit) → get_elem? (set views seat v ++ v ∷ []) j ≡ some u → IsPrefix u x.changes
-    fronts j u e = front j u (at_snoc (set views seat v) v u j e)
-
--- a seer learns what was told
-pub learns : (base : Kept) (history : Book) (seat : ℕ) (v : List Edit) (other : ℕ) (w : List Edit) → Merges (Keeps base history) seat v other w w []
-learns base history seat v other w x views h at apart there =
-    (h.0, λ j u e. spent j u (at_set (set views seat w) other j [] u e))
-  where
-    first : ((other ≡ seat) × (w ≡ w)) ⊎ ((other ≢ seat) × (get_elem? views other ≡ some w)) → IsPrefix w x.changes
-    first (inl t) = absurd (apart t.0)
-    first (inr t) = h.1 other w t.1
-
-    told : IsPrefix w x.changes
-    told = first (at_set views seat other w w there)
-
-    mine : (j : ℕ) (u : List Edit) → ((j ≡ seat) × (w ≡ u)) ⊎ ((j ≢ seat) × (get_elem? views j ≡ some u)) → IsPrefix u x.changes
-    mine j u (inl t) = subst (λ (l : List Edit). IsPrefix l x.changes) t.1 told
-    mine j u (inr t) = h.1 j u t.1
-
-    spent : (j : ℕ) (u : List Edit) →
-        ((j ≡ other) × ([] ≡ u)) ⊎ ((j ≢ other) × (get_elem? (set views seat w) j ≡ some u)) → IsPrefix u x.changes
-    spent j u (inl t) = subst (λ (l : List Edit). IsPrefix l x.changes) t.1 (x.changes, refl)
-    spent j u (inr t) = mine j u (at_set views seat j w u t.1)

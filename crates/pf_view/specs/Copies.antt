@@ -44,6 +44,6 @@ Keeps base history x views = IsChain base history x
 abbrev pub Sees : Kept → Book → List Edit → Version → Version → List Edit → Type 0
 Sees base history v x y w = IsPrefix v w × (w ≡ y.changes) × IsChain base history y
 
--- what a shower keeps, whose own view is v: it saw all that is shown, and this is a chain from the base, also with all that is pending
-abbrev pub IsStage : Kept → Book → Version → List Version → List Edit → Type 0
-IsStage base history x pending v = (v ≡ x.changes) × IsChain base history x × IsChain base history (offered_version x pending)
+-- what a shower keeps: what is shown is a chain from the base, and so it is with all that is pending
+abbrev pub IsStage : Kept → Book → Version → List Version → Type 0
+IsStage base history x pending = IsChain base history x × IsChain base history (offered_version x pending)

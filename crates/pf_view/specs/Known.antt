@@ -1,9 +1,11 @@
 -- What contracts see of a seer and of a shower. Own.
-use Rattle.std.specs.Prelude.{◌≡◌, ◌⊎◌, ◌<◌, List, [], length, nat_lt, if◌then◌else◌}
+use Rattle.std.specs.Prelude.{◌≡◌, List, [], length, nat_lt, if◌then◌else◌}
+use mathlib.Core.List.{IsPrefix}
 use Rattle.atomic_table.specs.Seated.{TableId}
 use Rattle.pf_core.specs.Durable.Edits.{Edit}
 
--- a seer: the changes of the copy that it saw last, the most that it learnt by a token, and the copies at which it sits
+-- a seer: the changes of the copy by which it judged last, or what it was told when it was made; the most that it learnt by a token; and
+-- the copies at which it sits
 pub record Known : Type 0 where
   pub seen : List Edit
   pub learnt : List Edit
@@ -27,9 +29,10 @@ SitsAt copies s = s.copies ≡ copies
 abbrev pub IsNewShower : Stage → Type 0
 IsNewShower s = (s.shown ≡ []) × (s.offered ≡ [])
 
--- the seer saw nothing new, or a copy with fewer changes than it learnt
-abbrev pub SeesTooFew : Known → Known → Type 0
-SeesTooFew old new = (new.seen ≡ old.seen) ⊎ (length new.seen < length old.learnt)
+-- what a seer keeps that saw these changes, and whose place has the view v: what begins with v and with all that it learnt begins with
+-- them
+abbrev pub HoldsSight : List Edit → List Edit → List Edit → Type 0
+HoldsSight v learnt saw = (changes : List Edit) → IsPrefix v changes → IsPrefix learnt changes → IsPrefix saw changes
 
 -- the one with more changes
 abbrev pub longer : List Edit → List Edit → List Edit

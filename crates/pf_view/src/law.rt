@@ -1,6 +1,5 @@
 //! The rule of the published copies.
 use crate::shown::Shown;
-use atomic_table::{Join, Split};
 use crossbeam_utils::rule::{Outcome, Protocol};
 use pf_core::Change;
 use pf_past::Naming;
@@ -33,21 +32,4 @@ impl<J: Naming> Outcome<Shown, Sight> for Seeing<J> {
     ghost use Rattle.pf_view.specs.Copies.{Sees};
 
     ghost then = { Sees J.base J.history };
-}
-
-/// The shower tells all that it knows, and a seer that knows nothing learns it.
-pub struct Telling;
-
-impl Split<Sight> for Telling {
-    ghost left = { λ v. v };
-
-    ghost right = { λ v. v };
-}
-
-impl Join<Sight> for Telling {
-    ghost use Rattle.std.specs.Prelude.{[]};
-
-    ghost both = { λ _ w. w };
-
-    ghost spent = { [] };
 }

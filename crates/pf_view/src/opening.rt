@@ -1,7 +1,6 @@
 //! A shower and its seers.
 ghost use Rattle.std.specs.{Prelude.{◌≡◌, ◌<◌, ◌≤◌, [], drop, vec_len, All, IfOk}, Arc.arc_value};
 ghost use Rattle.pf_view.specs.declared.opening.ViewFault.TheVariants.{Memory};
-ghost use Rattle.left_right.specs.Sides.{view};
 ghost use Rattle.pf_past.specs.Pasts.{all_acked, mark};
 ghost use Rattle.pf_view.specs.{Copies.{IsChain, version}, Known.{IsNewSeer, IsNewShower, SitsAt}};
 
@@ -73,7 +72,7 @@ fn two_copies<J: Naming>(
     requires start { start.now ≡ all_acked [] }
     requires seers { (0 < seers) × (seers ≤ 64) }
     ensures base { IfOk result (λ w. IsChain J.base J.history w.desk.shown.value) }
-    ensures nothing_shown { IfOk result (λ w. (w.desk.shown.value.changes ≡ []) × (view w.desk.place ≡ [])) }
+    ensures nothing_shown { IfOk result (λ w. w.desk.shown.value.changes ≡ []) }
     ensures nothing_pending { IfOk result (λ w. drop w.behind w.log.items ≡ []) }
     ensures seated { IfOk result (λ w. w.desk.place.table_id ≡ (arc_value w.desk.from.board).shared.table_id) }
 {
@@ -124,10 +123,8 @@ fn seated<J: Naming>(
 // A seer that saw nothing and learnt nothing.
 fn new_seer<J: Naming>(reader: CopyReader<J>, start: &Front<J>) -> Seer<J>
     requires start { start.now ≡ all_acked [] }
-    requires nothing { view reader.place ≡ [] }
     ensures new { IsNewSeer result }
     ensures seated { SitsAt reader.place.table_id result }
 {
-    let nothing = Token::new(start.again(), 0);
-    Seer::new(reader, start.again(), nothing)
+    Seer::told(reader, Token::new(start.again(), 0))
 }

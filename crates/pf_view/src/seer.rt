@@ -4,7 +4,7 @@ ghost use mathlib.Core.List.{IsPrefix};
 ghost use Rattle.left_right.specs.Sides.{view};
 ghost use Rattle.pf_core.specs.Durable.Edits.{after, verdict};
 ghost use Rattle.pf_past.specs.Pasts.{all_acked};
-ghost use Rattle.pf_view.specs.Known.{SeesTooFew, learns};
+ghost use Rattle.pf_view.specs.Known.{SitsAt, learns};
 
 use crate::law::{Law, Seeing, Sight};
 use crate::shown::Shown;
@@ -27,7 +27,7 @@ pub(crate) type CopyReader<J> = Reader<Shown, Sight, Law<J>>;
 #[derive(Drop)]
 pub struct Seer<J: Naming> {
     reader: CopyReader<J>,
-    // the changes of the copy that it saw last, which are the most that it saw
+    // the changes of the copy by which it judged last, which are the most that it saw, or else what it was told when it was made
     saw: Front<J>,
     // the most that it learnt
     learnt: Token<J>,
@@ -36,38 +36,37 @@ pub struct Seer<J: Naming> {
 impl<J: Naming> Model for Seer<J> {
     ghost use Rattle.std.specs.Prelude.{◌≡◌};
     ghost use Rattle.pf_past.specs.Pasts.{all_acked};
-    ghost use Rattle.pf_view.specs.Known.{Known};
+    ghost use Rattle.pf_view.specs.Known.{Known, HoldsSight};
 
     ghost Value = { Known };
 
     ghost view = { λ s. record { seen = s.saw.front; learnt = s.learnt; copies = s.reader.place.table_id } };
 
-    ghost invariant = { λ s. s.saw ≡ all_acked s.reader.place.me.0.client };
+    ghost invariant = { λ s. (s.saw ≡ all_acked s.saw.front) × HoldsSight s.reader.place.me.0.client s.learnt s.saw.front };
 }
 
 impl<J: Naming> Seer<J> {
-    // One that saw this front and learnt this token.
-    pub(crate) fn new(reader: CopyReader<J>, saw: Front<J>, learnt: Token<J>) -> Seer<J>
-        requires saw { saw ≡ all_acked (view reader.place) }
-        ensures seen { result.seen ≡ view reader.place }
-        ensures learnt { result.learnt ≡ learnt }
-        ensures copies { result.copies ≡ reader.place.table_id }
+    // One that was told this token: that is all that it saw, and all that it learnt.
+    pub(crate) fn told(reader: CopyReader<J>, token: Token<J>) -> Seer<J>
+        ensures seen { result.seen ≡ token }
+        ensures learnt { result.learnt ≡ token }
+        ensures seated { SitsAt reader.place.table_id result }
     {
         Seer {
             reader,
-            saw,
-            learnt,
+            saw: token.front(),
+            learnt: token,
         }
     }
 
     /// What happens to a packet by the copy that is shown: what the opening gave after a front of the history. This front begins with all
     /// that this seer saw and with all that it learnt, and each change of it is acknowledged. It takes no lock, no memory and no handle, and
-    /// waits for nobody. `Gone`: it judged nothing, and has seen nothing new, or a copy with fewer changes than it learnt.
+    /// waits for nobody. `Gone`: it judged nothing, and what it saw and learnt stays.
     pub fn judge(&mut self, packet: &Packet) -> Result<Verdict, Gone>
         ensures verdict { IfOk result (λ v. v ≡ verdict (after J.base self.new.seen) packet.now) }
         ensures seen { IsPrefix self.old.seen self.new.seen }
         ensures learnt { IfOk result (λ _. IsPrefix self.old.learnt self.new.seen) }
-        ensures gone { OnErr result (SeesTooFew self.old self.new) }
+        ensures gone { OnErr result (self.new.seen ≡ self.old.seen) }
         ensures same { self.new.learnt ≡ self.old.learnt }
     {
         let floor = self.learnt.count();
@@ -77,11 +76,8 @@ impl<J: Naming> Seer<J> {
         let Some((saw, verdict)) = looked else {
             return Err(Gone);
         };
+        self.learnt.begins(&saw);
         self.saw = saw;
-        let Some(verdict) = verdict else {
-            return Err(Gone);
-        };
-        self.learnt.begins(&self.saw);
         Ok(verdict)
     }
 
@@ -115,23 +111,22 @@ impl<J: Naming> Seer<J> {
     }
 }
 
-// Judges within one entry, which gives the front that it sees. `None` within that: the copy has too few changes.
+// Judges within one entry, which gives the front that it sees. `None`: it got no copy, or one with too few changes.
 fn judged<J: Naming>(
     reader: CopyReader<J>,
     floor: usize,
     packet: &Packet,
-) -> (CopyReader<J>, Option<(Front<J>, Option<Verdict>)>)
+) -> (CopyReader<J>, Option<(Front<J>, Verdict)>)
     ensures front { IfSome result.1 (λ looked. looked.0 ≡ all_acked (view result.0.place)) }
-    ensures verdict { IfSome result.1 (λ looked. MatchOption looked.1 (length (view result.0.place) < floor)
-        (λ v. (v ≡ verdict (after J.base (view result.0.place)) packet.now) × (floor ≤ length (view result.0.place)))) }
+    ensures verdict { IfSome result.1 (λ looked. looked.1 ≡ verdict (after J.base (view result.0.place)) packet.now) }
+    ensures enough { IfSome result.1 (λ looked. floor ≤ length (view result.0.place)) }
     ensures seen { IsPrefix (view reader.place) (view result.0.place) }
-    ensures none { MatchOption result.1 (view result.0.place ≡ view reader.place) (λ looked. Unit {0}) }
 {
     match reader.enter_as::<Seeing<J>>() {
         Ok(reading) => {
             let saw = reading.get().front.again().named::<J>();
             let verdict = judged_by(reading.get(), floor, packet);
-            (reading.leave(), Some((saw, verdict)))
+            (reading.leave(), verdict.map(|verdict| (saw, verdict)))
         }
         Err(reader) => (reader, None),
     }

@@ -1,11 +1,10 @@
 //! What publishes.
 ghost use Rattle.std.specs.{Prelude.{◌≡◌, ◌<◌, ◌++◌, [], length, drop, vec_len, IfSome, OnOk, OnErr}, Arc.arc_value};
-ghost use Rattle.left_right.specs.Sides.{view};
 ghost use Rattle.pf_core.specs.Durable.Edits.{after};
 ghost use Rattle.pf_past.specs.Pasts.{all_acked};
-ghost use Rattle.pf_view.specs.{Sharing.edits_of, Copies.{offered_version, IsChain}, Known.IsNewShower};
+ghost use Rattle.pf_view.specs.{Sharing.edits_of, Copies.{offered_version, IsChain}, Known.{IsNewShower, SitsAt}};
 
-use crate::law::{Law, Seeing, Sight, Telling};
+use crate::law::{Law, Seeing, Sight};
 use crate::seer::Seer;
 use crate::shown::{Operation, Shown};
 use crate::token::Token;
@@ -44,14 +43,14 @@ impl<J: Naming, R: Wait + Drop> Model for Shower<J, R> {
     ghost view = { λ s. stage s.writer.desk.shown.value (drop s.writer.behind s.writer.log.items) s.writer.desk.place.table_id };
 
     ghost invariant = { λ s.
-        IsStage J.base J.history s.writer.desk.shown.value (drop s.writer.behind s.writer.log.items) s.writer.desk.place.me.0.client };
+        IsStage J.base J.history s.writer.desk.shown.value (drop s.writer.behind s.writer.log.items) };
 }
 
 impl<J: Naming, R: Wait + Drop> Shower<J, R> {
     // Nothing is offered at a new writer.
     pub(crate) fn new(writer: CopyWriter<J>, rt: R) -> Shower<J, R>
         requires base { IsChain J.base J.history writer.desk.shown.value }
-        requires nothing_shown { (writer.desk.shown.value.changes ≡ []) × (view writer.desk.place ≡ []) }
+        requires nothing_shown { writer.desk.shown.value.changes ≡ [] }
         requires nothing_pending { drop writer.behind writer.log.items ≡ [] }
         ensures new { IsNewShower result }
         ensures copies { result.copies ≡ writer.desk.place.table_id }
@@ -99,18 +98,16 @@ impl<J: Naming, R: Wait + Drop> Shower<J, R> {
         })
     }
 
-    /// One more seer, which was told all that is shown: each of its verdicts is by no less. `None`: each place is in use. There are as
-    /// many places as [`views`](crate::views) made seers, and one that is dropped leaves its place.
-    pub fn told_seer(&mut self) -> Option<Seer<J>>
-        ensures seen { IfSome result (λ s. s.seen ≡ self.old.shown) }
-        ensures learnt { IfSome result (λ s. s.learnt ≡ self.old.shown) }
-        ensures shown { self.new.shown ≡ self.old.shown }
-        ensures offered { self.new.offered ≡ self.old.offered }
+    /// One more seer, at the copies to which this shower publishes, that was told all that is shown: each of its verdicts is by no less.
+    /// `None`: each place is in use. There are as many places as [`views`](crate::views) made seers, and one that is dropped leaves its
+    /// place.
+    pub fn told_seer(&self) -> Option<Seer<J>>
+        ensures seen { IfSome result (λ s. s.seen ≡ self.now.shown) }
+        ensures learnt { IfSome result (λ s. s.learnt ≡ self.now.shown) }
+        ensures seated { IfSome result (SitsAt self.now.copies) }
     {
-        let mut reader = self.writer.factory().reader().ok()?;
-        reader.learn::<Telling>(self.writer.tell::<Telling>());
-        let token = self.token();
-        Some(Seer::new(reader, token.front(), token))
+        let reader = self.writer.factory().reader().ok()?;
+        Some(Seer::told(reader, self.token()))
     }
 
     /// What seers are shown.
@@ -147,8 +144,6 @@ fn publish<J: Naming, R: Wait>(
     ensures nothing_pending { OnOk result.1 (drop result.0.behind result.0.log.items ≡ []) }
     ensures err { OnErr result.1 ((result.0.desk.shown.value ≡ writer.desk.shown.value)
         × (drop result.0.behind result.0.log.items ≡ drop writer.behind writer.log.items)) }
-    ensures seen { view writer.desk.place ≡ writer.desk.shown.value.changes →
-        view result.0.desk.place ≡ result.0.desk.shown.value.changes }
 {
     writer.publish_as::<Seeing<J>, R>(rt)
 }

@@ -4,7 +4,7 @@ use mathlib.Core.List.{IsPrefix}
 use Rattle.pf_rule.specs.Packets.{PlainPacket}
 use Rattle.pf_core.specs.declared.{command.Command.Command, command.Command.TheVariants.Ask, command.Question.TheVariants.Judge, reply.Answer.TheVariants.Judged, reply.Reply.Reply, reply.Reply.TheVariants.Answer}
 use Rattle.pf_core.specs.{Durable.Edits.{Kept, after, verdict}, Worlds.Setting}
-use Rattle.pf_view.specs.Known.{Known, SeesTooFew}
+use Rattle.pf_view.specs.Known.{Known}
 use Rattle.pf_line.specs.Reply.Replies.{reply_text}
 use Rattle.pf_book.specs.Receipts.{Slip, IsAnswered, learns_from}
 use Rattle.pf_session.specs.declared.line_engine.fault.EngineFault.{EngineFault}
@@ -34,11 +34,12 @@ at_next_line s = record s { line = next_line s.line }
 abbrev pub gone_text : List ℕ
 gone_text = codes "err gone" ++ 10 ∷ []
 
--- The packet was judged by a published copy that this seer saw, whose changes begin with all that it learnt; or no copy could.
+-- The packet was judged by a published copy that this seer saw, whose changes begin with all that it learnt; or none was found that could,
+-- and the seer saw nothing new.
 abbrev pub IsVerdict : Kept → PlainPacket → Known → Known → List ℕ → Type 0
 IsVerdict base packet old new text =
     (IsPrefix old.learnt new.seen × (text ≡ reply_text (Answer (Judged (verdict (after base new.seen) packet)))))
-    ⊎ (SeesTooFew old new × (text ≡ gone_text))
+    ⊎ ((new.seen ≡ old.seen) × (text ≡ gone_text))
 
 -- A seer judged the packet, and learnt nothing by it.
 pub record HasJudged (base : Kept) (packet : PlainPacket) (old new : Known) (text : List ℕ) : Type 0 where
