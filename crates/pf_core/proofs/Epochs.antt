@@ -3,14 +3,15 @@ use Rattle.std.proofs.{Common.{◌≡◌, ℕ, ◌<◌, ◌≤◌, ◌==◌, ◌
 use Rattle.std.specs.{List.AllByRecursion}
 use Rattle.pf_ticket.specs.{declared.{name.RulesetName.RulesetName, ticket.Ticket.Ticket}, Laws.Tickets.IsGivenLast, Mentions.{Mention, opened as left_by}, Names.{is_ticket, tickets_from}, Tickets.{Open, fresh, valid_ticket}}
 use Rattle.pf_ticket.proofs.{Latest.valid_is_given_last, Moves.epoch-stays}
-use Rattle.pf_core.specs.{Durable.Edits.after, History.{base_of, tickets_in, tickets_by, tickets_given}, Laws.Openings.{AreVoid, VoidsTickets, RaisesTheEpoch}, Laws.Worlds.{mentions_by, mentions_since}, Worlds.{Setting, Held, State, up, down, Event, called, entered, learned, crashed, opened, refused_opening, flat, kept_groups, next, IsLegal, state_after, IsLegalFrom}}
-use Rattle.pf_core.proofs.{Folds.after-epoch, Limits.legal-told, LongerWorlds.{AgreesIn, agrees-next, agrees-from, AreLegal, in-two}}
+use Rattle.pf_core.specs.{Durable.Edits.after, History.{base_of, tickets_in, tickets_by, tickets_given}, Laws.Openings.{AreVoid, VoidsTickets, RaisesTheEpoch}, Laws.Worlds.{mentions_by, mentions_since}, Worlds.{Setting, Held, State, up, down, Event, called, called_group, entered, learned, crashed, opened, refused_opening, flat, kept_groups, next, IsLegal, state_after, IsLegalFrom}}
+use Rattle.pf_core.proofs.{Courses.group-untold, Folds.after-epoch, Limits.legal-told, LongerWorlds.{AgreesIn, agrees-next, agrees-from, AreLegal, in-two}}
 
 -- ---- epochs
 
 epoch-next : (st : State) (ev : Event) → (base_of st).epoch ≤ (base_of (next st ev)).epoch
 epoch-next (up h) (crashed doing n) = let same : (after h.base (flat (kept_groups h doing n))).epoch ≡ h.base.epoch = after-epoch h.base (flat (kept_groups h doing n)) in omega (arith, same)
 epoch-next (up h) (called c t) = le_refl _
+epoch-next (up h) (called_group cs result t) = le_refl _
 epoch-next (up h) (entered w n) = le_refl _
 epoch-next (up h) (learned w n) = le_refl _
 epoch-next (up h) (opened setting) = le_refl _
@@ -19,6 +20,7 @@ epoch-next (down d) (opened setting) = omega arith
 epoch-next (down d) (refused_opening true) = omega arith
 epoch-next (down d) (refused_opening false) = le_refl _
 epoch-next (down d) (called c t) = le_refl _
+epoch-next (down d) (called_group cs result t) = le_refl _
 epoch-next (down d) (entered w n) = le_refl _
 epoch-next (down d) (learned w n) = le_refl _
 epoch-next (down d) (crashed doing n) = le_refl _
@@ -57,6 +59,8 @@ step-up (up h) ms (called c t) e legal agrees low =
     let ts : List Ticket = tickets_in c.reply in
     subst (AreUpTo e) (sym (legal-told h c.command c.reply t.failed legal.reply).told) (from-up h.tickets.epoch h.tickets.next (length ts) e (omega (arith, own, low)))
 step-up (down d) ms (called c t) e legal agrees low = absurd legal
+step-up (up h) ms (called_group cs result t) e legal agrees low = subst (AreUpTo e) (sym (group-untold h cs result t.failed legal.reply)) tt
+step-up (down d) ms (called_group cs result t) e legal agrees low = absurd legal
 step-up st ms ev e legal agrees low = tt
 
 given-up : (st : State) (ms : List Mention) (world : List Event) → IsLegalFrom st world → AgreesIn st ms → AreUpTo (base_of (state_after st world)).epoch (tickets_given world)

@@ -1,6 +1,6 @@
 -- What an opening gives is the fold of all that was kept before it.
 use Rattle.std.proofs.{Common.{◌≡◌, ℕ, true, false, List, [], ◌∷◌, refl, sym, ap, ◌∙◌}, lemmas.List.Sums.fold-append}
-use Rattle.pf_core.specs.{Durable.Edits.{in_epoch, Kept, Edit, commits, adds, deletes, sets, acts, removes, applied, after}, History.{base_of, kept_by, earlier}, Laws.Openings.{IsButForEpoch, GivesTheFold}, Worlds.{State, up, down, Event, called, entered, learned, crashed, opened, refused_opening, flat, next, state_after}}
+use Rattle.pf_core.specs.{Durable.Edits.{in_epoch, Kept, Edit, commits, adds, deletes, sets, acts, removes, applied, after}, History.{base_of, kept_by, earlier}, Laws.Openings.{IsButForEpoch, GivesTheFold}, Worlds.{State, up, down, Event, called, called_group, entered, learned, crashed, opened, refused_opening, flat, next, state_after}}
 use Rattle.pf_core.proofs.Fronts.{flat-append}
 
 applied-in_epoch : (e : ℕ) (d : Kept) (x : Edit) → applied (in_epoch e d) x ≡ in_epoch e (applied d x)
@@ -22,12 +22,14 @@ after-epoch d xs = ap (λ (k : Kept). k.epoch) (after-in_epoch d.epoch d xs)
 -- one event
 base-step : (st : State) (ev : Event) → IsButForEpoch (base_of (next st ev)) (after (base_of st) (flat (kept_by st ev)))
 base-step (up h) (called c t) = refl
+base-step (up h) (called_group cs result t) = refl
 base-step (up h) (entered w n) = refl
 base-step (up h) (learned w n) = refl
 base-step (up h) (crashed doing n) = refl
 base-step (up h) (opened setting) = refl
 base-step (up h) (refused_opening rose) = refl
 base-step (down d) (called c t) = refl
+base-step (down d) (called_group cs result t) = refl
 base-step (down d) (entered w n) = refl
 base-step (down d) (learned w n) = refl
 base-step (down d) (crashed doing n) = refl

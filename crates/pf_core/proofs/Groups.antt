@@ -1,6 +1,7 @@
 -- Which groups are kept.
 use Rattle.std.proofs.{Common.{◌≡◌, ℕ, ◌+◌, ◌<◌, ◌≤◌, Bool, true, false, cond, ◌⊎◌, inl, inr, List, [], ◌∷◌, ◌++◌, length, take, refl, sym, ap, ◌∙◌, subst, append_assoc, append-nil, Result, Ok, Err, nat_lt, arith}, lemmas.Bool.Decides.nat_tests}
-use Rattle.pf_core.specs.{declared.{command.Command.Command, command.Command.TheVariants.Ask, command.Command.TheVariants.History, reply.Refusal.Refusal, reply.Outcome.Outcome, reply.Refusal.TheVariants.Halted, reply.Refusal.TheVariants.HistoryFull, reply.Refusal.TheVariants.Full, reply.Reply.Reply, reply.Reply.TheVariants.Answer, reply.Reply.TheVariants.Applied, reply.Reply.TheVariants.Stored, reply.Reply.TheVariants.Refused, step.Step.Step, step.Step.TheVariants.Done, step.Step.TheVariants.Wants, step.Step.TheVariants.OfHistory}, Commands.step_by, Durable.Edits.Edit, History.{acked_of, pending_of, kept_by, earlier, acknowledged, history, offered_by, offered, AreAmong}, Laws.Openings.{IsFrontOf, KeepsWhole, KeepsAcknowledged}, Worlds.{Held, State, up, down, Event, called, entered, learned, crashed, opened, refused_opening, log_of, durable_of, is_halted, room_for, if_ok, or_refused, due_at, group_at, group_in, group_of, kept_groups, acked_by, is_fault, pending_by, next, state_after}}
+use Rattle.pf_addr.specs.Refusing.{and_then, unless}
+use Rattle.pf_core.specs.{declared.{command.Command.Command, command.Command.TheVariants.Ask, command.Command.TheVariants.History, reply.Refusal.Refusal, reply.Outcome.Outcome, reply.Refusal.TheVariants.Halted, reply.Refusal.TheVariants.HistoryFull, reply.Refusal.TheVariants.Full, reply.Reply.Reply, reply.Reply.TheVariants.Answer, reply.Reply.TheVariants.Applied, reply.Reply.TheVariants.Stored, reply.Reply.TheVariants.Refused, step.Step.Step, step.Step.TheVariants.Done, step.Step.TheVariants.Wants, step.Step.TheVariants.OfHistory}, Commands.{step_by, group_words}, Durable.Edits.Edit, History.{acked_of, pending_of, kept_by, earlier, acknowledged, history, offered_by, offered, AreAmong}, Laws.Openings.{IsFrontOf, KeepsWhole, KeepsAcknowledged}, Worlds.{Held, State, up, down, Event, called, called_group, entered, learned, crashed, opened, refused_opening, log_of, durable_of, is_halted, room_for, if_ok, or_refused, due_at, group_at, group_in, grouped, changes_due, group_all, group_of, kept_groups, acked_by, is_fault, pending_by, acked_by_group, pending_by_group, next, state_after}}
 use Rattle.pf_core.proofs.Fronts.{front-more, front-trans, front-behind, among-refl, among-take, among-append, among-trans}
 
 -- ---- the group of a step
@@ -19,16 +20,23 @@ pub record IsNotKept (h : Held) (s : Result Step Refusal) : Type 0 where
   pub group : group_at h s ≡ []
   pub reply : (n : ℕ) (o : Outcome) → Applied n o ≡ due_at h s → ⊥
 
-with-room : (h : Held) (e : Edit) (full : Bool) (rest : Result (Unit {0}) Refusal) (u : Unit {0}) → nat_lt h.setting.limit (length (log_of h) + 1) ≡ full → cond full (Err HistoryFull) rest ≡ Ok u → length (log_of h) + 1 ≤ h.setting.limit
-with-room h e true rest u k is = absurd (cc (is))
-with-room h e false rest u k is = grind (arith, nat_tests, k)
+with-room : (limit n : ℕ) (full : Bool) (rest : Result (Unit {0}) Refusal) (u : Unit {0}) → nat_lt limit n ≡ full → cond full (Err HistoryFull) rest ≡ Ok u → n ≤ limit
+with-room limit n true rest u k is = absurd (cc (is))
+with-room limit n false rest u k is = grind (arith, nat_tests, k)
+
+-- changes that find room
+pub room-of : (h : Held) (es : List Edit) → length (log_of h) ≤ h.setting.limit → room_for h es ≡ Ok tt → length (log_of h) + length es ≤ h.setting.limit
+room-of h [] low is = omega (arith, low)
+room-of h (e ∷ es) low is =
+    let long : ℕ = length (log_of h) + length (e ∷ es) in
+    with-room h.setting.limit long (nat_lt h.setting.limit long) (cond (h.setting.is_full h.base h.acked (e ∷ es)) (Err Full) (Ok tt)) tt refl is
 
 wanted-kept : (h : Held) (e : Edit) (o : Outcome) (room : Result (Unit {0}) Refusal) → room_for h (e ∷ []) ≡ room → IsKept h (Ok (Wants e o)) ⊎ IsNotKept h (Ok (Wants e o))
 wanted-kept h e o (Ok u) is = inl (record {
   change = e;
   outcome = o;
   wanted = refl;
-  room = with-room h e (nat_lt h.setting.limit (length (log_of h) + 1)) (cond (h.setting.is_full h.base h.acked (e ∷ [])) (Err Full) (Ok tt)) u refl is;
+  room = with-room h.setting.limit (length (log_of h) + 1) (nat_lt h.setting.limit (length (log_of h) + 1)) (cond (h.setting.is_full h.base h.acked (e ∷ [])) (Err Full) (Ok tt)) u refl is;
   group = ap (λ (r : Result (Unit {0}) Refusal). if_ok r ((e ∷ []) ∷ []) []) is;
   reply = ap (λ (r : Result (Unit {0}) Refusal). or_refused r (Applied (length (log_of h) + 1) o)) is;
 })
@@ -47,6 +55,13 @@ pub room-found : (h : Held) (e : Edit) → length (log_of h) < h.setting.limit �
 room-found h e few room =
     let low : nat_lt h.setting.limit (length (log_of h) + 1) ≡ false = grind (arith, nat_tests, few) in
     ap (λ (b : Bool). cond b (Err HistoryFull) (cond (h.setting.is_full h.base h.acked (e ∷ [])) (Err Full) (Ok tt))) low ∙ ap (λ (b : Bool). cond b (Err Full) (Ok tt)) room
+
+-- the same of several changes
+pub rooms-found : (h : Held) (es : List Edit) → length (log_of h) + length es ≤ h.setting.limit → h.setting.is_full h.base h.acked es ≡ false → room_for h es ≡ Ok tt
+rooms-found h [] few room = refl
+rooms-found h (e ∷ es) few room =
+    let low : nat_lt h.setting.limit (length (log_of h) + length (e ∷ es)) ≡ false = grind (arith, nat_tests, few) in
+    ap (λ (b : Bool). cond b (Err HistoryFull) (cond (h.setting.is_full h.base h.acked (e ∷ es)) (Err Full) (Ok tt))) low ∙ ap (λ (b : Bool). cond b (Err Full) (Ok tt)) room
 
 -- what is refused keeps nothing
 pub refused-group : (h : Held) (s : Result Step Refusal) (e : Refusal) → Refused e ≡ due_at h s → group_at h s ≡ []
@@ -70,6 +85,9 @@ acked-front st [] = front-more (acked_of st) (pending_of st)
 acked-front (up h) (called c t ∷ evs) =
     let st : State = next (up h) (called c t) in
     front-trans h.acked (acked_of st) (history st evs) (acked_by c.reply (group_in h c.command), refl) (acked-front st evs)
+acked-front (up h) (called_group cs result t ∷ evs) =
+    let st : State = next (up h) (called_group cs result t) in
+    front-trans h.acked (acked_of st) (history st evs) (acked_by_group result (group_all h cs), refl) (acked-front st evs)
 acked-front (up h) (entered w n ∷ evs) = acked-front (next (up h) (entered w n)) evs
 acked-front (up h) (learned w n ∷ evs) = acked-front (next (up h) (learned w n)) evs
 acked-front (up h) (crashed doing n ∷ evs) =
@@ -123,6 +141,23 @@ either-offered h c r = by (either h c) where
   by (inl none) = inl none
   by (inr none) = inr (ap (λ (g : List (List Edit)). acked_by r g ++ pending_by r g) none ∙ none-offered r)
 
+-- the same of a group of commands
+either-group : (h : Held) (cs : List Command) → (h.pending ≡ []) ⊎ (group_all h cs ≡ [])
+either-group h cs = by h.pending refl where
+  by : (p : List (List Edit)) → h.pending ≡ p → (h.pending ≡ []) ⊎ (group_all h cs ≡ [])
+  by [] is = inl is
+  by (g ∷ gs) is = inr (ap (λ (p : List (List Edit)). if_ok (and_then (and_then (unless (is_halted p) Halted) (group_words cs)) (room_for h (changes_due h [] cs))) (grouped (changes_due h [] cs)) []) is)
+
+none-offered-group : (result : Result (List Reply) Refusal) → acked_by_group result [] ++ pending_by_group result [] ≡ []
+none-offered-group (Ok rs) = refl
+none-offered-group (Err e) = none-offered (Refused e)
+
+either-offered-group : (h : Held) (cs : List Command) (result : Result (List Reply) Refusal) → (h.pending ≡ []) ⊎ (acked_by_group result (group_all h cs) ++ pending_by_group result (group_all h cs) ≡ [])
+either-offered-group h cs result = by (either-group h cs) where
+  by : (h.pending ≡ []) ⊎ (group_all h cs ≡ []) → (h.pending ≡ []) ⊎ (acked_by_group result (group_all h cs) ++ pending_by_group result (group_all h cs) ≡ [])
+  by (inl none) = inl none
+  by (inr none) = inr (ap (λ (g : List (List Edit)). acked_by_group result g ++ pending_by_group result g) none ∙ none-offered-group result)
+
 no-parts : (a p : List (List Edit)) → a ++ p ≡ [] → (a ≡ []) × (p ≡ [])
 no-parts [] p is = (refl, is)
 no-parts (x ∷ xs) p is = absurd (cc (is))
@@ -146,6 +181,9 @@ step-among : (st : State) (ev : Event) → AreAmong (kept_by st ev ++ (acked_of 
 step-among (up h) (called c t) =
     let g : List (List Edit) = group_in h c.command in
     more-among h.acked h.pending (acked_by c.reply g) (pending_by c.reply g) (either-offered h c.command c.reply)
+step-among (up h) (called_group cs result t) =
+    let g : List (List Edit) = group_all h cs in
+    more-among h.acked h.pending (acked_by_group result g) (pending_by_group result g) (either-offered-group h cs result)
 step-among (up h) (entered w n) = log-stays h
 step-among (up h) (learned w n) = log-stays h
 step-among (up h) (crashed doing n) =
@@ -156,6 +194,7 @@ step-among (up h) (crashed doing n) =
 step-among (up h) (opened setting) = log-stays h
 step-among (up h) (refused_opening rose) = log-stays h
 step-among (down d) (called c t) = refl
+step-among (down d) (called_group cs result t) = refl
 step-among (down d) (entered w n) = refl
 step-among (down d) (learned w n) = refl
 step-among (down d) (crashed doing n) = refl

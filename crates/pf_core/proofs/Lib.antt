@@ -8,6 +8,10 @@ pub mod Fronts
 pub mod Folds
 pub mod Groups
 pub mod LongerWorlds
+pub mod Stepping
+pub mod Courses
+pub mod InTurn
+pub mod GroupLeads
 pub mod Limits
 pub mod Showing
 pub mod Epochs

@@ -1,7 +1,7 @@
 -- Longer worlds, one event at a time.
-use Rattle.std.proofs.{Common.{◌≡◌, ℕ, ◌<◌, ◌≤◌, Bool, true, false, cond, inl, inr, List, [], ◌∷◌, ◌++◌, refl, sym, ap, ◌∙◌, subst, append-nil}, lemmas.List.Sums.{fold-append, fold_push}}
+use Rattle.std.proofs.{Common.{Result, ◌≡◌, ℕ, ◌<◌, ◌≤◌, Bool, true, false, cond, inl, inr, List, [], ◌∷◌, ◌++◌, refl, sym, ap, ◌∙◌, subst, append-nil}, lemmas.List.Sums.{fold-append, fold_push}}
 use Rattle.std.specs.Prelude.{fold, ⊤}
-use Rattle.pf_core.specs.{declared.{command.Command.Command, reply.Refusal.Refusal, reply.Refusal.TheVariants.Fault, reply.Refusal.TheVariants.Memory, reply.Reply.Reply, reply.Reply.TheVariants.Applied, reply.Reply.TheVariants.Refused}, Calls.{Call, call, mentions_of}, Durable.Edits.{Kept, Edit}, Pages.{Page, IsAt, StandsFor, Leads}, Wholes.Whole, Laws.{Openings.CrashesAreEvents, Worlds.{mentions_by, mentions_since, TicketsAreOfTheCalls}}, Worlds.{Setting, Held, State, up, down, begun, raised, flat, step_in, due, group_in, Upshot, upshot, Event, called, entered, learned, crashed, opened, refused_opening, acked_by, is_fault, pending_by, shown_by, heard, sighted, SawNoMore, next, StandsIn, LegalReply, last_epoch, IsLegal, state_after, IsLegalFrom, IsWorld}}
+use Rattle.pf_core.specs.{declared.{command.Command.Command, reply.Refusal.Refusal, reply.Refusal.TheVariants.Fault, reply.Refusal.TheVariants.Memory, reply.Reply.Reply, reply.Reply.TheVariants.Applied, reply.Reply.TheVariants.Refused}, Calls.{Call, call, mentions_of, mentions_of_group}, Durable.Edits.{Kept, Edit}, Pages.{Page, IsAt, StandsFor, Leads, LeadsGroup}, Wholes.Whole, Laws.{Openings.CrashesAreEvents, Worlds.{mentions_by, mentions_since, TicketsAreOfTheCalls}}, Worlds.{Setting, Held, State, up, down, begun, raised, flat, step_in, due, group_in, Upshot, upshot, Event, called, called_group, entered, learned, crashed, opened, refused_opening, acked_by, is_fault, pending_by, shown_by, heard, heard_group, sighted, SawNoMore, next, StandsIn, LegalReply, last_epoch, IsLegal, state_after, IsLegalFrom, IsWorld}}
 use Rattle.pf_ticket.specs.{Tickets.{Open, fresh}, Mentions.{Mention, moved, after, opened as left_by}}
 use Rattle.pf_core.proofs.{Fronts.flat-append, Groups.refused-group}
 
@@ -31,6 +31,11 @@ sighted-at h b worker n at = record { base = at.base; tickets = at.tickets; acke
 
 pub stands-on : (first : Kept) (old new : Page) (world : List Event) (c : Call) (t : Upshot) → (stands : StandsFor first old world) → Leads stands.held new c t → StandsFor first new (world ++ called c t ∷ [])
 stands-on first old new world c t stands leads = stands-by first new world (called c t) (up stands.held) (heard stands.held c t) stands.legal stands.comes leads.legal refl leads.at
+
+pub stands-on-group : (first : Kept) (old new : Page) (world : List Event) (commands : List Command) (result : Result (List Reply) Refusal) (t : Upshot) → (stands : StandsFor first old world) → LeadsGroup stands.held new commands result t
+    → StandsFor first new (world ++ called_group commands result t ∷ [])
+stands-on-group first old new world commands result t stands leads =
+    stands-by first new world (called_group commands result t) (up stands.held) (heard_group stands.held commands result t) stands.legal stands.comes leads.legal refl leads.at
 
 -- a worker may judge by what is shown, where it saw and learnt of no more
 pub stands-entered : (first : Kept) (b : Page) (world : List Event) (worker n : ℕ) → (stands : StandsFor first b world) → SawNoMore stands.held.sights worker n → n ≤ b.shown → StandsFor first b (world ++ entered worker n ∷ [])
@@ -65,7 +70,7 @@ nothing-leads h b w c r legal none unkept still moved at = record {
   };
 }
 
-none-of-none : (b : Bool) (gs : List (List Edit)) → gs ≡ [] → cond b gs [] ≡ []
+pub none-of-none : (b : Bool) (gs : List (List Edit)) → gs ≡ [] → cond b gs [] ≡ []
 none-of-none true gs is = is
 none-of-none false gs is = refl
 
@@ -113,6 +118,8 @@ AgreesIn (down d) ms = ⊤
 
 pub agrees-next : (st : State) (ms : List Mention) (e : Event) → IsLegal st e → AgreesIn st ms → AgreesIn (next st e) (mentions_by ms e)
 agrees-next (up h) ms (called c t) legal is = ap (λ (o : Open). after o (mentions_of c)) is ∙ sym (fold-append moved (fresh h.base.epoch) ms (mentions_of c))
+agrees-next (up h) ms (called_group cs result t) legal is =
+    ap (λ (o : Open). after o (mentions_of_group cs result)) is ∙ sym (fold-append moved (fresh h.base.epoch) ms (mentions_of_group cs result))
 agrees-next (up h) ms (entered w n) legal is = is
 agrees-next (up h) ms (learned w n) legal is = is
 agrees-next (up h) ms (crashed doing n) legal is = tt

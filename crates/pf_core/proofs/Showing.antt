@@ -1,16 +1,15 @@
 -- What is shown, and what workers see of it.
-use Rattle.std.proofs.{Common.{◌≡◌, ℕ, ◌+◌, ◌≤◌, ◌&&◌, Bool, false, ◌⊎◌, inl, inr, List, [], ◌∷◌, ◌++◌, length, take, refl, sym, ap, ◌∙◌, subst, append-nil, le_refl, le_trans, Ok, arith}, lemmas.List.length-append}
+use Rattle.std.proofs.{Common.{◌≡◌, ℕ, ◌+◌, ◌≤◌, ◌&&◌, Bool, false, ◌⊎◌, inl, inr, List, [], ◌∷◌, ◌++◌, length, take, refl, sym, ap, ◌∙◌, subst, append-nil, le_refl, le_trans, Result, Ok, Err, arith}, lemmas.List.length-append}
 use Rattle.std.specs.Prelude.{fold, ⊤}
-use Rattle.pf_core.specs.{declared.{command.Command.Command, command.HistoryCommand.HistoryCommand, command.HistoryCommand.TheVariants.Log, command.HistoryCommand.TheVariants.Publish, command.Question.Question, command.Question.TheVariants.Judge, command.Question.TheVariants.Test, command.Question.TheVariants.ShowRules, command.Question.TheVariants.ShowTables, command.Question.TheVariants.ShowStates, command.Question.TheVariants.Sum, command.Question.TheVariants.Export, reply.Answer.Answer, reply.Reply.Reply, reply.Reply.TheVariants.Answer as Answered, reply.Reply.TheVariants.Applied, reply.Reply.TheVariants.Stored, reply.Reply.TheVariants.Refused, step.Step.TheVariants.Done}, Calls.Call, Commands.{answer_of, step_by, may_change}, Durable.Edits.{Kept, Edit}, History.{acked_of, earlier, acknowledged, history}, Laws.{Openings.{IsFrontOf, seen, KeepsSeen}, Worlds.{hides, hidden_by, hidden_since, ShowsAll}}, Worlds.{Held, State, up, down, log_of, durable_of, flat, is_halted, step_in, told_of_history, group_in, Upshot, Event, called, entered, learned, crashed, opened, refused_opening, acked_by, shown_by_answer, shown_by, heard, next, LegalReply, LegalCall, IsLegal, state_after, IsLegalFrom}}
+use Rattle.pf_core.specs.{declared.{command.Command.Command, command.HistoryCommand.HistoryCommand, command.HistoryCommand.TheVariants.Log, command.HistoryCommand.TheVariants.Publish, command.Question.Question, command.Question.TheVariants.Judge, command.Question.TheVariants.Test, command.Question.TheVariants.ShowRules, command.Question.TheVariants.ShowTables, command.Question.TheVariants.ShowStates, command.Question.TheVariants.Sum, command.Question.TheVariants.Export, reply.Answer.Answer, reply.Refusal.Refusal, reply.Reply.Reply, reply.Reply.TheVariants.Answer as Answered, reply.Reply.TheVariants.Applied, reply.Reply.TheVariants.Stored, reply.Reply.TheVariants.Refused, step.Step.TheVariants.Done}, Calls.{Call, replies_in}, Commands.{answer_of, step_by, may_change}, Durable.Edits.{Kept, Edit}, History.{acked_of, earlier, acknowledged, history}, Laws.{Openings.{IsFrontOf, seen, KeepsSeen}, Worlds.{hides, hidden_by, hidden_since, ShowsAll}}, Worlds.{Held, State, up, down, log_of, durable_of, flat, is_halted, step_in, told_of_history, group_in, Upshot, Event, called, called_group, entered, learned, crashed, opened, refused_opening, acked_by, shown_by_answer, shown_by, heard, heard_group, changes_due, group_all, next, LegalReply, LegalCall, LegalGroup, IsLegal, state_after, IsLegalFrom}}
 use Rattle.pf_ticket.specs.Tickets.{Open}
-use Rattle.pf_core.proofs.{Fronts.{flat-append, front-trans, front-behind, front-take, front-flat}, Groups.{IsKept, either, acknowledged-front}, Limits.{IsOfSteps, step-answers, IsOfHistory, answered-step, unhalted, IsApplied, applied-step, AreFewUnacknowledged, few-unacknowledged}, LongerWorlds.{flat-push, AreLegal, in-two}}
+use Rattle.pf_core.proofs.{Fronts.{flat-append, front-trans, front-behind, front-take, front-flat}, Groups.{IsKept, either, acknowledged-front}, Courses.{AreShown, length-with, IsAccepted, accepted, accepted-course}, Stepping.{IsOfSteps, step-answers, unhalted}, Limits.{IsOfHistory, answered-step, IsApplied, applied-step, AreFewUnacknowledged, few-unacknowledged}, LongerWorlds.{flat-push, AreLegal, in-two}}
 
 -- ---- by the reply
 
 -- what is shown of what was acknowledged: all of it, where nothing is hidden
-record IsShown (acked : List (List Edit)) (shown : ℕ) (hidden : Bool) : Type 0 where
-  within : shown ≤ length (flat acked)
-  all : hidden ≡ false → shown ≡ length (flat acked)
+abbrev IsShown : List (List Edit) → ℕ → Bool → Type 0
+IsShown acked shown hidden = AreShown (length (flat acked)) shown hidden
 
 -- an answer that shows nothing
 record ShowsNothing (a : Answer) : Type 0 where
@@ -95,8 +94,20 @@ shown-call : (h : Held) (c : Call) (t : Upshot) (hidden : Bool) → LegalCall h 
 shown-call h c t hidden legal old =
     subst (λ (n : ℕ). IsShown (h.acked ++ acked_by c.reply (group_in h c.command)) n (hides hidden c.reply)) (sym legal.shown) (shown-on h c.command c.reply t.failed hidden legal.reply old)
 
+shown-group : (h : Held) (cs : List Command) (result : Result (List Reply) Refusal) (t : Upshot) (hidden : Bool) → LegalGroup h cs result t → IsShown h.acked h.shown hidden → IsShownIn (up (heard_group h cs result t)) (fold hides hidden (replies_in result))
+shown-group h cs (Ok rs) t hidden legal old =
+    let kept : IsAccepted h cs rs = accepted h cs rs t.failed legal.reply in
+    let none : length (flat h.acked) ≡ length (flat h.acked) + 0 = omega arith in
+    let total : length (flat h.acked) + length (changes_due h [] cs) ≡ length (flat (h.acked ++ group_all h cs)) =
+    sym (ap (λ (gs : List (List Edit)). length (flat (h.acked ++ gs))) kept.taken.group ∙ length-with h.acked (changes_due h [] cs)) in
+    subst (λ (n : ℕ). IsShown (h.acked ++ group_all h cs) n (fold hides hidden rs)) (sym legal.shown)
+    (subst (λ (n : ℕ). AreShown n (fold (λ (m : ℕ) (r : Reply). shown_by r m) h.shown rs) (fold hides hidden rs)) total
+    ((accepted-course h cs rs kept).shown h.shown hidden (subst (λ (n : ℕ). AreShown n h.shown hidden) none old)))
+shown-group h cs (Err e) t hidden legal old = subst (λ (n : ℕ). IsShown (h.acked ++ []) n hidden) (sym legal.shown) (still-shown h.acked h.shown hidden old)
+
 shown-next : (st : State) (hidden : Bool) (e : Event) → IsLegal st e → IsShownIn st hidden → IsShownIn (next st e) (hidden_by hidden e)
 shown-next (up h) hidden (called c t) legal old = shown-call h c t hidden legal old
+shown-next (up h) hidden (called_group cs result t) legal old = shown-group h cs result t hidden legal old
 shown-next (up h) hidden (entered w n) legal old = old
 shown-next (up h) hidden (learned w n) legal old = old
 shown-next (up h) hidden (crashed doing n) legal old = tt

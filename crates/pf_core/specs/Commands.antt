@@ -1,7 +1,8 @@
 -- What a command means: the step that it is due, what it mentions, and whether it takes memory (pf(4), DIOCXBEGIN to DIOCXROLLBACK,
 -- DIOCRADDADDRS to DIOCRTSTADDRS; pf.conf(5); pfctl(8), -k). One line each, by family. The limits, the order of refusals and what peers
 -- tell are own.
-use Rattle.std.specs.Prelude.{ℕ, ◌==◌, Bool, true, false, not, if◌then◌else◌, is_some, List, [], ◌∷◌, length, map, filter, Option, Some, None, Result, Ok, Err}
+use Rattle.std.specs.Prelude.{ℕ, ◌==◌, ◌||◌, Bool, true, false, not, if◌then◌else◌, is_some, List, [], ◌∷◌, length, map, filter, Option, Some, None, Result, Ok, Err, nat_lt, position}
+use Rattle.pf_addr.specs.Refusing.{and_then, unless, refused_at}
 use Rattle.pf_table.specs.{declared.{answer.Addition.Addition, answer.Deletion.Deletion}, Edits.{additions, deletions}, Entries.Row, Tables.deciding}
 use Rattle.pf_table.specs.declared.answer.Addition.TheVariants as addition
 use Rattle.pf_table.specs.declared.answer.Deletion.TheVariants as deletion
@@ -13,7 +14,7 @@ use Rattle.pf_state.specs.declared.state.Bound.TheVariants as bound
 use Rattle.pf_state.specs.declared.step.Step.TheVariants as step
 use Rattle.pf_ticket.specs.{declared.{entry.Entry.Entry, name.RulesetName.RulesetName, offered.Offered.Offered, refusal.TicketRefusal.TicketRefusal}, Names.{filter_at, table_ruleset_at, names_of}, Mentions.{Mention, added, defined, gives, switches, drops}, Tickets.{Open, content}, Replies.{begin_reply, add_reply, define_reply, list_check, commit_check}}
 use Rattle.pf_ticket.specs.declared.offered.Offered.TheVariants as offered
-use Rattle.pf_core.specs.{declared.{durable.change.Item.Item, command.Command.Command, command.Command.TheVariants.Transact, command.Command.TheVariants.Edit as Change, command.Command.TheVariants.States as OfStates, command.Command.TheVariants.Ask, command.Command.TheVariants.History, command.HistoryCommand.TheVariants.Log, command.HistoryCommand.TheVariants.Publish, command.Question.Question, command.Question.TheVariants.Judge, command.Question.TheVariants.Test, command.Question.TheVariants.ShowRules, command.Question.TheVariants.ShowTables, command.Question.TheVariants.ShowStates, command.Question.TheVariants.Sum, command.Question.TheVariants.Export, command.StateCommand.StateCommand, command.StateCommand.TheVariants.Track, command.StateCommand.TheVariants.Peer, command.StateCommand.TheVariants.Kill as KillState, command.TableEdit.TableEdit, command.TableEdit.TheVariants.Add as AddTo, command.TableEdit.TheVariants.Delete, command.TableEdit.TheVariants.Set, command.TableEdit.TheVariants.Kill, command.Transaction.Transaction, command.Transaction.TheVariants.Begin, command.Transaction.TheVariants.Add, command.Transaction.TheVariants.Define, command.Transaction.TheVariants.Commit, command.Transaction.TheVariants.Rollback, reply.Answer.Answer, reply.Outcome.Outcome, reply.Refusal.Refusal, reply.Refusal.TheVariants.Absent, reply.Reply.Reply, reply.Reply.TheVariants.Answer as Answered, reply.Reply.TheVariants.Applied, reply.Reply.TheVariants.Stored, reply.Reply.TheVariants.Refused, step.Step.Step, step.Step.TheVariants.Done, step.Step.TheVariants.Wants, step.Step.TheVariants.OfHistory, durable.refusal.ChangeRefusal.ChangeRefusal, durable.verdict.Verdict.Verdict, durable.verdict.Verdict.TheVariants.State as Stateful, durable.verdict.Verdict.TheVariants.Rules as ByRules}, Durable.Edits.{Kept, Edit, commits, adds, deletes, sets, acts, removes, entries_at, main_sum, no_conflict, fits, verdict}, Refusals.{refusal_of, change_refusal_of}}
+use Rattle.pf_core.specs.{declared.{durable.change.Item.Item, command.Command.Command, command.Command.TheVariants.Transact, command.Command.TheVariants.Edit as Change, command.Command.TheVariants.States as OfStates, command.Command.TheVariants.Ask, command.Command.TheVariants.History, command.HistoryCommand.TheVariants.Log, command.HistoryCommand.TheVariants.Publish, command.Question.Question, command.Question.TheVariants.Judge, command.Question.TheVariants.Test, command.Question.TheVariants.ShowRules, command.Question.TheVariants.ShowTables, command.Question.TheVariants.ShowStates, command.Question.TheVariants.Sum, command.Question.TheVariants.Export, command.StateCommand.StateCommand, command.StateCommand.TheVariants.Track, command.StateCommand.TheVariants.Peer, command.StateCommand.TheVariants.Kill as KillState, command.TableEdit.TableEdit, command.TableEdit.TheVariants.Add as AddTo, command.TableEdit.TheVariants.Delete, command.TableEdit.TheVariants.Set, command.TableEdit.TheVariants.Kill, command.Transaction.Transaction, command.Transaction.TheVariants.Begin, command.Transaction.TheVariants.Add, command.Transaction.TheVariants.Define, command.Transaction.TheVariants.Commit, command.Transaction.TheVariants.Rollback, reply.Answer.Answer, reply.Outcome.Outcome, reply.Refusal.Refusal, reply.Refusal.TheVariants.Absent, reply.Refusal.TheVariants.BadCount, reply.Refusal.TheVariants.NotGrouped, group.TheConstants.GROUP_LIMIT, reply.Reply.Reply, reply.Reply.TheVariants.Answer as Answered, reply.Reply.TheVariants.Applied, reply.Reply.TheVariants.Stored, reply.Reply.TheVariants.Refused, step.Step.Step, step.Step.TheVariants.Done, step.Step.TheVariants.Wants, step.Step.TheVariants.OfHistory, durable.refusal.ChangeRefusal.ChangeRefusal, durable.verdict.Verdict.Verdict, durable.verdict.Verdict.TheVariants.State as Stateful, durable.verdict.Verdict.TheVariants.Rules as ByRules}, Durable.Edits.{Kept, Edit, commits, adds, deletes, sets, acts, removes, entries_at, main_sum, no_conflict, fits, verdict}, Refusals.{refusal_of, change_refusal_of}}
 use Rattle.pf_core.specs.declared.durable.change.Item.TheVariants as item
 use Rattle.pf_core.specs.declared.reply.Answer.TheVariants as answer
 use Rattle.pf_core.specs.declared.reply.Outcome.TheVariants as outcome
@@ -162,6 +163,30 @@ may_change (Change edit) = true
 may_change (OfStates c) = true
 may_change (Ask q) = false
 may_change (History c) = false
+
+-- ---- groups
+
+-- A command that a group may have: a commit, a change of a table, or one of the states. Each of them makes a change where it is accepted, or
+-- tracks a packet.
+abbrev pub may_be_grouped : Command → Bool
+may_be_grouped (Transact (Begin names)) = false
+may_be_grouped (Transact (Add p t rule)) = false
+may_be_grouped (Transact (Define p t name xs)) = false
+may_be_grouped (Transact (Commit entries)) = true
+may_be_grouped (Transact (Rollback entries)) = false
+may_be_grouped (Change edit) = true
+may_be_grouped (OfStates c) = true
+may_be_grouped (Ask q) = false
+may_be_grouped (History c) = false
+
+-- a group has one command at least, and no more than the limit
+abbrev pub bad_number : ℕ → Bool
+bad_number n = (n == 0) || nat_lt GROUP_LIMIT n
+
+-- what refuses a group for its own words: its number, or the first of its commands that it may not have
+abbrev pub group_words : List Command → Result (Unit {0}) Refusal
+group_words commands = and_then (unless (bad_number (length commands)) BadCount)
+    (refused_at (λ i. NotGrouped i) (position (λ c. not (may_be_grouped c)) commands))
 
 -- ---- mentions
 

@@ -1,7 +1,7 @@
 -- What is kept over all openings of a world. Own.
-use Rattle.std.specs.Prelude.{◌≡◌, ◌⊎◌, List, [], ◌∷◌, ◌++◌}
+use Rattle.std.specs.Prelude.{◌≡◌, ◌⊎◌, List, [], ◌∷◌, ◌++◌, flat_map}
 use Rattle.pf_ticket.specs.{declared.ticket.Ticket.Ticket, Names.tickets_of}
-use Rattle.pf_core.specs.{declared.{reply.Reply.Reply, reply.Reply.TheVariants.Answer as Answered}, Durable.Edits.{Kept, Edit}, Worlds.{State, up, down, Event, called, crashed, group_in, group_of, kept_groups, acked_by, pending_by, next, state_after}}
+use Rattle.pf_core.specs.{declared.{reply.Reply.Reply, reply.Reply.TheVariants.Answer as Answered}, Calls.replies_in, Durable.Edits.{Kept, Edit}, Worlds.{State, up, down, Event, called, called_group, crashed, group_in, group_all, group_of, kept_groups, acked_by, pending_by, acked_by_group, pending_by_group, next, state_after}}
 use Rattle.pf_core.specs.declared.reply.Answer.TheVariants as answer
 
 -- what the opening that lasts gave, or what is held between two
@@ -39,10 +39,12 @@ history st world = acknowledged st world ++ pending_of (state_after st world)
 
 -- ---- what was offered
 
--- the group that an event offered to be kept: with a call's reply whether it was acknowledged or not, and with a crash whether it was kept
--- or not
+-- the group that an event offered to be kept: with the reply to a call, or to a group of commands, whether it was acknowledged or not, and
+-- with a crash whether it was kept or not
 abbrev pub offered_by : State → Event → List (List Edit)
 offered_by (up h) (called c t) = acked_by c.reply (group_in h c.command) ++ pending_by c.reply (group_in h c.command)
+offered_by (up h) (called_group commands result t) =
+    acked_by_group result (group_all h commands) ++ pending_by_group result (group_all h commands)
 offered_by (up h) (crashed doing n) = group_of h doing
 offered_by st e = []
 
@@ -63,6 +65,7 @@ tickets_in r = []
 
 abbrev pub tickets_by : Event → List Ticket
 tickets_by (called c t) = tickets_in c.reply
+tickets_by (called_group commands result t) = flat_map tickets_in (replies_in result)
 tickets_by e = []
 
 -- the tickets that replies gave, in all openings

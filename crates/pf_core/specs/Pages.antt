@@ -1,6 +1,6 @@
 -- What contracts see of a Book, and when it stands for a world. Own.
-use Rattle.std.specs.Prelude.{◌≡◌, ℕ, ◌≤◌, List, length, take}
-use Rattle.pf_core.specs.{Calls.Call, Durable.Edits.{Kept, Edit, after}, Wholes.Whole, Worlds.{Setting, Held, up, down, Upshot, Event, flat, LegalCall, heard, state_after, IsWorld}}
+use Rattle.std.specs.Prelude.{◌≡◌, ℕ, ◌≤◌, List, length, take, Result}
+use Rattle.pf_core.specs.{declared.{command.Command.Command, reply.Refusal.Refusal, reply.Reply.Reply}, Calls.Call, Durable.Edits.{Kept, Edit, after}, Wholes.Whole, Worlds.{Setting, Held, up, down, Upshot, Event, flat, LegalCall, LegalGroup, heard, heard_group, state_after, IsWorld}}
 
 -- a Book: what its opening gave, the core, the groups of changes that were acknowledged, and the one that wasn't, what
 -- the opening was given to keep within, how many changes are shown, and the copy that shows them
@@ -39,3 +39,8 @@ pub record StandsFor (first : Kept) (b : Page) (world : List Event) : Type 0 whe
 pub record Leads (h : Held) (new : Page) (c : Call) (t : Upshot) : Type 0 where
   pub legal : LegalCall h c t
   pub at : IsAt (heard h c t) new
+
+-- and so is a group
+pub record LeadsGroup (h : Held) (new : Page) (commands : List Command) (result : Result (List Reply) Refusal) (t : Upshot) : Type 0 where
+  pub legal : LegalGroup h commands result t
+  pub at : IsAt (heard_group h commands result t) new

@@ -1,5 +1,5 @@
 -- What contracts see of a core, and what a step leaves of it. Own.
-use Rattle.std.specs.Prelude.{◌≡◌, Result, Ok, Err, ⊤}
+use Rattle.std.specs.Prelude.{◌≡◌, [], ◌++◌, Result, Ok, Err, ⊤}
 use Rattle.pf_core.specs.{declared.{command.Command.Command, reply.Refusal.Refusal, step.ReadyStep.ReadyStep, step.Step.Step, step.Step.TheVariants.Done, step.Step.TheVariants.Wants, step.Step.TheVariants.OfHistory}, Commands.{mentioned, unless_unfit}, Durable.Edits.{Kept, Edit, applied, voided_by, fits}, Nexts.{Ready, ready}}
 use Rattle.pf_core.specs.declared.step.ReadyStep.TheVariants as made
 use Rattle.pf_ticket.specs.{Tickets.Open, Mentions.after}
@@ -19,6 +19,13 @@ left_by d e = ready (applied d e) (voided_by e)
 -- what is prepared for a change, where it fits
 abbrev pub prepared : Kept → Edit → Result Ready Refusal
 prepared d e = unless_unfit (fits d e) (Ok (left_by d e))
+
+-- the same in the course of a group, behind what earlier changes left
+abbrev pub left_behind : Ready → Edit → Ready
+left_behind before e = ready (applied before.durable e) (before.voided ++ voided_by e)
+
+abbrev pub prepared_from : Ready → Edit → Result Ready Refusal
+prepared_from before e = unless_unfit (fits before.durable e) (Ok (left_behind before e))
 
 -- what a command leaves of the open transactions: a step that wants a change kept, is left to whoever keeps the history, or is refused,
 -- leaves them as they were
@@ -40,9 +47,13 @@ plain (Ok (made.Wants e n o)) = Ok (Wants e o)
 plain (Ok (made.OfHistory c)) = Ok (OfHistory c)
 plain (Err e) = Err e
 
--- what was made is what the change leaves
+-- what was made is what the change leaves, behind what earlier ones of a group left
+abbrev pub IsMadeFrom : Ready → Result ReadyStep Refusal → Type 0
+IsMadeFrom before (Ok (made.Done a)) = ⊤
+IsMadeFrom before (Ok (made.Wants e n o)) = n ≡ left_behind before e
+IsMadeFrom before (Ok (made.OfHistory c)) = ⊤
+IsMadeFrom before (Err e) = ⊤
+
+-- or of what is kept, as it is
 abbrev pub IsMade : Kept → Result ReadyStep Refusal → Type 0
-IsMade d (Ok (made.Done a)) = ⊤
-IsMade d (Ok (made.Wants e n o)) = n ≡ left_by d e
-IsMade d (Ok (made.OfHistory c)) = ⊤
-IsMade d (Err e) = ⊤
+IsMade d step = IsMadeFrom (ready d []) step

@@ -1,7 +1,8 @@
 -- Worlds: lists of events over openings and crashes, which of them are legal, and what they leave. Own.
-use Rattle.std.specs.Prelude.{◌≡◌, ℕ, ◌+◌, ◌<◌, ◌≤◌, ◌&&◌, ◌⊎◌, Bool, true, false, if◌then◌else◌, List, [], ◌∷◌, ◌++◌, length, take, fold, nat_lt, ⊤, Result, Ok, Err}
-use Rattle.pf_core.specs.{declared.{command.Command.Command, reply.Refusal.Refusal, reply.Refusal.TheVariants.Halted, reply.Refusal.TheVariants.HistoryFull, reply.Refusal.TheVariants.Full, reply.Refusal.TheVariants.Fault, reply.Refusal.TheVariants.Memory, reply.Reply.Reply, reply.Reply.TheVariants.Answer, command.HistoryCommand.HistoryCommand, command.HistoryCommand.TheVariants.Log, command.HistoryCommand.TheVariants.Publish, reply.Answer.Answer as Told, reply.Answer.TheVariants.Logged, reply.Answer.TheVariants.Shown, reply.Reply.TheVariants.Applied, reply.Reply.TheVariants.Stored, reply.Reply.TheVariants.Refused, step.Step.Step, step.Step.TheVariants.Done, step.Step.TheVariants.Wants, step.Step.TheVariants.OfHistory}, Calls.{Call, mentions_of}, Commands.{step_by, may_change, takes_memory}, Durable.Edits.{Kept, Edit, in_epoch, after}}
-use Rattle.pf_ticket.specs.{Tickets.{Open, fresh}, Mentions.after as moved_by}
+use Rattle.std.specs.Prelude.{◌≡◌, ◌≢◌, ℕ, ◌+◌, ◌<◌, ◌≤◌, ◌&&◌, ◌⊎◌, Bool, true, false, if◌then◌else◌, List, [], ◌∷◌, ◌++◌, length, map, flat_map, take, fold, nat_lt, ⊤, Result, Ok, Err}
+use Rattle.pf_addr.specs.Refusing.{and_then, unless}
+use Rattle.pf_core.specs.{declared.{command.Command.Command, reply.Refusal.Refusal, reply.Refusal.TheVariants.Halted, reply.Refusal.TheVariants.HistoryFull, reply.Refusal.TheVariants.Full, reply.Refusal.TheVariants.Fault, reply.Refusal.TheVariants.Memory, reply.Reply.Reply, reply.Reply.TheVariants.Answer, command.HistoryCommand.HistoryCommand, command.HistoryCommand.TheVariants.Log, command.HistoryCommand.TheVariants.Publish, reply.Answer.Answer as Told, reply.Answer.TheVariants.Logged, reply.Answer.TheVariants.Shown, reply.Reply.TheVariants.Applied, reply.Reply.TheVariants.Stored, reply.Reply.TheVariants.Refused, step.Step.Step, step.Step.TheVariants.Done, step.Step.TheVariants.Wants, step.Step.TheVariants.OfHistory}, Calls.{Call, mentions_of, replies_in, mentions_of_group}, Commands.{step_by, may_change, takes_memory, group_words}, Durable.Edits.{Kept, Edit, in_epoch, after, voided_by}}
+use Rattle.pf_ticket.specs.{Tickets.{Open, fresh}, Mentions.{switches, after as moved_by}}
 
 -- ---- states
 
@@ -124,9 +125,48 @@ due h c = due_at h (step_in h c)
 abbrev pub group_in : Held → Command → List (List Edit)
 group_in h c = group_at h (step_in h c)
 
+-- ---- what a group of commands is due
+
+-- the opening in the course of a group that wants these changes so far: they would be kept, and have voided their tickets
+abbrev pub amid : Held → List Edit → Held
+amid h changes = record h { tickets = moved_by h.tickets (switches (flat_map voided_by changes)); acked = h.acked ++ grouped changes }
+
+-- the changes with the one that a command wants behind them
+abbrev pub changes_with : Held → List Edit → Command → List Edit
+changes_with h changes c = changes ++ changes_of (step_in (amid h changes) c)
+
+-- all that the commands want, one after the other
+abbrev pub changes_due : Held → List Edit → List Command → List Edit
+changes_due h changes commands = fold (changes_with h) changes commands
+
+-- and the reply to each of them
+abbrev pub replies_due : Held → List Edit → List Command → List Reply
+replies_due h changes [] = []
+replies_due h changes (c ∷ commands) =
+    reply_to (amid h changes) (step_in (amid h changes) c) ∷ replies_due h (changes_with h changes c) commands
+
+-- what refuses a group before any of its commands is looked at
+abbrev pub group_start : Held → List Command → Result (Unit {0}) Refusal
+group_start h commands = and_then (unless (is_halted h.pending) Halted) (group_words commands)
+
+-- what refuses it whole: that, or that all its changes together find no room. What refuses one of its commands is that command's reply
+abbrev pub group_check : Held → List Command → Result (Unit {0}) Refusal
+group_check h commands = and_then (group_start h commands) (room_for h (changes_due h [] commands))
+
+abbrev pub replies_unless : Result (Unit {0}) Refusal → List Reply → Result (List Reply) Refusal
+replies_unless (Ok u) replies = Ok replies
+replies_unless (Err e) replies = Err e
+
+-- the replies that are due, or the refusal of the whole, and the one group of all its changes that is kept with them
+abbrev pub due_group : Held → List Command → Result (List Reply) Refusal
+due_group h commands = replies_unless (group_check h commands) (replies_due h [] commands)
+
+abbrev pub group_all : Held → List Command → List (List Edit)
+group_all h commands = if_ok (group_check h commands) (grouped (changes_due h [] commands)) []
+
 -- ---- events
 
--- what came of a call besides its reply: how many changes are then shown, and whether a device failed in it
+-- what came of a call, or of a group's, besides what it was told: how many changes are then shown, and whether a device failed in it
 pub record Upshot : Type 0 where
   pub shown : ℕ
   pub failed : Bool
@@ -134,13 +174,16 @@ pub record Upshot : Type 0 where
 abbrev pub upshot : ℕ → Bool → Upshot
 upshot shown failed = record { shown = shown; failed = failed }
 
--- what a crash cuts short: nothing, or a command
+-- what a crash cuts short: nothing, a command, or a group of commands
 pub data Doing : Type 0 where
   idle : Doing
   calling : Command → Doing
+  grouping : List Command → Doing
 
 pub data Event : Type 0 where
   called : Call → Upshot → Event
+  -- commands whose changes are kept together, with the reply to each, or the refusal of the whole
+  called_group : List Command → Result (List Reply) Refusal → Upshot → Event
   -- a worker judges by so many changes
   entered : (worker n : ℕ) → Event
   -- a worker learns that so many are shown
@@ -155,6 +198,7 @@ pub data Event : Type 0 where
 abbrev pub group_of : Held → Doing → List (List Edit)
 group_of h idle = []
 group_of h (calling c) = group_in h c
+group_of h (grouping commands) = group_all h commands
 
 -- the groups that a crash keeps: all that were acknowledged, and some front of the others; it cuts no group
 abbrev pub kept_groups : Held → Doing → ℕ → List (List Edit)
@@ -188,11 +232,29 @@ heard h c t = record h {
   shown = t.shown;
 }
 
+-- the same of a group
+abbrev pub acked_by_group : Result (List Reply) Refusal → List (List Edit) → List (List Edit)
+acked_by_group (Ok replies) g = g
+acked_by_group (Err e) g = []
+
+abbrev pub pending_by_group : Result (List Reply) Refusal → List (List Edit) → List (List Edit)
+pending_by_group (Ok replies) g = []
+pending_by_group (Err e) g = if is_fault e then g else []
+
+abbrev pub heard_group : Held → List Command → Result (List Reply) Refusal → Upshot → Held
+heard_group h commands result t = record h {
+  tickets = moved_by h.tickets (mentions_of_group commands result);
+  acked = h.acked ++ acked_by_group result (group_all h commands);
+  pending = h.pending ++ pending_by_group result (group_all h commands);
+  shown = t.shown;
+}
+
 abbrev pub sighted : Held → ℕ → ℕ → Held
 sighted h worker n = record h { sights = h.sights ++ (record { worker = worker; front = n }) ∷ [] }
 
 abbrev pub next : State → Event → State
 next (up h) (called c t) = up (heard h c t)
+next (up h) (called_group commands result t) = up (heard_group h commands result t)
 next (up h) (entered worker n) = up (sighted h worker n)
 next (up h) (learned worker n) = up (sighted h worker n)
 next (up h) (crashed doing n) = down (after h.base (flat (kept_groups h doing n)))
@@ -228,6 +290,26 @@ pub record LegalCall (h : Held) (c : Call) (t : Upshot) : Type 0 where
   pub reply : LegalReply h c.command c.reply t.failed
   pub shown : t.shown ≡ shown_by c.reply h.shown
 
+-- a change that is kept and not shown
+abbrev pub as_stored : Reply → Reply
+as_stored (Applied n o) = Stored n o
+as_stored r = r
+
+-- The same of a group: memory was refused, where it isn't refused before it takes any; or the device failed, where there are changes to be
+-- kept; or these are kept, and none of them is shown.
+abbrev pub GroupStandsIn : Held → List Command → Bool → Result (List Reply) Refusal → Result (List Reply) Refusal → Type 0
+GroupStandsIn h commands failed due (Err Memory) = group_start h commands ≡ Ok tt
+GroupStandsIn h commands failed (Ok replies) (Err Fault) = (failed ≡ true) × (group_all h commands ≢ [])
+GroupStandsIn h commands failed (Ok replies) (Ok stored) = stored ≡ map as_stored replies
+GroupStandsIn h commands failed due result = ⊥
+
+abbrev pub LegalReplies : Held → List Command → Result (List Reply) Refusal → Bool → Type 0
+LegalReplies h commands result failed = (result ≡ due_group h commands) ⊎ GroupStandsIn h commands failed (due_group h commands) result
+
+pub record LegalGroup (h : Held) (commands : List Command) (result : Result (List Reply) Refusal) (t : Upshot) : Type 0 where
+  pub reply : LegalReplies h commands result t.failed
+  pub shown : t.shown ≡ fold (λ n r. shown_by r n) h.shown (replies_in result)
+
 -- a worker never sees fewer changes than it saw or learnt of
 abbrev pub SawNoMore : List Sight → ℕ → ℕ → Type 0
 SawNoMore [] worker n = ⊤
@@ -239,6 +321,7 @@ last_epoch = 4294967295
 
 abbrev pub IsLegal : State → Event → Type 0
 IsLegal (up h) (called c t) = LegalCall h c t
+IsLegal (up h) (called_group commands result t) = LegalGroup h commands result t
 IsLegal (up h) (entered worker n) = SawNoMore h.sights worker n × (n ≤ h.shown)
 IsLegal (up h) (learned worker n) = n ≤ h.shown
 IsLegal (up h) (crashed doing n) = ⊤

@@ -1,4 +1,6 @@
 //! What a client asks.
+ghost use Rattle.std.specs.Prelude.{◌≡◌};
+ghost use Rattle.pf_core.specs.Commands.{may_be_grouped};
 
 use crate::durable::EntryList;
 use pf_addr::Addr;
@@ -121,4 +123,17 @@ pub enum Command {
     Ask(Question),
     /// What is asked of whoever keeps the history.
     History(HistoryCommand),
+}
+
+impl Command {
+    /// Whether a group may have it: a commit, a change of a table, or a change of the states.
+    pub fn may_be_grouped(&self) -> bool
+        ensures { result ≡ may_be_grouped self.now }
+    {
+        match self {
+            Command::Transact(transaction) => matches!(transaction, Transaction::Commit(_)),
+            Command::Edit(_) | Command::States(_) => true,
+            Command::Ask(_) | Command::History(_) => false,
+        }
+    }
 }

@@ -5,7 +5,7 @@ ghost use Rattle.pf_ticket.specs.declared.entry.Entry.{Entry};
 ghost use Rattle.pf_ticket.specs.{Mentions.{after, switches}, Tickets.{fresh, content}};
 ghost use Rattle.pf_core.specs.declared.{command.Command.Command, command.Question.Question, command.Transaction.Transaction};
 ghost use Rattle.pf_core.specs.declared.reply.Answer.TheVariants as answer;
-ghost use Rattle.pf_core.specs.{Commands.{item_of, items, commit_step, rollback_step, transact_step, answer_of, step_by, transacts_in_memory, asks_for_memory, takes_memory}, Durable.Edits.verdict, Refusals.OrMemory, Wholes.{whole, prepared, answered, stepped, plain, IsMade}};
+ghost use Rattle.pf_core.specs.{Commands.{item_of, items, commit_step, rollback_step, transact_step, answer_of, step_by, transacts_in_memory, asks_for_memory, takes_memory, may_be_grouped}, Durable.Edits.verdict, Nexts.ready, Refusals.OrMemory, Wholes.{whole, prepared, prepared_from, answered, stepped, plain, IsMade, IsMadeFrom}};
 
 use crate::command::{Command, Question, Transaction};
 use crate::durable::{Change, Durable, Item};
@@ -49,33 +49,61 @@ fn item_of(alloc: Global, name: &RulesetName, offered: Offered) -> Result<Item, 
     }
 }
 
-// What a commit of these entries replaces.
-fn take_items(alloc: Global, tickets: &Tickets, entries: &[Entry]) -> Result<Vec<Item>, AllocError>
-    ensures { IfOk result (λ v. v.items ≡ items (content tickets.now) entries.now) }
+// What a commit of these entries replaces, behind changes that void these tickets.
+fn take_items(
+    alloc: Global,
+    tickets: &Tickets,
+    before: &[RulesetName],
+    entries: &[Entry],
+) -> Result<Vec<Item>, AllocError>
+    ensures { IfOk result (λ v. v.items ≡ items (content (after tickets.now (switches before.now))) entries.now) }
 {
     let mut taken = Vec::with_capacity(alloc, entries.len())?;
     for entry in entries {
-        let offered = tickets.contents(&entry.name)?;
+        let offered = tickets.contents_behind(before, &entry.name)?;
         taken.push(item_of(alloc, &entry.name, offered)?)?;
     }
     Ok(taken)
 }
 
-// The change that a commit wants, or why it is refused.
+// The change that a commit wants, or why it is refused, behind changes that void these tickets.
 fn commit(
     alloc: Global,
     durable: &Durable,
     tickets: &Tickets,
+    before: &[RulesetName],
     entries: &[Entry],
 ) -> Result<ReadyStep, Refusal>
-    ensures reply { OrMemory true (plain result) (commit_step tickets.now durable.now entries.now) }
-    ensures made { IsMade durable.now result }
+    ensures reply { OrMemory true (plain result) (commit_step (after tickets.now (switches before.now)) durable.now entries.now) }
+    ensures made { IsMadeFrom (ready durable.now before.now) result }
 {
-    tickets.check_all(entries)?;
-    let items = take_items(alloc, tickets, entries)?;
+    tickets.check_behind(before, entries)?;
+    let items = take_items(alloc, tickets, before, entries)?;
     durable.check_commit(alloc, items.as_slice())?;
     let left = durable.committed(alloc, items.as_slice())?;
-    Ok(wants(alloc, Change::commit(items), left, Outcome::Committed)?)
+    let change = Change::commit(items);
+    Ok(wants(alloc, before, change, left, Outcome::Committed)?)
+}
+
+// The step of a commit in a group, behind changes that void these tickets.
+fn commit_of(
+    alloc: Global,
+    durable: &Durable,
+    tickets: &Tickets,
+    before: &[RulesetName],
+    transaction: &Transaction,
+) -> Result<ReadyStep, Refusal>
+    requires { may_be_grouped (Command.Transact transaction.now) ≡ true }
+    ensures reply { OrMemory (transacts_in_memory transaction.now) (plain result)
+        (transact_step (after tickets.now (switches before.now)) durable.now transaction.now) }
+    ensures made { IsMadeFrom (ready durable.now before.now) result }
+{
+    match transaction {
+        Transaction::Commit(entries) => {
+            commit(alloc, durable, tickets, before, entries.as_slice())
+        }
+        _ => unreachable!(),
+    }
 }
 
 // A step of a transaction. Where it wants a change, or is refused, the tickets are as before.
@@ -108,7 +136,7 @@ fn transact(
             tickets.define_table(path, *ticket, name, entries.as_slice())?;
             Ok(ReadyStep::Done(Answer::Done))
         }
-        Transaction::Commit(entries) => commit(alloc, durable, tickets, entries.as_slice()),
+        Transaction::Commit(entries) => commit(alloc, durable, tickets, &[], entries.as_slice()),
         Transaction::Rollback(entries) => {
             tickets.rollback(entries.as_slice())?;
             Ok(ReadyStep::Done(Answer::Done))
@@ -140,6 +168,18 @@ fn answer(alloc: Global, durable: &Durable, question: &Question) -> Result<Answe
         }
         Question::Sum => Ok(Answer::Sum(durable.sum())),
         Question::Export => Ok(Answer::Exported(export(alloc, durable.states(), &durable.sum())?)),
+    }
+}
+
+// The step without what its change leaves.
+fn alone(step: Result<ReadyStep, Refusal>) -> Result<Step, Refusal>
+    ensures { result ≡ plain step }
+{
+    match step {
+        Ok(ReadyStep::Done(answer)) => Ok(Step::Done(answer)),
+        Ok(ReadyStep::Wants(change, _, outcome)) => Ok(Step::Wants(change, outcome)),
+        Ok(ReadyStep::OfHistory(command)) => Ok(Step::OfHistory(command)),
+        Err(refusal) => Err(refusal),
     }
 }
 
@@ -191,12 +231,7 @@ impl Core {
         ensures rolled_back { (entries : List Entry) → command.now ≡ Command.Transact (Transaction.Rollback entries) →
             result ≡ rollback_step entries }
     {
-        match self.step_ready(command) {
-            Ok(ReadyStep::Done(answer)) => Ok(Step::Done(answer)),
-            Ok(ReadyStep::Wants(change, _, outcome)) => Ok(Step::Wants(change, outcome)),
-            Ok(ReadyStep::OfHistory(command)) => Ok(Step::OfHistory(command)),
-            Err(refusal) => Err(refusal),
-        }
+        alone(self.step_ready(command))
     }
 
     /// One command, as `step` answers or refuses it, with all made that its change leaves: as `prepare` makes it of the core as it is.
@@ -217,8 +252,8 @@ impl Core {
                 &mut self.tickets,
                 transaction,
             ),
-            Command::Edit(table_edit) => edit(self.alloc, &self.durable, table_edit),
-            Command::States(command) => change_states(self.alloc, &self.durable, command),
+            Command::Edit(table_edit) => edit(self.alloc, &self.durable, &[], table_edit),
+            Command::States(command) => change_states(self.alloc, &self.durable, &[], command),
             Command::Ask(question) => {
                 Ok(ReadyStep::Done(answer(self.alloc, &self.durable, question)?))
             }
@@ -232,7 +267,50 @@ impl Core {
         ensures { OrMemory true result (prepared self.now.durable change.now) }
     {
         let applied = self.durable.apply(self.alloc, change)?;
-        Ok(Next::new(self.alloc, change, applied)?)
+        Ok(Next::new(self.alloc, &[], change, applied)?)
+    }
+
+    /// A later command of a group, as `step` would answer or refuse it once what earlier ones left were accepted. The core stays as it is, and
+    /// has to be the one that these were prepared of. A group has to be allowed the command.
+    pub fn step_from(&self, before: &Next, later: &Command) -> Result<Step, Refusal>
+        requires { may_be_grouped later.now ≡ true }
+        ensures { OrMemory (takes_memory before.now.durable later.now) result
+            (step_by (after self.now.tickets (switches before.now.voided)) before.now.durable later.now) }
+    {
+        alone(self.step_ready_from(before, later))
+    }
+
+    /// The same, with all made that its change leaves behind those of the earlier ones: as `prepare_from` makes it.
+    pub fn step_ready_from(&self, before: &Next, later: &Command) -> Result<ReadyStep, Refusal>
+        requires { may_be_grouped later.now ≡ true }
+        ensures reply { OrMemory (takes_memory before.now.durable later.now) (plain result)
+            (step_by (after self.now.tickets (switches before.now.voided)) before.now.durable later.now) }
+        ensures made { IsMadeFrom before.now result }
+    {
+        let voided = before.voided.as_slice();
+        match later {
+            Command::Transact(transaction) => commit_of(
+                self.alloc,
+                &before.durable,
+                &self.tickets,
+                voided,
+                transaction,
+            ),
+            Command::Edit(table_edit) => edit(self.alloc, &before.durable, voided, table_edit),
+            Command::States(command) => {
+                change_states(self.alloc, &before.durable, voided, command)
+            }
+            _ => unreachable!(),
+        }
+    }
+
+    /// Makes what a change leaves, once what earlier ones of a group left were accepted: to accept it is to accept them all. The core stays
+    /// as it is. It is refused as `prepare` says.
+    pub fn prepare_from(&self, before: &Next, change: &Change) -> Result<Next, Refusal>
+        ensures { OrMemory true result (prepared_from before.now change.now) }
+    {
+        let applied = before.durable.apply(self.alloc, change)?;
+        Ok(Next::new(self.alloc, before.voided.as_slice(), change, applied)?)
     }
 
     /// Puts in place what was prepared, which has to be of this core as it is. It takes no memory.

@@ -1,10 +1,16 @@
 //! What follows from the definitions that contracts cite: functions that do nothing, whose contracts are the laws.
 ghost use Rattle.std.specs.Prelude.{◌≡◌};
-ghost use Rattle.pf_core.specs.{Worlds.last_epoch, Laws.Commands.{LeaveTheOtherKind, WantsWhatFits, SwitchesAll, VoidsTheNamed, KeepsNoneValid, LeavesTheOthers, MentionsTheNamed, RefusedMentionNothing, TrackMakesOne}, Laws.Openings.{VoidsTickets, KeepsWhole, GivesAllThatWasKept, GivesTheFold, KeepsAcknowledged, KeepsSeen, RaisesTheEpoch, CrashesAreEvents}, Laws.Worlds.{TicketsAreOfTheCalls, GivesEachOnce, KeepsTheLimits, CommitsNameOnce, ShowsAll, TestsTellTheEntry, JudgesTellTheVerdict}};
+ghost use Rattle.pf_core.specs.declared.group.TheConstants.{GROUP_LIMIT};
+ghost use Rattle.pf_core.specs.{Worlds.last_epoch, Laws.Commands.{LeaveTheOtherKind, WantsWhatFits, SwitchesAll, VoidsTheNamed, KeepsNoneValid, LeavesTheOthers, MentionsTheNamed, RefusedMentionNothing, TrackMakesOne}, Laws.Groups.GroupsAreInTurn, Laws.Openings.{VoidsTickets, KeepsWhole, GivesAllThatWasKept, GivesTheFold, KeepsAcknowledged, KeepsSeen, RaisesTheEpoch, CrashesAreEvents}, Laws.Worlds.{TicketsAreOfTheCalls, GivesEachOnce, KeepsTheLimits, CommitsNameOnce, ShowsAll, TestsTellTheEntry, JudgesTellTheVerdict}};
 
 /// No opening has an epoch past 4,294,967,295.
 pub fn the_last_epoch()
     ensures { last_epoch ≡ 4294967295 }
+{}
+
+/// A group has at most 64 commands.
+pub fn the_limit_of_groups()
+    ensures { GROUP_LIMIT ≡ 64 }
 {}
 
 /// A commit of filter rulesets leaves all tables, and a commit of table rulesets leaves all rulesets.
@@ -103,6 +109,13 @@ pub fn worlds()
     ensures acknowledged { KeepsAcknowledged }
     ensures seen { KeepsSeen }
     ensures epochs { RaisesTheEpoch }
+{}
+
+/// A group's commands are due the replies that they would be due one by one, where each of these finds room: what they want is then what
+/// these calls would keep, and the tickets are those that these would leave.
+#[tactic(auto, using(crate::proofs::InTurn::groups_are_in_turn))]
+pub fn groups_are_in_turn()
+    ensures { GroupsAreInTurn }
 {}
 
 /// Whatever a crash may leave of an opening, within a command or between two, is what is held after a world that ends in that crash.

@@ -1,5 +1,5 @@
 //! What a change leaves, made before it is kept.
-ghost use Rattle.std.specs.{Prelude.{◌≡◌, IfOk}, Arc.arc_value};
+ghost use Rattle.std.specs.{Prelude.{◌≡◌, ◌++◌, IfOk}, Arc.arc_value};
 ghost use Rattle.pf_core.specs.{Durable.Edits.voided_by, Nexts.ready};
 
 use crate::durable::{Change, Durable};
@@ -8,7 +8,7 @@ use std::alloc::{AllocError, Global};
 use std::marker::Model;
 use std::sync::Arc;
 
-/// What a change leaves, with all its memory made. Contracts see it as a `Ready`.
+/// What a change leaves, or several of a group in turn, with all its memory made. Contracts see it as a `Ready`.
 #[derive(Drop)]
 pub struct Next {
     pub(crate) durable: Arc<Durable>,
@@ -24,12 +24,33 @@ impl Model for Next {
     ghost view = { λ n. ready (arc_value n.durable) n.voided.items };
 }
 
+// These rulesets behind those.
+fn behind(
+    alloc: Global,
+    before: &[RulesetName],
+    mut names: Vec<RulesetName>,
+) -> Result<Vec<RulesetName>, AllocError>
+    ensures { IfOk result (λ v. v.items ≡ before.now ++ names.items) }
+{
+    let mut all = Vec::new(alloc);
+    for name in before {
+        all.push(name.copied())?;
+    }
+    all.append(&mut names)?;
+    Ok(all)
+}
+
 impl Next {
-    // That the change leaves this.
-    pub(crate) fn new(alloc: Global, change: &Change, left: Durable) -> Result<Next, AllocError>
-        ensures { IfOk result (λ n. n ≡ ready left (voided_by change.now)) }
+    // That the change leaves this, behind others that void these tickets.
+    pub(crate) fn new(
+        alloc: Global,
+        before: &[RulesetName],
+        change: &Change,
+        left: Durable,
+    ) -> Result<Next, AllocError>
+        ensures { IfOk result (λ n. n ≡ ready left (before.now ++ voided_by change.now)) }
     {
-        let voided = change.voided(alloc)?;
+        let voided = behind(alloc, before, change.voided(alloc)?)?;
         let Ok(durable) = Arc::new(alloc, left) else {
             return Err(AllocError);
         };

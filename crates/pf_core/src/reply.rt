@@ -157,8 +157,11 @@ pub enum Refusal {
     /// The device that changes are kept on failed in this opening, so nothing more is changed in it: this comes before all that a
     /// command may be refused for that could change something. All is as before. Own.
     Halted,
-    /// The list of a begin, a commit or a rollback without entries, or with more than 64. All is as before.
+    /// The list of a begin, a commit or a rollback without entries, or with more than 64; or a group without commands, or with more than
+    /// 64. All is as before.
     BadCount,
+    /// The first command of a group, from 0, that isn't of the kinds that a group may have. All is as before, for the other commands too.
+    NotGrouped { index: usize },
     /// The first entry of a commit or a rollback, from 0, that names a ruleset named before it. All is as before, for the
     /// other entries too.
     Twice { at: usize },
@@ -186,10 +189,12 @@ pub enum Refusal {
     TicketsExhausted,
     /// The history has as many changes as it may have, which whoever keeps it says. All is as before.
     HistoryFull,
-    /// The device that changes are kept on has no room for this one, which whoever keeps them says. All is as before. Own.
+    /// The device that changes are kept on has no room for this one, or for all of a group, which whoever keeps them says. All is as
+    /// before. Own.
     Full,
-    /// The device failed while the change was put there. The change isn't acknowledged: the next opening may give it or not. What is
-    /// kept, the tickets and what is shown are as before, and until that opening all that may change something is `Halted`. Own.
+    /// The device failed while the change, or a group's changes, were put there. They aren't acknowledged: the next opening may give them
+    /// or not, of a group all or none. What is kept, the tickets and what is shown are as before, and until that opening all that may
+    /// change something is `Halted`. Own.
     Fault,
     /// A growth of memory was refused. All is as before, and the command may be asked again.
     Memory,

@@ -2,7 +2,7 @@
 ghost use Rattle.std.specs.Prelude.{◌≡◌, ◌∷◌, [], length, not, IfOk};
 ghost use Rattle.pf_anchor.specs.Rulesets.{rules_at};
 ghost use Rattle.pf_state.specs.declared.step.Step.TheVariants as step_kind;
-ghost use Rattle.pf_core.specs.{Durable.Edits.verdict, Commands.{bound_here, makes_state, make_step, track_step, steps_here, states_step, is_done, changes_states_in_memory}, Refusals.OrMemory, Wholes.{plain, IsMade}};
+ghost use Rattle.pf_core.specs.{Durable.Edits.verdict, Commands.{bound_here, makes_state, make_step, track_step, steps_here, states_step, is_done, changes_states_in_memory}, Nexts.ready, Refusals.OrMemory, Wholes.{plain, IsMadeFrom}};
 
 use crate::command::StateCommand;
 use crate::durable::{Change, Durable, Verdict};
@@ -13,6 +13,7 @@ use pf_rule::{Action, Packet};
 use pf_state::failover::steps_of;
 use pf_state::peer::Message;
 use pf_state::{Bound, Flow, Held, State, StateName, Step as StateStep, StepList};
+use pf_ticket::RulesetName;
 use std::alloc::{AllocError, Global};
 
 // Which rule a state is bound to that a rule at this path, of this number, makes.
@@ -56,12 +57,13 @@ fn insert(alloc: Global, name: StateName, held: Held) -> Result<StepList, AllocE
 fn make(
     alloc: Global,
     durable: &Durable,
+    before: &[RulesetName],
     by: RuleVerdict,
     name: StateName,
     held: Held,
 ) -> Result<ReadyStep, Refusal>
     ensures reply { let due = make_step durable.now by (name, held) in OrMemory (not (is_done due)) (plain result) due }
-    ensures made { IsMade durable.now result }
+    ensures made { IsMadeFrom (ready durable.now before.now) result }
 {
     if durable.states().held_at(name).is_some() {
         return Ok(ReadyStep::Done(Answer::Stale(by)));
@@ -70,18 +72,19 @@ fn make(
     let (states, _) = durable.with_stepped(alloc, steps.as_slice())?;
     let left = durable.with_states(alloc, states)?;
     let change = Change::states(steps);
-    Ok(wants(alloc, change, left, Outcome::Tracked(by))?)
+    Ok(wants(alloc, before, change, left, Outcome::Tracked(by))?)
 }
 
 // Judges a packet, and makes its state where a rule says so.
 fn track(
     alloc: Global,
     durable: &Durable,
+    before: &[RulesetName],
     name: StateName,
     packet: &Packet,
 ) -> Result<ReadyStep, Refusal>
     ensures reply { let due = track_step durable.now name packet.now (verdict durable.now packet.now) in OrMemory (not (is_done due)) (plain result) due }
-    ensures made { IsMade durable.now result }
+    ensures made { IsMadeFrom (ready durable.now before.now) result }
 {
     let by = match durable.verdict(packet) {
         Verdict::Rules(by) => by,
@@ -95,7 +98,7 @@ fn track(
         flow: Flow::of(packet),
         bound,
     };
-    make(alloc, durable, by, name, held)
+    make(alloc, durable, before, by, name, held)
 }
 
 // What a peer's message does to the states here.
@@ -106,23 +109,24 @@ fn steps_here(alloc: Global, durable: &Durable, message: &Message) -> Result<Ste
     steps_of(alloc, message, &durable.sum(), main_rules.as_slice().len())
 }
 
-// One change of states.
+// One change of states, behind changes that void these tickets.
 pub(crate) fn change_states(
     alloc: Global,
     durable: &Durable,
+    before: &[RulesetName],
     command: &StateCommand,
 ) -> Result<ReadyStep, Refusal>
     ensures reply { OrMemory (changes_states_in_memory durable.now command.now) (plain result) (states_step durable.now command.now) }
-    ensures made { IsMade durable.now result }
+    ensures made { IsMadeFrom (ready durable.now before.now) result }
 {
     match command {
-        StateCommand::Track { name, packet } => track(alloc, durable, *name, packet),
+        StateCommand::Track { name, packet } => track(alloc, durable, before, *name, packet),
         StateCommand::Peer(message) => {
             let steps = steps_here(alloc, durable, message)?;
             let (states, counts) = durable.with_stepped(alloc, steps.as_slice())?;
             let left = durable.with_states(alloc, states)?;
             let change = Change::states(steps);
-            Ok(wants(alloc, change, left, Outcome::Peered(counts))?)
+            Ok(wants(alloc, before, change, left, Outcome::Peered(counts))?)
         }
         StateCommand::Kill(name) => {
             if durable.states().held_at(*name).is_none() {
@@ -130,7 +134,8 @@ pub(crate) fn change_states(
             }
             let states = durable.without_state(alloc, *name)?;
             let left = durable.with_states(alloc, states)?;
-            Ok(wants(alloc, Change::remove(*name), left, Outcome::Killed)?)
+            let change = Change::remove(*name);
+            Ok(wants(alloc, before, change, left, Outcome::Killed)?)
         }
     }
 }

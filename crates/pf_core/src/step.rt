@@ -1,5 +1,5 @@
 //! What one command comes to.
-ghost use Rattle.std.specs.Prelude.{◌≡◌, IfOk};
+ghost use Rattle.std.specs.Prelude.{◌≡◌, ◌++◌, IfOk};
 ghost use Rattle.pf_core.specs.{Durable.Edits.voided_by, Nexts.ready};
 ghost use Rattle.pf_core.specs.declared.step.ReadyStep.TheVariants as made;
 
@@ -7,6 +7,7 @@ use crate::command::HistoryCommand;
 use crate::durable::{Change, Durable};
 use crate::next::Next;
 use crate::reply::{Answer, Outcome};
+use pf_ticket::RulesetName;
 use std::alloc::{AllocError, Global};
 
 /// What a command comes to, where it isn't refused.
@@ -31,15 +32,16 @@ pub enum ReadyStep {
     OfHistory(HistoryCommand),
 }
 
-// A change that is wanted, and leaves this.
+// A change that is wanted, and leaves this, behind others that void these tickets.
 pub(crate) fn wants(
     alloc: Global,
+    before: &[RulesetName],
     change: Change,
     left: Durable,
     outcome: Outcome,
 ) -> Result<ReadyStep, AllocError>
-    ensures { IfOk result (λ s. s ≡ made.Wants change (ready left (voided_by change)) outcome) }
+    ensures { IfOk result (λ s. s ≡ made.Wants change (ready left (before.now ++ voided_by change)) outcome) }
 {
-    let next = Next::new(alloc, &change, left)?;
+    let next = Next::new(alloc, before, &change, left)?;
     Ok(ReadyStep::Wants(change, next, outcome))
 }

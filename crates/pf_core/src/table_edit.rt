@@ -1,12 +1,13 @@
 //! Edits of tables: which change each one wants, and what it is told.
 ghost use Rattle.std.specs.Prelude.{◌≡◌, length, filter};
-ghost use Rattle.pf_core.specs.{Commands.{same_addition, added_of, same_deletion, deleted_of, edit_step, edits_in_memory}, Refusals.OrMemory, Wholes.{plain, IsMade}};
+ghost use Rattle.pf_core.specs.{Commands.{same_addition, added_of, same_deletion, deleted_of, edit_step, edits_in_memory}, Nexts.ready, Refusals.OrMemory, Wholes.{plain, IsMadeFrom}};
 
 use crate::command::TableEdit;
 use crate::durable::{Change, Durable, EntryList};
 use crate::reply::{Outcome, Refusal};
 use crate::step::{ReadyStep, wants};
 use pf_table::{Addition, Deletion};
+use pf_ticket::RulesetName;
 use std::alloc::Global;
 
 // How many entries had this answer.
@@ -42,10 +43,15 @@ fn deleted_of(answers: &[Deletion]) -> Outcome
     }
 }
 
-// One edit of a table.
-pub(crate) fn edit(alloc: Global, durable: &Durable, edit: &TableEdit) -> Result<ReadyStep, Refusal>
+// One edit of a table, behind changes that void these tickets.
+pub(crate) fn edit(
+    alloc: Global,
+    durable: &Durable,
+    before: &[RulesetName],
+    edit: &TableEdit,
+) -> Result<ReadyStep, Refusal>
     ensures reply { OrMemory (edits_in_memory durable.now edit.now) (plain result) (edit_step durable.now edit.now) }
-    ensures made { IsMade durable.now result }
+    ensures made { IsMadeFrom (ready durable.now before.now) result }
 {
     match edit {
         TableEdit::Add {
@@ -56,7 +62,7 @@ pub(crate) fn edit(alloc: Global, durable: &Durable, edit: &TableEdit) -> Result
             let (table, additions) = durable.with_added(alloc, path, name, entries.as_slice())?;
             let left = durable.with_table(alloc, path, name, table)?;
             let change = Change::add(path.copied(), *name, entries.copied(alloc)?);
-            Ok(wants(alloc, change, left, added_of(additions.as_slice()))?)
+            Ok(wants(alloc, before, change, left, added_of(additions.as_slice()))?)
         }
         TableEdit::Delete {
             path,
@@ -69,7 +75,8 @@ pub(crate) fn edit(alloc: Global, durable: &Durable, edit: &TableEdit) -> Result
             }
             let left = durable.with_table(alloc, path, name, table)?;
             let change = Change::delete(path.copied(), *name, entries.copied(alloc)?);
-            Ok(wants(alloc, change, left, deleted_of(deletions.as_slice()))?)
+            let outcome = deleted_of(deletions.as_slice());
+            Ok(wants(alloc, before, change, left, outcome)?)
         }
         TableEdit::Set {
             path,
@@ -79,7 +86,7 @@ pub(crate) fn edit(alloc: Global, durable: &Durable, edit: &TableEdit) -> Result
             let table = durable.with_set(alloc, path, name, entries.as_slice())?;
             let left = durable.with_table(alloc, path, name, table)?;
             let change = Change::set(path.copied(), *name, entries.copied(alloc)?);
-            Ok(wants(alloc, change, left, Outcome::Set)?)
+            Ok(wants(alloc, before, change, left, Outcome::Set)?)
         }
         TableEdit::Kill { path, name } => {
             if !durable.has_table(path, name) {
@@ -87,7 +94,7 @@ pub(crate) fn edit(alloc: Global, durable: &Durable, edit: &TableEdit) -> Result
             }
             let left = durable.without_table(alloc, path, name)?;
             let change = Change::set(path.copied(), *name, EntryList::new(Vec::new(alloc)));
-            Ok(wants(alloc, change, left, Outcome::Killed)?)
+            Ok(wants(alloc, before, change, left, Outcome::Killed)?)
         }
     }
 }

@@ -1,7 +1,7 @@
 -- What serves lines: the calls that they come to, as events, and the replies.
 use Rattle.std.specs.Prelude.{◌≡◌, ℕ, ◌+◌, if◌then◌else◌, List, [], ◌∷◌, ◌++◌, Option, Some, None}
 use Rattle.pf_core.specs.declared.{command.Command.Command, reply.Reply.Reply}
-use Rattle.pf_core.specs.{Calls.call, Durable.Edits.Kept, Pages.StandsFor, Worlds.{Upshot, Event, called}}
+use Rattle.pf_core.specs.{Calls.call, Durable.Edits.Kept, Pages.StandsFor, Worlds.{Upshot, Event, called, called_group}}
 use Rattle.pf_book.specs.Books.{Ledger, page}
 use Rattle.pf_line.specs.Reply.Replies.{reply_text}
 use Rattle.pf_session.specs.Telling.{IsToldBy}
@@ -25,10 +25,11 @@ Served (line ∷ lines) events text =
     (first rest : List Event) × (reply replies : List ℕ) × IsTold line first reply × Served lines rest replies
     × (events ≡ first ++ rest) × (text ≡ reply ++ replies)
 
--- in how many of the calls the device failed
+-- in how many of the calls, of groups too, the device failed
 abbrev pub failures : List Event → ℕ
 failures [] = 0
 failures (called c t ∷ events) = (if t.failed then 1 else 0) + failures events
+failures (called_group commands result t ∷ events) = (if t.failed then 1 else 0) + failures events
 failures (e ∷ events) = failures events
 
 -- Of whatever world the Book stood for, it now stands for that with these events at its end; what its opening keeps within stays, and the

@@ -2,6 +2,7 @@ pub mod Places
 pub mod Offers
 pub mod NamedTables
 pub mod Moves
+pub mod Voided
 pub mod Latest
 pub mod Keeping
 pub mod Twice

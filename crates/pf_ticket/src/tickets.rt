@@ -166,12 +166,19 @@ impl Tickets {
         self.valid_place(name, ticket).is_some()
     }
 
-    fn first_busy(&self, entries: &[Entry]) -> Option<usize>
-        ensures { result ≡ busy_in self.now entries.now }
+    // The same, once the tickets of other rulesets are void.
+    #[tactic(auto, using(crate::proofs::Voided::valid_behind))]
+    fn is_valid_behind(&self, voided: &[RulesetName], name: &RulesetName, ticket: Ticket) -> bool
+        ensures { result ≡ is_valid (after self.now (switches voided.now)) name.now ticket }
     {
-        entries
-            .iter()
-            .position(|entry| !self.is_valid(&entry.name, entry.ticket))
+        !is_named(voided, name) && self.is_valid(name, ticket)
+    }
+
+    // The first entry whose ticket isn't valid then.
+    fn first_busy(&self, voided: &[RulesetName], entries: &[Entry]) -> Option<usize>
+        ensures { result ≡ busy_in (after self.now (switches voided.now)) entries.now }
+    {
+        entries.iter().position(|entry| !self.is_valid_behind(voided, &entry.name, entry.ticket))
     }
 
     // How many rulesets have a valid ticket once these are given one too.
@@ -335,8 +342,19 @@ impl Tickets {
     pub fn check_all(&self, entries: &[Entry]) -> Result<(), TicketRefusal>
         ensures { result ≡ commit_check self.now entries.now }
     {
+        self.check_behind(&[], entries)
+    }
+
+    /// The same, once the tickets of other rulesets are void.
+    pub fn check_behind(
+        &self,
+        voided: &[RulesetName],
+        entries: &[Entry],
+    ) -> Result<(), TicketRefusal>
+        ensures { result ≡ commit_check (after self.now (switches voided.now)) entries.now }
+    {
         check_list(entries)?;
-        match self.first_busy(entries) {
+        match self.first_busy(voided, entries) {
             Some(at) => Err(TicketRefusal::Busy { at }),
             None => Ok(()),
         }
@@ -351,6 +369,21 @@ impl Tickets {
             Ok(place) => self.slots.at(place).offered(),
             Err(_) => Ok(Offered::nothing(name.kind)),
         }
+    }
+
+    /// The same, once the tickets of other rulesets are void.
+    #[tactic(auto, using(crate::proofs::Voided::content_behind))]
+    pub fn contents_behind(
+        &self,
+        voided: &[RulesetName],
+        name: &RulesetName,
+    ) -> Result<Offered, AllocError>
+        ensures { IfOk result (λ o. o ≡ content (after self.now (switches voided.now)) name.now) }
+    {
+        if is_named(voided, name) {
+            return Ok(Offered::nothing(name.kind));
+        }
+        self.contents(name)
     }
 
     /// Drops each of these rulesets whose ticket is valid. After a refusal all is as before. It takes no memory.

@@ -1,5 +1,5 @@
 -- What holds after every world.
-use Rattle.std.specs.{Prelude.{◌≡◌, ℕ, ◌≤◌, ◌||◌, Bool, true, false, List, [], ◌++◌, length, fold, None, Ok}, List.list_all}
+use Rattle.std.specs.{Prelude.{◌≡◌, ℕ, ◌≤◌, ◌||◌, Bool, true, false, List, [], ◌++◌, length, flat_map, fold, None, Ok}, List.list_all}
 use Rattle.pf_addr.specs.declared.addr.Addr.{Addr}
 use Rattle.pf_addr.specs.{Path.Paths.main, Path.References.PlainReference}
 use Rattle.pf_rule.specs.Packets.{PlainPacket}
@@ -7,13 +7,14 @@ use Rattle.pf_table.specs.{Laws.Tables.DecidesAbout, Tables.deciding}
 use Rattle.pf_anchor.specs.{Evaluation.judged, Laws.Evaluation.{decides, IsToldOfMain, LeadsThere}, Rulesets.rules_at}
 use Rattle.pf_state.specs.{Flows.flow_of, Laws.States.IsStateOf, States.Stated}
 use Rattle.pf_ticket.specs.{declared.{entry.Entry.Entry, ticket.Ticket.Ticket}, Replies.commit_check, Tickets.content, Laws.Tickets.{AreOnce, IsWithin as AreTicketsWithin}, Mentions.{Mention, opened as left_by}, Names.tickets_from}
-use Rattle.pf_core.specs.{declared.{command.Command.TheVariants.Ask, command.Question.TheVariants.Judge, command.Question.TheVariants.Test, durable.verdict.Verdict.TheVariants.State as Stateful, durable.verdict.Verdict.TheVariants.Rules as ByRules, reply.Reply.Reply, reply.Reply.TheVariants.Answer as Answered, reply.Reply.TheVariants.Applied, reply.Reply.TheVariants.Stored}, Calls.mentions_of, Commands.items, Durable.Edits.{Kept, named_again, entries_at, verdict}, History.tickets_in, Laws.Durable.IsWithin, Worlds.{Held, up, down, Event, called, opened, flat, log_of, durable_of, LegalReply, state_after, IsWorld}}
+use Rattle.pf_core.specs.{declared.{command.Command.TheVariants.Ask, command.Question.TheVariants.Judge, command.Question.TheVariants.Test, durable.verdict.Verdict.TheVariants.State as Stateful, durable.verdict.Verdict.TheVariants.Rules as ByRules, reply.Reply.Reply, reply.Reply.TheVariants.Answer as Answered, reply.Reply.TheVariants.Applied, reply.Reply.TheVariants.Stored}, Calls.{mentions_of, replies_in, mentions_of_group}, Commands.items, Durable.Edits.{Kept, named_again, entries_at, verdict}, History.tickets_in, Laws.Durable.IsWithin, Worlds.{Held, up, down, Event, called, called_group, opened, flat, log_of, durable_of, LegalReply, state_after, IsWorld}}
 use Rattle.pf_core.specs.declared.reply.Answer.TheVariants as answer
 
 -- ---- tickets
 
 abbrev pub given_by : List Ticket → Event → List Ticket
 given_by ts (called c t) = ts ++ tickets_in c.reply
+given_by ts (called_group commands result t) = ts ++ flat_map tickets_in (replies_in result)
 given_by ts (opened setting) = []
 given_by ts e = ts
 
@@ -23,6 +24,7 @@ tickets_since world = fold given_by [] world
 
 abbrev pub mentions_by : List Mention → Event → List Mention
 mentions_by ms (called c t) = ms ++ mentions_of c
+mentions_by ms (called_group commands result t) = ms ++ mentions_of_group commands result
 mentions_by ms (opened setting) = []
 mentions_by ms e = ms
 
@@ -64,6 +66,7 @@ CommitsNameOnce = (first : Kept) (world : List Event) (h : Held) → IsWorld fir
 
 abbrev pub failed_by : Bool → Event → Bool
 failed_by failed (called c t) = failed || t.failed
+failed_by failed (called_group commands result t) = failed || t.failed
 failed_by failed (opened setting) = false
 failed_by failed e = failed
 
@@ -79,6 +82,7 @@ hides hidden r = hidden
 
 abbrev pub hidden_by : Bool → Event → Bool
 hidden_by hidden (called c t) = hides hidden c.reply
+hidden_by hidden (called_group commands result t) = fold hides hidden (replies_in result)
 hidden_by hidden (opened setting) = false
 hidden_by hidden e = hidden
 

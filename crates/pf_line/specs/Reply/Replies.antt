@@ -83,6 +83,7 @@ refusal_text refusals.MixedFamily = codes "err family"
 refusal_text refusals.PortNeedsProto = codes "err portproto"
 refusal_text refusals.Halted = codes "err halted"
 refusal_text refusals.BadCount = codes "err count"
+refusal_text (refusals.NotGrouped index) = codes "err grouped " ++ decimal index
 refusal_text (refusals.Twice at) = codes "err twice " ++ decimal at
 refusal_text (refusals.Conflict at) = codes "err conflict " ++ decimal at
 refusal_text (refusals.Busy at) = codes "busy " ++ decimal at

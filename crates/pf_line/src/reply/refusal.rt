@@ -38,6 +38,9 @@ pub(crate) fn write_refusal<W: Write>(
         Refusal::BadProto { at } => write_numbered(out, so_far, b"err proto ", at as u64),
         Refusal::Twice { at } => write_numbered(out, so_far, b"err twice ", at as u64),
         Refusal::Conflict { at } => write_numbered(out, so_far, b"err conflict ", at as u64),
+        Refusal::NotGrouped { index } => {
+            write_numbered(out, so_far, b"err grouped ", index as u64)
+        }
         Refusal::Busy { at } => write_numbered(out, so_far, b"busy ", at as u64),
     }
 }

@@ -1,13 +1,14 @@
 -- Lines that were served one list after another.
 use Rattle.std.proofs.{Common.{◌≡◌, ℕ, ◌+◌, List, [], ◌∷◌, ◌++◌, Option, refl, sym, ap, ◌∙◌, subst, append_assoc, arith}, lemmas.List.append-nil}
 use Rattle.pf_core.specs.declared.reply.Reply.{Reply}
-use Rattle.pf_core.specs.{Pages.StandsFor, Worlds.{Event, called, entered, learned, crashed, opened, refused_opening}}
+use Rattle.pf_core.specs.{Pages.StandsFor, Worlds.{Event, called, called_group, entered, learned, crashed, opened, refused_opening}}
 use Rattle.pf_book.specs.Books.{Ledger, page}
 use Rattle.pf_session.specs.{Laws.Seeing.seen-told, LineEngine.Lines.seen, Serving.{NoCall, CallsBook, Served, failures, Continues, Serves, Told, text_of}}
 
 failures-append : (xs ys : List Event) → failures (xs ++ ys) ≡ failures xs + failures ys
 failures-append [] ys = omega arith
 failures-append (called c t ∷ xs) ys = omega (arith, failures-append xs ys)
+failures-append (called_group commands result t ∷ xs) ys = omega (arith, failures-append xs ys)
 failures-append (entered worker n ∷ xs) ys = failures-append xs ys
 failures-append (learned worker n ∷ xs) ys = failures-append xs ys
 failures-append (crashed doing n ∷ xs) ys = failures-append xs ys

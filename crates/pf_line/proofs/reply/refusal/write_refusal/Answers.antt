@@ -14,3 +14,6 @@ returns-in-PeerCount g c = rw c.in-PeerCount.is c.write_part-in-PeerCount.ensure
 
 pub returns-in-HistoryFull : goal.returns-in-HistoryFull
 returns-in-HistoryFull g c = rw c.in-HistoryFull.is c.write_part-in-HistoryFull.ensures
+
+pub returns-in-NotGrouped : goal.returns-in-NotGrouped
+returns-in-NotGrouped g c = rw c.in-NotGrouped.is c.write_numbered-in-NotGrouped.ensures
