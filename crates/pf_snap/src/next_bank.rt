@@ -25,7 +25,7 @@ impl NextBank {
         }
     }
 
-    /// The bank of this snapshot. Own.
+    /// The bank of this snapshot. `AllocError`: none is made. Own.
     pub fn of(
         alloc: Global,
         version: u8,
@@ -44,7 +44,7 @@ impl NextBank {
     }
 
     /// Starts a bank with a snapshot of so many bytes, and takes all memory that it wants beyond what is here. The snapshot is then put
-    /// behind `behind`, and the gate by [`NextBank::close`]. Own.
+    /// behind `behind`, and the gate by [`NextBank::close`]. `AllocError`: it has to be started anew, and what `behind` holds isn't said. Own.
     pub fn start(&mut self, version: u8, generation: u64, length: usize) -> Result<(), AllocError>
         requires { length < 2 ^ 32 }
         ensures front { OnOk result (self.new.behind.items ≡ front version generation length) }
@@ -59,7 +59,7 @@ impl NextBank {
         Ok(())
     }
 
-    /// Puts a closed gate behind the snapshot. Own.
+    /// Puts a closed gate behind the snapshot. `AllocError`: it has to be started anew, and what `behind` holds isn't said. Own.
     pub fn close(&mut self) -> Result<(), AllocError>
         ensures closed { OnOk result (self.new.behind.items ≡ self.old.behind.items ++ CLOSED_GATE ∷ []) }
         ensures same_length { self.new.length ≡ self.old.length }

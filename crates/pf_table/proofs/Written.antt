@@ -1,5 +1,5 @@
--- An entry's first four bytes, in one push.
-use Rattle.std.proofs.{Common.{◌≡◌, ℕ, ◌<◌, List, [], ◌∷◌, ◌++◌, refl, append_assoc, arith}}
+-- An entry's bytes in few pieces.
+use Rattle.std.proofs.{Common.{◌≡◌, ℕ, ◌<◌, List, [], ◌∷◌, ◌++◌, refl, sym, ap, ◌∙◌, append_assoc, arith}}
 use Rattle.pf_addr.specs.Bytes.Parts.{number_bytes}
 
 pub one_byte : (n : ℕ) → n < 256 → number_bytes 1 n ≡ n ∷ []
@@ -10,3 +10,11 @@ pub four_pushed : (out : List ℕ) (a b c : ℕ) → a < 256 → b < 256 → c <
     → out ++ (a ∷ b ∷ c ∷ 0 ∷ []) ≡ (((out ++ number_bytes 1 a) ++ number_bytes 1 b) ++ number_bytes 1 c) ++ 0 ∷ []
 four_pushed out a b c one two three =
     rw (one_byte a one, one_byte b two, one_byte c three, append_assoc out (a ∷ []) (b ∷ []), append_assoc out (a ∷ b ∷ []) (c ∷ []), append_assoc out (a ∷ b ∷ c ∷ []) (0 ∷ [])) refl
+
+-- and an address behind them
+pub entry_pushed : (out : List ℕ) (a b c : ℕ) (address zeros : List ℕ) → a < 256 → b < 256 → c < 256
+    → out ++ (((a ∷ b ∷ c ∷ 0 ∷ []) ++ address) ++ zeros) ≡ (((((out ++ number_bytes 1 a) ++ number_bytes 1 b) ++ number_bytes 1 c) ++ 0 ∷ []) ++ address) ++ zeros
+entry_pushed out a b c address zeros one two three =
+    let front = a ∷ b ∷ c ∷ 0 ∷ [] in
+    sym (append_assoc out (front ++ address) zeros) ∙ ap (λ (l : List ℕ). l ++ zeros) (sym (append_assoc out front address))
+    ∙ ap (λ (l : List ℕ). (l ++ address) ++ zeros) (four_pushed out a b c one two three)

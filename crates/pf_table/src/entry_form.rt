@@ -1,12 +1,12 @@
 //! Entries in bytes.
-ghost use Rattle.std.specs.Prelude.{◌≡◌, ◌++◌, ◌∷◌, [], OnOk};
-ghost use Rattle.pf_addr.specs.Bytes.Forms.{number, onto};
+ghost use Rattle.std.specs.Prelude.{◌≡◌, ◌++◌, ◌∷◌, [], replicate, OnOk};
+ghost use Rattle.pf_addr.specs.Bytes.Forms.{back, number, onto};
 
 use crate::entry::Entry;
 use pf_addr::bytes::{
     Fault, Fitting, Layout, Ordered, Rest, Stop, expect, push_bytes, read_flag, read_u8,
 };
-use pf_addr::{Net, push_addr, read_addr, read_family};
+use pf_addr::{Addr, Net, push_addr, read_addr, read_family};
 use pf_map::Key;
 use std::alloc::{AllocError, Global};
 
@@ -43,13 +43,14 @@ impl Layout for Entry {
     #[tactic(auto, unfolding(crate::specs::EntryForms::entry, pf_addr::specs::NetForms::family, pf_addr::specs::Bytes::Codes::below))]
     fn write(&self, _version: u8, out: &mut Vec<u8>) -> Result<(), AllocError> {
         let net = self.net();
-        push_front(
-            out,
-            net.family().number(),
-            net.prefix_len(),
-            u8::from(self.is_negated()),
-        )?;
-        push_addr(out, net.addr())
+        let (length, negated) = (net.prefix_len(), u8::from(self.is_negated()));
+        match net.addr() {
+            Addr::V4(address) => push_v4(out, length, negated, address),
+            addr => {
+                push_front(out, net.family().number(), length, negated)?;
+                push_addr(out, addr)
+            }
+        }
     }
 }
 
@@ -60,6 +61,21 @@ fn push_front(out: &mut Vec<u8>, family: u8, length: u8, negated: u8) -> Result<
         ≡ onto (number 1) negated (onto (number 1) length (onto (number 1) family out.old.items)) ++ 0 ∷ []) }
 {
     push_bytes(out, &[family, length, negated, 0])
+}
+
+// An entry of IPv4, at once.
+#[tactic(auto, unfolding(pf_addr::specs::Bytes::Parts::number_bytes), using(crate::proofs::Written::entry_pushed))]
+fn push_v4(out: &mut Vec<u8>, length: u8, negated: u8, address: u32) -> Result<(), AllocError>
+    ensures { OnOk result (out.new.items ≡ onto (back (number 4) (replicate 12 0)) address
+        (onto (number 1) negated (onto (number 1) length (onto (number 1) 4 out.old.items)) ++ 0 ∷ [])) }
+{
+    let a = address.to_be_bytes();
+    push_bytes(
+        out,
+        &[
+            4, length, negated, 0, a[0], a[1], a[2], a[3], 0, 0, 0, 0, 0, 0, 0, 0, 0, 0, 0, 0,
+        ],
+    )
 }
 
 impl Fitting for Entry {

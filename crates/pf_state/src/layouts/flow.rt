@@ -161,7 +161,7 @@ fn read_ports<'a>(protocol: Protocol, from: &mut Rest<'a>) -> Result<(u16, u16),
     Ok((source, destination))
 }
 
-fn direction_byte(direction: Direction) -> u8
+pub(crate) fn direction_byte(direction: Direction) -> u8
     ensures { result ≡ direction_byte direction }
 {
     match direction {

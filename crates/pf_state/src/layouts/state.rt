@@ -1,11 +1,12 @@
 //! States in bytes, as a store keeps them.
 ghost use Rattle.std.specs.Prelude.{◌≡◌, ◌++◌, ◌∷◌, [], replicate, OnOk};
 ghost use Rattle.pf_addr.specs.{Bytes.Forms.{Form, Fits, back, front, times, onto}, Bytes.Readers.Reads};
-ghost use Rattle.pf_state.specs.Layouts.States.{name_form, plain_name, bound_form, plain_bound, held_form, plain_held, state_form, plain_state};
+ghost use Rattle.pf_state.specs.Layouts.{Flows.{flow_form, plain_flow}, States.{name_form, plain_name, bound_form, plain_bound, held_form, plain_held, state_form, plain_state}};
 
 use crate::flow::Flow;
-use crate::layouts::flow::push_flow;
+use crate::layouts::flow::{direction_byte, push_flow};
 use crate::state::{Bound, Held, State, StateName};
+use pf_addr::Addr;
 use pf_addr::bytes::{
     Layout, Ordered, Rest, Stop, expect, push_bytes, push_u32, push_u64, read_array, read_u32,
     read_u64, takes,
@@ -83,13 +84,14 @@ pub fn read_state<'a>(alloc: Global, version: u8, from: &mut Rest<'a>) -> Result
 
 /// Puts a state behind the bytes, as this version has it; each fits its form. Fails only where memory is refused, and then what stands
 /// behind the bytes isn't said.
-#[tactic(auto, unfolding(crate::specs::Layouts::States::state_form))]
+#[tactic(auto, unfolding(crate::specs::Layouts::States::state_form, crate::specs::Layouts::States::held_form))]
 pub fn push_state(out: &mut Vec<u8>, version: u8, state: &State) -> Result<(), AllocError>
     ensures written { OnOk result (out.new.items ≡ onto (state_form version) (plain_state state.now) out.old.items) }
     ensures fits { OnOk result (Fits (state_form version) (plain_state state.now)) }
 {
-    push_name(out, *state.key())?;
-    push_held(out, version, *state.value())
+    let held = state.value();
+    push_named_flow(out, *state.key(), held.generation, &held.flow)?;
+    push_rest(out, &held.bound)
 }
 
 #[tactic(auto, unfolding(crate::specs::Layouts::States::held_form))]
@@ -122,14 +124,69 @@ fn read_bound<'a>(from: &mut Rest<'a>) -> Result<Bound, Stop>
     Ok(Bound::Rule { number, sum })
 }
 
-#[tactic(auto, unfolding(crate::specs::Layouts::States::held_form))]
-fn push_held(out: &mut Vec<u8>, _version: u8, held: Held) -> Result<(), AllocError>
-    ensures written { OnOk result (out.new.items ≡ onto (held_form _version) (plain_held held) out.old.items) }
-    ensures fits { OnOk result (Fits (held_form _version) (plain_held held)) }
+// What stands in front of what a state is bound to: its name, its generation and its flow. All of IPv4 is put there at once, since a
+// snapshot has tens of thousands of states.
+#[tactic(auto, using(crate::specs::Laws::Layouts::flow_fits), unfolding(crate::specs::Layouts::States::name_form, crate::specs::Layouts::Flows::flow_form, crate::specs::Layouts::Flows::direction_form, crate::specs::Layouts::Flows::family_form, crate::specs::Layouts::Flows::protocol_form, crate::specs::Layouts::Flows::ports_form))]
+fn push_named_flow(
+    out: &mut Vec<u8>,
+    name: StateName,
+    generation: u32,
+    flow: &Flow,
+) -> Result<(), AllocError>
+    ensures written { OnOk result (out.new.items
+        ≡ onto flow_form (plain_flow flow.now) (onto (Form.number 4) generation (onto name_form (plain_name name) out.old.items))) }
+    ensures name { Fits name_form (plain_name name) }
+    ensures flow { OnOk result (Fits flow_form (plain_flow flow.now)) }
 {
-    push_u32(out, held.generation)?;
-    push_flow(out, &held.flow)?;
-    push_rest(out, &held.bound)
+    match (flow.source(), flow.destination()) {
+        (Addr::V4(source), Addr::V4(destination)) => push_named_v4(
+            out,
+            name,
+            generation,
+            direction_byte(flow.direction()),
+            flow.protocol().number(),
+            (source, flow.source_port()),
+            (destination, flow.destination_port()),
+        ),
+        _ => {
+            push_name(out, name)?;
+            push_u32(out, generation)?;
+            push_flow(out, flow)
+        }
+    }
+}
+
+// The same of IPv4: in a direction of this byte, from an address and a port to another.
+fn push_named_v4(
+    out: &mut Vec<u8>,
+    name: StateName,
+    generation: u32,
+    direction: u8,
+    protocol: u8,
+    source: (u32, u16),
+    destination: (u32, u16),
+) -> Result<(), AllocError>
+    ensures { OnOk result (out.new.items ≡ onto (Form.number 2) destination.1 (onto (Form.number 2) source.1
+        (onto (back (Form.number 4) (replicate 12 0)) destination.0 (onto (back (Form.number 4) (replicate 12 0)) source.0
+        (onto (Form.number 1) protocol (onto (Form.number 1) 4 (onto (Form.number 1) direction
+        (onto (Form.number 4) generation (onto name_form (plain_name name) out.old.items)))) ++ 0 ∷ []))))) }
+{
+    let i = name.id.to_be_bytes();
+    let c = name.creator.to_be_bytes();
+    let g = generation.to_be_bytes();
+    let s = source.0.to_be_bytes();
+    let d = destination.0.to_be_bytes();
+    let p = source.1.to_be_bytes();
+    let q = destination.1.to_be_bytes();
+    push_bytes(
+        out,
+        &[
+            i[0], i[1], i[2], i[3], i[4], i[5], i[6], i[7], c[0], c[1], c[2], c[3], g[0], g[1],
+            g[2], g[3], direction, 4, protocol, 0, s[0], s[1], s[2], s[3], 0, 0, 0, 0, 0, 0, 0, 0,
+            0, 0, 0, 0, d[0], d[1], d[2], d[3], 0, 0, 0, 0, 0, 0, 0, 0, 0, 0, 0, 0, p[0], p[1],
+            q[0], q[1],
+        ],
+    )
 }
 
 // What stands behind the flow: ones, what the state is bound to, and zeros; in few pieces, since a snapshot has tens of thousands of states.
