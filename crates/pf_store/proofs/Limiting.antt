@@ -12,7 +12,7 @@ use Rattle.pf_snap.specs.Banks.{Content}
 use Rattle.pf_store.specs.declared.groups.change.Recorded.{Recorded}
 use Rattle.pf_store.proofs.DurablesWithin.{durable_within, entries_few}
 use Rattle.pf_anchor.specs.Forms.{NamedShape, named_form, named_in, rule_list_form, rules_form}
-use Rattle.pf_store.specs.{Groups.{ChangeShape, ItemShape, change_form, defined_form, group_form, item_form, item_in, items_form, plain_record, record_in, tables_form, IsRecorded}, Stores.{Follows, left_by, Leads, Makes}}
+use Rattle.pf_store.specs.{Groups.{ChangeShape, ItemShape, change_form, defined_form, group_form, item_form, item_in, items_form, plain_record, record_in, tables_form, IsRecorded}, Stores.{FollowInTurn, Follows, left_by, left_by_all, Leads, Makes}}
 
 -- ---- what a commit's bytes tell
 
@@ -54,14 +54,18 @@ told_within version d (inr (inr (inr (inr (inr (inl name)))))) fits follows with
 told_within version d (inr (inr (inr (inr (inr (inr epoch)))))) fits follows within =
     record { maps = within.maps; rulesets = within.rulesets; rules = within.rules; tables = within.tables; entries = within.entries; states = within.states }
 
-recorded_within : (version : ℕ) (d : Kept) (x : Recorded) (payload : List ℕ) → IsRecorded version x payload → Follows d x → IsWithin d → IsWithin (left_by d x)
+group_within : (version : ℕ) (d : Kept) (vs : List (Value ChangeShape)) → AllByRecursion (Fits (change_form version)) vs → FollowInTurn d (map record_in vs) → IsWithin d → IsWithin (left_by_all d (map record_in vs))
+group_within version d [] each follows within = within
+group_within version d (v ∷ vs) each follows within = group_within version (left_by d (record_in v)) vs each.1 follows.1 (told_within version d v each.0 follows.0 within)
+
+recorded_within : (version : ℕ) (d : Kept) (xs : List Recorded) (payload : List ℕ) → IsRecorded version xs payload → FollowInTurn d xs → IsWithin d → IsWithin (left_by_all d xs)
 unfolding group_form
-recorded_within version d x payload is follows within =
-    subst (λ (y : Recorded). IsWithin (left_by d y)) (sym is.told) (told_within version d (plain_record x) is.spelled.fits (subst (Follows d) is.told follows) within)
+recorded_within version d xs payload is follows within =
+    subst (λ (ys : List Recorded). IsWithin (left_by_all d ys)) (sym is.told) (group_within version d (map plain_record xs) is.spelled.fits.0.1 (subst (FollowInTurn d) is.told follows) within)
 
 led_within : (version : ℕ) (d : Kept) (ps : List (List ℕ)) (e : Kept) → Leads version d ps e → IsWithin d → IsWithin e
 led_within version d [] e led within = subst IsWithin led within
-led_within version d (p ∷ ps) e led within = led_within version (left_by d led.0) ps e led.3 (recorded_within version d led.0 p led.1 led.2 within)
+led_within version d (p ∷ ps) e led within = led_within version (left_by_all d led.0) ps e led.3 (recorded_within version d led.0 p led.1 led.2 within)
 
 pub made_within : (content : Content) (d : Kept) → Makes content d → IsWithin d
 made_within content d makes = led_within content.version makes.first content.payloads d makes.leads (durable_within content.version makes.first content.snapshot makes.kept)

@@ -11,7 +11,9 @@ use Rattle.pf_anchor.specs.declared.limits.TheConstants.{RULE_LIMIT}
 use Rattle.pf_rule.specs.{Rules.PlainRule, Sum.Layouts.{rule_layout, plain_rule}}
 use Rattle.pf_ticket.specs.{declared.limits.TheConstants.{OFFERED_TABLE_LIMIT}, NamedTables.Named}
 use Rattle.pf_anchor.specs.Forms.{at_most, rule_list_form, entries_form, plain_entries, named_form, plain_named}
-use Rattle.pf_store.specs.Groups.{defined_form, named_before, tables_form, item_form, items_form, plain_item, is_commit, has_item_form}
+use Rattle.pf_store.specs.Groups.{defined_form, named_before, tables_form, item_form, items_form, plain_item, is_commit, has_item_form, change_form, group_form, plain_record, is_group}
+use Rattle.pf_core.specs.Durable.Edits.{Edit}
+use Rattle.pf_store.specs.declared.groups.change.Recorded.TheVariants.{Made as made}
 
 pub few : {A B : Type 0} (limit : ℕ) (xs : List A) (f : A → B) → length xs ≤ limit → at_most limit (map f xs) ≡ true
 few limit xs f le = grind (arith, nat_tests, le, length-map xs f)
@@ -57,3 +59,13 @@ pub item_formed : (version : ℕ) (i : Item) → Fits (item_form version) (plain
 unfolding item_form tables_form defined_form
 item_formed version (item.Rules r) fits = refl
 item_formed version (item.Tables p ts) fits = rw (sym (length-map ts plain_named)) (fits.0.1.1)
+
+-- changes fit a group where each fits its own form
+pub made_fit : {C : Type 0} (edit : C → Edit) (version : ℕ) (cs : List C) → is_group cs ≡ true
+    → AllByRecursion (Fits (change_form version)) (map (λ c. plain_record (made (edit c))) cs) → Fits (group_form version) (map (λ c. plain_record (made (edit c))) cs)
+unfolding group_form
+made_fit edit version cs is each =
+    let vs = map (λ c. plain_record (made (edit c))) cs in
+    let same : length vs ≡ length cs = length-map cs (λ c. plain_record (made (edit c))) in
+    let many : is_group vs ≡ true = rw same is in
+    ((grind (arith, nat_tests, same, is), each), many)

@@ -1,10 +1,10 @@
--- A group of one change finds room where its record does, and what can be wanted has bytes there.
-use Rattle.std.proofs.{Common.{◌≡◌, ℕ, ◌+◌, ◌^◌, ◌<◌, ◌≤◌, Bool, true, false, List, [], ◌∷◌, length, refl, sym, subst, arith}, lemmas.Bool.Decides.nat_tests}
-use Rattle.std.specs.Prelude.{◌↔◌, ◌&&◌, nat_le, nat_lt}
+-- A group fits where its record finds room, and what can be wanted has bytes there.
+use Rattle.std.proofs.{Common.{◌≡◌, ℕ, ◌+◌, ◌^◌, ◌<◌, ◌≤◌, Bool, true, false, List, [], ◌∷◌, length, refl, ◌∙◌, arith}, lemmas.{List.length-map, Bool.Decides.nat_tests}}
+use Rattle.std.specs.{Prelude.{◌↔◌, ◌&&◌, nat_le, nat_lt}, List.list_all}
 use Rattle.pf_core.specs.Durable.Edits.{Kept, Edit, commits, adds, deletes, sets, acts, removes}
 use Rattle.pf_state.specs.{declared.step.Step.{Step, TheVariants.Insert, TheVariants.Delete, TheVariants.Clear}, Layouts.{States.{held_form, name_form, state_form}, Steps.step_form}}
 use Rattle.pf_table.specs.Entries.{Row}
-use Rattle.pf_store.specs.{Groups.{can_be_wanted, change_form, has_form}, Lengths.{edit_length, payload_length, snapshot_length, step_length, total}, Rooms.{group_length, group_fits}, Stores.{FindsRoom, HasRoom}}
+use Rattle.pf_store.specs.{Groups.{can_be_wanted, change_form, has_form, is_group, made_all}, Lengths.{edit_length, payload_length, recorded_length, snapshot_length, step_length, total}, Rooms.group_fits, Stores.{FindsRoom, HasRoom}}
 use Rattle.pf_store.proofs.Sized.{edit_long, steps_long}
 use Rattle.pf_snap.specs.declared.header.TheConstants.{HEADER}
 use Rattle.pf_store.specs.declared.groups.change.Recorded.TheVariants as recorded
@@ -23,35 +23,29 @@ below a b is = grind (arith, nat_tests, is)
 is-below : (a b : ℕ) → a ≤ b → nat_le a b ≡ true
 is-below a b le = grind (arith, nat_tests, le)
 
-pub length-of-one : (e : Edit) → group_length (e ∷ []) ≡ payload_length (recorded.Made e)
-unfolding group_length
-length-of-one e = omega arith
-
--- the two tests, of a group of one
+-- the two tests
 abbrev then : ℕ → Kept → Bool
 then size next = nat_le (HEADER + snapshot_length next + 64) size
 
-abbrev behind : ℕ → Kept → Edit → Bool
-behind size before e = nat_le (HEADER + snapshot_length before + (group_length (e ∷ []) + 6)) size
+abbrev behind : ℕ → Kept → List Edit → Bool
+behind size before es = nat_le (HEADER + snapshot_length before + (payload_length (made_all es) + 6)) size
 
-finds : (size : ℕ) (before next : Kept) (e : Edit) → (then size next && behind size before e) ≡ true → HasRoom size before next (payload_length (recorded.Made e))
-finds size before next e is =
-    let both = and-parts (then size next) (behind size before e) is in
-    let low : HEADER + snapshot_length before + (group_length (e ∷ []) + 6) ≤ size = below (HEADER + snapshot_length before + (group_length (e ∷ []) + 6)) size both.1 in
+finds : (size : ℕ) (before next : Kept) (es : List Edit) → (then size next && behind size before es) ≡ true → HasRoom size before next (payload_length (made_all es))
+finds size before next es is =
+    let both = and-parts (then size next) (behind size before es) is in
     record {
       then = below (HEADER + snapshot_length next + 64) size both.0;
-      behind = subst (λ (n : ℕ). HEADER + snapshot_length before + (n + 6) ≤ size) (length-of-one e) low;
+      behind = below (HEADER + snapshot_length before + (payload_length (made_all es) + 6)) size both.1;
     }
 
-fits : (size : ℕ) (before next : Kept) (e : Edit) → HasRoom size before next (payload_length (recorded.Made e)) → (then size next && behind size before e) ≡ true
-fits size before next e room =
-    let low : HEADER + snapshot_length before + (group_length (e ∷ []) + 6) ≤ size = subst (λ (n : ℕ). HEADER + snapshot_length before + (n + 6) ≤ size) (sym (length-of-one e)) room.behind in
-    and-both (then size next) (behind size before e) (is-below (HEADER + snapshot_length next + 64) size room.then)
-    (is-below (HEADER + snapshot_length before + (group_length (e ∷ []) + 6)) size low)
+fits : (size : ℕ) (before next : Kept) (es : List Edit) → HasRoom size before next (payload_length (made_all es)) → (then size next && behind size before es) ≡ true
+fits size before next es room =
+    and-both (then size next) (behind size before es) (is-below (HEADER + snapshot_length next + 64) size room.then)
+    (is-below (HEADER + snapshot_length before + (payload_length (made_all es) + 6)) size room.behind)
 
-pub one-fits : (size : ℕ) (before next : Kept) (e : Edit) → (group_fits size before next (e ∷ []) ≡ true) ↔ HasRoom size before next (payload_length (recorded.Made e))
+pub group-fits : (size : ℕ) (before next : Kept) (es : List Edit) → (group_fits size before next es ≡ true) ↔ HasRoom size before next (payload_length (made_all es))
 unfolding group_fits
-one-fits size before next e = (finds size before next e, fits size before next e)
+group-fits size before next es = (finds size before next es, fits size before next es)
 
 -- ---- what can be wanted has bytes, where a bank has room for them
 
@@ -68,7 +62,7 @@ short_steps (Clear k ∷ xs) = omega (arith, short_steps xs)
 short_edit : (p name : List ℕ) (xs : List Row) → edit_length p name xs < 2 ^ 32 → nat_lt (length xs) (2 ^ 32) ≡ true
 short_edit p name xs low = is_short xs (omega (arith, edit_long p name xs, low))
 
-pub has_bytes : (e : Edit) → can_be_wanted e ≡ true → payload_length (recorded.Made e) < 2 ^ 32 → has_form (recorded.Made e) ≡ true
+has_bytes : (e : Edit) → can_be_wanted e ≡ true → recorded_length (recorded.Made e) < 2 ^ 32 → has_form (recorded.Made e) ≡ true
 unfolding change_form
 has_bytes (commits items) can low = can
 has_bytes (adds p name xs) can low = short_edit p name xs (omega (arith, low))
@@ -77,5 +71,18 @@ has_bytes (sets p name xs) can low = short_edit p name xs (omega (arith, low))
 has_bytes (acts steps) can low = is_short steps (omega (arith, steps_long steps, short_steps steps, low))
 has_bytes (removes name) can low = refl
 
-pub finds_room : (size : ℕ) (before next : Kept) (e : Edit) → size < 2 ^ 32 → can_be_wanted e ≡ true → HasRoom size before next (payload_length (recorded.Made e)) → FindsRoom size before next e
-finds_room size before next e small can room = record { formed = has_bytes e can (omega (arith, room.behind, small)); room = room }
+all_have_bytes : (es : List Edit) → list_all can_be_wanted es ≡ true → total recorded_length (made_all es) < 2 ^ 32 → list_all has_form (made_all es) ≡ true
+all_have_bytes [] can low = refl
+all_have_bytes (e ∷ es) can low =
+    let both = and-parts (can_be_wanted e) (list_all can_be_wanted es) can in
+    and-both (has_form (recorded.Made e)) (list_all has_form (made_all es)) (has_bytes e both.0 (omega (arith, low))) (all_have_bytes es both.1 (omega (arith, low)))
+
+pub finds_room : (size : ℕ) (before next : Kept) (es : List Edit) → size < 2 ^ 32 → is_group es ≡ true → list_all can_be_wanted es ≡ true
+    → HasRoom size before next (payload_length (made_all es)) → FindsRoom size before next es
+finds_room size before next es small group can room = record {
+  formed = and-both (is_group (made_all es)) (list_all has_form (made_all es)) (many es ∙ group) (all_have_bytes es can (omega (arith, room.behind, small)));
+  room = room;
+}
+  where
+    many : (es : List Edit) → is_group (made_all es) ≡ is_group es
+    many es = rw (length-map es recorded.Made) refl

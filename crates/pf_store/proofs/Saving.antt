@@ -8,7 +8,7 @@ use Rattle.pf_snap.specs.Banks as snap
 use Rattle.pf_snap.proofs.Holding.{one_content}
 use Rattle.pf_core.specs.{Durable.Edits.{Kept}, Worlds.{last_epoch, raised}}
 use Rattle.pf_store.specs.declared.groups.change.Recorded.{Recorded}
-use Rattle.pf_store.specs.{Durables.IsDurable, Groups.IsRecorded, Lengths.snapshot_length, Openings.{HasRoomHere, IsAsLongAs, IsFull, IsNoLaterThan, IsOfOpening, LeavesRoom, gate_of, generation_of}, Stores.{Follows, left_by, Holds, HoldsEither, IsRoomy, Makes}, StoreKept.{Stands, Storage, IsStore, HaveKept}}
+use Rattle.pf_store.specs.{Durables.IsDurable, Groups.IsRecorded, Lengths.snapshot_length, Openings.{HasRoomHere, IsAsLongAs, IsFull, IsNoLaterThan, IsOfOpening, LeavesRoom, gate_of, generation_of}, Stores.{FollowInTurn, left_by_all, Holds, HoldsEither, IsRoomy, Makes}, StoreKept.{Stands, Storage, IsStore, HaveKept}}
 use Rattle.pf_store.proofs.{Leading.{leads-push}, Refusing.{one_at, one_gate, one_held}, Sized.{raised_roomy, roomy_in}}
 
 not_greater : (a b : ℕ) → (a ≤ b → ⊥) → b < a
@@ -42,8 +42,8 @@ on_err (Err e) P Q f p = f e p
 
 -- ---- what contents make
 
-pub makes_more : (content : Content) (d : Kept) (p : List ℕ) (x : Recorded) → Makes content d → IsRecorded content.version x p → Follows d x → Makes (with_payload content p) (left_by d x)
-makes_more content d p x makes is follows = record { first = makes.first; kept = makes.kept; leads = leads-push content.version makes.first content.payloads d p x makes.leads is follows }
+pub makes_more : (content : Content) (d : Kept) (p : List ℕ) (xs : List Recorded) → Makes content d → IsRecorded content.version xs p → FollowInTurn d xs → Makes (with_payload content p) (left_by_all d xs)
+makes_more content d p xs makes is follows = record { first = makes.first; kept = makes.kept; leads = leads-push content.version makes.first content.payloads d p xs makes.leads is follows }
 
 pub makes_switched : (content : Content) (d : Kept) (snapshot : List ℕ) → IsDurable NEWEST d snapshot → Makes (switched content NEWEST snapshot) d
 makes_switched content d snapshot is = record { first = d; kept = is; leads = refl }
@@ -51,9 +51,9 @@ makes_switched content d snapshot is = record { first = d; kept = is; leads = re
 abbrev pub held : (content : Content) (d : Kept) (c : List ℕ) → Makes content d → snap.Holds c content → Holds c d
 held content d c makes bank = record { content = content; bank = bank; makes = makes }
 
-pub either : (content : Content) (d : Kept) (p : List ℕ) (x : Recorded) → Makes content d → IsRecorded content.version x p → Follows d x → (c : List ℕ) → snap.HoldsEither content (with_payload content p) c → HoldsEither d (left_by d x) c
-either content d p x makes is follows c (inl bank) = inl (held content d c makes bank)
-either content d p x makes is follows c (inr bank) = inr (held (with_payload content p) (left_by d x) c (makes_more content d p x makes is follows) bank)
+pub either : (content : Content) (d : Kept) (p : List ℕ) (xs : List Recorded) → Makes content d → IsRecorded content.version xs p → FollowInTurn d xs → (c : List ℕ) → snap.HoldsEither content (with_payload content p) c → HoldsEither d (left_by_all d xs) c
+either content d p xs makes is follows c (inl bank) = inl (held content d c makes bank)
+either content d p xs makes is follows c (inr bank) = inr (held (with_payload content p) (left_by_all d xs) c (makes_more content d p xs makes is follows) bank)
 
 pub still : (content : Content) (d : Kept) (snapshot : List ℕ) → Makes content d → IsDurable NEWEST d snapshot → (c : List ℕ) → snap.HoldsEither content (switched content NEWEST snapshot) c → Holds c d
 still content d snapshot makes is c (inl bank) = held content d c makes bank
@@ -154,14 +154,14 @@ module _ {D : Type 0} (seen : D → List ℕ) (unsynced : D → ℕ → Bool) wh
       let known : (1 ≤ k.content.version) × (k.content.version ≤ 1) = k.keeps.holds.bank.front.header.known in
       omega (arith, k.keeps.version, known.0, known.1)
 
-  pub recorded_here : (banks : Banks D) (d : Kept) (k : HaveKept seen banks d) (x : Recorded) (p : List ℕ) → IsRecorded banks.version x p → IsRecorded k.content.version x p
-  recorded_here banks d k x p is = subst (λ (v : ℕ). IsRecorded v x p) k.keeps.version is
+  pub recorded_here : (banks : Banks D) (d : Kept) (k : HaveKept seen banks d) (xs : List Recorded) (p : List ℕ) → IsRecorded banks.version xs p → IsRecorded k.content.version xs p
+  recorded_here banks d k xs p is = subst (λ (v : ℕ). IsRecorded v xs p) k.keeps.version is
 
-  pub recorded_there : (old new : Banks D) (d : Kept) (k : HaveKept seen old d) (l : HaveKept seen new d) (x : Recorded) (p : List ℕ) → IsRecorded old.version x p → IsRecorded l.content.version x p
-  recorded_there old new d k l x p is = recorded_here new d l x p (subst (λ (v : ℕ). IsRecorded v x p) (one_version old d k ∙ sym (one_version new d l)) is)
+  pub recorded_there : (old new : Banks D) (d : Kept) (k : HaveKept seen old d) (l : HaveKept seen new d) (xs : List Recorded) (p : List ℕ) → IsRecorded old.version xs p → IsRecorded l.content.version xs p
+  recorded_there old new d k l xs p is = recorded_here new d l xs p (subst (λ (v : ℕ). IsRecorded v xs p) (one_version old d k ∙ sym (one_version new d l)) is)
 
-  pub have_more : (old new : Banks D) (d : Kept) (p : List ℕ) (x : Recorded) (k : HaveKept seen old d) → IsRecorded k.content.version x p → Follows d x → Keeps seen new (with_payload k.content p) → HaveKept seen new (left_by d x)
-  have_more old new d p x k is follows keeps = record { content = with_payload k.content p; keeps = keeps; makes = makes_more k.content d p x k.makes is follows }
+  pub have_more : (old new : Banks D) (d : Kept) (p : List ℕ) (xs : List Recorded) (k : HaveKept seen old d) → IsRecorded k.content.version xs p → FollowInTurn d xs → Keeps seen new (with_payload k.content p) → HaveKept seen new (left_by_all d xs)
+  have_more old new d p xs k is follows keeps = record { content = with_payload k.content p; keeps = keeps; makes = makes_more k.content d p xs k.makes is follows }
 
   pub have_switched : (old new : Banks D) (d : Kept) (snapshot : List ℕ) (k : HaveKept seen old d) → IsDurable NEWEST d snapshot → Keeps seen new (switched k.content NEWEST snapshot) → HaveKept seen new d
   have_switched old new d snapshot k is keeps = record { content = switched k.content NEWEST snapshot; keeps = keeps; makes = makes_switched k.content d snapshot is }
@@ -189,10 +189,10 @@ module _ {D : Type 0} (seen : D → List ℕ) (unsynced : D → ℕ → Bool) wh
     before old new d e run = weakened moment left_since old new (λ c. Holds c d) (HoldsEither d e) run (λ c has. inl has)
 
     -- a record was added
-    pub moved : (old new : D) (content : Content) (d : Kept) (p : List ℕ) (x : Recorded) → Makes content d → IsRecorded content.version x p → Follows d x
-        → EachMoment moment left_since old new (snap.HoldsEither content (with_payload content p)) → EachMoment moment left_since old new (HoldsEither d (left_by d x))
-    moved old new content d p x makes is follows run =
-        weakened moment left_since old new (snap.HoldsEither content (with_payload content p)) (HoldsEither d (left_by d x)) run (λ c has. either content d p x makes is follows c has)
+    pub moved : (old new : D) (content : Content) (d : Kept) (p : List ℕ) (xs : List Recorded) → Makes content d → IsRecorded content.version xs p → FollowInTurn d xs
+        → EachMoment moment left_since old new (snap.HoldsEither content (with_payload content p)) → EachMoment moment left_since old new (HoldsEither d (left_by_all d xs))
+    moved old new content d p xs makes is follows run =
+        weakened moment left_since old new (snap.HoldsEither content (with_payload content p)) (HoldsEither d (left_by_all d xs)) run (λ c has. either content d p xs makes is follows c has)
 
     -- the other bank was begun
     pub turned : (old new : D) (content : Content) (d : Kept) (snapshot : List ℕ) → Makes content d → IsDurable NEWEST d snapshot

@@ -9,7 +9,7 @@ use Rattle.pf_anchor.specs.Forms.{rule_list_form, rules_form, rulesets_form, kep
 use Rattle.pf_state.specs.{declared.step.Step.Step, Layouts.{States.{held_form, state_form}, Steps.{step_form, plain_step}}}
 use Rattle.pf_core.specs.{declared.durable.change.Item.Item, Durable.{Edits.{Kept, kept_nothing}, Forms.{durable_form, plain_durable, durable_length}}, Worlds.raised}
 use Rattle.pf_ticket.specs.NamedTables.{Named}
-use Rattle.pf_store.specs.{declared.groups.change.Recorded.{Recorded, TheVariants.Opens as opens}, Groups.{item_form, plain_item, items_form, defined_form, tables_form, edit_form, change_form, group_form, plain_record}, Lengths.{total, snapshot_length, item_length, named_length, edit_length, step_length, payload_length}, Stores.{IsRoomy, IsRoomyIn}}
+use Rattle.pf_store.specs.{declared.groups.change.Recorded.{Recorded, TheVariants.Opens as opens}, Groups.{item_form, plain_item, items_form, defined_form, tables_form, edit_form, change_form, group_form, plain_record}, Lengths.{total, snapshot_length, item_length, named_length, edit_length, step_length, recorded_length, payload_length}, Stores.{IsRoomy, IsRoomyIn}}
 
 -- ---- in each version
 
@@ -24,12 +24,17 @@ same_record version other r = refl
 pub snapshot_long : (version : ℕ) (d : Kept) (bytes : List ℕ) → Spells (durable_form version) (plain_durable d) bytes → length bytes ≡ snapshot_length d
 snapshot_long version d bytes is = ap length is.written ∙ length_is (durable_form version) (plain_durable d) ∙ same_snapshot version NEWEST d
 
-pub payload_long : (version : ℕ) (r : Recorded) (payload : List ℕ) → Spells (group_form version) (plain_record r) payload → length payload ≡ payload_length r
-unfolding group_form
-payload_long version r payload is =
-    ap length is.written ∙ length_is (group_form version) (plain_record r) ∙ ap (λ (n : ℕ). 1 + n) (same_record version NEWEST r)
+records_long : (version : ℕ) (rs : List Recorded) → sum_by (length_of (change_form version)) (map plain_record rs) ≡ total recorded_length rs
+records_long version [] = refl
+records_long version (r ∷ rs) =
+    omega (arith, sum_by-cons (length_of (change_form version)) (plain_record r) (map plain_record rs), same_record version NEWEST r, records_long version rs)
 
-pub opening_long : (epoch : ℕ) → payload_length (opens epoch) ≡ 6
+pub payload_long : (version : ℕ) (rs : List Recorded) (payload : List ℕ) → Spells (group_form version) (map plain_record rs) payload → length payload ≡ payload_length rs
+unfolding group_form
+payload_long version rs payload is =
+    ap length is.written ∙ length_is (group_form version) (map plain_record rs) ∙ ap (λ (n : ℕ). 1 + n) (records_long version rs)
+
+pub opening_long : (epoch : ℕ) → payload_length (opens epoch ∷ []) ≡ 6
 unfolding change_form
 opening_long epoch = refl
 

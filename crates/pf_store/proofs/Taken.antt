@@ -8,7 +8,8 @@ use Rattle.pf_map.proofs.Ordered.{sorted_of}
 use Rattle.pf_ticket.specs.{declared.limits.TheConstants.OFFERED_TABLE_LIMIT, NamedTables.Named}
 use Rattle.pf_store.specs.declared.groups.{items.StoredItem.StoredItem, tables.StoredTable.StoredTable}
 use Rattle.pf_anchor.specs.Forms.{NamedShape, named_form, plain_named}
-use Rattle.pf_store.specs.Groups.{defined_form, named_before, ItemShape, item_form, items_form, plain_item, is_commit}
+use Rattle.pf_store.specs.declared.groups.change.Recorded.{Recorded}
+use Rattle.pf_store.specs.Groups.{defined_form, named_before, ItemShape, item_form, items_form, plain_item, is_commit, change_form, group_form, plain_record, is_group}
 use Rattle.pf_store.proofs.Pushed.{few}
 
 -- ---- tables
@@ -77,4 +78,25 @@ pub items_refused : (version : ℕ) (rows : List StoredItem) (items : List Item)
 unfolding items_form
 items_refused version rows items before after are none is =
     let not_all : is_commit (map plain_row rows) ≡ false = as_many rows items are ∙ none in
+    rw (is, not_all) refl
+
+-- ---- groups
+
+many_records : (rs : List Recorded) → is_group (map plain_record rs) ≡ is_group rs
+many_records rs = rw (length-map rs plain_record) refl
+
+-- as many as one record keeps
+pub group_read : (version : ℕ) (rs : List Recorded) (before after : List ℕ) → is_group rs ≡ true
+    → reads (counted 1 (change_form version)) before ≡ Ok (map plain_record rs, after) → reads (group_form version) before ≡ Ok (map plain_record rs, after)
+unfolding group_form
+group_read version rs before after many is =
+    let all : is_group (map plain_record rs) ≡ true = many_records rs ∙ many in
+    rw (is, all) refl
+
+-- and none or more
+pub group_refused : (version : ℕ) (rs : List Recorded) (before after : List ℕ) → is_group rs ≡ false
+    → reads (counted 1 (change_form version)) before ≡ Ok (map plain_record rs, after) → reads (group_form version) before ≡ Err (Bad (length before))
+unfolding group_form
+group_refused version rs before after none is =
+    let not_all : is_group (map plain_record rs) ≡ false = many_records rs ∙ none in
     rw (is, not_all) refl

@@ -1,14 +1,16 @@
 -- What is recorded is told by its data, and its data by its bytes.
-use Rattle.std.proofs.{Common.{◌≡◌, ◌<◌, ◌^◌, ℕ, true, List, [], ◌∷◌, length, map, refl, sym, ap, ◌∙◌, subst, inl, inr, arith}, lemmas.{List.length-map, Bool.Decides.nat_tests}}
-use Rattle.std.specs.List.{list_all, AllByRecursion}
-use Rattle.pf_addr.specs.{Bytes.Forms.{Value, Fits, Spells, number, onto}, Laws.Bytes.{Onto.onto_is, Texts.one_value}}
+use Rattle.std.proofs.{Common.{◌≡◌, ◌<◌, ◌^◌, ◌==◌, ◌&&◌, not, ℕ, true, List, [], ◌∷◌, length, map, refl, sym, ap, ◌∙◌, subst, inl, inr, arith}, lemmas.{List.length-map, Bool.Decides.nat_tests}}
+use Rattle.std.specs.{Prelude.nat_le, List.{list_all, AllByRecursion}}
+use Rattle.pf_addr.specs.{Bytes.{Parts.number_bytes, Forms.{list, Value, Fits, Spells, number, onto}}, Laws.Bytes.{Onto.onto_is, Texts.one_value}}
 use Rattle.pf_state.specs.{declared.step.Step.Step, Layouts.Steps.{plain_step, step_in}}
 use Rattle.pf_state.proofs.LayoutsBack.{step_back}
 use Rattle.pf_table.specs.{Entries.Row, EntryForms.{entry_of}, Laws.EntryForms.entry_again}
 use Rattle.pf_ticket.specs.NamedTables.{Named}
-use Rattle.pf_store.specs.declared.groups.change.Recorded.{Recorded, TheVariants.Opens as opens}
+use Rattle.pf_core.specs.Durable.Edits.{Edit}
+use Rattle.pf_core.specs.declared.group.TheConstants.{GROUP_LIMIT}
+use Rattle.pf_store.specs.declared.groups.change.Recorded.{Recorded, TheVariants.Made as made, TheVariants.Opens as opens}
 use Rattle.pf_anchor.specs.Forms.{plain_entries, entries_in, plain_named, named_in}
-use Rattle.pf_store.specs.Groups.{ChangeShape, ItemShape, change_form, edit_form, items_form, item_form, tables_form, defined_form, group_form, item_in, plain_record, record_in, is_commit, has_item_form, has_form, IsRecorded}
+use Rattle.pf_store.specs.Groups.{ChangeShape, ItemShape, change_form, edit_form, items_form, item_form, tables_form, defined_form, group_form, item_in, plain_record, record_in, is_commit, is_group, made_all, has_item_form, has_form, have_form, IsRecorded}
 
 pub entries_told : (es : List Row) → entries_in (plain_entries es) ≡ es
 entries_told [] = refl
@@ -48,44 +50,69 @@ formed_of version (inr (inr (inr (inr (inr (inl name)))))) fits = refl
 formed_of version (inr (inr (inr (inr (inr (inr epoch)))))) fits = grind (arith, nat_tests, fits.0.0.0.0.0.0)
 
 -- where its data tell what is recorded, and fit, it has bytes
-pub formed : (version : ℕ) (r : Recorded) → record_in (plain_record r) ≡ r → Fits (group_form version) (plain_record r) → has_form r ≡ true
-unfolding group_form
+pub formed : (version : ℕ) (r : Recorded) → record_in (plain_record r) ≡ r → Fits (change_form version) (plain_record r) → has_form r ≡ true
 formed version r told fits = subst (λ x. has_form x ≡ true) told (formed_of version (plain_record r) fits)
 
+-- ---- groups
+
+each_formed : (version : ℕ) (vs : List (Value ChangeShape)) → AllByRecursion (Fits (change_form version)) vs → list_all has_form (map record_in vs) ≡ true
+each_formed version [] each = refl
+each_formed version (v ∷ vs) each = rw (formed_of version v each.0) (each_formed version vs each.1)
+
+-- where their data tell what is recorded, and fit, a group has bytes
+pub group_formed : (version : ℕ) (rs : List Recorded) → map record_in (map plain_record rs) ≡ rs → Fits (group_form version) (map plain_record rs) → have_form rs ≡ true
+unfolding group_form
+group_formed version rs told fits =
+    let many : is_group rs ≡ true = subst (λ n. (not (n == 0) && nat_le n GROUP_LIMIT) ≡ true) (length-map rs plain_record) fits.1 in
+    let each : list_all has_form rs ≡ true = subst (λ xs. list_all has_form xs ≡ true) told (each_formed version (map plain_record rs) fits.0.1) in
+    rw (many) each
+
 -- what bytes record has bytes
-pub recorded_formed : (version : ℕ) (r : Recorded) (payload : List ℕ) → IsRecorded version r payload → has_form r ≡ true
-recorded_formed version r payload is = formed version r (sym is.told) is.spelled.fits
+pub recorded_formed : (version : ℕ) (rs : List Recorded) (payload : List ℕ) → IsRecorded version rs payload → have_form rs ≡ true
+recorded_formed version rs payload is = group_formed version rs (sym is.told) is.spelled.fits
+
+-- changes, each in the form in which it was handed in
+pub as_made : {C : Type 0} (edit : C → Edit) (cs : List C) → map (λ c. plain_record (made (edit c))) cs ≡ map plain_record (made_all (map edit cs))
+as_made edit [] = refl
+as_made edit (c ∷ cs) = ap (λ l. plain_record (made (edit c)) ∷ l) (as_made edit cs)
+
+all_made : {C : Type 0} (edit : C → Edit) (cs : List C) → list_all (λ c. has_form (made (edit c))) cs ≡ list_all has_form (made_all (map edit cs))
+all_made edit [] = refl
+all_made edit (c ∷ cs) = ap (λ b. has_form (made (edit c)) && b) (all_made edit cs)
+
+-- as many as were handed in
+as_many : {C : Type 0} (edit : C → Edit) (cs : List C) → is_group (made_all (map edit cs)) ≡ is_group cs
+as_many edit cs = ap (λ n. not (n == 0) && nat_le n GROUP_LIMIT) (length-map (map edit cs) made ∙ length-map cs edit)
+
+pub formed_as : {C : Type 0} (edit : C → Edit) (cs : List C) → (is_group cs && list_all (λ c. has_form (made (edit c))) cs) ≡ have_form (made_all (map edit cs))
+formed_as edit cs = rw (as_many edit cs, all_made edit cs) refl
 
 -- ---- its bytes
 
-pub spelled : (version : ℕ) (r : Recorded) (bytes : List ℕ) → record_in (plain_record r) ≡ r → Spells (group_form version) (plain_record r) bytes
-    → IsRecorded version r bytes
-spelled version r bytes told is = record { spelled = is; told = sym told }
+pub spelled : (version : ℕ) (rs : List Recorded) (bytes : List ℕ) → map record_in (map plain_record rs) ≡ rs → Spells (group_form version) (map plain_record rs) bytes
+    → IsRecorded version rs bytes
+spelled version rs bytes told is = record { spelled = is; told = sym told }
 
--- it is put behind the group's first byte
-pub group_pushed : (version : ℕ) (r : Recorded) (out : List ℕ) → Fits (change_form version) (plain_record r)
-    → out ≡ onto (change_form version) (plain_record r) (1 ∷ []) → Spells (group_form version) (plain_record r) out
-unfolding group_form
-group_pushed version r out fits is = record { fits = fits; written = is ∙ onto_is (change_form version) (plain_record r) (1 ∷ []) }
-
-pub pushed : (version : ℕ) (r : Recorded) (out : List ℕ) → record_in (plain_record r) ≡ r → Fits (change_form version) (plain_record r)
-    → out ≡ onto (change_form version) (plain_record r) (1 ∷ []) → IsRecorded version r out
-pushed version r out told fits is = spelled version r out told (group_pushed version r out fits is)
+pub group_pushed : (version : ℕ) (rs : List Recorded) (out : List ℕ) → Fits (group_form version) (map plain_record rs)
+    → out ≡ onto (group_form version) (map plain_record rs) [] → Spells (group_form version) (map plain_record rs) out
+group_pushed version rs out fits is = record { fits = fits; written = is ∙ onto_is (group_form version) (map plain_record rs) [] }
 
 -- those of an opening
 pub opening_spelled : (version epoch : ℕ) (out : List ℕ) → epoch < 256 ^ 4 → out ≡ onto (number 4) epoch (1 ∷ 7 ∷ [])
-    → Spells (group_form version) (plain_record (opens epoch)) out
-unfolding change_form
-opening_spelled version epoch out lt is = group_pushed version (opens epoch) out ((((((lt, refl), refl), refl), refl), refl), refl) is
+    → Spells (group_form version) (map plain_record (opens epoch ∷ [])) out
+unfolding group_form change_form number_bytes
+opening_spelled version epoch out lt is =
+    group_pushed version (opens epoch ∷ []) out ((omega arith, (((((((lt, refl), refl), refl), refl), refl), refl), tt)), refl) is
 
-pub opening_pushed : (version epoch : ℕ) (out : List ℕ) → epoch < 256 ^ 4 → out ≡ onto (number 4) epoch (1 ∷ 7 ∷ []) → IsRecorded version (opens epoch) out
-opening_pushed version epoch out lt is = spelled version (opens epoch) out refl (opening_spelled version epoch out lt is)
+pub opening_pushed : (version epoch : ℕ) (out : List ℕ) → epoch < 256 ^ 4 → out ≡ onto (number 4) epoch (1 ∷ 7 ∷ []) → IsRecorded version (opens epoch ∷ []) out
+opening_pushed version epoch out lt is = spelled version (opens epoch ∷ []) out refl (opening_spelled version epoch out lt is)
 
--- bytes are those of one record at most
-pub one_record : (version : ℕ) (r s : Recorded) (bytes : List ℕ) → IsRecorded version r bytes → IsRecorded version s bytes → r ≡ s
-one_record version r s bytes a b = a.told ∙ ap record_in (one_value (group_form version) bytes (plain_record r) (plain_record s) a.spelled b.spelled) ∙ sym b.told
+-- bytes are those of one group at most
+pub one_group : (version : ℕ) (rs ss : List Recorded) (bytes : List ℕ) → IsRecorded version rs bytes → IsRecorded version ss bytes → rs ≡ ss
+one_group version rs ss bytes a b =
+    a.told ∙ ap (map record_in) (one_value (group_form version) bytes (map plain_record rs) (map plain_record ss) a.spelled b.spelled) ∙ sym b.told
 
 -- and what is recorded has the bytes of some data that tell it
-pub none_told : {A : Type 0} (version : ℕ) (r : Recorded) (bytes : List ℕ) → ((v : Value ChangeShape) → Spells (group_form version) v bytes → A)
-    → IsRecorded version r bytes → A
-none_told version r bytes refuses is = refuses (plain_record r) is.spelled
+pub none_told : {A : Type 0} (version : ℕ) (rs : List Recorded) (bytes : List ℕ) → ((v : Value (list ChangeShape)) → Spells (group_form version) v bytes → A)
+    → IsRecorded version rs bytes → A
+none_told version rs bytes refuses is = refuses (map plain_record rs) is.spelled

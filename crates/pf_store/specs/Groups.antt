@@ -1,5 +1,5 @@
--- What a bank's records keep, in bytes, in each version: a group of changes, or an opening. First how many there are, which is one, and
--- then it. Own.
+-- What a bank's records keep, in bytes, in each version: a group of changes and openings. First how many there are, in one byte, 1 to 64,
+-- and then each. Own.
 --
 --   1 commit: how many it replaces, in one byte, 1 to 64, and then each:
 --       1 and the rules at a path: the path, their number in four bytes, each rule
@@ -21,6 +21,7 @@ use Rattle.pf_store.specs.declared.groups.change.Recorded.{Recorded, TheVariants
 use Rattle.pf_state.specs.Layouts.{States.{NameShape, name_form, plain_name, name_in}, Steps.{StepShape, step_form, plain_step, step_in}}
 use Rattle.pf_table.specs.EntryForms.{EntryShape, entry}
 use Rattle.pf_ticket.specs.declared.limits.TheConstants.{ENTRY_LIMIT, OFFERED_TABLE_LIMIT}
+use Rattle.pf_core.specs.declared.group.TheConstants.{GROUP_LIMIT}
 
 -- ---- what a commit replaces
 
@@ -66,8 +67,12 @@ change_form version =
     or 1 (items_form version) (or 2 edit_form (or 3 edit_form (or 4 edit_form
     (or 5 (counted 4 (step_form version)) (or 6 name_form (front (7 ∷ []) (number 4)))))))
 
-unfoldable pub group_form : ℕ → Form ChangeShape
-group_form version = front (1 ∷ []) (change_form version)
+-- as many as one record keeps
+abbrev pub is_group : {A : Type 0} → List A → Bool
+is_group rs = not (length rs == 0) && nat_le (length rs) GROUP_LIMIT
+
+unfoldable pub group_form : ℕ → Form (list ChangeShape)
+group_form version = that is_group (counted 1 (change_form version))
 
 -- ---- what a change's bytes say
 
@@ -127,7 +132,17 @@ can_be_wanted (sets p name xs) = true
 can_be_wanted (acts steps) = true
 can_be_wanted (removes name) = true
 
--- The payload is the bytes of what is recorded, in a version: its data spell them, and tell it.
-pub record IsRecorded (version : ℕ) (r : Recorded) (payload : List ℕ) : Type 0 where
-  pub spelled : Spells (group_form version) (plain_record r) payload
-  pub told : r ≡ record_in (plain_record r)
+-- ---- groups
+
+-- these changes, as a record has them
+abbrev pub made_all : List Edit → List Recorded
+made_all es = map made es
+
+-- as many as one record keeps, of which each has bytes
+abbrev pub have_form : List Recorded → Bool
+have_form rs = is_group rs && list_all has_form rs
+
+-- The payload is the bytes of a group, in a version: its data spell them, and tell it.
+pub record IsRecorded (version : ℕ) (rs : List Recorded) (payload : List ℕ) : Type 0 where
+  pub spelled : Spells (group_form version) (map plain_record rs) payload
+  pub told : rs ≡ map record_in (map plain_record rs)

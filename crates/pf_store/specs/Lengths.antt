@@ -36,6 +36,6 @@ step_length x = length_of (step_form NEWEST) (plain_step x)
 abbrev pub recorded_length : Recorded → ℕ
 recorded_length r = length_of (change_form NEWEST) (plain_record r)
 
--- behind how many there are, in one byte
-abbrev pub payload_length : Recorded → ℕ
-payload_length r = 1 + recorded_length r
+-- a group's: how many there are, in one byte, and each
+abbrev pub payload_length : List Recorded → ℕ
+payload_length rs = 1 + total recorded_length rs

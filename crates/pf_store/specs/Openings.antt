@@ -6,7 +6,7 @@ use Rattle.pf_snap.specs.{Banks.{AreBanks, Content, Counts, HasSnapshot, bank_si
 use Rattle.pf_snap.specs.Banks as snap
 use Rattle.pf_snap.specs.declared.fault.LookFault.TheVariants as looking
 use Rattle.pf_core.specs.{Durable.Edits.{Kept}, Worlds.{last_epoch, raised}}
-use Rattle.pf_store.specs.{Durables.IsDurable, Groups.IsRecorded, Lengths.snapshot_length, Stores.{Follows, Holds, HoldsEither, IsRoomyIn, Leads, Makes}}
+use Rattle.pf_store.specs.{Durables.IsDurable, Groups.IsRecorded, Lengths.snapshot_length, Stores.{FollowInTurn, Holds, HoldsEither, IsRoomyIn, Leads, Makes}}
 use Rattle.pf_store.specs.declared.{groups.change.Recorded.Recorded, store.fault.OpenFault.OpenFault, store.fault.OpenFault.TheVariants.{BadSize, NoBank, Corrupt, Memory, Fault, EpochsExhausted, Full, Places}}
 use Rattle.pf_store.specs.declared.limits.TheConstants.{OPENING_RECORD}
 
@@ -14,7 +14,7 @@ use Rattle.pf_store.specs.declared.limits.TheConstants.{OPENING_RECORD}
 abbrev pub BreaksInSnapshot : (version at : ℕ) → List ℕ → ℕ → Type 0
 BreaksInSnapshot version at snapshot place = ((d : Kept) → ¬ IsDurable version d snapshot) × (place ≡ at + HEADER)
 
--- One of the payloads is of nothing that follows what the ones before it leave, where the first record's gate stands at `start`.
+-- One of the payloads is of no group that follows what the ones before it leave, where the first record's gate stands at `start`.
 pub record StopsAt (version : ℕ) (first : Kept) (start : ℕ) (payloads : List (List ℕ)) (place : ℕ) : Type 0 where
   pub done : List (List ℕ)
   pub payload : List ℕ
@@ -22,7 +22,7 @@ pub record StopsAt (version : ℕ) (first : Kept) (start : ℕ) (payloads : List
   pub split : payloads ≡ done ++ payload ∷ rest
   pub d : Kept
   pub leads : Leads version first done d
-  pub none : (x : Recorded) → IsRecorded version x payload → ¬ Follows d x
+  pub none : (xs : List Recorded) → IsRecorded version xs payload → ¬ FollowInTurn d xs
   pub at : place ≡ start + length (records done)
 
 -- Behind such a snapshot it stops.

@@ -2,20 +2,15 @@
 use Rattle.std.specs.Prelude.{ℕ, ◌+◌, ◌&&◌, not, nat_le, Bool, List, ◌++◌}
 use Rattle.pf_snap.specs.declared.header.TheConstants.{HEADER}
 use Rattle.pf_core.specs.{Durable.Edits.{Kept, Edit, after}, Worlds.{Setting, flat}}
-use Rattle.pf_store.specs.Lengths.{total, recorded_length, snapshot_length}
-use Rattle.pf_store.specs.declared.groups.change.Recorded.TheVariants as recorded
+use Rattle.pf_store.specs.{Groups.made_all, Lengths.{payload_length, snapshot_length}}
 use Rattle.pf_store.specs.declared.limits.TheConstants.{AROUND, ROOM_TO_OPEN}
-
--- a group's payload: how many changes it has, in one byte, and each behind its kind
-unfoldable pub group_length : List Edit → ℕ
-group_length es = 1 + total (λ e. recorded_length (recorded.Made e)) es
 
 -- A group finds room in banks of so many bytes: a bank has 64 bytes left behind a snapshot of what is kept then, and room for the group's
 -- record behind one of what was kept before.
 unfoldable pub group_fits : (size : ℕ) → (before next : Kept) → List Edit → Bool
 group_fits size before next es =
     nat_le (HEADER + snapshot_length next + ROOM_TO_OPEN) size
-    && nat_le (HEADER + snapshot_length before + (group_length es + AROUND)) size
+    && nat_le (HEADER + snapshot_length before + (payload_length (made_all es) + AROUND)) size
 
 -- What an opening is given to keep within: so many changes, and banks of so many bytes.
 abbrev pub on_device : (limit size : ℕ) → Setting

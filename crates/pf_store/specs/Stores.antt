@@ -1,9 +1,9 @@
 -- What a device's image holds: what was kept first and what changes have made of it since. Own.
-use Rattle.std.specs.Prelude.{◌≡◌, ◌⊎◌, ◌≤◌, ℕ, ◌+◌, true, List, [], ◌∷◌, Ok}
+use Rattle.std.specs.Prelude.{◌≡◌, ◌⊎◌, ◌≤◌, ℕ, ◌+◌, true, List, [], ◌∷◌, fold, Ok}
 use Rattle.pf_snap.specs.{Banks.Content, declared.header.TheConstants.{HEADER, NEWEST}}
 use Rattle.pf_snap.specs.Banks as snap
 use Rattle.pf_core.specs.Durable.{Edits.{Kept, Edit, in_epoch, applied, fits}, Forms.durable_length}
-use Rattle.pf_store.specs.{Durables.IsDurable, Groups.{IsRecorded, has_form}, Lengths.{snapshot_length, payload_length}, declared.groups.change.Recorded.Recorded}
+use Rattle.pf_store.specs.{Durables.IsDurable, Groups.{IsRecorded, have_form, made_all}, Lengths.{snapshot_length, payload_length}, declared.groups.change.Recorded.Recorded}
 use Rattle.pf_store.specs.declared.groups.change.Recorded.TheVariants as recorded
 use Rattle.pf_store.specs.declared.limits.TheConstants.{AROUND, ROOM_TO_OPEN}
 
@@ -19,11 +19,19 @@ abbrev pub left_by : Kept → Recorded → Kept
 left_by d (recorded.Made e) = applied d e
 left_by d (recorded.Opens epoch) = in_epoch epoch d
 
--- The payloads are, in this version, of changes and openings, each of which follows what the ones before it leave, and all of them leave
--- this.
+-- Each of a group may come next where those before it have come.
+abbrev pub FollowInTurn : Kept → List Recorded → Type 0
+FollowInTurn d [] = Unit {0}
+FollowInTurn d (r ∷ rs) = Follows d r × FollowInTurn (left_by d r) rs
+
+-- what they leave
+abbrev pub left_by_all : Kept → List Recorded → Kept
+left_by_all d rs = fold left_by d rs
+
+-- The payloads are, in this version, of groups, each of which follows what the ones before it leave, and all of them leave this.
 abbrev pub Leads : (version : ℕ) → Kept → List (List ℕ) → Kept → Type 0
 Leads version d [] e = d ≡ e
-Leads version d (p ∷ ps) e = (x : Recorded) × IsRecorded version x p × Follows d x × Leads version (left_by d x) ps e
+Leads version d (p ∷ ps) e = (xs : List Recorded) × IsRecorded version xs p × FollowInTurn d xs × Leads version (left_by_all d xs) ps e
 
 -- The snapshot is of what was kept first, and the payloads lead from there to this, both in the bank's version.
 pub record Makes (content : Content) (d : Kept) : Type 0 where
@@ -57,7 +65,7 @@ pub record HasRoom (size : ℕ) (before next : Kept) (n : ℕ) : Type 0 where
   pub then : IsRoomy size next
   pub behind : HEADER + snapshot_length before + (n + AROUND) ≤ size
 
--- a change that has a payload, and its payload finds room
-pub record FindsRoom (size : ℕ) (before next : Kept) (e : Edit) : Type 0 where
-  pub formed : has_form (recorded.Made e) ≡ true
-  pub room : HasRoom size before next (payload_length (recorded.Made e))
+-- changes that have a payload, and it finds room
+pub record FindsRoom (size : ℕ) (before next : Kept) (es : List Edit) : Type 0 where
+  pub formed : have_form (made_all es) ≡ true
+  pub room : HasRoom size before next (payload_length (made_all es))

@@ -1,25 +1,31 @@
 //! Changes in bytes: what a record's payload means. Read first `specs/Groups.antt`, which has each kind of change by its bytes.
 //!
-//! - `change`: [`Recorded`], [`write_group`] and [`read_group`]: a change or an opening as a record has it.
+//! - `group`: [`write_group`] and [`read_group`]: what one record keeps.
+//! - `as_change`: [`AsChange`]: a change that is handed in as it is, or shared.
+//! - `change`: [`Recorded`]: a change or an opening as a record has it.
 //! - `items`: what a commit replaces, rules or tables.
 //! - `tables`: tables that were defined, and entries.
 //! - `telling`: that what is recorded is told by its data.
 //! - `fault`: why either ends without its result.
-//! - `laws`: a payload is that of one change or opening at most, and how many bytes it has.
+//! - `laws`: a payload is that of one group at most, and how many bytes it has.
 //!
-//! `change` uses all others, `items` uses `tables`, and `telling` knows `change`.
+//! `group` uses all others, `change` uses `items` and `tables`, `items` uses `tables`, and `telling` knows `change`.
 
+mod as_change;
 mod change;
 mod fault;
+mod group;
 mod items;
 mod laws;
 mod tables;
 mod telling;
 
-pub(crate) use change::{has_change_form, write_opening};
-pub use change::{Recorded, read_group, write_group};
+pub use as_change::AsChange;
+pub use change::Recorded;
 pub use fault::GroupFault;
+pub(crate) use group::{have_form, write_opening};
+pub use group::{read_group, write_group};
 pub(crate) use items::{push_rules, read_rules};
-pub use laws::payloads_tell_one_record;
+pub use laws::payloads_tell_one_group;
 pub(crate) use tables::{push_table, read_table};
 pub(crate) use telling::tell_rules;

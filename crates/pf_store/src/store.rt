@@ -1,10 +1,10 @@
-//! A device that holds what is kept: the bank that counts has a snapshot of what was kept when it was begun, and a record for each change
+//! A device that holds what is kept: the bank that counts has a snapshot of what was kept when it was begun, and a record for each group
 //! since. Where a record has no room there, the other bank is begun first.
 //!
 //! Read first `specs/Stores.antt`: what an image holds, then `specs/StoreKept.antt`: what contracts see of a store, and
 //! `specs/Openings.antt`: why a device isn't opened. The modules:
 //!
-//! - `keeping`: [`Store`], which saves a change, and [`Store::open`].
+//! - `keeping`: [`Store`], which saves changes, and [`Store::open`].
 //! - `adding`: a record more, behind a switch where it has no room.
 //! - `finding`: [`Store::peek`], what a device holds.
 //! - `formatting`: [`format`], which makes a device hold nothing.
@@ -26,7 +26,7 @@ pub use fault::{OpenFault, SaveFault};
 pub use formatting::format;
 pub use keeping::Store;
 pub use laws::{
-    group_of_one_fits_where_its_record_does, held_state_is_found, held_state_is_within_limits,
-    image_holds_one_state, state_with_room_is_refused_by_chance_alone,
+    group_fits_where_its_record_does, group_of_changes_leaves_what_they_do, held_state_is_found,
+    held_state_is_within_limits, image_holds_one_state, state_with_room_is_refused_by_chance_alone,
     what_can_be_wanted_has_bytes,
 };

@@ -1,16 +1,14 @@
 //! Changes.
-ghost use Rattle.std.specs.Prelude.{◌≡◌, ◌<◌, ◌^◌, true, false, length, List, ℕ, IfOk, IfErr, OnOk};
+ghost use Rattle.std.specs.Prelude.{◌≡◌, ◌<◌, ◌^◌, true, length, OnOk};
 ghost use Rattle.pf_addr.specs.{Bytes.Forms.{onto, Fits}, Bytes.Readers.Reads};
 ghost use Rattle.pf_anchor.specs.Forms.{plain_entries};
-ghost use Rattle.pf_store.specs.{declared.limits.TheConstants.OPENING_PAYLOAD, Groups.{EditShape, edit_form, change_form, plain_record, has_form, IsRecorded}, Lengths.payload_length};
+ghost use Rattle.pf_store.specs.Groups.{EditShape, edit_form, change_form, plain_record, has_form};
 
-use crate::groups::fault::GroupFault;
 use crate::groups::items::{have_form, push_items, read_items};
 use crate::groups::tables::{push_entries, read_entries};
-use crate::groups::telling::{tell_change, tells};
+use crate::groups::telling::tells;
 use pf_addr::bytes::{
-    Layout, Rest, Stop, decode, expect, push_bytes, push_fitting, push_key, push_u32, read_u32,
-    takes,
+    Layout, Rest, Stop, expect, push_bytes, push_fitting, push_key, push_u32, read_u32, takes,
 };
 use pf_addr::path::{Path, TableName};
 use pf_core::{Change, ChangeKind, EntryList};
@@ -33,9 +31,10 @@ const STATES: u8 = 5;
 
 const REMOVE: u8 = 6;
 
-const OPEN: u8 = 7;
+/// The byte of an opening's kind.
+pub(crate) const OPEN: u8 = 7;
 
-/// What a bank's record keeps.
+/// A change or an opening, as a record keeps it.
 #[derive(Drop)]
 pub enum Recorded {
     /// A change of what is kept.
@@ -46,26 +45,23 @@ pub enum Recorded {
 
 impl Layout for Recorded {
     ghost use Rattle.std.specs.Prelude.{true};
-    ghost use Rattle.pf_store.specs.Groups.{ChangeShape, group_form, plain_record};
+    ghost use Rattle.pf_store.specs.Groups.{ChangeShape, change_form, plain_record};
 
     ghost shape = { ChangeShape };
 
-    ghost form = { group_form };
+    ghost form = { change_form };
 
     ghost plain = { plain_record };
 
     ghost before = { λ a b. true };
 
-    #[tactic(auto, unfolding(crate::specs::Groups::group_form))]
     fn read<'a>(alloc: Global, version: u8, from: &mut Rest<'a>) -> Result<Recorded, Stop> {
-        expect(from, &[1])?;
         read_record(alloc, version, from)
     }
 
-    #[tactic(auto, unfolding(crate::specs::Groups::group_form), using(crate::proofs::Told::formed))]
+    #[tactic(auto, using(crate::proofs::Told::formed))]
     fn write(&self, version: u8, out: &mut Vec<u8>) -> Result<(), AllocError> {
         tells(self);
-        push_bytes(out, &[1])?;
         push_record(out, version, self)
     }
 }
@@ -140,8 +136,13 @@ fn read_record<'a>(alloc: Global, version: u8, from: &mut Rest<'a>) -> Result<Re
     Ok(Recorded::Opens(read_u32(from)?))
 }
 
+/// Puts what is recorded behind the bytes, as a version has it; it fits. Fails only where memory is refused.
 #[tactic(auto, unfolding(crate::specs::Groups::change_form))]
-fn push_record(out: &mut Vec<u8>, version: u8, recorded: &Recorded) -> Result<(), AllocError>
+pub(crate) fn push_record(
+    out: &mut Vec<u8>,
+    version: u8,
+    recorded: &Recorded,
+) -> Result<(), AllocError>
     requires { has_form recorded.now ≡ true }
     ensures written { OnOk result (out.new.items ≡ onto (change_form version) (plain_record recorded.now) out.old.items) }
     ensures fits { OnOk result (Fits (change_form version) (plain_record recorded.now)) }
@@ -155,8 +156,9 @@ fn push_record(out: &mut Vec<u8>, version: u8, recorded: &Recorded) -> Result<()
     }
 }
 
+/// Puts a change behind the bytes, as a version has it; it fits. Fails only where memory is refused.
 #[tactic(auto, unfolding(crate::specs::Groups::change_form))]
-fn push_change(out: &mut Vec<u8>, version: u8, change: &Change) -> Result<(), AllocError>
+pub(crate) fn push_change(out: &mut Vec<u8>, version: u8, change: &Change) -> Result<(), AllocError>
     requires { has_form (Recorded.Made change.now) ≡ true }
     ensures written { OnOk result (out.new.items ≡ onto (change_form version) (plain_record (Recorded.Made change.now)) out.old.items) }
     ensures fits { OnOk result (Fits (change_form version) (plain_record (Recorded.Made change.now))) }
@@ -212,53 +214,5 @@ pub(crate) fn has_change_form(change: &Change) -> bool
         | ChangeKind::Set { entries, .. } => entries.as_slice().len() < COUNTS,
         ChangeKind::States(steps) => steps.as_slice().len() < COUNTS,
         ChangeKind::Remove(_) => true,
-    }
-}
-
-/// The bytes of a group of one change in a version, 2 and more.
-///
-/// `NoForm`: it has none, as a commit of nothing, of more than 64 rulesets, or of more tables at a path than a ticket takes.
-/// `Memory`: it has one, and a growth was refused. Own.
-pub fn write_group(alloc: Global, version: u8, change: &Change) -> Result<Vec<u8>, GroupFault>
-    ensures written { IfOk result (λ v. IsRecorded version (Recorded.Made change.now) v.items) }
-    ensures length { IfOk result (λ v. length v.items ≡ payload_length (Recorded.Made change.now)) }
-    ensures formed { OnOk result (has_form (Recorded.Made change.now) ≡ true) }
-    ensures formless { IfErr result (λ e. e ≡ GroupFault.NoForm → has_form (Recorded.Made change.now) ≡ false) }
-    ensures memory { IfErr result (λ e. e ≡ GroupFault.Memory → has_form (Recorded.Made change.now) ≡ true) }
-{
-    if !has_change_form(change) {
-        return Err(GroupFault::NoForm);
-    }
-    tell_change(change);
-    let mut out = Vec::new(alloc);
-    push_bytes(&mut out, &[1])?;
-    push_change(&mut out, version, change)?;
-    Ok(out)
-}
-
-/// The bytes of an opening with this epoch, which are the same in each version. `AllocError`: memory was refused.
-pub(crate) fn write_opening(alloc: Global, epoch: u32) -> Result<Vec<u8>, AllocError>
-    ensures written { IfOk result (λ v. (version : ℕ) → IsRecorded version (Recorded.Opens epoch) v.items) }
-    ensures length { IfOk result (λ v. length v.items ≡ OPENING_PAYLOAD) }
-{
-    let mut out = Vec::new(alloc);
-    push_bytes(&mut out, &[1, OPEN])?;
-    push_u32(&mut out, epoch)?;
-    Ok(out)
-}
-
-/// What these bytes record in a version: a change or an opening. `NoForm`: they are neither's. `Memory`: a growth was refused.
-#[tactic(auto, using(crate::proofs::Told::spelled, crate::proofs::Told::none_told))]
-pub fn read_group(alloc: Global, version: u8, bytes: &[u8]) -> Result<Recorded, GroupFault>
-    ensures found { IfOk result (λ r. IsRecorded version r bytes.now) }
-    ensures none { IfErr result (λ e. e ≡ GroupFault.NoForm → (r : Recorded) → ¬ IsRecorded version r bytes.now) }
-{
-    match decode::<Recorded>(alloc, version, bytes) {
-        Ok(recorded) => {
-            tells(&recorded);
-            Ok(recorded)
-        }
-        Err(Stop::Memory) => Err(GroupFault::Memory),
-        Err(Stop::Fault(_)) => Err(GroupFault::NoForm),
     }
 }

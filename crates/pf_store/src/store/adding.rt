@@ -4,7 +4,7 @@ ghost use Rattle.pf_disk.specs.Disk.{EachMoment};
 ghost use Rattle.pf_snap.specs.{Banks.bank_size, Faults.is_switch_fault, Ready.IsReady};
 ghost use Rattle.pf_core.specs.Durable.Edits.{Kept};
 ghost use Rattle.pf_store.specs.declared.groups.change.Recorded.{Recorded};
-ghost use Rattle.pf_store.specs.{Durables.durable_has_form, Groups.IsRecorded, Lengths.snapshot_length, Snapshots.IsBankOf, StoreFaults.is_add_fault, StoreKept.HaveKept, Openings.{IsAsLongAs, IsNoLaterThan}, Stores.{Follows, left_by, Holds, HoldsEither}};
+ghost use Rattle.pf_store.specs.{Durables.durable_has_form, Groups.IsRecorded, Lengths.snapshot_length, Snapshots.IsBankOf, StoreFaults.is_add_fault, StoreKept.HaveKept, Openings.{IsAsLongAs, IsNoLaterThan}, Stores.{FollowInTurn, left_by_all, Holds, HoldsEither}};
 
 use crate::limits::AROUND;
 use crate::snapshots::push_snapshot;
@@ -16,7 +16,7 @@ use pf_journal::Record;
 use pf_snap::{Banks, HEADER, NEWEST, NextBank, SwitchFault};
 use std::alloc::{AllocError, Global};
 
-/// Adds a record of what follows what is kept, with this payload, in ten moments of the device at most. Where the bank that counts has no
+/// Adds a record of a group that follows what is kept, with this payload, in ten moments of the device at most. Where the bank that counts has no
 /// room for it, the other one is begun before with a snapshot of what is kept, in the memory of the next bank. All memory is taken before
 /// the device's first call.
 ///
@@ -35,14 +35,14 @@ pub(crate) fn add<D: Disk>(
     requires early { banks.old.generation + 1 < 2 ^ 64 }
     requires few { D.fault_count banks.old.journal.disk < 2 ^ 63 }
     requires small { length payload.now + AROUND < 2 ^ 64 }
-    ensures any_moment { (x : Recorded) → IsRecorded banks.old.version x payload.now → Follows durable.now x
-        → EachMoment D.moment D.left_since banks.old.journal.disk banks.new.journal.disk (HoldsEither durable.now (left_by durable.now x)) }
+    ensures any_moment { (xs : List Recorded) → IsRecorded banks.old.version xs payload.now → FollowInTurn durable.now xs
+        → EachMoment D.moment D.left_since banks.old.journal.disk banks.new.journal.disk (HoldsEither durable.now (left_by_all durable.now xs)) }
     ensures generations { EachMoment D.moment D.left_since banks.old.journal.disk banks.new.journal.disk
         (IsNoLaterThan (banks.old.generation + 1)) }
     ensures lengths { EachMoment D.moment D.left_since banks.old.journal.disk banks.new.journal.disk
         (IsAsLongAs (D.seen banks.old.journal.disk)) }
-    ensures kept { OnOk result ((x : Recorded) → IsRecorded banks.old.version x payload.now → Follows durable.now x
-        → HaveKept D.seen banks.new (left_by durable.now x)) }
+    ensures kept { OnOk result ((xs : List Recorded) → IsRecorded banks.old.version xs payload.now → FollowInTurn durable.now xs
+        → HaveKept D.seen banks.new (left_by_all durable.now xs)) }
     ensures ready { OnOk result (IsReady D.seen D.unsynced banks.new) }
     ensures full { IsErrOf result AddFault.Full ↔ ((banks.old.journal.end < banks.old.journal.gate + (length payload.now + AROUND))
         × (bank_size (length (D.seen banks.old.journal.disk)) < HEADER + snapshot_length durable.now + (length payload.now + AROUND))) }

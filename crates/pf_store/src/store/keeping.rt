@@ -1,20 +1,21 @@
 //! A store over a device: opening it, and saving changes.
-ghost use Rattle.std.specs.Prelude.{◌≡◌, ◌⊎◌, ◌↔◌, ◌+◌, ◌^◌, ◌<◌, ◌≤◌, true, false, ℕ, List, length, IfOk, IfErr, IsTrue, OnOk, OnErr, IsErrOf, Ok, if◌then◌else◌};
+ghost use Rattle.std.specs.List.{list_all};
+ghost use Rattle.std.specs.Prelude.{◌≡◌, ◌⊎◌, ◌↔◌, ◌+◌, ◌^◌, ◌<◌, ◌≤◌, true, false, ℕ, List, [], ◌∷◌, length, map, IfOk, IfErr, IsTrue, OnOk, OnErr, IsErrOf, Ok, if◌then◌else◌};
 ghost use Rattle.pf_disk.specs.Disk.{EachMoment, IsImage};
 ghost use Rattle.pf_snap.specs.{Banks.bank_size, Ready.IsReady};
-ghost use Rattle.pf_core.specs.{Durable.Edits.{Kept, applied, fits}, Laws.Durable.IsWithin, Worlds.{last_epoch, raised}};
+ghost use Rattle.pf_core.specs.{Durable.Edits.Kept, Laws.Durable.IsWithin, Worlds.{last_epoch, raised}};
 ghost use Rattle.pf_store.specs.declared.store.fault.SaveFault.TheVariants as saving;
 ghost use Rattle.pf_store.specs.declared.store.fault.OpenFault.TheVariants as opening;
 ghost use Rattle.pf_store.specs.declared.limits.TheConstants.{AROUND, OPENING_PAYLOAD};
 ghost use Rattle.pf_store.specs.declared.groups.change.Recorded.TheVariants as recorded;
-ghost use Rattle.pf_store.specs.{Groups.{can_be_wanted, IsRecorded}, Lengths.payload_length, Stores.{Holds, HoldsEither, FindsRoom, HasRoom}, StoreKept.{Stands, HaveKept}, StoreFaults.{is_save_fault, TellsRoom, is_fault}, Openings.{HasRoomHere, IsUnopened, IsFull, IsOfOpening, IsAsLongAs, IsNoLaterThan, LeavesRoom, generation_of}};
+ghost use Rattle.pf_store.specs.{Groups.{can_be_wanted, is_group, made_all, IsRecorded}, Lengths.payload_length, Stores.{FollowInTurn, left_by_all, Holds, HoldsEither, FindsRoom, HasRoom}, StoreKept.{Stands, HaveKept}, StoreFaults.{is_save_fault, TellsRoom, is_fault}, Openings.{HasRoomHere, IsUnopened, IsFull, IsOfOpening, IsAsLongAs, IsNoLaterThan, LeavesRoom, generation_of}};
 
-use crate::groups::{GroupFault, write_group, write_opening};
+use crate::groups::{AsChange, GroupFault, write_group, write_opening};
 use crate::store::adding::add;
 use crate::store::fault::{AddFault, OpenFault, SaveFault};
-use crate::store::lengths::finds_room;
+use crate::store::lengths::find_room;
 use crate::store::replaying::replay;
-use pf_core::{Change, Durable};
+use pf_core::Durable;
 use pf_disk::Disk;
 use pf_snap::{Banks, NextBank};
 use std::alloc::Global;
@@ -42,36 +43,40 @@ impl<D: Disk> Model for Store<D> {
 }
 
 impl<D: Disk> Store<D> {
-    /// Whether a change that leaves this finds room. It doesn't where the store is halted. It takes no memory.
+    /// Whether changes that leave this find room as one group. They don't where the store is halted. It takes no memory.
     ///
-    /// Of a change that a command can want that is exactly whether its payload has room: it has bytes where it has room. Own.
-    pub fn has_room(&self, before: &Durable, change: &Change, after: &Durable) -> bool
-        ensures found { IsTrue result ↔ ((self.now.halted ≡ false) × FindsRoom self.now.size before.now after.now change.now) }
-        ensures exact { can_be_wanted change.now ≡ true → IsTrue result ↔ ((self.now.halted ≡ false)
-            × HasRoom self.now.size before.now after.now (payload_length (recorded.Made change.now))) }
+    /// Of 1 to 64 changes that commands can want that is exactly whether their payload has room: it has bytes where it has room. Own.
+    pub fn has_room<C: AsChange>(&self, before: &Durable, changes: &[C], after: &Durable) -> bool
+        ensures found { IsTrue result ↔ ((self.now.halted ≡ false)
+            × FindsRoom self.now.size before.now after.now (map C.edit changes.now)) }
+        ensures exact { is_group changes.now ≡ true → list_all can_be_wanted (map C.edit changes.now) ≡ true
+            → IsTrue result ↔ ((self.now.halted ≡ false)
+            × HasRoom self.now.size before.now after.now (payload_length (made_all (map C.edit changes.now)))) }
     {
-        !self.halted && finds_room(before, change, after, self.banks.size())
+        !self.halted && find_room(before, changes, after, self.banks.size())
     }
 
-    /// Saves a change, in ten moments of the device at most. At `Ok` a crash keeps it.
+    /// Saves 1 to 64 changes in one record, in ten moments of the device at most. At `Ok` a crash keeps them all, and before it keeps all of
+    /// them or none.
     ///
-    /// The store stands for what was kept before, unless it is halted; the change fits that, and `after` is what it leaves. Where its record
-    /// has no room in the bank that counts, the other one is begun first, with a snapshot of what was kept before. `Full` comes exactly where
-    /// the change has no bytes, where a bank has no room for its record behind a snapshot of what was kept before, or where one behind a
-    /// snapshot of what is kept then has less than 64 bytes left. So `Memory` comes only where it finds room. Own.
-    pub fn save(
+    /// The store stands for what was kept before, unless it is halted; each change fits what those before it leave, and `after` is what all
+    /// of them leave. Where their record has no room in the bank that counts, the other one is begun first, with a snapshot of what was kept
+    /// before. `Full` comes exactly where they have no bytes as one group, where a bank has no room for their record behind a snapshot of
+    /// what was kept before, or where one behind a snapshot of what is kept then has less than 64 bytes left. So `Memory` comes only where
+    /// they find room. Own.
+    pub fn save<C: AsChange>(
         &mut self,
         alloc: Global,
         before: &Durable,
-        change: &Change,
+        changes: &[C],
         after: &Durable,
     ) -> Result<(), SaveFault>
         requires stands { self.old.halted ≡ false → Stands D.seen D.unsynced self.old before.now }
-        requires fits { fits before.now change.now ≡ Ok tt }
-        requires leads { after.now ≡ applied before.now change.now }
+        requires fit { FollowInTurn before.now (made_all (map C.edit changes.now)) }
+        requires leads { after.now ≡ left_by_all before.now (made_all (map C.edit changes.now)) }
         requires early { self.old.halted ≡ false → self.old.generation + 1 < 2 ^ 64 }
 
-        // At each moment an image holds what was kept before or what is kept after it.
+        // At each moment an image holds what was kept before or what is kept after all of them.
         ensures any_moment { self.old.halted ≡ false
             → EachMoment D.moment D.left_since self.old.disk self.new.disk (HoldsEither before.now after.now) }
 
@@ -83,7 +88,7 @@ impl<D: Disk> Store<D> {
         ensures roomy { self.old.halted ≡ false → LeavesRoom (D.seen self.old.disk)
             → EachMoment D.moment D.left_since self.old.disk self.new.disk LeavesRoom }
 
-        // At `Ok` each image holds what is kept after it, and the store stands for it.
+        // At `Ok` each image holds what is kept after them, and the store stands for it.
         ensures images { OnOk result ((c : List ℕ) → IsImage (D.seen self.new.disk) (D.unsynced self.new.disk) c → Holds c after.now) }
         ensures stands { OnOk result (Stands D.seen D.unsynced self.new after.now) }
         ensures goes_on { OnOk result (self.new.halted ≡ false) }
@@ -92,15 +97,15 @@ impl<D: Disk> Store<D> {
         ensures halted { IsErrOf result saving.Halted ↔ (self.old.halted ≡ true) }
         ensures halts { IsErrOf result saving.Fault → self.new.halted ≡ true }
 
-        ensures room { TellsRoom result (FindsRoom self.old.size before.now after.now change.now) }
+        ensures room { TellsRoom result (FindsRoom self.old.size before.now after.now (map C.edit changes.now)) }
         ensures unchanged { OnErr result ((IsErrOf result saving.Fault → ⊥) → self.new ≡ self.old) }
         ensures generation { self.new.generation ≤ self.old.generation + 1 }
         ensures generation_stays { self.old.generation ≤ self.new.generation }
 
-        // It switches where its record has no room in the bank that counts, and there alone.
-        ensures here { OnOk result (payload_length (recorded.Made change.now) + AROUND ≤ self.old.room
+        // It switches where their record has no room in the bank that counts, and there alone.
+        ensures here { OnOk result (payload_length (made_all (map C.edit changes.now)) + AROUND ≤ self.old.room
             → self.new.generation ≡ self.old.generation) }
-        ensures there { OnOk result (self.old.room < payload_length (recorded.Made change.now) + AROUND
+        ensures there { OnOk result (self.old.room < payload_length (made_all (map C.edit changes.now)) + AROUND
             → self.new.generation ≡ self.old.generation + 1) }
 
         ensures size { self.new.size ≡ self.old.size }
@@ -111,10 +116,10 @@ impl<D: Disk> Store<D> {
         if self.halted {
             return Err(SaveFault::Halted);
         }
-        if !self.has_room(before, change, after) {
+        if !self.has_room(before, changes, after) {
             return Err(SaveFault::Full);
         }
-        let payload = match write_group(alloc, self.banks.version, change) {
+        let payload = match write_group(alloc, self.banks.version, changes) {
             Ok(payload) => payload,
             Err(GroupFault::Memory) => return Err(SaveFault::Memory),
             Err(GroupFault::NoForm) => unreachable!(),
@@ -268,7 +273,7 @@ fn raise_on<D: Disk>(
 // What is kept in the next epoch, and the payload of that opening.
 fn raise(alloc: Global, durable: &Durable) -> Result<(Durable, Vec<u8>), OpenFault>
     ensures raised { IfOk result (λ r. r.0 ≡ raised durable.now) }
-    ensures payload { IfOk result (λ r. (version : ℕ) → IsRecorded version (recorded.Opens (durable.now.epoch + 1)) r.1.items) }
+    ensures payload { IfOk result (λ r. (version : ℕ) → IsRecorded version (recorded.Opens (durable.now.epoch + 1) ∷ []) r.1.items) }
     ensures length { IfOk result (λ r. length r.1.items ≡ OPENING_PAYLOAD) }
     ensures next { IfOk result (λ r. durable.now.epoch < last_epoch) }
     ensures refused { IfErr result (λ e. ((e ≡ opening.Memory) × (durable.now.epoch < last_epoch))

@@ -1,10 +1,10 @@
 //! Laws of what is held. Each function does nothing; its clauses are what is proved.
-ghost use Rattle.std.specs.Prelude.{◌≡◌, ◌⊎◌, ◌↔◌, ◌^◌, ◌<◌, true, [], ◌∷◌, List, ℕ, length};
+ghost use Rattle.std.specs.Prelude.{◌≡◌, ◌⊎◌, ◌↔◌, ◌^◌, ◌<◌, true, List, ℕ, length};
+ghost use Rattle.std.specs.List.{list_all};
 ghost use Rattle.pf_snap.specs.Banks.{bank_size};
-ghost use Rattle.pf_core.specs.{Durable.Edits.{Kept, Edit}, Laws.Durable.IsWithin, Worlds.{last_epoch, raised}};
+ghost use Rattle.pf_core.specs.{Durable.Edits.{Kept, Edit, after}, Laws.Durable.IsWithin, Worlds.{last_epoch, raised}};
 ghost use Rattle.pf_store.specs.declared.store.fault.{OpenFault.OpenFault, OpenFault.TheVariants.{Memory, Fault}};
-ghost use Rattle.pf_store.specs.declared.groups.change.Recorded.TheVariants as recorded;
-ghost use Rattle.pf_store.specs.{Groups.can_be_wanted, Lengths.payload_length, Rooms.{group_fits, group_length}, Stores.{FindsRoom, HasRoom, Holds, IsRoomy}, StoreFaults.SaysNone, Openings.{IsFull, IsUnopened, generation_of}};
+ghost use Rattle.pf_store.specs.{Groups.{can_be_wanted, is_group, made_all}, Lengths.payload_length, Rooms.group_fits, Stores.{FindsRoom, HasRoom, Holds, IsRoomy, left_by_all}, StoreFaults.SaysNone, Openings.{IsFull, IsUnopened, generation_of}};
 
 /// An image holds one state of what is kept at most. Own.
 pub fn image_holds_one_state()
@@ -32,15 +32,19 @@ pub fn held_state_is_within_limits()
     ensures { (image : List ℕ) (d : Kept) → Holds image d → IsWithin d }
 {}
 
-/// A change's payload finds room exactly where a group of it alone fits, and is as long. Own.
-pub fn group_of_one_fits_where_its_record_does()
-    ensures fits { (size : ℕ) (before next : Kept) (e : Edit)
-        → (group_fits size before next (e ∷ []) ≡ true) ↔ HasRoom size before next (payload_length (recorded.Made e)) }
-    ensures length { (e : Edit) → group_length (e ∷ []) ≡ payload_length (recorded.Made e) }
+/// A group fits exactly where its payload has room. Own.
+pub fn group_fits_where_its_record_does()
+    ensures { (size : ℕ) (before next : Kept) (es : List Edit)
+        → (group_fits size before next es ≡ true) ↔ HasRoom size before next (payload_length (made_all es)) }
 {}
 
-/// What a command can want has bytes where banks of a size that a device may have have room for so many. Own.
+/// A group of changes leaves what they leave one after the other. Own.
+pub fn group_of_changes_leaves_what_they_do()
+    ensures { (d : Kept) (es : List Edit) → left_by_all d (made_all es) ≡ after d es }
+{}
+
+/// A group of changes that commands can want has bytes where banks of a size that a device may have have room for so many. Own.
 pub fn what_can_be_wanted_has_bytes()
-    ensures { (size : ℕ) (before next : Kept) (e : Edit) → size < 2 ^ 32 → can_be_wanted e ≡ true
-        → HasRoom size before next (payload_length (recorded.Made e)) → FindsRoom size before next e }
+    ensures { (size : ℕ) (before next : Kept) (es : List Edit) → size < 2 ^ 32 → is_group es ≡ true → list_all can_be_wanted es ≡ true
+        → HasRoom size before next (payload_length (made_all es)) → FindsRoom size before next es }
 {}

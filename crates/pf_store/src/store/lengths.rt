@@ -1,10 +1,10 @@
 //! How many bytes a snapshot of what is kept would have, and a change's payload. It looks at items and steps, and at no rule, entry or
 //! state, and takes no memory.
-ghost use Rattle.std.specs.Prelude.{◌≡◌, ◌↔◌, ◌+◌, ◌<◌, ◌≤◌, IsTrue, MatchOption};
+ghost use Rattle.std.specs.Prelude.{◌≡◌, ◌↔◌, ◌+◌, ◌<◌, ◌≤◌, map, IsTrue, MatchOption};
 ghost use Rattle.pf_store.specs.declared.groups.change.Recorded.TheVariants as recorded;
-ghost use Rattle.pf_store.specs.{Lengths.{named_length, item_length, edit_length, step_length, total, snapshot_length, payload_length}, Stores.{FindsRoom}};
+ghost use Rattle.pf_store.specs.{Groups.made_all, Lengths.{named_length, item_length, edit_length, step_length, total, snapshot_length, recorded_length, payload_length}, Stores.{FindsRoom}};
 
-use crate::groups::has_change_form;
+use crate::groups::{AsChange, have_form};
 use crate::limits::{AROUND, ROOM_TO_OPEN};
 use pf_addr::path::{Path, TableName};
 use pf_anchor::{named_table_length, ruleset_length};
@@ -15,19 +15,43 @@ use pf_state::layouts::step_length;
 use pf_table::Entry;
 use pf_ticket::{Defined, DefinedTable};
 
-/// Whether a change that leaves this finds room in banks of so many bytes.
-pub(crate) fn finds_room(before: &Durable, change: &Change, after: &Durable, size: usize) -> bool
-    ensures { IsTrue result ↔ FindsRoom size before.now after.now change.now }
+/// Whether changes that leave this find room in banks of so many bytes.
+pub(crate) fn find_room<C: AsChange>(
+    before: &Durable,
+    changes: &[C],
+    after: &Durable,
+    size: usize,
+) -> bool
+    ensures { IsTrue result ↔ FindsRoom size before.now after.now (map C.edit changes.now) }
 {
-    has_change_form(change)
+    have_form(changes)
         && has_room(after, size, ROOM_TO_OPEN)
         && match behind_snapshot(before, size) {
-            Some(room) => match behind_change(change, room) {
+            Some(room) => match behind_group(changes, room) {
                 Some(left) => AROUND <= left,
                 None => false,
             },
             None => false,
         }
+}
+
+// The bytes that are left of so many behind a group's payload.
+fn behind_group<C: AsChange>(changes: &[C], room: usize) -> Option<usize>
+    ensures { MatchOption result (room < payload_length (made_all (map C.edit changes.now)))
+        (λ left. room ≡ payload_length (made_all (map C.edit changes.now)) + left) }
+{
+    behind_changes(changes, room.checked_sub(1)?)
+}
+
+fn behind_changes<C: AsChange>(changes: &[C], room: usize) -> Option<usize>
+    ensures { MatchOption result (room < total recorded_length (made_all (map C.edit changes.now)))
+        (λ left. room ≡ total recorded_length (made_all (map C.edit changes.now)) + left) }
+{
+    let mut left = room;
+    for change in changes {
+        left = behind_change(change.as_change(), left)?;
+    }
+    Some(left)
 }
 
 /// Whether a bank of so many bytes has room for so many more behind a snapshot of what is kept.
@@ -50,13 +74,13 @@ fn behind_snapshot(durable: &Durable, size: usize) -> Option<usize>
     Some(room as usize)
 }
 
-// The bytes that are left of so many behind a change's payload.
+// The bytes that are left of so many behind a change, as a record has it.
 #[tactic(auto, using(crate::proofs::Sized::items_long, crate::proofs::Sized::steps_long), unfolding(crate::specs::Groups::change_form, pf_state::specs::Layouts::States::name_form))]
 fn behind_change(change: &Change, room: usize) -> Option<usize>
-    ensures { MatchOption result (room < payload_length (recorded.Made change.now))
-        (λ left. room ≡ payload_length (recorded.Made change.now) + left) }
+    ensures { MatchOption result (room < recorded_length (recorded.Made change.now))
+        (λ left. room ≡ recorded_length (recorded.Made change.now) + left) }
 {
-    let room = room.checked_sub(2)?;
+    let room = room.checked_sub(1)?;
     match change.kind() {
         ChangeKind::Commit(items) => behind_items(items.as_slice(), room.checked_sub(1)?),
         ChangeKind::Add {

@@ -6,7 +6,7 @@ ghost use Rattle.pf_core.specs.Durable.Edits.{Kept};
 ghost use Rattle.pf_core.specs.declared.durable.refusal.ChangeRefusal.TheVariants as refusing;
 ghost use Rattle.pf_store.specs.declared.groups.fault.GroupFault.TheVariants as group;
 ghost use Rattle.pf_store.specs.declared.groups.change.Recorded.{Recorded};
-ghost use Rattle.pf_store.specs.{Durables.IsDurable, Groups.IsRecorded, Stores.{Follows, left_by, Leads, Makes}, StoreFaults.BreaksOff, Openings.{BreaksInSnapshot, StopsAt, MakesNone}};
+ghost use Rattle.pf_store.specs.{Durables.IsDurable, Groups.IsRecorded, Stores.{FollowInTurn, Follows, left_by, left_by_all, Leads, Makes}, StoreFaults.BreaksOff, Openings.{BreaksInSnapshot, StopsAt, MakesNone}};
 
 use crate::groups::{GroupFault, Recorded, read_group};
 use crate::snapshots::read_durable;
@@ -92,7 +92,7 @@ fn follow_all(
     let mut durable = first;
     let mut gate = start;
     for payload in payloads {
-        durable = match follow(alloc, version, &durable, payload) {
+        durable = match follow(alloc, version, durable, payload) {
             Ok(after) => after,
             Err(GroupFault::Memory) => return Err(OpenFault::Memory),
             Err(GroupFault::NoForm) => return Err(OpenFault::Corrupt { at: gate }),
@@ -102,22 +102,38 @@ fn follow_all(
     Ok(durable)
 }
 
-// What is kept after what has this payload of this version. `NoForm`: nothing that has it follows what is kept.
+// What is kept after the group that has this payload of this version. `NoForm`: no group that has it follows what is kept.
 fn follow(
     alloc: Global,
     version: u8,
-    durable: &Durable,
+    durable: Durable,
     payload: &[u8],
 ) -> Result<Durable, GroupFault>
-    ensures followed { IfOk result (λ d. (x : Recorded) × IsRecorded version x payload.now × Follows durable.now x
-        × (d ≡ left_by durable.now x)) }
-    ensures none { IfErr result (λ e. e ≡ group.NoForm → (x : Recorded) → IsRecorded version x payload.now → ¬ Follows durable.now x) }
+    ensures followed { IfOk result (λ d. (xs : List Recorded) × IsRecorded version xs payload.now × FollowInTurn durable xs
+        × (d ≡ left_by_all durable xs)) }
+    ensures none { IfErr result (λ e. e ≡ group.NoForm → (xs : List Recorded) → IsRecorded version xs payload.now
+        → ¬ FollowInTurn durable xs) }
 {
     match read_group(alloc, version, payload) {
-        Ok(next) => left_by(alloc, durable, &next),
+        Ok(records) => left_by_all(alloc, durable, records.as_slice()),
         Err(GroupFault::Memory) => Err(GroupFault::Memory),
         Err(GroupFault::NoForm) => Err(GroupFault::NoForm),
     }
+}
+
+// What is kept after all of them. `NoForm`: one of them doesn't follow.
+fn left_by_all(alloc: Global, durable: Durable, records: &[Recorded]) -> Result<Durable, GroupFault>
+    ensures left { IfOk result (λ d. FollowInTurn durable records.now × (d ≡ left_by_all durable records.now)) }
+    ensures none { IfErr result (λ e. e ≡ group.NoForm → ¬ FollowInTurn durable records.now) }
+{
+    let mut left = durable;
+    for next in records {
+        left = match left_by(alloc, &left, next) {
+            Ok(after) => after,
+            Err(fault) => return Err(fault),
+        };
+    }
+    Ok(left)
 }
 
 // What is kept after it. `NoForm`: it doesn't follow.

@@ -2,7 +2,7 @@ use Rattle.std.proofs.Common.{◌+◌, ◌≤◌, arith}
 use Rattle.std.specs.Prelude.{length}
 use Rattle.pf_disk.specs.Disk.{is_within}
 use Rattle.pf_snap.specs.Banks.{with_payload}
-use Rattle.pf_store.specs.Stores.{left_by}
+use Rattle.pf_store.specs.Stores.{left_by_all}
 use Rattle.pf_store.proofs.Saving.{before, both_generations, both_lengths, have_held, have_more, moved, recorded_here, recorded_there, run_generations, run_lengths, turned_and_moved, unmoved, unmoved_generations, unmoved_lengths}
 use Rattle.pf_store.proofs.store.adding.add.Goals as goal
 
@@ -11,7 +11,7 @@ returns-then-not-has_room-clause-any_moment g c x is follows =
     let d = g.D.Disk in
     let b = c.args.banks.now in
     let k = c.args.durable.now in
-    before d.seen d.unsynced d.moment d.left_since b.journal.disk b.journal.disk k (left_by k x)
+    before d.seen d.unsynced d.moment d.left_since b.journal.disk b.journal.disk k (left_by_all k x)
     (unmoved d.seen d.unsynced d.moment d.left_since b.journal.disk k c.requires.ready.journal.synced (have_held d.seen d.unsynced d.fault_count b k c.requires.kept) (g.met.D.Disk.only_now b.journal.disk))
 
 pub returns-in_err-record-clause-any_moment : goal.returns-in_err-record-clause-any_moment
@@ -19,7 +19,7 @@ returns-in_err-record-clause-any_moment g c x is follows =
     let d = g.D.Disk in
     let b = c.args.banks.now in
     let k = c.args.durable.now in
-    before d.seen d.unsynced d.moment d.left_since b.journal.disk b.journal.disk k (left_by k x)
+    before d.seen d.unsynced d.moment d.left_since b.journal.disk b.journal.disk k (left_by_all k x)
     (unmoved d.seen d.unsynced d.moment d.left_since b.journal.disk k c.requires.ready.journal.synced (have_held d.seen d.unsynced d.fault_count b k c.requires.kept) (g.met.D.Disk.only_now b.journal.disk))
 
 pub returns-in_err-append_record-clause-any_moment : goal.returns-in_err-append_record-clause-any_moment
@@ -54,7 +54,7 @@ returns-in_err-append_record-2-clause-any_moment g c x is follows =
     let e = c.args.durable.now in
     let mid = c.switch.new.banks.journal.disk in
     let new = c.append_record-2.new.self.journal.disk in
-    turned_and_moved d.seen d.unsynced d.moment d.left_since c.args.banks.now.journal.disk mid new e (left_by e x) c.switch.ensures.any_moment
+    turned_and_moved d.seen d.unsynced d.moment d.left_since c.args.banks.now.journal.disk mid new e (left_by_all e x) c.switch.ensures.any_moment
     (moved d.seen d.unsynced d.moment d.left_since mid new k.content e p x k.makes (recorded_there d.seen d.unsynced c.args.banks.now c.switch.new.banks c.args.durable.now c.requires.kept k x p is) follows (c.append_record-2.ensures.any_moment k.content p k.keeps c.in_ok-record.ensures))
 
 pub returns-clause-any_moment : goal.returns-clause-any_moment
@@ -65,7 +65,7 @@ returns-clause-any_moment g c x is follows =
     let e = c.args.durable.now in
     let mid = c.switch.new.banks.journal.disk in
     let new = c.append_record-2.new.self.journal.disk in
-    turned_and_moved d.seen d.unsynced d.moment d.left_since c.args.banks.now.journal.disk mid new e (left_by e x) c.switch.ensures.any_moment
+    turned_and_moved d.seen d.unsynced d.moment d.left_since c.args.banks.now.journal.disk mid new e (left_by_all e x) c.switch.ensures.any_moment
     (moved d.seen d.unsynced d.moment d.left_since mid new k.content e p x k.makes (recorded_there d.seen d.unsynced c.args.banks.now c.switch.new.banks c.args.durable.now c.requires.kept k x p is) follows (c.append_record-2.ensures.any_moment k.content p k.keeps c.in_ok-record.ensures))
 
 pub returns-clause-kept : goal.returns-clause-kept
@@ -140,7 +140,7 @@ pub returns-in_err-switch-clause-any_moment : goal.returns-in_err-switch-clause-
 returns-in_err-switch-clause-any_moment g c x is follows =
     let d = g.D.Disk in
     let k = c.args.durable.now in
-    before d.seen d.unsynced d.moment d.left_since c.args.banks.now.journal.disk c.switch.new.banks.journal.disk k (left_by k x) c.switch.ensures.any_moment
+    before d.seen d.unsynced d.moment d.left_since c.args.banks.now.journal.disk c.switch.new.banks.journal.disk k (left_by_all k x) c.switch.ensures.any_moment
 
 pub returns-then-not-has_room-clause-lengths : goal.returns-then-not-has_room-clause-lengths
 returns-then-not-has_room-clause-lengths g c =

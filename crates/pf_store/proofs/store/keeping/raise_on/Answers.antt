@@ -1,4 +1,4 @@
-use Rattle.std.proofs.Common.{◌≡◌, ◌+◌, ⊎_elim, ℕ, List, arith, length, Err, refl, sym, ◌∙◌, ap, subst}
+use Rattle.std.proofs.Common.{◌≡◌, ◌+◌, ⊎_elim, ℕ, List, [], ◌∷◌, arith, length, Err, refl, sym, ◌∙◌, ap, subst}
 use Rattle.pf_disk.specs.Disk.{EachMoment}
 use Rattle.pf_disk.proofs.Images.{only_read}
 use Rattle.pf_snap.specs.Banks as snap
@@ -22,8 +22,8 @@ pub invariant_of-result : goal.invariant_of-result
 invariant_of-result g c going =
     let d = g.D.Disk in
     let k = c.args.durable.now in
-    let is = subst (IsRecorded c.args.banks.version (opens (k.epoch + 1))) (sym c.deref.ensures.value) (c.in-Ok.ensures.payload c.args.banks.version) in
-    stores d.seen d.unsynced d.fault_count c.add.new.banks (raised k) c.in-Ok-add.ensures.ready (c.in-Ok-add.ensures.kept (opens (k.epoch + 1)) is refl)
+    let is = subst (IsRecorded c.args.banks.version (opens (k.epoch + 1) ∷ [])) (sym c.deref.ensures.value) (c.in-Ok.ensures.payload c.args.banks.version) in
+    stores d.seen d.unsynced d.fault_count c.add.new.banks (raised k) c.in-Ok-add.ensures.ready (c.in-Ok-add.ensures.kept (opens (k.epoch + 1) ∷ []) is (refl, tt))
     (omega (arith, c.requires.few, c.in-Ok-add.ensures.faults))
 
 pub returns-in-Ok-add-clause-room : goal.returns-in-Ok-add-clause-room
@@ -55,8 +55,8 @@ returns-in-Ok-add-clause-stands g c =
     let d = g.D.Disk in
     let k = c.args.durable.now in
     let disk = c.add.new.banks.journal.disk in
-    let is = subst (IsRecorded c.args.banks.version (opens (k.epoch + 1))) (sym c.deref.ensures.value) (c.in-Ok.ensures.payload c.args.banks.version) in
-    let holds = have_held d.seen d.unsynced d.fault_count c.add.new.banks (raised k) (c.in-Ok-add.ensures.kept (opens (k.epoch + 1)) is refl) in
+    let is = subst (IsRecorded c.args.banks.version (opens (k.epoch + 1) ∷ [])) (sym c.deref.ensures.value) (c.in-Ok.ensures.payload c.args.banks.version) in
+    let holds = have_held d.seen d.unsynced d.fault_count c.add.new.banks (raised k) (c.in-Ok-add.ensures.kept (opens (k.epoch + 1) ∷ []) is (refl, tt)) in
     record { holds = subst (λ (x : Kept). Holds (d.seen disk) x) (sym c.in-Ok.ensures.raised) holds; synced = c.in-Ok-add.ensures.ready.journal.synced }
 
 pub returns-in-Err-Full-clause-refused : goal.returns-in-Err-Full-clause-refused
@@ -84,8 +84,8 @@ returns-in-Ok-add-clause-generations g c image is_image =
     let d = g.D.Disk in
     let k = c.args.durable.now in
     let new = c.add.new.banks in
-    let is = subst (IsRecorded c.args.banks.version (opens (k.epoch + 1))) (sym c.deref.ensures.value) (c.in-Ok.ensures.payload c.args.banks.version) in
-    let kept = c.in-Ok-add.ensures.kept (opens (k.epoch + 1)) is refl in
+    let is = subst (IsRecorded c.args.banks.version (opens (k.epoch + 1) ∷ [])) (sym c.deref.ensures.value) (c.in-Ok.ensures.payload c.args.banks.version) in
+    let kept = c.in-Ok-add.ensures.kept (opens (k.epoch + 1) ∷ []) is (refl, tt) in
     let same = only_read (d.seen new.journal.disk) (d.unsynced new.journal.disk) image c.in-Ok-add.ensures.ready.journal.synced is_image in
     no_later new.generation kept.content (omega (arith, kept.keeps.generation)) image
     (subst (λ (l : List ℕ). snap.Holds l kept.content) (sym same) (record { at = new.at; other = new.other; holds = kept.keeps.holds }))
@@ -102,35 +102,35 @@ returns-clause-refused g c = c.requires.kept.keeps.holds.size
 pub returns-in-Ok-add-clause-any_moment : goal.returns-in-Ok-add-clause-any_moment
 returns-in-Ok-add-clause-any_moment g c =
     let k = c.args.durable.now in
-    let is = subst (IsRecorded c.args.banks.version (opens (k.epoch + 1))) (sym c.deref.ensures.value) (c.in-Ok.ensures.payload c.args.banks.version) in
-    c.add.ensures.any_moment (opens (k.epoch + 1)) is refl
+    let is = subst (IsRecorded c.args.banks.version (opens (k.epoch + 1) ∷ [])) (sym c.deref.ensures.value) (c.in-Ok.ensures.payload c.args.banks.version) in
+    c.add.ensures.any_moment (opens (k.epoch + 1) ∷ []) is (refl, tt)
 
 pub returns-in-Err-Memory-clause-any_moment_err : goal.returns-in-Err-Memory-clause-any_moment_err
 returns-in-Err-Memory-clause-any_moment_err g c =
     let d = g.D.Disk in
     let b = c.args.banks in
     let k = c.args.durable.now in
-    let is = subst (IsRecorded b.version (opens (k.epoch + 1))) (sym c.deref.ensures.value) (c.in-Ok.ensures.payload b.version) in
+    let is = subst (IsRecorded b.version (opens (k.epoch + 1) ∷ [])) (sym c.deref.ensures.value) (c.in-Ok.ensures.payload b.version) in
     subst (λ e. EachMoment d.moment d.left_since b.journal.disk e (HoldsEither k (raised k))) (sym c.into_disk-in-Err-Memory.ensures)
-    (c.add.ensures.any_moment (opens (k.epoch + 1)) is refl)
+    (c.add.ensures.any_moment (opens (k.epoch + 1) ∷ []) is (refl, tt))
 
 pub returns-in-Err-Full-clause-any_moment_err : goal.returns-in-Err-Full-clause-any_moment_err
 returns-in-Err-Full-clause-any_moment_err g c =
     let d = g.D.Disk in
     let b = c.args.banks in
     let k = c.args.durable.now in
-    let is = subst (IsRecorded b.version (opens (k.epoch + 1))) (sym c.deref.ensures.value) (c.in-Ok.ensures.payload b.version) in
+    let is = subst (IsRecorded b.version (opens (k.epoch + 1) ∷ [])) (sym c.deref.ensures.value) (c.in-Ok.ensures.payload b.version) in
     subst (λ e. EachMoment d.moment d.left_since b.journal.disk e (HoldsEither k (raised k))) (sym c.into_disk-in-Err-Full.ensures)
-    (c.add.ensures.any_moment (opens (k.epoch + 1)) is refl)
+    (c.add.ensures.any_moment (opens (k.epoch + 1) ∷ []) is (refl, tt))
 
 pub returns-clause-any_moment_err : goal.returns-clause-any_moment_err
 returns-clause-any_moment_err g c =
     let d = g.D.Disk in
     let b = c.args.banks in
     let k = c.args.durable.now in
-    let is = subst (IsRecorded b.version (opens (k.epoch + 1))) (sym c.deref.ensures.value) (c.in-Ok.ensures.payload b.version) in
+    let is = subst (IsRecorded b.version (opens (k.epoch + 1) ∷ [])) (sym c.deref.ensures.value) (c.in-Ok.ensures.payload b.version) in
     subst (λ e. EachMoment d.moment d.left_since b.journal.disk e (HoldsEither k (raised k))) (sym c.into_disk-in-Err-Fault.ensures)
-    (c.add.ensures.any_moment (opens (k.epoch + 1)) is refl)
+    (c.add.ensures.any_moment (opens (k.epoch + 1) ∷ []) is (refl, tt))
 
 -- no call was made
 pub returns-in-Err-clause-by_err : goal.returns-in-Err-clause-by_err

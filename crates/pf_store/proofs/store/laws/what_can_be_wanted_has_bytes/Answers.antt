@@ -2,4 +2,4 @@ use Rattle.pf_store.proofs.Rooming.{finds_room}
 use Rattle.pf_store.proofs.store.laws.what_can_be_wanted_has_bytes.Goals as goal
 
 pub returns : goal.returns
-returns c size before next e small can room = finds_room size before next e small can room
+returns c size before next es small group can room = finds_room size before next es small group can room

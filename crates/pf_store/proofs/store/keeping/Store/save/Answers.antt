@@ -1,9 +1,8 @@
-use Rattle.std.proofs.Common.{◌≡◌, ◌+◌, ◌<◌, ◌≤◌, ◌∙◌, false, length, sym, ap, subst, arith}
+use Rattle.std.proofs.Common.{◌≡◌, ◌+◌, ◌<◌, ◌≤◌, ◌∙◌, false, List, length, map, sym, ap, subst, arith}
 use Rattle.pf_disk.specs.Disk.{EachMoment}
-use Rattle.pf_core.specs.Durable.Edits.{Kept, applied}
+use Rattle.pf_core.specs.Durable.Edits.{Kept}
 use Rattle.pf_snap.specs.{Banks.bank_size, declared.header.TheConstants.NEWEST}
-use Rattle.pf_store.specs.{Groups.IsRecorded, Lengths.payload_length, Openings.{IsNoLaterThan, LeavesRoom}, Stores.{FindsRoom, Holds, HoldsEither, IsRoomy}, StoreKept.Storage}
-use Rattle.pf_store.specs.declared.groups.change.Recorded.TheVariants.{Made as made}
+use Rattle.pf_store.specs.{Groups.{IsRecorded, made_all}, Lengths.payload_length, Openings.{IsNoLaterThan, LeavesRoom}, Stores.{FindsRoom, Holds, HoldsEither, IsRoomy, left_by_all}, StoreKept.Storage}
 use Rattle.pf_store.proofs.Sized.{roomy_in}
 use Rattle.pf_store.proofs.Saving.{before, have_held, held_synced, run_roomy, store_has, stores, unmoved, unmoved_generations, unmoved_roomy}
 use Rattle.pf_store.proofs.store.keeping.Store.save.Goals as goal
@@ -35,28 +34,28 @@ add-requires-clause-kept g c =
 pub invariant_of-self : goal.invariant_of-self
 invariant_of-self g c going =
     let d = g.D.Disk in
-    let change = c.args.change.now in
-    let is = subst (IsRecorded c.self.inside.banks.version (made change)) (sym c.deref.ensures.value) c.in-Ok.ensures.written in
-    let kept = c.in-Ok-add.ensures.kept (made change) is c.requires.fits in
-    stores d.seen d.unsynced d.fault_count c.add.new.banks (applied c.args.before.now change) c.in-Ok-add.ensures.ready kept
+    let es = map g.C.AsChange.edit c.args.changes.now in
+    let is = subst (IsRecorded c.self.inside.banks.version (made_all es)) (sym c.deref.ensures.value) c.in-Ok.ensures.written in
+    let kept = c.in-Ok-add.ensures.kept (made_all es) is c.requires.fit in
+    stores d.seen d.unsynced d.fault_count c.add.new.banks (left_by_all c.args.before.now (made_all es)) c.in-Ok-add.ensures.ready kept
     (omega (arith, (c.self.invariant c.if-self.false).few, c.in-Ok-add.ensures.faults))
 
 pub returns-in-Ok-add-clause-images : goal.returns-in-Ok-add-clause-images
 returns-in-Ok-add-clause-images g c image is_image =
     let d = g.D.Disk in
-    let change = c.args.change.now in
+    let es = map g.C.AsChange.edit c.args.changes.now in
     let disk = c.add.new.banks.journal.disk in
-    let is = subst (IsRecorded c.self.inside.banks.version (made change)) (sym c.deref.ensures.value) c.in-Ok.ensures.written in
-    let holds = have_held d.seen d.unsynced d.fault_count c.add.new.banks (applied c.args.before.now change) (c.in-Ok-add.ensures.kept (made change) is c.requires.fits) in
+    let is = subst (IsRecorded c.self.inside.banks.version (made_all es)) (sym c.deref.ensures.value) c.in-Ok.ensures.written in
+    let holds = have_held d.seen d.unsynced d.fault_count c.add.new.banks (left_by_all c.args.before.now (made_all es)) (c.in-Ok-add.ensures.kept (made_all es) is c.requires.fit) in
     held_synced (d.seen disk) (d.unsynced disk) c.args.after.now c.in-Ok-add.ensures.ready.journal.synced (subst (λ (k : Kept). Holds (d.seen disk) k) (sym c.requires.leads) holds) image is_image
 
 pub returns-in-Ok-add-clause-stands : goal.returns-in-Ok-add-clause-stands
 returns-in-Ok-add-clause-stands g c =
     let d = g.D.Disk in
-    let change = c.args.change.now in
+    let es = map g.C.AsChange.edit c.args.changes.now in
     let disk = c.add.new.banks.journal.disk in
-    let is = subst (IsRecorded c.self.inside.banks.version (made change)) (sym c.deref.ensures.value) c.in-Ok.ensures.written in
-    let holds = have_held d.seen d.unsynced d.fault_count c.add.new.banks (applied c.args.before.now change) (c.in-Ok-add.ensures.kept (made change) is c.requires.fits) in
+    let is = subst (IsRecorded c.self.inside.banks.version (made_all es)) (sym c.deref.ensures.value) c.in-Ok.ensures.written in
+    let holds = have_held d.seen d.unsynced d.fault_count c.add.new.banks (left_by_all c.args.before.now (made_all es)) (c.in-Ok-add.ensures.kept (made_all es) is c.requires.fit) in
     record { holds = subst (λ (k : Kept). Holds (d.seen disk) k) (sym c.requires.leads) holds; synced = c.in-Ok-add.ensures.ready.journal.synced }
 
 pub returns-then-not-has_room-clause-generations : goal.returns-then-not-has_room-clause-generations
@@ -93,10 +92,10 @@ pub returns-in-Ok-add-clause-any_moment : goal.returns-in-Ok-add-clause-any_mome
 returns-in-Ok-add-clause-any_moment g c going =
     let d = g.D.Disk in
     let b = c.self.inside.banks in
-    let change = c.args.change.now in
+    let es = map g.C.AsChange.edit c.args.changes.now in
     let before = c.args.before.now in
-    let is = subst (IsRecorded b.version (made change)) (sym c.deref.ensures.value) c.in-Ok.ensures.written in
-    let run = c.add.ensures.any_moment (made change) is c.requires.fits in
+    let is = subst (IsRecorded b.version (made_all es)) (sym c.deref.ensures.value) c.in-Ok.ensures.written in
+    let run = c.add.ensures.any_moment (made_all es) is c.requires.fit in
     subst (λ (v : Storage g.row.D.Denot). EachMoment d.moment d.left_since v.disk c.add.new.banks.journal.disk (HoldsEither before c.args.after.now)) c.self.view_is
     (subst (λ (k : Kept). EachMoment d.moment d.left_since b.journal.disk c.add.new.banks.journal.disk (HoldsEither before k)) (sym c.requires.leads) run)
 
@@ -104,10 +103,10 @@ pub returns-in-Err-Memory-add-clause-any_moment : goal.returns-in-Err-Memory-add
 returns-in-Err-Memory-add-clause-any_moment g c going =
     let d = g.D.Disk in
     let b = c.self.inside.banks in
-    let change = c.args.change.now in
+    let es = map g.C.AsChange.edit c.args.changes.now in
     let before = c.args.before.now in
-    let is = subst (IsRecorded b.version (made change)) (sym c.deref.ensures.value) c.in-Ok.ensures.written in
-    let run = c.add.ensures.any_moment (made change) is c.requires.fits in
+    let is = subst (IsRecorded b.version (made_all es)) (sym c.deref.ensures.value) c.in-Ok.ensures.written in
+    let run = c.add.ensures.any_moment (made_all es) is c.requires.fit in
     subst (λ (v : Storage g.row.D.Denot). EachMoment d.moment d.left_since v.disk c.add.new.banks.journal.disk (HoldsEither before c.args.after.now)) c.self.view_is
     (subst (λ (k : Kept). EachMoment d.moment d.left_since b.journal.disk c.add.new.banks.journal.disk (HoldsEither before k)) (sym c.requires.leads) run)
 
@@ -115,10 +114,10 @@ pub returns-clause-any_moment : goal.returns-clause-any_moment
 returns-clause-any_moment g c going =
     let d = g.D.Disk in
     let b = c.self.inside.banks in
-    let change = c.args.change.now in
+    let es = map g.C.AsChange.edit c.args.changes.now in
     let before = c.args.before.now in
-    let is = subst (IsRecorded b.version (made change)) (sym c.deref.ensures.value) c.in-Ok.ensures.written in
-    let run = c.add.ensures.any_moment (made change) is c.requires.fits in
+    let is = subst (IsRecorded b.version (made_all es)) (sym c.deref.ensures.value) c.in-Ok.ensures.written in
+    let run = c.add.ensures.any_moment (made_all es) is c.requires.fit in
     subst (λ (v : Storage g.row.D.Denot). EachMoment d.moment d.left_since v.disk c.add.new.banks.journal.disk (HoldsEither before c.args.after.now)) c.self.view_is
     (subst (λ (k : Kept). EachMoment d.moment d.left_since b.journal.disk c.add.new.banks.journal.disk (HoldsEither before k)) (sym c.requires.leads) run)
 
@@ -126,72 +125,72 @@ pub returns-in-Ok-add-clause-roomy : goal.returns-in-Ok-add-clause-roomy
 returns-in-Ok-add-clause-roomy g c going =
     let d = g.D.Disk in
     let b = c.self.inside.banks in
-    let change = c.args.change.now in
+    let es = map g.C.AsChange.edit c.args.changes.now in
     let before = c.args.before.now in
-    let is = subst (IsRecorded c.self.inside.banks.version (made change)) (sym c.deref.ensures.value) c.in-Ok.ensures.written in
-    let found : FindsRoom c.args.self.now.size before c.args.after.now change = (c.has_room.ensures.found.0 c.if-not-has_room.false).1 in
-    let then : IsRoomy (bank_size (length (d.seen b.journal.disk))) (applied before change) =
-    subst (λ (v : Storage g.row.D.Denot). IsRoomy v.size (applied before change)) (sym c.self.view_is) (subst (λ (k : Kept). IsRoomy c.args.self.now.size k) c.requires.leads found.room.then) in
+    let is = subst (IsRecorded c.self.inside.banks.version (made_all es)) (sym c.deref.ensures.value) c.in-Ok.ensures.written in
+    let found : FindsRoom c.args.self.now.size before c.args.after.now es = (c.has_room.ensures.found.0 c.if-not-has_room.false).1 in
+    let then : IsRoomy (bank_size (length (d.seen b.journal.disk))) (left_by_all before (made_all es)) =
+    subst (λ (v : Storage g.row.D.Denot). IsRoomy v.size (left_by_all before (made_all es))) (sym c.self.view_is) (subst (λ (k : Kept). IsRoomy c.args.self.now.size k) c.requires.leads found.room.then) in
     let holds : Holds (d.seen b.journal.disk) before = subst (λ (v : Storage g.row.D.Denot). Holds (d.seen v.disk) before) (sym c.self.view_is) (c.requires.stands going).holds in
     subst (λ (v : Storage g.row.D.Denot). LeavesRoom (d.seen v.disk) → EachMoment d.moment d.left_since v.disk c.add.new.banks.journal.disk LeavesRoom) c.self.view_is
-    (λ leaves. run_roomy d.seen d.unsynced d.moment d.left_since b.journal.disk c.add.new.banks.journal.disk before (applied before change) (roomy_in holds.content.version NEWEST (bank_size (length (d.seen b.journal.disk))) before (leaves before holds)) then c.add.ensures.lengths
-    (c.add.ensures.any_moment (made change) is c.requires.fits))
+    (λ leaves. run_roomy d.seen d.unsynced d.moment d.left_since b.journal.disk c.add.new.banks.journal.disk before (left_by_all before (made_all es)) (roomy_in holds.content.version NEWEST (bank_size (length (d.seen b.journal.disk))) before (leaves before holds)) then c.add.ensures.lengths
+    (c.add.ensures.any_moment (made_all es) is c.requires.fit))
 
 pub returns-in-Err-Memory-add-clause-roomy : goal.returns-in-Err-Memory-add-clause-roomy
 returns-in-Err-Memory-add-clause-roomy g c going =
     let d = g.D.Disk in
     let b = c.self.inside.banks in
-    let change = c.args.change.now in
+    let es = map g.C.AsChange.edit c.args.changes.now in
     let before = c.args.before.now in
-    let is = subst (IsRecorded c.self.inside.banks.version (made change)) (sym c.deref.ensures.value) c.in-Ok.ensures.written in
-    let found : FindsRoom c.args.self.now.size before c.args.after.now change = (c.has_room.ensures.found.0 c.if-not-has_room.false).1 in
-    let then : IsRoomy (bank_size (length (d.seen b.journal.disk))) (applied before change) =
-    subst (λ (v : Storage g.row.D.Denot). IsRoomy v.size (applied before change)) (sym c.self.view_is) (subst (λ (k : Kept). IsRoomy c.args.self.now.size k) c.requires.leads found.room.then) in
+    let is = subst (IsRecorded c.self.inside.banks.version (made_all es)) (sym c.deref.ensures.value) c.in-Ok.ensures.written in
+    let found : FindsRoom c.args.self.now.size before c.args.after.now es = (c.has_room.ensures.found.0 c.if-not-has_room.false).1 in
+    let then : IsRoomy (bank_size (length (d.seen b.journal.disk))) (left_by_all before (made_all es)) =
+    subst (λ (v : Storage g.row.D.Denot). IsRoomy v.size (left_by_all before (made_all es))) (sym c.self.view_is) (subst (λ (k : Kept). IsRoomy c.args.self.now.size k) c.requires.leads found.room.then) in
     let holds : Holds (d.seen b.journal.disk) before = subst (λ (v : Storage g.row.D.Denot). Holds (d.seen v.disk) before) (sym c.self.view_is) (c.requires.stands going).holds in
     subst (λ (v : Storage g.row.D.Denot). LeavesRoom (d.seen v.disk) → EachMoment d.moment d.left_since v.disk c.add.new.banks.journal.disk LeavesRoom) c.self.view_is
-    (λ leaves. run_roomy d.seen d.unsynced d.moment d.left_since b.journal.disk c.add.new.banks.journal.disk before (applied before change) (roomy_in holds.content.version NEWEST (bank_size (length (d.seen b.journal.disk))) before (leaves before holds)) then c.add.ensures.lengths
-    (c.add.ensures.any_moment (made change) is c.requires.fits))
+    (λ leaves. run_roomy d.seen d.unsynced d.moment d.left_since b.journal.disk c.add.new.banks.journal.disk before (left_by_all before (made_all es)) (roomy_in holds.content.version NEWEST (bank_size (length (d.seen b.journal.disk))) before (leaves before holds)) then c.add.ensures.lengths
+    (c.add.ensures.any_moment (made_all es) is c.requires.fit))
 
 pub returns-in-Err-Full-clause-roomy : goal.returns-in-Err-Full-clause-roomy
 returns-in-Err-Full-clause-roomy g c going =
     let d = g.D.Disk in
     let b = c.self.inside.banks in
-    let change = c.args.change.now in
+    let es = map g.C.AsChange.edit c.args.changes.now in
     let before = c.args.before.now in
-    let is = subst (IsRecorded c.self.inside.banks.version (made change)) (sym c.deref.ensures.value) c.in-Ok.ensures.written in
-    let found : FindsRoom c.args.self.now.size before c.args.after.now change = (c.has_room.ensures.found.0 c.if-not-has_room.false).1 in
-    let then : IsRoomy (bank_size (length (d.seen b.journal.disk))) (applied before change) =
-    subst (λ (v : Storage g.row.D.Denot). IsRoomy v.size (applied before change)) (sym c.self.view_is) (subst (λ (k : Kept). IsRoomy c.args.self.now.size k) c.requires.leads found.room.then) in
+    let is = subst (IsRecorded c.self.inside.banks.version (made_all es)) (sym c.deref.ensures.value) c.in-Ok.ensures.written in
+    let found : FindsRoom c.args.self.now.size before c.args.after.now es = (c.has_room.ensures.found.0 c.if-not-has_room.false).1 in
+    let then : IsRoomy (bank_size (length (d.seen b.journal.disk))) (left_by_all before (made_all es)) =
+    subst (λ (v : Storage g.row.D.Denot). IsRoomy v.size (left_by_all before (made_all es))) (sym c.self.view_is) (subst (λ (k : Kept). IsRoomy c.args.self.now.size k) c.requires.leads found.room.then) in
     let holds : Holds (d.seen b.journal.disk) before = subst (λ (v : Storage g.row.D.Denot). Holds (d.seen v.disk) before) (sym c.self.view_is) (c.requires.stands going).holds in
     subst (λ (v : Storage g.row.D.Denot). LeavesRoom (d.seen v.disk) → EachMoment d.moment d.left_since v.disk c.add.new.banks.journal.disk LeavesRoom) c.self.view_is
-    (λ leaves. run_roomy d.seen d.unsynced d.moment d.left_since b.journal.disk c.add.new.banks.journal.disk before (applied before change) (roomy_in holds.content.version NEWEST (bank_size (length (d.seen b.journal.disk))) before (leaves before holds)) then c.add.ensures.lengths
-    (c.add.ensures.any_moment (made change) is c.requires.fits))
+    (λ leaves. run_roomy d.seen d.unsynced d.moment d.left_since b.journal.disk c.add.new.banks.journal.disk before (left_by_all before (made_all es)) (roomy_in holds.content.version NEWEST (bank_size (length (d.seen b.journal.disk))) before (leaves before holds)) then c.add.ensures.lengths
+    (c.add.ensures.any_moment (made_all es) is c.requires.fit))
 
 pub returns-clause-roomy : goal.returns-clause-roomy
 returns-clause-roomy g c going =
     let d = g.D.Disk in
     let b = c.self.inside.banks in
-    let change = c.args.change.now in
+    let es = map g.C.AsChange.edit c.args.changes.now in
     let before = c.args.before.now in
-    let is = subst (IsRecorded c.self.inside.banks.version (made change)) (sym c.deref.ensures.value) c.in-Ok.ensures.written in
-    let found : FindsRoom c.args.self.now.size before c.args.after.now change = (c.has_room.ensures.found.0 c.if-not-has_room.false).1 in
-    let then : IsRoomy (bank_size (length (d.seen b.journal.disk))) (applied before change) =
-    subst (λ (v : Storage g.row.D.Denot). IsRoomy v.size (applied before change)) (sym c.self.view_is) (subst (λ (k : Kept). IsRoomy c.args.self.now.size k) c.requires.leads found.room.then) in
+    let is = subst (IsRecorded c.self.inside.banks.version (made_all es)) (sym c.deref.ensures.value) c.in-Ok.ensures.written in
+    let found : FindsRoom c.args.self.now.size before c.args.after.now es = (c.has_room.ensures.found.0 c.if-not-has_room.false).1 in
+    let then : IsRoomy (bank_size (length (d.seen b.journal.disk))) (left_by_all before (made_all es)) =
+    subst (λ (v : Storage g.row.D.Denot). IsRoomy v.size (left_by_all before (made_all es))) (sym c.self.view_is) (subst (λ (k : Kept). IsRoomy c.args.self.now.size k) c.requires.leads found.room.then) in
     let holds : Holds (d.seen b.journal.disk) before = subst (λ (v : Storage g.row.D.Denot). Holds (d.seen v.disk) before) (sym c.self.view_is) (c.requires.stands going).holds in
     subst (λ (v : Storage g.row.D.Denot). LeavesRoom (d.seen v.disk) → EachMoment d.moment d.left_since v.disk c.add.new.banks.journal.disk LeavesRoom) c.self.view_is
-    (λ leaves. run_roomy d.seen d.unsynced d.moment d.left_since b.journal.disk c.add.new.banks.journal.disk before (applied before change) (roomy_in holds.content.version NEWEST (bank_size (length (d.seen b.journal.disk))) before (leaves before holds)) then c.add.ensures.lengths
-    (c.add.ensures.any_moment (made change) is c.requires.fits))
+    (λ leaves. run_roomy d.seen d.unsynced d.moment d.left_since b.journal.disk c.add.new.banks.journal.disk before (left_by_all before (made_all es)) (roomy_in holds.content.version NEWEST (bank_size (length (d.seen b.journal.disk))) before (leaves before holds)) then c.add.ensures.lengths
+    (c.add.ensures.any_moment (made_all es) is c.requires.fit))
 
 pub returns-in-Ok-add-clause-here : goal.returns-in-Ok-add-clause-here
 returns-in-Ok-add-clause-here g c =
-    let change = c.args.change.now in
-    let long : length c.deref.result.now ≡ payload_length (made change) = ap length c.deref.ensures.value ∙ c.in-Ok.ensures.length in
-    subst (λ (v : Storage g.row.D.Denot). payload_length (made change) + 6 ≤ v.room → c.add.new.banks.generation ≡ v.generation) c.self.view_is
+    let es = map g.C.AsChange.edit c.args.changes.now in
+    let long : length c.deref.result.now ≡ payload_length (made_all es) = ap length c.deref.ensures.value ∙ c.in-Ok.ensures.length in
+    subst (λ (v : Storage g.row.D.Denot). payload_length (made_all es) + 6 ≤ v.room → c.add.new.banks.generation ≡ v.generation) c.self.view_is
     (λ fits. c.in-Ok-add.ensures.here (omega (arith, fits, long)))
 
 pub returns-in-Ok-add-clause-there : goal.returns-in-Ok-add-clause-there
 returns-in-Ok-add-clause-there g c =
-    let change = c.args.change.now in
-    let long : length c.deref.result.now ≡ payload_length (made change) = ap length c.deref.ensures.value ∙ c.in-Ok.ensures.length in
-    subst (λ (v : Storage g.row.D.Denot). v.room < payload_length (made change) + 6 → c.add.new.banks.generation ≡ v.generation + 1) c.self.view_is
+    let es = map g.C.AsChange.edit c.args.changes.now in
+    let long : length c.deref.result.now ≡ payload_length (made_all es) = ap length c.deref.ensures.value ∙ c.in-Ok.ensures.length in
+    subst (λ (v : Storage g.row.D.Denot). v.room < payload_length (made_all es) + 6 → c.add.new.banks.generation ≡ v.generation + 1) c.self.view_is
     (λ less. c.in-Ok-add.ensures.there (omega (arith, less, long)))

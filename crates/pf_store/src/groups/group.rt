@@ -1,0 +1,183 @@
+//! Groups: what one record keeps.
+ghost use Rattle.std.specs.{Prelude.{◌≡◌, ◌+◌, ◌<◌, ◌≤◌, ◌&&◌, [], ◌∷◌, true, false, length, map, List, ℕ, IfOk, IfErr, OnOk}, List.list_all};
+ghost use Rattle.pf_addr.specs.{Bytes.Forms.{counted, onto, Fits}, Bytes.Readers.Reads};
+ghost use Rattle.pf_store.specs.declared.limits.TheConstants.{OPENING_PAYLOAD};
+ghost use Rattle.pf_store.specs.{Groups.{change_form, group_form, have_form, has_form, is_group, made_all, plain_record, record_in, IsRecorded}, Lengths.payload_length};
+
+use crate::groups::as_change::AsChange;
+use crate::groups::change::{OPEN, Recorded, has_change_form, push_change, push_record};
+use crate::groups::fault::GroupFault;
+use crate::groups::telling::{tell_change, tells};
+use pf_addr::bytes::{
+    Fault, Layout, Rest, Stop, decode, push_bytes, push_u8, push_u32, read_times, read_u8,
+};
+use pf_core::GROUP_LIMIT;
+use std::alloc::{AllocError, Global};
+
+// A group, as a record has it.
+#[derive(Drop)]
+struct StoredGroup {
+    records: Vec<Recorded>,
+}
+
+impl Layout for StoredGroup {
+    ghost use Rattle.std.specs.Prelude.{map, true};
+    ghost use Rattle.pf_addr.specs.Bytes.Forms.{list};
+    ghost use Rattle.pf_store.specs.Groups.{ChangeShape, group_form, plain_record};
+
+    ghost shape = { list ChangeShape };
+
+    ghost form = { group_form };
+
+    ghost plain = { λ group. map plain_record group.records.items };
+
+    ghost before = { λ a b. true };
+
+    #[tactic(auto, unfolding(crate::specs::Groups::group_form), using(crate::proofs::Taken::group_read, crate::proofs::Taken::group_refused))]
+    fn read<'a>(alloc: Global, version: u8, from: &mut Rest<'a>) -> Result<StoredGroup, Stop> {
+        let left = from.len();
+        let records = read_records(alloc, version, from)?;
+        if !is_group(records.as_slice()) {
+            return Err(Stop::Fault(Fault::Bad(left)));
+        }
+        Ok(StoredGroup { records })
+    }
+
+    #[tactic(auto, using(crate::proofs::Told::group_formed))]
+    fn write(&self, version: u8, out: &mut Vec<u8>) -> Result<(), AllocError> {
+        tell_records(self.records.as_slice());
+        push_records(out, version, self.records.as_slice())
+    }
+}
+
+// Changes and openings behind their number in one byte.
+fn read_records<'a>(alloc: Global, version: u8, from: &mut Rest<'a>) -> Result<Vec<Recorded>, Stop>
+    ensures { Reads (λ v. map plain_record v.items) (counted 1 (change_form version)) result from.old.now from.new.now }
+{
+    let count = read_u8(from)?;
+    read_times::<Recorded>(alloc, version, count as usize, from)
+}
+
+// Whether they are as many as one record keeps.
+fn is_group<T>(records: &[T]) -> bool
+    ensures { result ≡ is_group records.now }
+{
+    !records.is_empty() && records.len() <= GROUP_LIMIT
+}
+
+fn tell_records(records: &[Recorded])
+    ensures { map record_in (map plain_record records.now) ≡ records.now }
+{
+    for recorded in records {
+        tells(recorded);
+    }
+}
+
+#[tactic(auto, unfolding(crate::specs::Groups::group_form))]
+fn push_records(out: &mut Vec<u8>, version: u8, records: &[Recorded]) -> Result<(), AllocError>
+    requires { have_form records.now ≡ true }
+    ensures { OnOk result (out.new.items ≡ onto (group_form version) (map plain_record records.now) out.old.items) }
+{
+    push_u8(out, records.len() as u8)?;
+    for recorded in records {
+        push_record(out, version, recorded)?;
+    }
+    Ok(())
+}
+
+fn tell_changes<C: AsChange>(changes: &[C])
+    ensures { map record_in (map plain_record (made_all (map C.edit changes.now))) ≡ made_all (map C.edit changes.now) }
+{
+    for change in changes {
+        tell_change(change.as_change());
+    }
+}
+
+#[tactic(auto, unfolding(crate::specs::Groups::group_form))]
+fn push_changes<C: AsChange>(
+    out: &mut Vec<u8>,
+    version: u8,
+    changes: &[C],
+) -> Result<(), AllocError>
+    requires many { is_group changes.now ≡ true }
+    requires formed { list_all (λ c. has_form (Recorded.Made (C.edit c))) changes.now ≡ true }
+    ensures written { OnOk result
+        (out.new.items ≡ onto (group_form version) (map (λ c. plain_record (Recorded.Made (C.edit c))) changes.now) out.old.items) }
+    ensures fits { OnOk result (Fits (group_form version) (map (λ c. plain_record (Recorded.Made (C.edit c))) changes.now)) }
+{
+    push_u8(out, changes.len() as u8)?;
+    for change in changes {
+        push_change(out, version, change.as_change())?;
+    }
+    Ok(())
+}
+
+/// Whether a group of these has bytes: there are 1 to 64, and each has some.
+pub(crate) fn have_form<C: AsChange>(changes: &[C]) -> bool
+    ensures { result ≡ have_form (made_all (map C.edit changes.now)) }
+{
+    is_group(changes) && all_have_form(changes)
+}
+
+fn all_have_form<C: AsChange>(changes: &[C]) -> bool
+    ensures { result ≡ list_all (λ c. has_form (Recorded.Made (C.edit c))) changes.now }
+{
+    changes.iter().all(has_bytes)
+}
+
+fn has_bytes<C: AsChange>(change: &C) -> bool
+    ensures { result ≡ has_form (Recorded.Made (C.edit change.now)) }
+{
+    has_change_form(change.as_change())
+}
+
+/// The bytes of a group of changes in a version, 2 and more.
+///
+/// `NoForm`: it has none. There are none or more than 64, or one of them has none, as a commit of nothing, of more than 64 rulesets, or of
+/// more tables at a path than a ticket takes. `Memory`: it has some, and a growth was refused. Own.
+pub fn write_group<C: AsChange>(
+    alloc: Global,
+    version: u8,
+    changes: &[C],
+) -> Result<Vec<u8>, GroupFault>
+    ensures written { IfOk result (λ v. IsRecorded version (made_all (map C.edit changes.now)) v.items) }
+    ensures length { IfOk result (λ v. length v.items ≡ payload_length (made_all (map C.edit changes.now))) }
+    ensures formed { OnOk result (have_form (made_all (map C.edit changes.now)) ≡ true) }
+    ensures formless { IfErr result (λ e. e ≡ GroupFault.NoForm → have_form (made_all (map C.edit changes.now)) ≡ false) }
+    ensures memory { IfErr result (λ e. e ≡ GroupFault.Memory → have_form (made_all (map C.edit changes.now)) ≡ true) }
+{
+    if !have_form(changes) {
+        return Err(GroupFault::NoForm);
+    }
+    tell_changes(changes);
+    let mut out = Vec::new(alloc);
+    push_changes(&mut out, version, changes)?;
+    Ok(out)
+}
+
+/// The bytes of an opening with this epoch, a group of its own, which are the same in each version. `AllocError`: memory was refused.
+pub(crate) fn write_opening(alloc: Global, epoch: u32) -> Result<Vec<u8>, AllocError>
+    ensures written { IfOk result (λ v. (version : ℕ) → IsRecorded version (Recorded.Opens epoch ∷ []) v.items) }
+    ensures length { IfOk result (λ v. length v.items ≡ OPENING_PAYLOAD) }
+{
+    let mut out = Vec::new(alloc);
+    push_bytes(&mut out, &[1, OPEN])?;
+    push_u32(&mut out, epoch)?;
+    Ok(out)
+}
+
+/// What these bytes record in a version: 1 to 64 changes and openings. `NoForm`: they are nothing's. `Memory`: a growth was refused.
+#[tactic(auto, using(crate::proofs::Told::spelled, crate::proofs::Told::none_told))]
+pub fn read_group(alloc: Global, version: u8, bytes: &[u8]) -> Result<Vec<Recorded>, GroupFault>
+    ensures found { IfOk result (λ v. IsRecorded version v.items bytes.now) }
+    ensures none { IfErr result (λ e. e ≡ GroupFault.NoForm → (rs : List Recorded) → ¬ IsRecorded version rs bytes.now) }
+{
+    match decode::<StoredGroup>(alloc, version, bytes) {
+        Ok(group) => {
+            tell_records(group.records.as_slice());
+            Ok(group.records)
+        }
+        Err(Stop::Memory) => Err(GroupFault::Memory),
+        Err(Stop::Fault(_)) => Err(GroupFault::NoForm),
+    }
+}
