@@ -3,7 +3,7 @@ use Rattle.std.proofs.Common.{◌≡◌, ◌⊎◌, inl, inr, ℕ, ◌+◌, ◌<
 use Rattle.std.specs.{Prelude.◌&&◌, Option.ForSome}
 use mathlib.Core.List.{IsPrefix}
 use Rattle.pf_core.specs.declared.{command.Command.Command, command.HistoryCommand.HistoryCommand, command.HistoryCommand.TheVariants.{Log, Publish}, reply.Outcome.Outcome, reply.Refusal.Refusal, reply.Refusal.TheVariants.Halted, reply.Reply.Reply, reply.Reply.TheVariants.{Answer, Applied, Stored, Refused}, step.Step.Step, step.Step.TheVariants.{Done, Wants, OfHistory}}
-use Rattle.pf_core.specs.{Calls.call, Commands.{step_by, may_change}, Durable.Edits.{Kept, Edit}, Pages.{Page, IsAt, Leads}, Worlds.{Setting, Held, down, Upshot, called, flat, log_of, durable_of, is_halted, acked_by, step_in, or_refused, due_at, due, group_in, heard, room_for, shown_by, State, StandsIn, LegalReply, LegalCall, IsLegal}}
+use Rattle.pf_core.specs.{Calls.call, Commands.{step_by, may_change}, Durable.Edits.{Kept, Edit}, Pages.{Page, IsAt, IsFolded, Leads}, Worlds.{Setting, Held, down, Upshot, called, flat, log_of, durable_of, is_halted, acked_by, step_in, or_refused, due_at, due, group_in, heard, room_for, shown_by, State, StandsIn, LegalReply, LegalCall, IsLegal}}
 use Rattle.pf_core.proofs.{Fronts.flat-append, Groups.{IsKept, IsNotKept, kept-or-not}, Stepping.unhalted, LongerWorlds.{flat-push, stands-on, in-two}}
 use Rattle.pf_book.proofs.Calling.{wants-may}
 use Rattle.pf_past.proofs.Fronts.{prefix_whole}
@@ -35,7 +35,7 @@ log-added change old new added =
     ∙ ap (λ (gs : List (List Edit)). flat gs ++ added.edit ∷ []) (sym (append-nil old.acked)) ∙ ap (λ (gs : List (List Edit)). flat (old.acked ++ gs) ++ added.edit ∷ []) (sym added.none_before)
 
 -- a change that was kept is one
-pub added-by : (old kept new : Page) (e : Edit) (change : Option Edit) → IsMore old kept e → new.acked ≡ kept.acked → new.pending ≡ kept.pending → old.pending ≡ [] → change ≡ Some e → IsAdded change old new
+pub added-by : (old kept new : Page) (e : Edit) (change : Option Edit) → IsMore old kept (e ∷ []) → new.acked ≡ kept.acked → new.pending ≡ kept.pending → old.pending ≡ [] → change ≡ Some e → IsAdded change old new
 added-by old kept new e change more acked pending free is = record {
   edit = e;
   is = is;
@@ -97,7 +97,8 @@ change-is h c (Applied n o) t slip old new at after front given = last-is h c sl
 change-is h c (Stored n o) t slip old new at after front given = last-is h c slip old new at after.acked front given
 change-is h c (Refused e) t slip old new at after front given = given
 
-module _ (base : Kept) (setting : Setting) (old new : Page) (c : Command) (r : Reply) (t : Upshot) (reached : IsReached base setting old) (leads : (h : Held) → IsAt h old → Leads h new (call c r) t) where
+module _ (base : Kept) (setting : Setting) (old new : Page) (c : Command) (r : Reply) (t : Upshot) (reached : IsReached base setting old) (leads : (h : Held) → IsAt h old → Leads h new (call c r) t)
+    (folded : IsFolded new) where
   -- what a call leads to is reached too
   pub reached-on : new.base ≡ old.base → new.setting ≡ old.setting → IsReached base setting new
   reached-on same_base same_setting = record {
@@ -105,7 +106,7 @@ module _ (base : Kept) (setting : Setting) (old new : Page) (c : Command) (r : R
     setting_is = same_setting ∙ reached.setting_is;
     first = reached.first;
     world = reached.world ++ called (call c r) t ∷ [];
-    stands = stands-on reached.first old new reached.world (call c r) t reached.stands (leads reached.stands.held reached.stands.at);
+    stands = stands-on reached.first old new reached.world (call c r) t reached.stands (leads reached.stands.held reached.stands.at) folded;
   }
 
   pub answered : (slip : Slip) (last : Option Slip) → slip.front ≡ log_in new → slip.acked ≡ length (flat new.acked) → IsGiven r slip.change old new → slip.token ≡ token_of r (log_in new)
@@ -122,7 +123,7 @@ module _ (base : Kept) (setting : Setting) (old new : Page) (c : Command) (r : R
         comes = reached.stands.comes;
         base_is = sym at.base ∙ reached.base_is;
         setting_is = sym at.setting ∙ reached.setting_is;
-        legal = (stands-on reached.first old new reached.world (call c r) t reached.stands on).legal;
+        legal = (stands-on reached.first old new reached.world (call c r) t reached.stands on folded).legal;
         front = front ∙ log-at (heard h (call c r) t) new on.at;
         acked = acked ∙ ap (λ (gs : List (List Edit)). length (flat gs)) on.at.acked;
         change = change-is h c r t slip old new at on.at front given;

@@ -1,6 +1,6 @@
 -- One call of a Book, from each way out of it.
 use Rattle.std.proofs.{Common.{◌≡◌, inl, inr, ℕ, ◌+◌, ◌<◌, ◌≤◌, min, Bool, true, false, cond, List, [], ◌∷◌, ◌++◌, length, take, Result, Ok, Err, refl, sym, ap, ◌∙◌, subst, append-nil, arith}, Math.Bool.and-false, lemmas.Bool.Decides.nat_tests, lemmas.List.{length-append, take_all, take_min, take-append-le}, lemmas.List.Sums.fold_push}
-use Rattle.std.specs.Prelude.{nat_lt, ◌&&◌}
+use Rattle.std.specs.Prelude.{nat_lt, flat_map, ◌&&◌}
 use Rattle.pf_rule.specs.Packets.{PlainPacket}
 use Rattle.pf_ticket.specs.{Tickets.Open, Mentions.{after as moved_by, switches}}
 use Rattle.pf_core.specs.declared.reply.Answer.TheVariants as answer
@@ -30,13 +30,13 @@ pub unchanging : (b : Page) (c : Command) → may_change c ≡ false → IsFree 
 unchanging b c is = ap (λ (m : Bool). m && is_halted b.pending) is
 
 -- none is behind those that were acknowledged
-pub none-behind : (base : Kept) (whole : Whole) (log : List Edit) (acked : ℕ) (setting : Setting) (shown : List Edit) (c : Command) → acked ≤ length log → length log ≤ acked → IsFree (page_of base whole log acked setting shown) c
-none-behind base whole log acked setting shown c low high =
+pub none-behind : (base : Kept) (whole : Whole) (log : List Edit) (sizes : List ℕ) (acked : ℕ) (setting : Setting) (shown : List Edit) (c : Command) → acked ≤ length log → length log ≤ acked → IsFree (page_of base whole log sizes acked setting shown) c
+none-behind base whole log sizes acked setting shown c low high =
     let all : nat_lt acked (length log) ≡ false = grind (arith, nat_tests, high) in
     ap (λ (x : Bool). may_change c && x) (halted-is log acked low ∙ all) ∙ and-false (may_change c)
 
 -- what the core keeps is the world's
-durable-is : (h : Held) (b : Page) → IsAt h b → IsFolded b → b.whole.durable ≡ durable_of h
+pub durable-is : (h : Held) (b : Page) → IsAt h b → IsFolded b → b.whole.durable ≡ durable_of h
 durable-is h b at folded = folded.durable ∙ ap (λ (k : Kept). after k (flat b.acked)) at.base ∙ ap (λ (l : List (List Edit)). after h.base (flat l)) at.acked
 
 free-too : (h : Held) (b : Page) (c : Command) → IsAt h b → IsFree b c → (may_change c && is_halted h.pending) ≡ false
@@ -168,19 +168,19 @@ history-leads h b new c x r at steps told =
 -- ---- a change is wanted
 
 -- the log is what was acknowledged
-all-acked : (h : Held) (b : Page) → IsAt h b → b.pending ≡ [] → length (log_of h) ≡ length (flat b.acked)
-all-acked h b at none = ap length (log-is h b at) ∙ ap (λ (l : List (List Edit)). length (flat (b.acked ++ l))) none ∙ ap (λ (l : List (List Edit)). length (flat l)) (append-nil b.acked)
+pub log-acked : (h : Held) (b : Page) → IsAt h b → b.pending ≡ [] → length (log_of h) ≡ length (flat b.acked)
+log-acked h b at none = ap length (log-is h b at) ∙ ap (λ (l : List (List Edit)). length (flat (b.acked ++ l))) none ∙ ap (λ (l : List (List Edit)). length (flat l)) (append-nil b.acked)
 
 -- where there is room for a change
 record IsDue (h : Held) (c : Command) (e : Edit) (n : ℕ) (o : Outcome) : Type 0 where
   reply : due h c ≡ Applied n o
   group : group_in h c ≡ (e ∷ []) ∷ []
 
-is-due : (h : Held) (b : Page) (c : Command) (e : Edit) (n : ℕ) (o : Outcome) → IsAt h b → b.pending ≡ [] → Ok (Wants e o) ≡ step_in h c → HasRoom b e → n ≡ length (flat b.acked) + 1 → IsDue h c e n o
+is-due : (h : Held) (b : Page) (c : Command) (e : Edit) (n : ℕ) (o : Outcome) → IsAt h b → b.pending ≡ [] → Ok (Wants e o) ≡ step_in h c → HasRoom b (e ∷ []) → n ≡ length (flat b.acked) + 1 → IsDue h c e n o
 is-due h b c e n o at none is found number =
-    let log : length (log_of h) ≡ length (flat b.acked) = all-acked h b at none in
+    let log : length (log_of h) ≡ length (flat b.acked) = log-acked h b at none in
     let limit : b.setting.limit ≡ h.setting.limit = ap (λ (s : Setting). s.limit) at.setting in
-    let few : length (flat b.acked) < b.setting.limit = found.few in
+    let few : length (flat b.acked) + 1 ≤ b.setting.limit = found.few in
     let free : h.setting.is_full h.base h.acked (e ∷ []) ≡ false =
     ap (λ (s : Setting). s.is_full h.base h.acked (e ∷ [])) (sym at.setting) ∙ ap (λ (k : Kept). b.setting.is_full k h.acked (e ∷ [])) (sym at.base) ∙ ap (λ (l : List (List Edit)). b.setting.is_full b.base l (e ∷ [])) (sym at.acked) ∙ found.device in
     let room : room_for h (e ∷ []) ≡ Ok tt = room-found h e (omega (arith, few, log, limit)) free in
@@ -191,18 +191,18 @@ is-due h b c e n o at none is found number =
     }
 
 -- or not: the history is full
-full-history : (h : Held) (b : Page) (c : Command) (e : Edit) (o : Outcome) → IsAt h b → b.pending ≡ [] → Ok (Wants e o) ≡ step_in h c → b.setting.limit ≤ length (flat b.acked) → LegalReply h c (Refused HistoryFull) false
+full-history : (h : Held) (b : Page) (c : Command) (e : Edit) (o : Outcome) → IsAt h b → b.pending ≡ [] → Ok (Wants e o) ≡ step_in h c → b.setting.limit < length (flat b.acked) + 1 → LegalReply h c (Refused HistoryFull) false
 full-history h b c e o at none is full =
-    let log : length (log_of h) ≡ length (flat b.acked) = all-acked h b at none in
+    let log : length (log_of h) ≡ length (flat b.acked) = log-acked h b at none in
     let limit : b.setting.limit ≡ h.setting.limit = ap (λ (s : Setting). s.limit) at.setting in
     let past : nat_lt h.setting.limit (length (log_of h) + 1) ≡ true = grind (arith, nat_tests, full, log, limit) in
     let behind : Result (Unit {0}) Refusal = cond (h.setting.is_full h.base h.acked (e ∷ [])) (Err Full) (Ok tt) in
     inl (sym (ap (λ (x : Bool). or_refused (cond x (Err HistoryFull) behind) (Applied (length (log_of h) + 1) o)) past) ∙ ap (due_at h) is)
 
 -- or the device is
-full-device : (h : Held) (b : Page) (c : Command) (e : Edit) (o : Outcome) → IsAt h b → b.pending ≡ [] → Ok (Wants e o) ≡ step_in h c → length (flat b.acked) < b.setting.limit → b.setting.is_full b.base b.acked (e ∷ []) ≡ true → LegalReply h c (Refused Full) false
+full-device : (h : Held) (b : Page) (c : Command) (e : Edit) (o : Outcome) → IsAt h b → b.pending ≡ [] → Ok (Wants e o) ≡ step_in h c → length (flat b.acked) + 1 ≤ b.setting.limit → b.setting.is_full b.base b.acked (e ∷ []) ≡ true → LegalReply h c (Refused Full) false
 full-device h b c e o at none is few full =
-    let log : length (log_of h) ≡ length (flat b.acked) = all-acked h b at none in
+    let log : length (log_of h) ≡ length (flat b.acked) = log-acked h b at none in
     let limit : b.setting.limit ≡ h.setting.limit = ap (λ (s : Setting). s.limit) at.setting in
     let low : nat_lt h.setting.limit (length (log_of h) + 1) ≡ false = grind (arith, nat_tests, few, log, limit) in
     let past : h.setting.is_full h.base h.acked (e ∷ []) ≡ true =
@@ -211,21 +211,21 @@ full-device h b c e o at none is few full =
     ∙ ap (λ (x : Bool). or_refused (cond x (Err Full) (Ok tt)) (Applied (length (log_of h) + 1) o)) past) ∙ ap (due_at h) is)
 
 -- what a change that was kept leaves
-more-at : (h : Held) (b new : Page) (c : Command) (e : Edit) (r : Reply) (t : Upshot) → IsAt h b → IsMore b new e → group_in h c ≡ (e ∷ []) ∷ [] → moved_by h.tickets (mentions_of (call c r)) ≡ moved_by h.tickets (switches (voided_by e)) →
+more-at : (h : Held) (b new : Page) (c : Command) (e : Edit) (r : Reply) (t : Upshot) → IsAt h b → IsMore b new (e ∷ []) → group_in h c ≡ (e ∷ []) ∷ [] → moved_by h.tickets (mentions_of (call c r)) ≡ moved_by h.tickets (switches (flat_map voided_by (e ∷ []))) →
     acked_by r ((e ∷ []) ∷ []) ≡ (e ∷ []) ∷ [] → pending_by r ((e ∷ []) ∷ []) ≡ [] → (shown : ℕ) → new.shown ≡ shown → t.shown ≡ shown → IsAt (heard h (call c r) t) new
 more-at h b new c e r t at more group moved acks leaves shown is told = record {
   base = more.base ∙ at.base;
-  tickets = more.tickets ∙ ap (λ (o : Open). moved_by o (switches (voided_by e))) at.tickets ∙ sym moved;
+  tickets = more.tickets ∙ ap (λ (o : Open). moved_by o (switches (flat_map voided_by (e ∷ [])))) at.tickets ∙ sym moved;
   acked = more.acked ∙ ap (λ (l : List (List Edit)). l ++ (e ∷ []) ∷ []) at.acked ∙ ap (λ (l : List (List Edit)). h.acked ++ l) (sym (ap (acked_by r) group ∙ acks));
   pending = more.pending ∙ at.pending ∙ sym (append-nil h.pending) ∙ ap (λ (l : List (List Edit)). h.pending ++ l) (sym (ap (pending_by r) group ∙ leaves));
   shown = is ∙ sym told;
   setting = more.setting ∙ at.setting;
 }
 
-mentioned-is : (h : Held) (c : Command) (e : Edit) (o : Outcome) (n : ℕ) → step_by h.tickets (durable_of h) c ≡ Ok (Wants e o) → moved_by h.tickets (mentions_of (call c (Applied n o))) ≡ moved_by h.tickets (switches (voided_by e))
-mentioned-is h c e o n is = ap (moved_by h.tickets) (wants_mentions h.tickets (durable_of h) c e o is)
+mentioned-is : (h : Held) (c : Command) (e : Edit) (o : Outcome) (n : ℕ) → step_by h.tickets (durable_of h) c ≡ Ok (Wants e o) → moved_by h.tickets (mentions_of (call c (Applied n o))) ≡ moved_by h.tickets (switches (flat_map voided_by (e ∷ [])))
+mentioned-is h c e o n is = ap (moved_by h.tickets) (wants_mentions h.tickets (durable_of h) c e o is ∙ ap switches (sym (append-nil (voided_by e))))
 
-next-number : (b new : Page) (e : Edit) → IsMore b new e → length (flat new.acked) ≡ length (flat b.acked) + 1
+next-number : (b new : Page) (e : Edit) → IsMore b new (e ∷ []) → length (flat new.acked) ≡ length (flat b.acked) + 1
 next-number b new e more = ap (λ (l : List (List Edit)). length (flat l)) more.acked ∙ ap length (flat-push b.acked e) ∙ length-append (flat b.acked) (e ∷ [])
 
 -- where all is shown
@@ -248,15 +248,15 @@ module _ (h : Held) (b : Page) (c : Command) (e : Edit) (o : Outcome) (at : IsAt
   kept-due : (new : Page) (n : ℕ) → IsKept b new e n → IsDue h c e n o
   kept-due new n kept = is-due h b c e n o at none is-step kept.more.room (kept.number ∙ next-number b new e kept.more)
 
-  unkept : (why : Refusal) (new : Page) → IsUnkept why b new e → (why ≡ Fault → ⊥) → Leads h new (call c (Refused why)) (upshot new.shown false)
+  unkept : (why : Refusal) (new : Page) → IsUnkept why b new (e ∷ []) → (why ≡ Fault → ⊥) → Leads h new (call c (Refused why)) (upshot new.shown false)
   unkept Memory new (same, room) other = refused-leads h b new c Memory (inr takes) same at
   unkept HistoryFull new (same, full) other = refused-leads h b new c HistoryFull (full-history h b c e o at none is-step full) same at
-  unkept Full new (same, few, full) other = refused-leads h b new c Full (full-device h b c e o at none is-step few full) same at
+  unkept Full new (same, (few, full)) other = refused-leads h b new c Full (full-device h b c e o at none is-step few full) same at
   unkept Fault new pending other = absurd (other refl)
-  unkept why new bad other = absurd bad
+  unkept why new bad other = absurd bad.1
 
   -- the device failed: the change is pending
-  faulted : (new : Page) → IsPending b new e → Leads h new (call c (Refused Fault)) (upshot new.shown true)
+  faulted : (new : Page) → IsPending b new (e ∷ []) → Leads h new (call c (Refused Fault)) (upshot new.shown true)
   faulted new pending =
       let n : ℕ = length (flat b.acked) + 1 in
       let kept : IsDue h c e n o = is-due h b c e n o at none is-step pending.room refl in
@@ -298,7 +298,7 @@ module _ (h : Held) (b : Page) (c : Command) (e : Edit) (o : Outcome) (at : IsAt
   made-leads (Refused Memory) new failed made is = no-fault h new (call c (Refused Memory)) new.shown failed is (unkept Memory new made (λ f. cc (f)))
   made-leads (Refused HistoryFull) new failed made is = no-fault h new (call c (Refused HistoryFull)) new.shown failed is (unkept HistoryFull new made (λ f. cc (f)))
   made-leads (Refused Full) new failed made is = no-fault h new (call c (Refused Full)) new.shown failed is (unkept Full new made (λ f. cc (f)))
-  made-leads (Refused why) new failed made is = absurd made
+  made-leads (Refused why) new failed made is = absurd made.1
 
 -- ---- crashes
 
@@ -370,7 +370,13 @@ made-stays now new (Refused Fault) o e made device = record { same = λ is. absu
 made-stays now new (Refused Memory) o e made device = record { same = λ is. (made.0, device Memory refl refl); pending = λ is. absurd (cc (is)) }
 made-stays now new (Refused HistoryFull) o e made device = record { same = λ is. (made.0, device HistoryFull refl refl); pending = λ is. absurd (cc (is)) }
 made-stays now new (Refused Full) o e made device = record { same = λ is. (made.0, device Full refl refl); pending = λ is. absurd (cc (is)) }
-made-stays now new (Refused why) o e made device = absurd made
+made-stays now new (Refused why) o e made device = absurd made.1
+
+-- nor what is asked of the history
+pub told-stays : {D : Type 0} (x : HistoryCommand) (r : Reply) (now new : Ledger D) → IsTold x r (page now) (page new) → new.disk ≡ now.disk → StaysUnlessKept r now new
+told-stays Log r now new told device = subst (λ (y : Reply). StaysUnlessKept y now new) (sym told.1) device
+told-stays Publish r now new (inl told) device = subst (λ (y : Reply). StaysUnlessKept y now new) (sym told.0) device
+told-stays Publish r now new (inr told) device = subst (λ (y : Reply). StaysUnlessKept y now new) (sym told.0) (record { same = λ is. (told.1, device); pending = λ is. absurd (cc (is)) })
 
 module _ {D : Type 0} (seen : D → List ℕ) (unsynced : D → ℕ → Bool) (moment : D → ℕ) (left_since : D → ℕ → List ℕ → Type 0) where
   abbrev OnlyNow : D → Type 0
@@ -384,8 +390,8 @@ module _ {D : Type 0} (seen : D → List ℕ) (unsynced : D → ℕ → Bool) (m
   still-left h b doing disk only images at = started moment left_since disk (HoldsLeft h doing) (λ c left. front-left h b doing c at (images c (only c left)))
 
   -- what was acknowledged is held, where nothing is pending
-  pub still-either : (b : Page) (e : Edit) (disk : D) → OnlyNow disk → HoldFronts disk b → IsFolded b → b.pending ≡ [] → EachMoment moment left_since disk disk (HoldsEither b.whole.durable (applied b.whole.durable e))
-  still-either b e disk only images folded none = started moment left_since disk (HoldsEither b.whole.durable (applied b.whole.durable e)) (λ c left. inl (front-all c (images c (only c left))))
+  pub still-either : (b : Page) (es : List Edit) (disk : D) → OnlyNow disk → HoldFronts disk b → IsFolded b → b.pending ≡ [] → EachMoment moment left_since disk disk (HoldsEither b.whole.durable (after b.whole.durable es))
+  still-either b es disk only images folded none = started moment left_since disk (HoldsEither b.whole.durable (after b.whole.durable es)) (λ c left. inl (front-all c (images c (only c left))))
     where
       no-more : (n : ℕ) → take n b.pending ≡ []
       no-more n = ap (take n) none ∙ take_all n [] (omega arith)

@@ -1,27 +1,27 @@
 -- What a receipt says of a Book.
 use Rattle.std.proofs.Common.{◌≡◌, ℕ, zero, suc, ◌+◌, ◌≤◌, List, [], ◌∷◌, ◌++◌, length, take, drop, Option, None, Some, refl, sym, ap, ◌∙◌, subst, arith, length-append}
-use Rattle.std.specs.{Prelude.{IfSome, slice_get}, Option.ForSome}
+use Rattle.std.specs.{Prelude.{IfSome, slice_get, sum}, Option.ForSome}
 use mathlib.Core.List.{IsPrefix}
-use Rattle.pf_core.specs.{Durable.Edits.Edit, Worlds.flat}
+use Rattle.pf_core.specs.{Durable.Edits.Edit, Worlds.{flat, grouped}}
 use Rattle.pf_past.specs.Pasts.{Past, Begins}
 use Rattle.pf_past.proofs.Fronts.{prefix_length, prefix_get}
-use Rattle.pf_book.specs.{Books.{singles, change_in}, Receipts.{EndsIn, IsReceipt}}
+use Rattle.pf_book.specs.{Books.{cut, change_in}, Receipts.{EndsIn, IsReceipt}}
 use Rattle.pf_book.proofs.Parts.{whole-log, counted-acked}
 
 -- the history begins with what a receipt saw
-pub begins-log : (past tip : Past) (log : List Edit) (acked : ℕ) → Begins past tip → tip.front ≡ log → IsPrefix past.front (flat (singles (take acked log) ++ singles (drop acked log)))
-begins-log past tip log acked begins is = subst (λ (l : List Edit). IsPrefix past.front l) (is ∙ sym (whole-log log acked)) begins.0
+pub begins-log : (past tip : Past) (log : List Edit) (sizes : List ℕ) (acked : ℕ) → Begins past tip → tip.front ≡ log → sum sizes ≡ acked → IsPrefix past.front (flat (cut sizes log ++ grouped (drop acked log)))
+begins-log past tip log sizes acked begins is cuts = subst (λ (l : List Edit). IsPrefix past.front l) (is ∙ sym (whole-log log sizes acked cuts)) begins.0
 
 -- what was acknowledged there is so
-pub still-acked : (past tip : Past) (log : List Edit) (acked : ℕ) → Begins past tip → tip.acked ≡ acked → acked ≤ length log → past.acked ≤ length (flat (singles (take acked log)))
-still-acked past tip log acked begins is low = omega (arith, begins.1, is, counted-acked log acked low)
+pub still-acked : (past tip : Past) (log : List Edit) (sizes : List ℕ) (acked : ℕ) → Begins past tip → tip.acked ≡ acked → sum sizes ≡ acked → acked ≤ length log → past.acked ≤ length (flat (cut sizes log))
+still-acked past tip log sizes acked begins is cuts low = omega (arith, begins.1, is, counted-acked log sizes acked cuts low)
 
 -- and its change is acknowledged
-pub acked-too : (past tip : Past) (seq : ℕ) (change : Option Edit) (log : List Edit) (acked : ℕ) → Begins past tip → tip.acked ≡ acked → acked ≤ length log → IsReceipt past seq change →
-    ForSome change (λ e. length past.front ≤ length (flat (singles (take acked log))))
-acked-too past tip seq change log acked begins is low receipt = λ e some.
+pub acked-too : (past tip : Past) (seq : ℕ) (change : Option Edit) (log : List Edit) (sizes : List ℕ) (acked : ℕ) → Begins past tip → tip.acked ≡ acked → sum sizes ≡ acked → acked ≤ length log → IsReceipt past seq change →
+    ForSome change (λ e. length past.front ≤ length (flat (cut sizes log)))
+acked-too past tip seq change log sizes acked begins is cuts low receipt = λ e some.
     let here : seq ≤ past.acked = receipt.acked e some in
-    omega (arith, here, receipt.seq_is, begins.1, is, counted-acked log acked low)
+    omega (arith, here, receipt.seq_is, begins.1, is, counted-acked log sizes acked cuts low)
 
 get-last : (xs : List Edit) (e : Edit) (n : ℕ) → n ≡ length xs → slice_get (xs ++ e ∷ []) n ≡ Some e
 get-last [] e zero is = refl

@@ -1,11 +1,11 @@
--- Parts of a history, and each of its changes as a group.
-use Rattle.std.specs.Prelude.{nat_lt}
-use Rattle.std.proofs.{lemmas.Bool.Decides.nat_tests, Common.{◌≡◌, ℕ, zero, suc, ◌+◌, ◌-◌, ◌≤◌, List, [], ◌∷◌, ◌++◌, length, map, take, drop, refl, ap, sym, ◌∙◌, subst, arith, Result, Ok, Err, OnOk, OnErr}, lemmas.List.{map-append, take_all, take-append-le, drop_all, drop-append-le, length-append, length-take-le, length-drop, take-append-drop}}
+-- Parts of a history, and its groups.
+use Rattle.std.specs.Prelude.{nat_lt, sum}
+use Rattle.std.proofs.{lemmas.Bool.Decides.nat_tests, Common.{◌≡◌, ℕ, zero, suc, ◌+◌, ◌-◌, ◌<◌, ◌≤◌, List, [], ◌∷◌, ◌++◌, length, map, take, drop, refl, ap, sym, ◌∙◌, subst, arith, append-nil, Result, Ok, Err, OnOk, OnErr}, Math.Seq.take-add, lemmas.List.{take_all, take-append-le, drop_all, drop-append-le, length-append, length-take-le, length-drop, take-append-drop}, lemmas.List.Sums.{sum_by-cons, sum_by_push}}
 use mathlib.Core.List.{IsPrefix}
-use Rattle.pf_core.specs.{Durable.Edits.Edit, Worlds.{flat, is_halted}}
+use Rattle.pf_core.specs.{Durable.Edits.Edit, Worlds.{flat, grouped, is_halted}}
 use Rattle.pf_core.proofs.Fronts.{flat-append}
 use Rattle.pf_past.proofs.Fronts.{prefix_self, prefix_trans}
-use Rattle.pf_book.specs.Books.{singles}
+use Rattle.pf_book.specs.Books.{cut}
 
 map-take : {A B : Type 0} (f : A → B) (xs : List A) (n : ℕ) → map f (take n xs) ≡ take n (map f xs)
 map-take f xs zero = refl
@@ -50,15 +50,55 @@ pub shown_either : {E : Type 0} (r : Result (Unit {0}) E) (s s' o : List Edit) �
 shown_either (Ok u) s s' o ok err p = subst (λ (z : List Edit). IsPrefix z o) (sym ok) (prefix_self o)
 shown_either (Err e) s s' o ok err p = subst (λ (z : List Edit). IsPrefix z o) (sym err) p
 
--- ---- groups of single changes
+-- ---- groups
 
-pub flat-singles : (es : List Edit) → flat (singles es) ≡ es
-flat-singles [] = refl
-flat-singles (e ∷ es) = ap (λ (l : List Edit). e ∷ l) (flat-singles es)
+sum-cons : (n : ℕ) (sizes : List ℕ) → sum (n ∷ sizes) ≡ n + sum sizes
+sum-cons n sizes = sum_by-cons (λ x. x) n sizes
 
-none-single : (es : List Edit) → singles es ≡ [] → es ≡ []
-none-single [] is = refl
-none-single (e ∷ es) is = absurd (cc (is))
+-- the groups are the first changes, as many as they have
+pub flat-cut : (sizes : List ℕ) (es : List Edit) → flat (cut sizes es) ≡ take (sum sizes) es
+flat-cut [] es = refl
+flat-cut (n ∷ sizes) es =
+    ap (λ (l : List Edit). take n es ++ l) (flat-cut sizes (drop n es)) ∙ sym (ap (λ (m : ℕ). take m es) (sum-cons n sizes) ∙ take-add n (sum sizes) es)
+
+-- changes behind them leave them as they are
+pub cut-still : (sizes : List ℕ) (es more : List Edit) → sum sizes ≤ length es → cut sizes (es ++ more) ≡ cut sizes es
+cut-still [] es more low = refl
+cut-still (n ∷ sizes) es more low =
+    let total : sum (n ∷ sizes) ≡ n + sum sizes = sum-cons n sizes in
+    let first : n ≤ length es = omega (arith, low, total) in
+    let rest : sum sizes ≤ length (drop n es) = omega (arith, low, total, length-drop n es) in
+    ap (λ (l : List Edit). l ∷ cut sizes (drop n (es ++ more))) (take-append-le n es more first)
+    ∙ ap (λ (l : List Edit). take n es ∷ cut sizes l) (drop-append-le n es more first) ∙ ap (λ (gs : List (List Edit)). take n es ∷ gs) (cut-still sizes (drop n es) more rest)
+
+-- where nothing is behind them, what comes next is the next group
+pub cut-more : (sizes : List ℕ) (es group : List Edit) → sum sizes ≡ length es → cut (sizes ++ length group ∷ []) (es ++ group) ≡ cut sizes es ++ group ∷ []
+cut-more [] [] group all = ap (λ (l : List Edit). l ∷ []) (take_all (length group) group (omega arith))
+cut-more [] (e ∷ es) group all = absurd (omega (arith, all))
+cut-more (n ∷ sizes) es group all =
+    let total : sum (n ∷ sizes) ≡ n + sum sizes = sum-cons n sizes in
+    let first : n ≤ length es = omega (arith, all, total) in
+    let rest : sum sizes ≡ length (drop n es) = omega (arith, all, total, length-drop n es) in
+    let more : List ℕ = sizes ++ length group ∷ [] in
+    ap (λ (l : List Edit). l ∷ cut more (drop n (es ++ group))) (take-append-le n es group first)
+    ∙ ap (λ (l : List Edit). take n es ∷ cut more l) (drop-append-le n es group first) ∙ ap (λ (gs : List (List Edit)). take n es ∷ gs) (cut-more sizes (drop n es) group rest)
+
+-- one group more
+pub flat-more : (gs : List (List Edit)) (group : List Edit) → flat (gs ++ group ∷ []) ≡ flat gs ++ group
+flat-more gs group = flat-append gs (group ∷ []) ∙ ap (λ (l : List Edit). flat gs ++ l) (append-nil group)
+
+-- changes are a group, where there are any
+pub grouped-some : (es : List Edit) → 0 < length es → grouped es ≡ es ∷ []
+grouped-some [] some = absurd (omega (arith, some))
+grouped-some (e ∷ es) some = refl
+
+pub flat-grouped : (es : List Edit) → flat (grouped es) ≡ es
+flat-grouped [] = refl
+flat-grouped (e ∷ es) = append-nil (e ∷ es)
+
+none-grouped : (es : List Edit) → grouped es ≡ [] → es ≡ []
+none-grouped [] is = refl
+none-grouped (e ∷ es) is = absurd (cc (is))
 
 some-left : (n : ℕ) (xs : List Edit) → drop n xs ≡ [] → length xs ≤ n
 some-left zero [] is = omega arith
@@ -67,40 +107,64 @@ some-left (suc n) [] is = omega arith
 some-left (suc n) (x ∷ xs) is = let rest = some-left n xs is in omega (arith, rest)
 
 -- where nothing is pending all was acknowledged
-pub all-acked : (log : List Edit) (acked : ℕ) → acked ≤ length log → singles (drop acked log) ≡ [] → acked ≡ length log
-all-acked log acked low none = let few = some-left acked log (none-single (drop acked log) none) in omega (arith, few, low)
+pub all-acked : (log : List Edit) (acked : ℕ) → acked ≤ length log → grouped (drop acked log) ≡ [] → acked ≡ length log
+all-acked log acked low none = let few = some-left acked log (none-grouped (drop acked log) none) in omega (arith, few, low)
 
--- a change more
-pub taken-more : (log : List Edit) (e : Edit) (acked : ℕ) → acked ≡ length log → take (acked + 1) (log ++ e ∷ []) ≡ take acked log ++ e ∷ []
-taken-more log e acked all =
-    take_all (acked + 1) (log ++ e ∷ []) (omega (arith, all, length-append log (e ∷ []))) ∙ ap (λ (l : List Edit). l ++ e ∷ []) (sym (take_all acked log (omega (arith, all))))
+pub taken-still : (log group : List Edit) (n : ℕ) → n ≤ length log → take n (log ++ group) ≡ take n log
+taken-still log group n le = take-append-le n log group le
 
-pub left-none : (log : List Edit) (e : Edit) (acked : ℕ) → acked ≡ length log → drop (acked + 1) (log ++ e ∷ []) ≡ []
-left-none log e acked all = drop_all (acked + 1) (log ++ e ∷ []) (omega (arith, all, length-append log (e ∷ [])))
+-- what is behind those that were acknowledged
+pub left-group : (log group : List Edit) (acked : ℕ) → acked ≡ length log → drop acked (log ++ group) ≡ group
+left-group log group acked all = drop-append-le acked log group (omega (arith, all)) ∙ ap (λ (l : List Edit). l ++ group) (drop_all acked log (omega (arith, all)))
 
-pub taken-still : (log : List Edit) (e : Edit) (n : ℕ) → n ≤ length log → take n (log ++ e ∷ []) ≡ take n log
-taken-still log e n le = take-append-le n log (e ∷ []) le
-
-pub left-one : (log : List Edit) (e : Edit) (acked : ℕ) → acked ≡ length log → drop acked (log ++ e ∷ []) ≡ e ∷ []
-left-one log e acked all = drop-append-le acked log (e ∷ []) (omega (arith, all)) ∙ ap (λ (l : List Edit). l ++ e ∷ []) (drop_all acked log (omega (arith, all)))
-
-pub singles-more : (es : List Edit) (e : Edit) → singles (es ++ e ∷ []) ≡ singles es ++ (e ∷ []) ∷ []
-singles-more es e = map-append (λ (x : Edit). x ∷ []) es (e ∷ [])
+-- what the acknowledged groups have
+pub flat-acked : (log : List Edit) (sizes : List ℕ) (acked : ℕ) → sum sizes ≡ acked → flat (cut sizes log) ≡ take acked log
+flat-acked log sizes acked cuts = flat-cut sizes log ∙ ap (λ (n : ℕ). take n log) cuts
 
 -- how many were acknowledged
-pub counted-acked : (log : List Edit) (acked : ℕ) → acked ≤ length log → acked ≡ length (flat (singles (take acked log)))
-counted-acked log acked low = sym (length-take-le acked log low) ∙ ap length (sym (flat-singles (take acked log)))
+pub counted-acked : (log : List Edit) (sizes : List ℕ) (acked : ℕ) → sum sizes ≡ acked → acked ≤ length log → acked ≡ length (flat (cut sizes log))
+counted-acked log sizes acked cuts low = sym (length-take-le acked log low) ∙ ap length (sym (flat-acked log sizes acked cuts))
 
 -- and what all of them are
-pub whole-log : (log : List Edit) (acked : ℕ) → flat (singles (take acked log) ++ singles (drop acked log)) ≡ log
-whole-log log acked =
-    flat-append (singles (take acked log)) (singles (drop acked log)) ∙ ap (λ (l : List Edit). l ++ flat (singles (drop acked log))) (flat-singles (take acked log))
-    ∙ ap (λ (l : List Edit). take acked log ++ l) (flat-singles (drop acked log)) ∙ take-append-drop acked log
+pub whole-log : (log : List Edit) (sizes : List ℕ) (acked : ℕ) → sum sizes ≡ acked → flat (cut sizes log ++ grouped (drop acked log)) ≡ log
+whole-log log sizes acked cuts =
+    flat-append (cut sizes log) (grouped (drop acked log)) ∙ ap (λ (l : List Edit). l ++ flat (grouped (drop acked log))) (flat-acked log sizes acked cuts)
+    ∙ ap (λ (l : List Edit). take acked log ++ l) (flat-grouped (drop acked log)) ∙ take-append-drop acked log
 
 -- nothing pending is nothing behind
-pub halted-is : (log : List Edit) (acked : ℕ) → acked ≤ length log → is_halted (singles (drop acked log)) ≡ nat_lt acked (length log)
+pub halted-is : (log : List Edit) (acked : ℕ) → acked ≤ length log → is_halted (grouped (drop acked log)) ≡ nat_lt acked (length log)
 halted-is log acked low = by (drop acked log) (length-drop acked log)
   where
-    by : (rest : List Edit) → length rest ≡ length log - acked → is_halted (singles rest) ≡ nat_lt acked (length log)
+    by : (rest : List Edit) → length rest ≡ length log - acked → is_halted (grouped rest) ≡ nat_lt acked (length log)
     by [] is = sym (grind (arith, nat_tests, is, low))
     by (e ∷ es) is = sym (grind (arith, nat_tests, is, low))
+
+-- ---- a group more
+
+-- where all was acknowledged, a group more is, and its size is noted
+pub record IsGrown (log log' : List Edit) (sizes sizes' : List ℕ) (acked acked' : ℕ) (group : List Edit) : Type 0 where
+  pub cuts : sum sizes ≡ acked
+  pub all : acked ≡ length log
+  pub some : 0 < length group
+  pub logged : log' ≡ log ++ group
+  pub sized : sizes' ≡ sizes ++ length group ∷ []
+  pub counted : acked' ≡ acked + length group
+
+module _ (log log' : List Edit) (sizes sizes' : List ℕ) (acked acked' : ℕ) (group : List Edit) (g : IsGrown log log' sizes sizes' acked acked' group) where
+  pub grown-cuts : sum sizes' ≡ acked'
+  grown-cuts = ap sum g.sized ∙ sum_by_push (λ (x : ℕ). x) sizes (length group) ∙ ap (λ (n : ℕ). n + length group) g.cuts ∙ sym g.counted
+
+  pub grown-length : length log' ≡ length log + length group
+  grown-length = ap length g.logged ∙ length-append log group
+
+  pub grown-all : acked' ≡ length log'
+  grown-all = omega (arith, grown-length, g.all, g.counted)
+
+  pub grown-acked : cut sizes' log' ≡ cut sizes log ++ group ∷ []
+  grown-acked = ap (λ (ns : List ℕ). cut ns log') g.sized ∙ ap (cut (sizes ++ length group ∷ [])) g.logged ∙ cut-more sizes log group (g.cuts ∙ g.all)
+
+  pub grown-flat : flat (cut sizes' log') ≡ flat (cut sizes log) ++ group
+  grown-flat = ap flat grown-acked ∙ flat-more (cut sizes log) group
+
+  pub grown-pending : grouped (drop acked' log') ≡ []
+  grown-pending = ap grouped (drop_all acked' log' (omega (arith, grown-all)))

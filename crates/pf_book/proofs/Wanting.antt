@@ -64,7 +64,7 @@ wanted-can t d (History c) e o within is = absurd (cc (is))
 -- ---- the limits of what is offered
 
 -- an opening that keeps this, with these transactions, and no change yet
-abbrev with_tickets : Open → Kept → Held
+abbrev pub with_tickets : Open → Kept → Held
 with_tickets t d = record { setting = on_device 0 0; base = d; tickets = t; acked = []; pending = []; shown = 0; sights = [] }
 
 answered-within : (t : Open) (d : Kept) (c : Command) (a : Answer) → step_by t d c ≡ Ok (Done a) → IsWithin t → IsWithin (moved_by t (mentioned c))

@@ -1,13 +1,14 @@
 -- What contracts see of an opened device and of a Book, and what an image of its device holds. Own.
-use Rattle.std.specs.Prelude.{◌≡◌, ◌⊎◌, ℕ, zero, suc, ◌+◌, ◌<◌, ◌≤◌, ◌^◌, Bool, true, false, nat_lt, List, [], ◌∷◌, ◌++◌, length, slice_get, take, drop, map, ⊤, Option, None, Result, Ok, Err}
+use Rattle.std.specs.Prelude.{◌≡◌, ◌⊎◌, ℕ, zero, suc, ◌+◌, ◌<◌, ◌≤◌, ◌^◌, Bool, true, false, nat_lt, List, [], ◌∷◌, ◌++◌, length, slice_get, sum, take, drop, map, flat_map, Vec, ⊤, Option, None, Result, Ok, Err}
+use Rattle.std.specs.declared.alloc.Global.{Global}
 use mathlib.Core.List.{IsPrefix}
 use Rattle.logbook.specs.Pages.{Book}
 use Rattle.pf_disk.specs.Disk.{EachMoment, IsImage}
 use Rattle.pf_rule.specs.Packets.{PlainPacket}
 use Rattle.pf_ticket.specs.{Laws.Tickets.IsWithin as AreTicketsWithin, Mentions.{after as moved_by, switches}}
-use Rattle.pf_core.specs.declared.{command.Command.Command, command.Command.TheVariants.{Ask}, command.HistoryCommand.HistoryCommand, command.HistoryCommand.TheVariants.{Log, Publish}, command.Question.TheVariants.Judge, durable.verdict.Verdict.Verdict, reply.Outcome.Outcome, reply.Refusal.Refusal, reply.Refusal.TheVariants.{HistoryFull, Full, Fault, Memory}, reply.Reply.Reply, reply.Reply.TheVariants.{Answer, Applied, Stored, Refused}}
+use Rattle.pf_core.specs.declared.{command.Command.Command, command.Command.TheVariants.{Ask}, command.HistoryCommand.HistoryCommand, command.HistoryCommand.TheVariants.{Log, Publish}, command.Question.TheVariants.Judge, durable.verdict.Verdict.Verdict, reply.Outcome.Outcome, reply.Refusal.Refusal, group.TheConstants.GROUP_LIMIT, reply.Refusal.TheVariants.{HistoryFull, Full, Fault, Memory}, reply.Reply.Reply, reply.Reply.TheVariants.{Answer, Applied, Stored, Refused}}
 use Rattle.pf_core.specs.declared.reply.Answer.TheVariants as answer
-use Rattle.pf_core.specs.{Calls.{Call, call}, Durable.Edits.{Kept, Edit, after, voided_by, verdict}, Laws.{Durable.IsWithin, Openings.Leaves}, Pages.{Page, IsFolded}, Wholes.Whole, Worlds.{Setting, Held, Doing, flat, is_fault, last_epoch, raised}}
+use Rattle.pf_core.specs.{Calls.{Call, call}, Durable.Edits.{Kept, Edit, after, voided_by, verdict}, Laws.{Durable.IsWithin, Openings.Leaves}, Nexts.{Ready, ready}, Pages.{Page, IsFolded}, Wholes.Whole, Worlds.{Setting, Held, Doing, flat, grouped, as_stored, is_fault, last_epoch, raised}}
 use Rattle.pf_store.specs.declared.{store.fault.OpenFault.OpenFault, store.fault.OpenFault.TheVariants.Memory as OutOfMemory, store.fault.OpenFault.TheVariants.Places as Places}
 use Rattle.pf_store.specs.{Openings.{IsNoLaterThan, LeavesRoom}, Rooms.on_device, Stores.{Holds, IsRoomy}, StoreKept.{Stands, Storage}}
 use Rattle.pf_past.specs.Pasts.{Past, all_acked}
@@ -62,17 +63,19 @@ pub record IsOpened {D : Type 0} (seen : D → List ℕ) (unsynced : D → ℕ �
 
 -- ---- a Book
 
--- each change is a group of its own
-abbrev pub singles : List Edit → List (List Edit)
-singles es = map (λ e. e ∷ []) es
+-- a list cut into groups of these sizes, one after the other
+abbrev pub cut : List ℕ → List Edit → List (List Edit)
+cut [] es = []
+cut (n ∷ sizes) es = take n es ∷ cut sizes (drop n es)
 
--- of the changes since the opening the first so many were acknowledged, and these are shown
-abbrev pub page_of : Kept → Whole → List Edit → ℕ → Setting → List Edit → Page
-page_of base whole log acked setting shown = record {
+-- Of the changes since the opening the first so many were acknowledged, in groups of these sizes; what is behind them is one group, if there is
+-- anything. And these are shown.
+abbrev pub page_of : Kept → Whole → List Edit → List ℕ → ℕ → Setting → List Edit → Page
+page_of base whole log sizes acked setting shown = record {
   base = base;
   whole = whole;
-  acked = singles (take acked log);
-  pending = singles (drop acked log);
+  acked = cut sizes log;
+  pending = grouped (drop acked log);
   setting = setting;
   shown = length shown;
   published = after base shown;
@@ -93,13 +96,13 @@ pub record Ledger (D : Type 0) : Type 0 where
   pub shown : ℕ
   pub published : Kept
 
-abbrev pub ledger : {D : Type 0} → D → Kept → Whole → List Edit → (acked limit size generation : ℕ) → List Edit → Ledger D
-ledger disk base whole log acked limit size generation shown = record {
+abbrev pub ledger : {D : Type 0} → D → Kept → Whole → List Edit → List ℕ → (acked limit size generation : ℕ) → List Edit → Ledger D
+ledger disk base whole log sizes acked limit size generation shown = record {
   disk = disk;
   base = base;
   whole = whole;
-  acked = singles (take acked log);
-  pending = singles (drop acked log);
+  acked = cut sizes log;
+  pending = grouped (drop acked log);
   limit = limit;
   size = size;
   generation = generation;
@@ -129,20 +132,24 @@ HoldsLeft h doing image = (d : Kept) × Holds image d × Leaves h doing d
 
 -- what a Book's type keeps
 pub record IsBook {D : Type 0} (seen : D → List ℕ) (unsynced : D → ℕ → Bool)
-    (store : Storage D) (b : Page) (d : Kept) (log : List Edit) (acked offered : ℕ) (stage : Stage) (past front : Past) : Type 0 where
+    (store : Storage D) (b : Page) (d : Kept) (log : List Edit) (sizes : List ℕ) (acked offered : ℕ) (stage : Stage) (past front : Past) : Type 0 where
   pub folded : IsFolded b
   -- so whatever a command wants has bytes, where the device has room for them
   pub tickets : AreTicketsWithin b.whole.tickets
   pub log_is : past.front ≡ log
   pub acked_is : past.acked ≡ acked
   pub front_is : front ≡ all_acked (take acked log)
+  -- the groups have as many changes as were acknowledged
+  pub cuts : sum sizes ≡ acked
   pub low : acked ≤ length log
-  pub high : length log ≤ acked + 1
+  -- one group at most is behind them
+  pub high : length log ≤ acked + GROUP_LIMIT
   pub halted : store.halted ≡ nat_lt acked (length log)
   pub stands : store.halted ≡ false → Stands seen unsynced store b.whole.durable
-  -- each change raises the bank's generation by one at most
+  -- each group has a change, and raises the bank's generation by one at most
   pub early : store.halted ≡ false → store.generation ≤ 2 ^ 63 + length log
   pub limit : b.setting.limit ≤ 2 ^ 20
+  pub few : length log ≤ b.setting.limit
   pub images : (c : List ℕ) → IsImage (seen store.disk) (unsynced store.disk) c → HoldsFront b c
   pub generations : (c : List ℕ) → IsImage (seen store.disk) (unsynced store.disk) c → IsNoLaterThan (store.generation + 1) c
   -- an opening finds room, where it would in what the last one gave
@@ -163,33 +170,51 @@ abbrev pub change_in : List Edit → ℕ → Option Edit
 change_in log zero = None
 change_in log (suc n) = slice_get log n
 
--- it has room for the change: the history isn't full, and the device isn't
-pub record HasRoom (b : Page) (e : Edit) : Type 0 where
-  pub few : length (flat b.acked) < b.setting.limit
-  pub device : b.setting.is_full b.base b.acked (e ∷ []) ≡ false
+-- what a group was told, as a list
+abbrev pub listed : Result (Vec Reply Global) Refusal → Result (List Reply) Refusal
+listed (Ok replies) = Ok replies.items
+listed (Err e) = Err e
 
--- the change was kept
-pub record IsMore (old new : Page) (e : Edit) : Type 0 where
-  pub room : HasRoom old e
+-- the replies of a group that was told more beside
+abbrev pub replied : {X : Type 0} → Result (Vec Reply Global × X) Refusal → Result (List Reply) Refusal
+replied (Ok told) = Ok told.0.items
+replied (Err e) = Err e
+
+-- what changes leave of what is kept, one after the other, and the tickets that all of them void
+abbrev pub left_together : Kept → List Edit → Ready
+left_together d es = ready (after d es) (flat_map voided_by es)
+
+-- it has room for these changes together: the history hasn't too many then, and the device isn't full
+pub record HasRoom (b : Page) (es : List Edit) : Type 0 where
+  pub few : length (flat b.acked) + length es ≤ b.setting.limit
+  pub device : b.setting.is_full b.base b.acked es ≡ false
+
+-- why it has none: the history would have too many, or else the device is full
+abbrev pub HasNoRoom : Refusal → Page → List Edit → Type 0
+HasNoRoom HistoryFull b es = b.setting.limit < length (flat b.acked) + length es
+HasNoRoom Full b es = (length (flat b.acked) + length es ≤ b.setting.limit) × (b.setting.is_full b.base b.acked es ≡ true)
+HasNoRoom why b es = ⊥
+
+-- these changes were kept as one group
+pub record IsMore (old new : Page) (es : List Edit) : Type 0 where
+  pub room : HasRoom old es
   pub base : new.base ≡ old.base
-  pub tickets : new.whole.tickets ≡ moved_by old.whole.tickets (switches (voided_by e))
-  pub acked : new.acked ≡ old.acked ++ (e ∷ []) ∷ []
+  pub tickets : new.whole.tickets ≡ moved_by old.whole.tickets (switches (flat_map voided_by es))
+  pub acked : new.acked ≡ old.acked ++ grouped es
   pub pending : new.pending ≡ old.pending
   pub setting : new.setting ≡ old.setting
   pub shown : new.shown ≡ old.shown
 
--- the device failed while it was kept
-pub record IsPending (old new : Page) (e : Edit) : Type 0 where
-  pub room : HasRoom old e
-  pub same : new ≡ record old { pending = (e ∷ []) ∷ [] }
+-- the device failed while they were kept
+pub record IsPending (old new : Page) (es : List Edit) : Type 0 where
+  pub room : HasRoom old es
+  pub same : new ≡ record old { pending = grouped es }
 
--- why a change that fits wasn't kept, and what that leaves
-abbrev pub IsUnkept : Refusal → Page → Page → Edit → Type 0
-IsUnkept Memory old new e = (new ≡ old) × HasRoom old e
-IsUnkept HistoryFull old new e = (new ≡ old) × (old.setting.limit ≤ length (flat old.acked))
-IsUnkept Full old new e = (new ≡ old) × (length (flat old.acked) < old.setting.limit) × (old.setting.is_full old.base old.acked (e ∷ []) ≡ true)
-IsUnkept Fault old new e = IsPending old new e
-IsUnkept why old new e = ⊥
+-- why changes that fit weren't kept, and what that leaves
+abbrev pub IsUnkept : Refusal → Page → Page → List Edit → Type 0
+IsUnkept Memory old new es = (new ≡ old) × HasRoom old es
+IsUnkept Fault old new es = IsPending old new es
+IsUnkept why old new es = (new ≡ old) × HasNoRoom why old es
 
 -- all that was acknowledged is shown
 abbrev pub shows_all : Page → Page
@@ -212,6 +237,14 @@ IsNumbered (Answer a) new = ⊤
 IsNumbered (Applied seq outcome) new = seq ≡ length (flat new.acked)
 IsNumbered (Stored seq outcome) new = seq ≡ length (flat new.acked)
 IsNumbered (Refused e) new = ⊤
+
+-- The numbers of these replies' changes go on from so many, one by one, and come to so many.
+abbrev pub AreNumbered : List Reply → ℕ → ℕ → Type 0
+AreNumbered [] n m = n ≡ m
+AreNumbered (Answer a ∷ replies) n m = AreNumbered replies n m
+AreNumbered (Applied seq outcome ∷ replies) n m = (seq ≡ n + 1) × AreNumbered replies (n + 1) m
+AreNumbered (Stored seq outcome ∷ replies) n m = (seq ≡ n + 1) × AreNumbered replies (n + 1) m
+AreNumbered (Refused e ∷ replies) n m = AreNumbered replies n m
 
 -- a packet is always judged, and by what is kept
 abbrev pub IsJudged : Kept → Command → Reply → Type 0
@@ -248,11 +281,16 @@ StaysUnlessKept (Applied seq outcome) old new = ⊤
 StaysUnlessKept (Stored seq outcome) old new = ⊤
 StaysUnlessKept (Refused e) old new = Stays e old new
 
+-- The same of a group: where none of its commands wants a change all is as before, and no call of the device is made.
+abbrev pub StaysUnlessAnyKept : {D : Type 0} → Result (List Reply) Refusal → Ledger D → Ledger D → Type 0
+StaysUnlessAnyKept (Ok replies) old new = new.acked ≡ old.acked → (page new ≡ page old) × (new.disk ≡ old.disk)
+StaysUnlessAnyKept (Err e) old new = Stays e old new
+
 -- ---- what a change comes to, and what the history is asked
 
--- the change was kept with this number
+-- the change was kept by itself, with this number
 pub record IsKept (old new : Page) (e : Edit) (n : ℕ) : Type 0 where
-  pub more : IsMore old new e
+  pub more : IsMore old new (e ∷ [])
   pub number : n ≡ length (flat new.acked)
 
 -- the reply to a change that is wanted, with this outcome
@@ -260,7 +298,13 @@ abbrev pub IsMade : Reply → Outcome → Edit → Page → Page → Type 0
 IsMade (Answer a) o e old new = ⊥
 IsMade (Applied n p) o e old new = (p ≡ o) × (kept : Page) × IsKept old kept e n × (new ≡ shows_all kept)
 IsMade (Stored n p) o e old new = (p ≡ o) × IsKept old new e n
-IsMade (Refused why) o e old new = IsUnkept why old new e
+IsMade (Refused why) o e old new = IsUnkept why old new (e ∷ [])
+
+-- Of a group's changes, with the replies that are due: they were kept, and are shown or not; or why they weren't.
+abbrev pub AreMade : Result (List Reply) Refusal → List Reply → List Edit → Page → Page → Type 0
+AreMade (Ok replies) due es old new = (kept : Page) × IsMore old kept es
+    × (((replies ≡ due) × (new ≡ shows_all kept)) ⊎ ((replies ≡ map as_stored due) × (new ≡ kept)))
+AreMade (Err why) due es old new = IsUnkept why old new es
 
 -- how much there is, is acknowledged and is shown; or all that was acknowledged is shown, unless memory was refused
 abbrev pub IsTold : HistoryCommand → Reply → Page → Page → Type 0

@@ -1,18 +1,20 @@
-//! One history over a device. Its replies with receipts stand in `receipts`.
-ghost use Rattle.std.specs.Prelude.{◌≡◌, ℕ, ◌+◌, ◌<◌, ◌≤◌, [], ◌∷◌, ◌++◌, List, All, Ok, true, false, IfOk, IfErr, IfSome, OnOk, OnErr, IsErrOf, MatchBool, MatchResult, length, take, slice_get, nat_lt, not, if◌then◌else◌};
-ghost use Rattle.std.specs.{Arc.arc_value, Option.option_map};
+//! One history over a device. Its groups of commands stand in `groups`, and its replies with receipts in `receipts`.
+ghost use Rattle.std.specs.Prelude.{◌≡◌, ℕ, ◌+◌, ◌<◌, ◌≤◌, [], ◌∷◌, ◌++◌, List, All, Ok, true, false, IfOk, IfErr, IfSome, OnOk, OnErr, IsErrOf, MatchBool, MatchResult, length, map, take, slice_get, nat_lt, not, if◌then◌else◌};
+ghost use Rattle.std.specs.{Arc.arc_value, List.list_all, Option.option_map};
 ghost use Rattle.pf_disk.specs.Disk.{EachMoment, IsImage};
 ghost use Rattle.pf_core.specs.declared.reply.Refusal.TheVariants as told;
 ghost use Rattle.pf_core.specs.{Calls.call, Commands.may_change, Durable.Edits.{Kept, applied, after, fits, verdict}, Pages.{IsAt, IsFolded, StandsFor, Leads}, Wholes.left_by, Worlds.{Held, idle, calling, begun, upshot, Event, called, opened, is_fault, flat, raised, last_epoch, down, state_after, IsWorld, LegalReply, shown_by}};
-ghost use Rattle.pf_store.specs.{Groups.can_be_wanted, Stores.{FindsRoom, HoldsEither}};
+ghost use Rattle.pf_store.specs.{Groups.{can_be_wanted, is_group, made_all}, Stores.{FindsRoom, FollowInTurn, HoldsEither}};
 ghost use Rattle.pf_view.specs.Known.{IsNewSeer};
 ghost use Rattle.pf_book.specs.Receipts.{IsGiven, IsReached};
-ghost use Rattle.pf_book.specs.Books.{page, HoldsLeft, IsMore, IsUnkept, IsUnshown, IsMade, IsTold, Stays, IsOpenable, StaysOpenable, StaysUnlessKept, shows_all, change_in, log_in, is_fault_reply, is_fault_result, IsNumbered, IsJudged, IsNamed, setting_of, judging};
+ghost use Rattle.pf_book.specs.Books.{page, HoldsLeft, HasRoom, HasNoRoom, left_together, IsMore, IsUnkept, IsUnshown, IsMade, IsTold, Stays, IsOpenable, StaysOpenable, StaysUnlessKept, shows_all, change_in, log_in, is_fault_reply, is_fault_result, IsNumbered, IsJudged, IsNamed, setting_of, judging};
 
+mod groups;
 mod receipts;
 
 use crate::chapter::Chapter;
 use crate::opening::Opening;
+use crate::saving::{Copies, note_all, prepare, put_all, share};
 use crate::showing::offer_rest;
 use pf_core::{
     Answer, Change, Command, Core, Durable, HistoryCommand, Next, Outcome, ReadyStep, Refusal,
@@ -25,11 +27,11 @@ use pf_store::{OpenFault, SaveFault, Store};
 use pf_view::{Seer, Shower, ViewFault, views};
 use std::alloc::{AllocError, Global};
 use std::marker::Model;
+use std::slice::from_ref;
 use std::sync::{Arc, Wait};
 
 /// What an opening gave, and each change since: saved on the device before it is answered, and shown to the packet workers. It keeps the
-/// handle `R`, by which it waits for workers that are judging. Contracts see it as a `Ledger`, whose groups are
-/// single changes. Own.
+/// handle `R`, by which it waits for workers that are judging. Contracts see it as a `Ledger`. Own.
 #[derive(Drop)]
 pub struct Book<D: Disk + Drop, J: Chapter, R: Wait + Drop> {
     alloc: Global,
@@ -38,6 +40,8 @@ pub struct Book<D: Disk + Drop, J: Chapter, R: Wait + Drop> {
     // what the core keeps, shared
     durable: Arc<Durable>,
     log: Vec<Arc<Change>>,
+    // how many changes each group has that was acknowledged
+    sizes: Vec<usize>,
     acked: usize,
     offered: usize,
     limit: usize,
@@ -54,35 +58,11 @@ impl<D: Disk + Drop, J: Chapter, R: Wait + Drop> Model for Book<D, J, R> {
 
     ghost Value = { Ledger D };
 
-    ghost view = { λ b. ledger b.store.disk J.base b.core (map arc_value b.log.items) b.acked b.limit b.store.size b.store.generation b.shower.shown };
+    ghost view = { λ b. ledger b.store.disk J.base b.core (map arc_value b.log.items) b.sizes.items b.acked b.limit b.store.size b.store.generation b.shower.shown };
 
     ghost invariant = { λ b. IsBook D.seen D.unsynced b.store
-        (page_of J.base b.core (map arc_value b.log.items) b.acked (setting_in b.store b.limit) b.shower.shown)
-        (arc_value b.durable) (map arc_value b.log.items) b.acked b.offered b.shower b.tip b.front };
-}
-
-// A change for the log, for the history, and for a receipt.
-#[derive(Drop)]
-struct Shares {
-    change: Arc<Change>,
-    noted: Arc<Change>,
-    given: Arc<Change>,
-}
-
-// Shares a change.
-fn share(alloc: Global, change: Change) -> Result<Shares, AllocError>
-    ensures change { IfOk result (λ s. arc_value s.change ≡ change) }
-    ensures noted { IfOk result (λ s. arc_value s.noted ≡ change) }
-    ensures given { IfOk result (λ s. arc_value s.given ≡ change) }
-{
-    let change = Arc::new(alloc, change)?;
-    let noted = Arc::try_clone(&change)?;
-    let given = Arc::try_clone(&change)?;
-    Ok(Shares {
-        change,
-        noted,
-        given,
-    })
+        (page_of J.base b.core (map arc_value b.log.items) b.sizes.items b.acked (setting_in b.store b.limit) b.shower.shown)
+        (arc_value b.durable) (map arc_value b.log.items) b.sizes.items b.acked b.offered b.shower b.tip b.front };
 }
 
 // Why no history is begun, where what it would show has no place.
@@ -135,6 +115,7 @@ impl<D: Disk + Drop, J: Chapter, R: Wait + Drop> Book<D, J, R> {
             → d.epoch < last_epoch → opening.given ≡ raised d
             → StandsFor first (page r.0) (world ++ opened (setting_of opening history_limit) ∷ [])) }
         ensures reached { IfOk result (λ r. IsReached J.base J.setting (page r.0)) }
+        ensures folded { IfOk result (λ r. IsFolded (page r.0)) }
     {
         let Opening {
             durable,
@@ -156,6 +137,7 @@ impl<D: Disk + Drop, J: Chapter, R: Wait + Drop> Book<D, J, R> {
                     core: Core::new(alloc, shared),
                     durable,
                     log: Vec::new(alloc),
+                    sizes: Vec::new(alloc),
                     acked: 0,
                     offered: 0,
                     limit: history_limit,
@@ -169,15 +151,40 @@ impl<D: Disk + Drop, J: Chapter, R: Wait + Drop> Book<D, J, R> {
         }
     }
 
+    // Whether the history and the device have room for changes that leave this, kept as one group. No call of the device is made.
+    fn find_room(&self, changes: &[Change], next: &Next) -> Result<(), Refusal>
+        requires left { next.now.durable ≡ after self.now.whole.durable changes.now }
+        requires group { is_group changes.now ≡ true }
+        requires wanted { list_all can_be_wanted changes.now ≡ true }
+        requires free { self.now.pending ≡ [] }
+        ensures ok { OnOk result (HasRoom (page self.now) changes.now) }
+        ensures found { OnOk result (FindsRoom self.now.size self.now.whole.durable next.now.durable changes.now) }
+        ensures err { IfErr result (λ e. HasNoRoom e (page self.now) changes.now) }
+        ensures still { EachMoment D.moment D.left_since self.now.disk self.now.disk
+            (HoldsEither self.now.whole.durable (after self.now.whole.durable changes.now)) }
+        ensures openable { StaysOpenable D.moment D.left_since self.now self.now }
+    {
+        if self.log.len() + changes.len() > self.limit {
+            return Err(Refusal::HistoryFull);
+        }
+        if !self
+            .store
+            .has_room(self.core.durable(), changes, next.after())
+        {
+            return Err(Refusal::Full);
+        }
+        Ok(())
+    }
+
     // Keeps a change of the core's, which leaves this, and shares it for a receipt. It isn't shown yet.
     fn keep(&mut self, change: Change, next: Next) -> Result<Arc<Change>, Refusal>
         requires made { next ≡ left_by self.old.whole.durable change }
         requires fits { fits self.old.whole.durable change ≡ Ok tt }
         requires wanted { can_be_wanted change ≡ true }
         requires free { self.old.pending ≡ [] }
-        ensures ok { OnOk result (IsMore (page self.old) (page self.new) change) }
+        ensures ok { OnOk result (IsMore (page self.old) (page self.new) (change ∷ [])) }
         ensures given { IfOk result (λ given. arc_value given ≡ change) }
-        ensures err { IfErr result (λ e. IsUnkept e (page self.old) (page self.new) change) }
+        ensures err { IfErr result (λ e. IsUnkept e (page self.old) (page self.new) (change ∷ [])) }
         ensures any_moment { EachMoment D.moment D.left_since self.old.disk self.new.disk
             (HoldsEither self.old.whole.durable (applied self.old.whole.durable change)) }
         ensures still { IfErr result (λ e. is_fault e ≡ false → self.new.disk ≡ self.old.disk) }
@@ -186,65 +193,44 @@ impl<D: Disk + Drop, J: Chapter, R: Wait + Drop> Book<D, J, R> {
         ensures same_size { length (D.seen self.new.disk) ≡ length (D.seen self.old.disk) }
         ensures faults { D.fault_count self.new.disk ≡ D.fault_count self.old.disk + (if is_fault_result result then 1 else 0) }
     {
-        if self.log.len() >= self.limit {
-            return Err(Refusal::HistoryFull);
-        }
-        if !self
-            .store
-            .has_room(self.core.durable(), &change, next.after())
-        {
-            return Err(Refusal::Full);
-        }
-        let after = next.durable()?;
-        let Ok(shares) = share(self.alloc, change) else {
-            return Err(Refusal::Memory);
-        };
-        let Shares {
-            change,
-            noted,
-            given,
-        } = shares;
-        match self.save(change, noted, next, after) {
-            Ok(()) => Ok(given),
-            Err(refusal) => Err(refusal),
-        }
+        self.find_room(from_ref(&change), &next)?;
+        let change = share(self.alloc, change)?;
+        self.save(from_ref(&change), next)?;
+        Ok(change)
     }
 
-    // Saves a change for which the history has a number and the device room, and notes it there.
-    fn save(
-        &mut self,
-        change: Arc<Change>,
-        noted: Arc<Change>,
-        next: Next,
-        after: Arc<Durable>,
-    ) -> Result<(), Refusal>
-        requires made { next ≡ left_by self.old.whole.durable (arc_value change) }
-        requires noted { arc_value noted ≡ arc_value change }
-        requires after { arc_value after ≡ next.durable }
-        requires fits { fits self.old.whole.durable (arc_value change) ≡ Ok tt }
-        requires few { length (flat self.old.acked) < self.old.limit }
-        requires room { FindsRoom self.old.size self.old.whole.durable next.durable (arc_value change) }
+    // Saves changes as one group, for which the history has numbers and the device room, and notes them there.
+    fn save(&mut self, changes: &[Arc<Change>], next: Next) -> Result<(), Refusal>
+        requires made { next ≡ left_together self.old.whole.durable (map arc_value changes.now) }
+        requires fit { FollowInTurn self.old.whole.durable (made_all (map arc_value changes.now)) }
+        requires room { HasRoom (page self.old) (map arc_value changes.now) }
+        requires found { FindsRoom self.old.size self.old.whole.durable next.durable (map arc_value changes.now) }
         requires free { self.old.pending ≡ [] }
-        ensures ok { OnOk result (IsMore (page self.old) (page self.new) (arc_value change)) }
-        ensures err { IfErr result (λ e. IsUnkept e (page self.old) (page self.new) (arc_value change)) }
+        ensures ok { OnOk result (IsMore (page self.old) (page self.new) (map arc_value changes.now)) }
+        ensures err { IfErr result (λ e. IsUnkept e (page self.old) (page self.new) (map arc_value changes.now)) }
         ensures any_moment { EachMoment D.moment D.left_since self.old.disk self.new.disk
-            (HoldsEither self.old.whole.durable (applied self.old.whole.durable (arc_value change))) }
+            (HoldsEither self.old.whole.durable (after self.old.whole.durable (map arc_value changes.now))) }
         ensures still { IfErr result (λ e. is_fault e ≡ false → self.new.disk ≡ self.old.disk) }
         ensures openable { StaysOpenable D.moment D.left_since self.old self.new }
         ensures moments { D.moment self.new.disk ≤ D.moment self.old.disk + 10 }
         ensures same_size { length (D.seen self.new.disk) ≡ length (D.seen self.old.disk) }
         ensures faults { D.fault_count self.new.disk ≡ D.fault_count self.old.disk + (if is_fault_result result then 1 else 0) }
     {
-        self.log.reserve(1)?;
+        let Copies {
+            logged,
+            noted,
+            after,
+        } = prepare(self.alloc, &mut self.log, &mut self.sizes, changes, &next)?;
         match self
             .store
-            .save(self.alloc, self.core.durable(), &change, &after)
+            .save(self.alloc, self.core.durable(), changes, &after)
         {
             Ok(()) => {
-                self.log.push_reserved(change);
-                self.tip.add(noted, true);
+                put_all(&mut self.log, logged);
+                self.sizes.push_reserved(changes.len());
+                note_all(&mut self.tip, noted, true);
                 self.front = self.tip.front();
-                self.acked += 1;
+                self.acked += changes.len();
                 self.core.accept(next);
                 self.durable = after;
                 Ok(())
@@ -252,8 +238,8 @@ impl<D: Disk + Drop, J: Chapter, R: Wait + Drop> Book<D, J, R> {
             Err(SaveFault::Memory) => Err(Refusal::Memory),
             Err(SaveFault::Full) => unreachable!(),
             Err(SaveFault::Fault) => {
-                self.log.push_reserved(change);
-                self.tip.add(noted, false);
+                put_all(&mut self.log, logged);
+                note_all(&mut self.tip, noted, false);
                 Err(Refusal::Fault)
             }
             Err(SaveFault::Halted) => Err(Refusal::Halted),
@@ -419,6 +405,7 @@ impl<D: Disk + Drop, J: Chapter, R: Wait + Drop> Book<D, J, R> {
         ensures images { (h : Held) → IsAt h (page self.now) → (c : List ℕ)
             → IsImage (D.seen self.now.disk) (D.unsynced self.now.disk) c → HoldsLeft h idle c }
         ensures openable { IsOpenable D.seen D.unsynced self.now }
+        ensures folded { IsFolded (page self.now) }
     {
         // looked at, so that what a Book keeps is known here
         let _ = &self.core;
@@ -454,7 +441,7 @@ impl<D: Disk + Drop, J: Chapter, R: Wait + Drop> Book<D, J, R> {
         }
     }
 
-    /// How many of them were acknowledged: all, or all but the last one. Own.
+    /// How many of them were acknowledged: all, or all but those of one call. Own.
     pub fn acked(&self) -> usize
         ensures { result ≡ length (flat self.now.acked) }
     {
@@ -492,6 +479,7 @@ impl<D: Disk + Drop, J: Chapter, R: Wait + Drop> Book<D, J, R> {
             core: _,
             durable: _,
             log: _,
+            sizes: _,
             acked: _,
             offered: _,
             limit: _,

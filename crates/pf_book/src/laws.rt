@@ -2,7 +2,7 @@
 ghost use Rattle.std.specs.Prelude.{◌≡◌, ◌⊎◌, ◌^◌, ◌<◌, ◌≤◌, ◌++◌, ◌∷◌, [], ℕ, List, length, Option, Some};
 ghost use mathlib.Core.List.{IsPrefix};
 ghost use Rattle.pf_core.specs.declared.{command.Command.Command, reply.Outcome.Outcome, reply.Reply.Reply, reply.Reply.TheVariants.{Applied, Stored}};
-ghost use Rattle.pf_core.specs.{Durable.Edits.{Kept, Edit}, Pages.{Page, IsAt, StandsFor}, Worlds.{Setting, Held, Doing, Event, crashed, opened, begun, raised, last_epoch, up, down, state_after, IsWorld}};
+ghost use Rattle.pf_core.specs.{Durable.Edits.{Kept, Edit}, Pages.{Page, IsAt, IsFolded, StandsFor}, Worlds.{Setting, Held, Doing, Event, crashed, opened, begun, raised, last_epoch, up, down, state_after, IsWorld}};
 ghost use Rattle.pf_store.specs.declared.store.fault.{OpenFault.OpenFault, OpenFault.TheVariants.{Memory, Fault, EpochsExhausted}};
 ghost use Rattle.pf_store.specs.{Openings.{IsNoLaterThan, IsUnopened, LeavesRoom}, Stores.{Holds, IsRoomy}};
 ghost use Rattle.pf_book.specs.{Books.HoldsLeft, Receipts.{Slip, IsAnswered}};
@@ -29,7 +29,7 @@ pub fn receipts()
 pub fn crashes_are_opened()
     ensures { (first : Kept) (world : List Event) (h : Held) (doing : Doing) (image : List ℕ) (d : Kept) (setting : Setting) (b : Page)
         → IsWorld first world → state_after (down first) world ≡ up h → HoldsLeft h doing image → Holds image d → d.epoch < last_epoch
-        → IsAt (begun setting (raised d)) b → (n : ℕ) × StandsFor first b ((world ++ crashed doing n ∷ []) ++ opened setting ∷ []) }
+        → IsAt (begun setting (raised d)) b → IsFolded b → (n : ℕ) × StandsFor first b ((world ++ crashed doing n ∷ []) ++ opened setting ∷ []) }
 {}
 
 /// Whatever image a crash leaves of an opening, where it holds what it holds by a generation below 2^63 and leaves an opening room: only want of

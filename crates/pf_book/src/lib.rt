@@ -6,6 +6,8 @@
 //! - `opening`: [`Opening`], a device that was opened.
 //! - `book`: [`Book`], the history of an opening, which answers commands.
 //! - `showing`: what is shown of a history; `book` uses it.
+//! - `saving`: what a save of changes needs in memory; `book` uses it.
+//! - `course`: what the commands of a group come to, one after the other; `book` uses it.
 //! - `chapter`: [`Chapter`], the name of an opening.
 //! - `receipt`: [`Receipt`], what a caller is given with a reply.
 //! - `worker`: what a worker does with a receipt: [`judge_after`].
@@ -21,9 +23,11 @@
 
 mod book;
 mod chapter;
+mod course;
 pub mod laws;
 mod opening;
 mod receipt;
+mod saving;
 mod shared;
 mod showing;
 mod worker;

@@ -37,7 +37,9 @@ impl<D: Disk + Drop, J: Chapter, R: Wait + Drop> Desk<D, J, R> {
         ensures openable { StaysOpenable D.moment D.left_since self.old self.new }
         ensures stays { StaysUnlessKept result.0 self.old self.new }
     {
-        self.book.answer(command, last)
+        let answer = self.book.answer(command, last);
+        self.book.rests();
+        answer
     }
 }
 

@@ -10,8 +10,8 @@ use pf_view::Shower;
 use std::alloc::{AllocError, Global};
 use std::sync::{Arc, Wait};
 
-// The same changes, shared.
-fn shared(alloc: Global, changes: &[Arc<Change>]) -> Result<Vec<Arc<Change>>, AllocError>
+/// The same changes, shared. `AllocError`: one of them can't have another owner, or memory was refused.
+pub(crate) fn shared(alloc: Global, changes: &[Arc<Change>]) -> Result<Vec<Arc<Change>>, AllocError>
     ensures { IfOk result (λ v. map arc_value v.items ≡ map arc_value changes.now) }
 {
     let mut all = Vec::with_capacity(alloc, changes.len())?;

@@ -1,7 +1,7 @@
 -- Longer worlds, one event at a time.
 use Rattle.std.proofs.{Common.{Result, ◌≡◌, ℕ, ◌<◌, ◌≤◌, Bool, true, false, cond, inl, inr, List, [], ◌∷◌, ◌++◌, refl, sym, ap, ◌∙◌, subst, append-nil}, lemmas.List.Sums.{fold-append, fold_push}}
 use Rattle.std.specs.Prelude.{fold, ⊤}
-use Rattle.pf_core.specs.{declared.{command.Command.Command, reply.Refusal.Refusal, reply.Refusal.TheVariants.Fault, reply.Refusal.TheVariants.Memory, reply.Reply.Reply, reply.Reply.TheVariants.Applied, reply.Reply.TheVariants.Refused}, Calls.{Call, call, mentions_of, mentions_of_group}, Durable.Edits.{Kept, Edit}, Pages.{Page, IsAt, StandsFor, Leads, LeadsGroup}, Wholes.Whole, Laws.{Openings.CrashesAreEvents, Worlds.{mentions_by, mentions_since, TicketsAreOfTheCalls}}, Worlds.{Setting, Held, State, up, down, begun, raised, flat, step_in, due, group_in, Upshot, upshot, Event, called, called_group, entered, learned, crashed, opened, refused_opening, acked_by, is_fault, pending_by, shown_by, heard, heard_group, sighted, SawNoMore, next, StandsIn, LegalReply, last_epoch, IsLegal, state_after, IsLegalFrom, IsWorld}}
+use Rattle.pf_core.specs.{declared.{command.Command.Command, reply.Refusal.Refusal, reply.Refusal.TheVariants.Fault, reply.Refusal.TheVariants.Memory, reply.Reply.Reply, reply.Reply.TheVariants.Applied, reply.Reply.TheVariants.Refused}, Calls.{Call, call, mentions_of, mentions_of_group}, Durable.Edits.{Kept, Edit}, Pages.{Page, IsAt, IsFolded, StandsFor, Leads, LeadsGroup}, Wholes.Whole, Laws.{Openings.CrashesAreEvents, Worlds.{mentions_by, mentions_since, TicketsAreOfTheCalls}}, Worlds.{Setting, Held, State, up, down, begun, raised, flat, step_in, due, group_in, Upshot, upshot, Event, called, called_group, entered, learned, crashed, opened, refused_opening, acked_by, is_fault, pending_by, shown_by, heard, heard_group, sighted, SawNoMore, next, StandsIn, LegalReply, last_epoch, IsLegal, state_after, IsLegalFrom, IsWorld}}
 use Rattle.pf_ticket.specs.{Tickets.{Open, fresh}, Mentions.{Mention, moved, after, opened as left_by}}
 use Rattle.pf_core.proofs.{Fronts.flat-append, Groups.refused-group}
 
@@ -17,43 +17,44 @@ legal-push st (x ∷ xs) e all now = (all.0, legal-push (next st x) xs e all.1 n
 
 -- a legal event leads to a longer world
 pub stands-by : (first : Kept) (new : Page) (world : List Event) (e : Event) (st : State) (h : Held) →
-    IsWorld first world → state_after (down first) world ≡ st → IsLegal st e → next st e ≡ up h → IsAt h new → StandsFor first new (world ++ e ∷ [])
-stands-by first new world e st h legal comes now is at = record {
+    IsWorld first world → state_after (down first) world ≡ st → IsLegal st e → next st e ≡ up h → IsAt h new → IsFolded new → StandsFor first new (world ++ e ∷ [])
+stands-by first new world e st h legal comes now is at folded = record {
   legal = legal-push (down first) world e legal (subst (λ (x : State). IsLegal x e) (sym comes) now);
   held = h;
   comes = fold_push next (down first) world e ∙ ap (λ (x : State). next x e) comes ∙ is;
   at = at;
+  folded = folded;
 }
 
 -- what is seen changes nothing else
 sighted-at : (h : Held) (b : Page) (worker n : ℕ) → IsAt h b → IsAt (sighted h worker n) b
 sighted-at h b worker n at = record { base = at.base; tickets = at.tickets; acked = at.acked; pending = at.pending; shown = at.shown; setting = at.setting }
 
-pub stands-on : (first : Kept) (old new : Page) (world : List Event) (c : Call) (t : Upshot) → (stands : StandsFor first old world) → Leads stands.held new c t → StandsFor first new (world ++ called c t ∷ [])
-stands-on first old new world c t stands leads = stands-by first new world (called c t) (up stands.held) (heard stands.held c t) stands.legal stands.comes leads.legal refl leads.at
+pub stands-on : (first : Kept) (old new : Page) (world : List Event) (c : Call) (t : Upshot) → (stands : StandsFor first old world) → Leads stands.held new c t → IsFolded new → StandsFor first new (world ++ called c t ∷ [])
+stands-on first old new world c t stands leads folded = stands-by first new world (called c t) (up stands.held) (heard stands.held c t) stands.legal stands.comes leads.legal refl leads.at folded
 
-pub stands-on-group : (first : Kept) (old new : Page) (world : List Event) (commands : List Command) (result : Result (List Reply) Refusal) (t : Upshot) → (stands : StandsFor first old world) → LeadsGroup stands.held new commands result t
+pub stands-on-group : (first : Kept) (old new : Page) (world : List Event) (commands : List Command) (result : Result (List Reply) Refusal) (t : Upshot) → (stands : StandsFor first old world) → LeadsGroup stands.held new commands result t → IsFolded new
     → StandsFor first new (world ++ called_group commands result t ∷ [])
-stands-on-group first old new world commands result t stands leads =
-    stands-by first new world (called_group commands result t) (up stands.held) (heard_group stands.held commands result t) stands.legal stands.comes leads.legal refl leads.at
+stands-on-group first old new world commands result t stands leads folded =
+    stands-by first new world (called_group commands result t) (up stands.held) (heard_group stands.held commands result t) stands.legal stands.comes leads.legal refl leads.at folded
 
 -- a worker may judge by what is shown, where it saw and learnt of no more
 pub stands-entered : (first : Kept) (b : Page) (world : List Event) (worker n : ℕ) → (stands : StandsFor first b world) → SawNoMore stands.held.sights worker n → n ≤ b.shown → StandsFor first b (world ++ entered worker n ∷ [])
 stands-entered first b world worker n stands no_more low =
     let h : Held = stands.held in
     let shown : n ≤ h.shown = subst (λ (m : ℕ). n ≤ m) stands.at.shown low in
-    stands-by first b world (entered worker n) (up h) (sighted h worker n) stands.legal stands.comes (no_more, shown) refl (sighted-at h b worker n stands.at)
+    stands-by first b world (entered worker n) (up h) (sighted h worker n) stands.legal stands.comes (no_more, shown) refl (sighted-at h b worker n stands.at) stands.folded
 
 -- or learn of it
 pub stands-learned : (first : Kept) (b : Page) (world : List Event) (worker n : ℕ) → (stands : StandsFor first b world) → n ≤ b.shown → StandsFor first b (world ++ learned worker n ∷ [])
 stands-learned first b world worker n stands low =
     let h : Held = stands.held in
     let shown : n ≤ h.shown = subst (λ (m : ℕ). n ≤ m) stands.at.shown low in
-    stands-by first b world (learned worker n) (up h) (sighted h worker n) stands.legal stands.comes shown refl (sighted-at h b worker n stands.at)
+    stands-by first b world (learned worker n) (up h) (sighted h worker n) stands.legal stands.comes shown refl (sighted-at h b worker n stands.at) stands.folded
 
 -- an opening has begun
-pub stands-opened : (first : Kept) (new : Page) (setting : Setting) → first.epoch < last_epoch → IsAt (begun setting (raised first)) new → StandsFor first new (opened setting ∷ [])
-stands-opened first new setting low at = stands-by first new [] (opened setting) (down first) (begun setting (raised first)) tt refl low refl at
+pub stands-opened : (first : Kept) (new : Page) (setting : Setting) → first.epoch < last_epoch → IsAt (begun setting (raised first)) new → IsFolded new → StandsFor first new (opened setting ∷ [])
+stands-opened first new setting low at folded = stands-by first new [] (opened setting) (down first) (begun setting (raised first)) tt refl low refl at folded
 
 -- a reply that keeps nothing leads to another core at most
 pub nothing-leads : (h : Held) (b : Page) (w : Whole) (c : Command) (r : Reply) → LegalReply h c r false → acked_by r (group_in h c) ≡ [] → pending_by r (group_in h c) ≡ [] → shown_by r h.shown ≡ h.shown →

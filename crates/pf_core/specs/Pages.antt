@@ -28,12 +28,13 @@ pub record IsAt (h : Held) (b : Page) : Type 0 where
   pub shown : b.shown ≡ h.shown
   pub setting : b.setting ≡ h.setting
 
--- these events were legal, and the Book is what they leave
+-- these events were legal, and the Book is what they leave: what it keeps is the fold of what was acknowledged, and what it shows of a front
 pub record StandsFor (first : Kept) (b : Page) (world : List Event) : Type 0 where
   pub legal : IsWorld first world
   pub held : Held
   pub comes : state_after (down first) world ≡ up held
   pub at : IsAt held b
+  pub folded : IsFolded b
 
 -- a call is a legal event, and leads to what it leaves
 pub record Leads (h : Held) (new : Page) (c : Call) (t : Upshot) : Type 0 where

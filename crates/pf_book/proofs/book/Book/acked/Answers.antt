@@ -6,4 +6,4 @@ use Rattle.pf_book.proofs.Parts.{counted-acked}
 use Rattle.pf_book.proofs.book.Book.acked.Goals as goal
 
 pub returns : goal.returns
-returns g c = counted-acked (map arc_value c.self.inside.log.items) c.self.inside.acked c.self.invariant.low ∙ ap (λ (b : Ledger g.row.D.Denot). length (flat b.acked)) c.self.view_is
+returns g c = counted-acked (map arc_value c.self.inside.log.items) c.self.inside.sizes.items c.self.inside.acked c.self.invariant.cuts c.self.invariant.low ∙ ap (λ (b : Ledger g.row.D.Denot). length (flat b.acked)) c.self.view_is

@@ -11,7 +11,7 @@ returns-clause-begins g c =
     let s = c.self.inside in
     let log : List Edit = map arc_value s.log.items in
     subst (λ (r : Slip). IsPrefix r.front (log_in (page c.args.self.now))) c.receipt.view_is
-    (subst (λ (l : Ledger g.row.D.Denot). IsPrefix c.receipt.inside.front.front (log_in (page l))) c.self.view_is (begins-log c.receipt.inside.front s.tip log s.acked c.contains.ensures.begins c.self.invariant.log_is))
+    (subst (λ (l : Ledger g.row.D.Denot). IsPrefix c.receipt.inside.front.front (log_in (page l))) c.self.view_is (begins-log c.receipt.inside.front s.tip log s.sizes.items s.acked c.contains.ensures.begins c.self.invariant.log_is c.self.invariant.cuts))
 
 pub returns-clause-acked : goal.returns-clause-acked
 returns-clause-acked g c =
@@ -19,7 +19,7 @@ returns-clause-acked g c =
     let log : List Edit = map arc_value s.log.items in
     subst (λ (r : Slip). r.acked ≤ length (flat c.args.self.now.acked)) c.receipt.view_is
     (subst (λ (l : Ledger g.row.D.Denot). c.receipt.inside.front.acked ≤ length (flat l.acked)) c.self.view_is
-    (still-acked c.receipt.inside.front s.tip log s.acked c.contains.ensures.begins c.self.invariant.acked_is c.self.invariant.low))
+    (still-acked c.receipt.inside.front s.tip log s.sizes.items s.acked c.contains.ensures.begins c.self.invariant.acked_is c.self.invariant.cuts c.self.invariant.low))
 
 pub returns-clause-change : goal.returns-clause-change
 returns-clause-change g c =
@@ -28,4 +28,4 @@ returns-clause-change g c =
     let log : List Edit = map arc_value s.log.items in
     subst (λ (x : Slip). ForSome x.change (λ e. length x.front ≤ length (flat c.args.self.now.acked))) c.receipt.view_is
     (subst (λ (l : Ledger g.row.D.Denot). ForSome (option_map arc_value r.change) (λ e. length r.front.front ≤ length (flat l.acked))) c.self.view_is
-    (acked-too r.front s.tip r.seq (option_map arc_value r.change) log s.acked c.contains.ensures.begins c.self.invariant.acked_is c.self.invariant.low c.receipt.invariant))
+    (acked-too r.front s.tip r.seq (option_map arc_value r.change) log s.sizes.items s.acked c.contains.ensures.begins c.self.invariant.acked_is c.self.invariant.cuts c.self.invariant.low c.receipt.invariant))

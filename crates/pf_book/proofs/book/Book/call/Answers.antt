@@ -1,13 +1,14 @@
-use Rattle.std.proofs.{Common.{◌≡◌, ℕ, List, length, map, Ok, refl, sym, ap, ◌∙◌, subst, arith}, lemmas.Grind.common_steps}
+use Rattle.std.proofs.{Common.{◌≡◌, ℕ, List, [], true, length, map, Ok, refl, sym, ap, ◌∙◌, subst, arith}, lemmas.Grind.common_steps}
 use Rattle.std.specs.{Arc.arc_value, Option.option_map, Prelude.nat_lt}
 use Rattle.pf_disk.specs.Disk.{EachMoment}
-use Rattle.pf_core.specs.declared.reply.{Reply.TheVariants.{Answer}}
-use Rattle.pf_core.specs.{Calls.call, Commands.takes_memory, Durable.Edits.{Edit, fits}, Laws.Wanted.wants_what_fits, Pages.{Page, IsAt, Leads}, Wholes.{Whole, plain}, Worlds.{Held, calling, upshot}}
+use Rattle.pf_core.specs.declared.reply.{Reply.TheVariants.{Answer, Refused}, Refusal.TheVariants.Halted}
+use Rattle.pf_core.specs.{Calls.call, Commands.{takes_memory, may_change}, Durable.Edits.{Edit, fits}, Laws.Wanted.wants_what_fits, Pages.{Page, IsAt, Leads}, Wholes.{Whole, plain}, Worlds.{Held, calling, upshot}}
 use Rattle.pf_book.specs.{Books.{Ledger, ledger, page, page_of, HoldsLeft, IsMade, IsTold, is_fault_reply, setting_in}, Receipts.IsGiven}
 use Rattle.pf_book.proofs.Answering.{told-given}
-use Rattle.pf_book.proofs.Calling.{with_core, IsFree, unchanging, none-behind, no-fault, not-more, fault-flag, answer-leads, history-leads, made-leads, made-stays, made-moment, still-left, err-not-fault}
+use Rattle.pf_book.proofs.Calling.{with_core, IsFree, unchanging, none-behind, no-fault, not-more, fault-flag, answer-leads, halted-leads, refusal-leads, told-stays, history-leads, made-leads, made-stays, made-moment, still-left, err-not-fault}
 use Rattle.pf_book.proofs.Keeping.{stepped-book}
 use Rattle.pf_book.proofs.Openable.{same-openable, saved-openable, still-openable}
+use Rattle.pf_book.proofs.Parts.{all-acked}
 use Rattle.pf_book.proofs.Wanting.{wanted-can}
 use Rattle.pf_book.proofs.book.Book.call.Goals.{else-self-len-via-then-self-len+else-may_change, else-self-len-via-else-self-len}
 use Rattle.pf_book.proofs.book.Book.call.Goals as goal
@@ -24,7 +25,7 @@ invariant_of-self g c =
     let s = c.self.inside in
     let k = c.args.command.now in
     let e = c.step_ready.ensures in
-    stepped-book g.D.Disk.seen g.D.Disk.unsynced s.store g.J.Naming.base s.core c.step_ready.new.self (arc_value s.durable) (map arc_value s.log.items) s.acked s.offered
+    stepped-book g.D.Disk.seen g.D.Disk.unsynced s.store g.J.Naming.base s.core c.step_ready.new.self (arc_value s.durable) (map arc_value s.log.items) s.sizes.items s.acked s.offered
     (setting_in s.store s.limit) s.shower s.tip s.front k (takes_memory s.core.durable k) (plain c.step_ready.result) c.self.invariant e.reply e.left
 
 pub make-requires-clause-fits : goal.make-requires-clause-fits
@@ -45,11 +46,11 @@ returns-in-Ok-Done-clause-leads g c =
     let k = c.args.command.now in
     let disk = s.store.disk in
     let log : List Edit = map arc_value s.log.items in
-    let b : Page = page_of g.J.Naming.base s.core log s.acked (setting_in s.store s.limit) s.shower.shown in
+    let b : Page = page_of g.J.Naming.base s.core log s.sizes.items s.acked (setting_in s.store s.limit) s.shower.shown in
     let counted : c.len.result ≡ length log = grind (arith, common_steps, c.len.ensures) in
     let free : IsFree b k = elim c.else-self-len.branch [
       | else-self-len-via-then-self-len+else-may_change w ↦ unchanging b k (sym w.may_change.ensures ∙ w.if-may_change.false)
-      | else-self-len-via-else-self-len w ↦ none-behind g.J.Naming.base s.core log s.acked (setting_in s.store s.limit) s.shower.shown k c.self.invariant.low (omega (arith, counted, w.if-self-len.false))
+      | else-self-len-via-else-self-len w ↦ none-behind g.J.Naming.base s.core log s.sizes.items s.acked (setting_in s.store s.limit) s.shower.shown k c.self.invariant.low (omega (arith, counted, w.if-self-len.false))
     ] in
     let e = rw c.in-Ok-Done.field-0-is at c.in-Ok-Done.ensures in
     let f : ℕ = g.D.Disk.fault_count disk in
@@ -70,11 +71,11 @@ returns-in-Ok-Wants-clause-leads g c =
     let k = c.args.command.now in
     let disk = s.store.disk in
     let log : List Edit = map arc_value s.log.items in
-    let b : Page = page_of g.J.Naming.base s.core log s.acked (setting_in s.store s.limit) s.shower.shown in
+    let b : Page = page_of g.J.Naming.base s.core log s.sizes.items s.acked (setting_in s.store s.limit) s.shower.shown in
     let counted : c.len.result ≡ length log = grind (arith, common_steps, c.len.ensures) in
     let free : IsFree b k = elim c.else-self-len.branch [
       | else-self-len-via-then-self-len+else-may_change w ↦ unchanging b k (sym w.may_change.ensures ∙ w.if-may_change.false)
-      | else-self-len-via-else-self-len w ↦ none-behind g.J.Naming.base s.core log s.acked (setting_in s.store s.limit) s.shower.shown k c.self.invariant.low (omega (arith, counted, w.if-self-len.false))
+      | else-self-len-via-else-self-len w ↦ none-behind g.J.Naming.base s.core log s.sizes.items s.acked (setting_in s.store s.limit) s.shower.shown k c.self.invariant.low (omega (arith, counted, w.if-self-len.false))
     ] in
     let e = rw c.in-Ok-Wants.field-0-is at c.in-Ok-Wants.ensures in
     let change = c.in-Ok-Wants.change in
@@ -91,11 +92,11 @@ returns-in-Ok-Wants-clause-any_moment g c =
     let k = c.args.command.now in
     let disk = s.store.disk in
     let log : List Edit = map arc_value s.log.items in
-    let b : Page = page_of g.J.Naming.base s.core log s.acked (setting_in s.store s.limit) s.shower.shown in
+    let b : Page = page_of g.J.Naming.base s.core log s.sizes.items s.acked (setting_in s.store s.limit) s.shower.shown in
     let counted : c.len.result ≡ length log = grind (arith, common_steps, c.len.ensures) in
     let free : IsFree b k = elim c.else-self-len.branch [
       | else-self-len-via-then-self-len+else-may_change w ↦ unchanging b k (sym w.may_change.ensures ∙ w.if-may_change.false)
-      | else-self-len-via-else-self-len w ↦ none-behind g.J.Naming.base s.core log s.acked (setting_in s.store s.limit) s.shower.shown k c.self.invariant.low (omega (arith, counted, w.if-self-len.false))
+      | else-self-len-via-else-self-len w ↦ none-behind g.J.Naming.base s.core log s.sizes.items s.acked (setting_in s.store s.limit) s.shower.shown k c.self.invariant.low (omega (arith, counted, w.if-self-len.false))
     ] in
     let e = rw c.in-Ok-Wants.field-0-is at c.in-Ok-Wants.ensures in
     let change = c.in-Ok-Wants.change in
@@ -110,7 +111,7 @@ pub returns-in-Ok-Wants-clause-stays : goal.returns-in-Ok-Wants-clause-stays
 returns-in-Ok-Wants-clause-stays g c =
     let s = c.self.inside in
     let log : List Edit = map arc_value s.log.items in
-    let b : Page = page_of g.J.Naming.base s.core log s.acked (setting_in s.store s.limit) s.shower.shown in
+    let b : Page = page_of g.J.Naming.base s.core log s.sizes.items s.acked (setting_in s.store s.limit) s.shower.shown in
     let e = rw c.in-Ok-Wants.field-0-is at c.in-Ok-Wants.ensures in
     let change = c.in-Ok-Wants.change in
     let outcome = c.in-Ok-Wants.outcome in
@@ -125,7 +126,7 @@ returns-in-Ok-OfHistory-clause-leads g c =
     let k = c.args.command.now in
     let disk = s.store.disk in
     let log : List Edit = map arc_value s.log.items in
-    let b : Page = page_of g.J.Naming.base s.core log s.acked (setting_in s.store s.limit) s.shower.shown in
+    let b : Page = page_of g.J.Naming.base s.core log s.sizes.items s.acked (setting_in s.store s.limit) s.shower.shown in
     let e = rw c.in-Ok-OfHistory.field-0-is at c.in-Ok-OfHistory.ensures in
     let x = c.in-Ok-OfHistory.command in
     let new = c.tell.new.self in
@@ -153,7 +154,7 @@ returns-in-Err-clause-any_moment g c =
 pub returns-in-Err-clause-faults : goal.returns-in-Err-clause-faults
 returns-in-Err-clause-faults g c =
     let s = c.self.inside in
-    let b : Page = page_of g.J.Naming.base s.core (map arc_value s.log.items) s.acked (setting_in s.store s.limit) s.shower.shown in
+    let b : Page = page_of g.J.Naming.base s.core (map arc_value s.log.items) s.sizes.items s.acked (setting_in s.store s.limit) s.shower.shown in
     let quiet = err-not-fault b c.args.command.now c.in-Err.refusal c.in-Err.ensures.reply in
     let same : g.D.Disk.fault_count s.store.disk ≡ g.D.Disk.fault_count c.args.self.now.disk = ap (λ (l : Ledger g.row.D.Denot). g.D.Disk.fault_count l.disk) c.self.view_is in
     rw quiet (omega (arith, same))
@@ -161,7 +162,7 @@ returns-in-Err-clause-faults g c =
 pub returns-in-Err-clause-stays : goal.returns-in-Err-clause-stays
 returns-in-Err-clause-stays g c =
     let s = c.self.inside in
-    let b : Page = page_of g.J.Naming.base s.core (map arc_value s.log.items) s.acked (setting_in s.store s.limit) s.shower.shown in
+    let b : Page = page_of g.J.Naming.base s.core (map arc_value s.log.items) s.sizes.items s.acked (setting_in s.store s.limit) s.shower.shown in
     let quiet = err-not-fault b c.args.command.now c.in-Err.refusal c.in-Err.ensures.reply in
     record {
       same = λ is. (ap (with_core b) c.in-Err.ensures.left ∙ ap page c.self.view_is, ap (λ (l : Ledger g.row.D.Denot). l.disk) c.self.view_is);
@@ -172,7 +173,7 @@ pub returns-in-Ok-Wants-clause-given : goal.returns-in-Ok-Wants-clause-given
 returns-in-Ok-Wants-clause-given g c =
     let s = c.self.inside in
     let log : List Edit = map arc_value s.log.items in
-    let b : Page = page_of g.J.Naming.base s.core log s.acked (setting_in s.store s.limit) s.shower.shown in
+    let b : Page = page_of g.J.Naming.base s.core log s.sizes.items s.acked (setting_in s.store s.limit) s.shower.shown in
     let e = rw c.in-Ok-Wants.field-0-is at c.in-Ok-Wants.ensures in
     let new = c.make.new.self in
     subst (λ (l : Ledger g.row.D.Denot). IsGiven c.make.result.0 (option_map arc_value c.make.result.1) (page l) (page new)) c.self.view_is
@@ -192,7 +193,7 @@ returns-in-Ok-Done-clause-openable g c =
     let i = c.self.invariant in
     let s = c.self.inside in
     let disk = s.store.disk in
-    let new : Ledger g.row.D.Denot = ledger disk g.J.Naming.base c.step_ready.new.self (map arc_value s.log.items) s.acked s.limit s.store.size s.store.generation s.shower.shown in
+    let new : Ledger g.row.D.Denot = ledger disk g.J.Naming.base c.step_ready.new.self (map arc_value s.log.items) s.sizes.items s.acked s.limit s.store.size s.store.generation s.shower.shown in
     still-openable g.D.Disk.seen g.D.Disk.unsynced g.D.Disk.moment g.D.Disk.left_since _ _ new c.self.view_is refl refl refl (g.met.D.Disk.only_now disk) i.generations i.roomy
 
 pub returns-in-Err-clause-openable : goal.returns-in-Err-clause-openable
@@ -200,7 +201,7 @@ returns-in-Err-clause-openable g c =
     let i = c.self.invariant in
     let s = c.self.inside in
     let disk = s.store.disk in
-    let new : Ledger g.row.D.Denot = ledger disk g.J.Naming.base c.step_ready.new.self (map arc_value s.log.items) s.acked s.limit s.store.size s.store.generation s.shower.shown in
+    let new : Ledger g.row.D.Denot = ledger disk g.J.Naming.base c.step_ready.new.self (map arc_value s.log.items) s.sizes.items s.acked s.limit s.store.size s.store.generation s.shower.shown in
     still-openable g.D.Disk.seen g.D.Disk.unsynced g.D.Disk.moment g.D.Disk.left_since _ _ new c.self.view_is refl refl refl (g.met.D.Disk.only_now disk) i.generations i.roomy
 
 pub returns-in-Ok-OfHistory-clause-openable : goal.returns-in-Ok-OfHistory-clause-openable
@@ -213,3 +214,46 @@ pub returns-in-Ok-Wants-clause-openable : goal.returns-in-Ok-Wants-clause-openab
 returns-in-Ok-Wants-clause-openable g c =
     let o = c.make.ensures.openable in
     saved-openable g.D.Disk.seen g.D.Disk.unsynced g.D.Disk.moment g.D.Disk.left_since _ _ c.make.new.self c.self.view_is o.stays o.one_more o.size o.early o.roomy
+
+pub returns-then-may_change-clause-leads : goal.returns-then-may_change-clause-leads
+returns-then-may_change-clause-leads g c =
+    let s = c.self.inside in
+    let k = c.args.command.now in
+    let b : Page = page c.args.self.now in
+    let log : List Edit = map arc_value s.log.items in
+    let counted : c.len.result ≡ length log = grind (arith, common_steps, c.len.ensures) in
+    let may : may_change k ≡ true = sym c.may_change.ensures ∙ c.if-may_change.true in
+    let some : b.pending ≡ [] → ⊥ = λ none.
+    let all : s.acked ≡ length log = all-acked log s.acked c.self.invariant.low (ap (λ (l : Ledger g.row.D.Denot). l.pending) c.self.view_is ∙ none) in
+    absurd (omega (arith, all, counted, c.if-self-len.true)) in
+    let f : ℕ = g.D.Disk.fault_count c.args.self.now.disk in
+    λ h at. no-fault h b (call k (Refused Halted)) b.shown (nat_lt f f) (not-more f f (omega arith)) (halted-leads h b k may some at)
+
+pub returns-in-Ok-OfHistory-clause-stays : goal.returns-in-Ok-OfHistory-clause-stays
+returns-in-Ok-OfHistory-clause-stays g c =
+    let s = c.self.inside in
+    let b : Page = page_of g.J.Naming.base s.core (map arc_value s.log.items) s.sizes.items s.acked (setting_in s.store s.limit) s.shower.shown in
+    let e = rw c.in-Ok-OfHistory.field-0-is at c.in-Ok-OfHistory.ensures in
+    let x = c.in-Ok-OfHistory.command in
+    let new = c.tell.new.self in
+    let told : IsTold x c.tell.result b (page new) = subst (λ (w : Whole). IsTold x c.tell.result (with_core b w) (page new)) e.left c.tell.ensures.told in
+    told-stays x c.tell.result c.args.self.now new (subst (λ (l : Ledger g.row.D.Denot). IsTold x c.tell.result (page l) (page new)) c.self.view_is told) (c.tell.ensures.device ∙ ap (λ (l : Ledger g.row.D.Denot). l.disk) c.self.view_is)
+
+pub returns-in-Err-clause-leads : goal.returns-in-Err-clause-leads
+returns-in-Err-clause-leads g c =
+    let s = c.self.inside in
+    let k = c.args.command.now in
+    let disk = s.store.disk in
+    let log : List Edit = map arc_value s.log.items in
+    let b : Page = page_of g.J.Naming.base s.core log s.sizes.items s.acked (setting_in s.store s.limit) s.shower.shown in
+    let counted : c.len.result ≡ length log = grind (arith, common_steps, c.len.ensures) in
+    let free : IsFree b k = elim c.else-self-len.branch [
+      | else-self-len-via-then-self-len+else-may_change w ↦ unchanging b k (sym w.may_change.ensures ∙ w.if-may_change.false)
+      | else-self-len-via-else-self-len w ↦ none-behind g.J.Naming.base s.core log s.sizes.items s.acked (setting_in s.store s.limit) s.shower.shown k c.self.invariant.low (omega (arith, counted, w.if-self-len.false))
+    ] in
+    let why = c.in-Err.refusal in
+    let new : Page = with_core b c.step_ready.new.self in
+    let f : ℕ = g.D.Disk.fault_count disk in
+    subst (λ (l : Ledger g.row.D.Denot). (h : Held) → IsAt h (page l) → Leads h new (call k (Refused why)) (upshot (length s.shower.shown) (nat_lt (g.D.Disk.fault_count l.disk) f))) c.self.view_is
+    (λ h at. no-fault h new (call k (Refused why)) (length s.shower.shown) (nat_lt f f) (not-more f f (omega arith))
+    (refusal-leads h b new k why at c.self.invariant.folded free c.in-Err.ensures.reply (ap (with_core b) c.in-Err.ensures.left)))

@@ -20,7 +20,7 @@ returns-in-Some g c =
     let at : slice_get (map arc_value items) i ≡ Some c.deref-in-Some.result.now =
     slice_get-map arc_value items i ∙ ap (option_map arc_value) (ap (λ xs. slice_get xs i) (sym same) ∙ read) ∙ ap Some (sym c.deref-in-Some.ensures) in
     there (map arc_value items) c.args.number (Some c.deref-in-Some.result.now) c.if-number-eq0.false at
-    ∙ ap (λ (l : List Edit). change_in l c.args.number) (sym (whole-log (map arc_value items) c.self.inside.acked))
+    ∙ ap (λ (l : List Edit). change_in l c.args.number) (sym (whole-log (map arc_value items) c.self.inside.sizes.items c.self.inside.acked c.self.invariant.cuts))
     ∙ ap (λ (b : Ledger g.row.D.Denot). change_in (log_in (page b)) c.args.number) c.self.view_is
 
 pub returns-in-None : goal.returns-in-None
@@ -29,5 +29,5 @@ returns-in-None g c =
     let counted : length c.deref.result.now ≡ length log = grind (arith, common_steps, c.deref.ensures.value) in
     let short : length log ≤ c.args.number - 1 = grind (arith, common_steps, c.in-None.ensures.lookup.0, counted) in
     there log c.args.number None c.if-number-eq0.false (slice_get_past log (c.args.number - 1) short)
-    ∙ ap (λ (l : List Edit). change_in l c.args.number) (sym (whole-log log c.self.inside.acked))
+    ∙ ap (λ (l : List Edit). change_in l c.args.number) (sym (whole-log log c.self.inside.sizes.items c.self.inside.acked c.self.invariant.cuts))
     ∙ ap (λ (b : Ledger g.row.D.Denot). change_in (log_in (page b)) c.args.number) c.self.view_is

@@ -10,7 +10,7 @@ pub returns-clause-yes : goal.returns-clause-yes
 returns-clause-yes g c =
     let s = c.self.inside in
     let log : List Edit = map arc_value s.log.items in
-    let whole : log_in (page c.args.self.now) ≡ log = ap (λ (l : Ledger g.row.D.Denot). log_in (page l)) (sym (c.self.view_is ∙ c.begins_with.ensures.same)) ∙ whole-log log s.acked in
+    let whole : log_in (page c.args.self.now) ≡ log = ap (λ (l : Ledger g.row.D.Denot). log_in (page l)) (sym (c.self.view_is ∙ c.begins_with.ensures.same)) ∙ whole-log log s.sizes.items s.acked c.self.invariant.cuts in
     let counted : c.len.result ≡ length log = grind (arith, common_steps, c.len.ensures) in
     let seq : c.receipt.inside.seq ≡ length c.args.receipt.now.front = c.receipt.invariant.seq_is ∙ ap (λ (x : Slip). length x.front) c.receipt.view_is in
     let short : length c.args.receipt.now.front ≤ length (log_in (page c.args.self.now)) = prefix_length c.args.receipt.now.front (log_in (page c.args.self.now)) c.begins_with.ensures.begins in

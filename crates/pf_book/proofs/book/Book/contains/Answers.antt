@@ -11,11 +11,11 @@ returns-clause-begins g c =
     let s = c.self.inside in
     let log : List Edit = map arc_value s.log.items in
     subst (λ (l : Ledger g.row.D.Denot). IsPrefix c.args.front.now.front (log_in (page l))) c.self.view_is
-    (begins-log c.args.front.now s.tip log s.acked c.contains.ensures.begins c.self.invariant.log_is)
+    (begins-log c.args.front.now s.tip log s.sizes.items s.acked c.contains.ensures.begins c.self.invariant.log_is c.self.invariant.cuts)
 
 pub returns-clause-acked : goal.returns-clause-acked
 returns-clause-acked g c =
     let s = c.self.inside in
     let log : List Edit = map arc_value s.log.items in
     subst (λ (l : Ledger g.row.D.Denot). c.args.front.now.acked ≤ length (flat l.acked)) c.self.view_is
-    (still-acked c.args.front.now s.tip log s.acked c.contains.ensures.begins c.self.invariant.acked_is c.self.invariant.low)
+    (still-acked c.args.front.now s.tip log s.sizes.items s.acked c.contains.ensures.begins c.self.invariant.acked_is c.self.invariant.cuts c.self.invariant.low)

@@ -1,172 +1,101 @@
-use Rattle.std.proofs.{Common.{◌≡◌, ◌≤◌, ◌<◌, ℕ, List, [], length, map, take, drop, refl, sym, ap, ◌∙◌, subst, true, false, ◌++◌, ◌∷◌, arith}, lemmas.{Grind.common_steps, Result.err_from_is_err_and}}
-use Rattle.std.specs.{Arc.arc_value, Prelude.not}
+use Rattle.std.proofs.{Common.{◌≡◌, ℕ, ◌+◌, arith, List, [], ◌∷◌, length, map, refl, sym, ap, ◌∙◌, subst, append-nil, true, Bool}, lemmas.Result.err_from_is_err_and}
+use Rattle.std.specs.{Arc.arc_value, Prelude.◌&&◌, List.list_all}
 use Rattle.pf_disk.specs.Disk.{EachMoment}
-use Rattle.pf_core.specs.{Durable.Edits.{Kept, Edit, after, applied}, Nexts.Ready, Pages.Page, Worlds.{Setting, flat}}
-use Rattle.pf_store.specs.{Rooms.group_fits, Stores.{FindsRoom, HoldsEither}}
-use Rattle.pf_book.specs.{Books.{HasRoom, Ledger, page, page_of, singles, setting_in}}
-use Rattle.pf_book.proofs.{Calling.still-either, Finding.{FitsThere, device-fits, device-full, same-room}, Keeping.{acked-is, goes-on}, Openable.same-openable, Parts.{all-acked}}
+use Rattle.pf_core.specs.{Durable.Edits.{Kept, Edit, after, applied, voided_by}, Nexts.{Ready, ready}, Pages.Page}
+use Rattle.pf_store.specs.{Groups.{can_be_wanted, is_group, made_all}, Stores.{FindsRoom, FollowInTurn, HoldsEither}}
+use Rattle.pf_book.specs.Books.{HasRoom, HasNoRoom, IsMore, IsUnkept, left_together, page}
+use Rattle.pf_book.proofs.Finding.{unroomed, unroomed-calm}
 use Rattle.pf_book.proofs.book.Book.keep.Goals as goal
 
-pub returns-then-len-self-clause-err : goal.returns-then-len-self-clause-err
-returns-then-len-self-clause-err g c =
-    let s = c.self.inside in
-    let i = c.self.invariant in
-    let e = c.args.change in
-    let log : List Edit = map arc_value s.log.items in
-    let none : singles (drop s.acked log) ≡ [] = ap (λ (l : Ledger g.row.D.Denot). l.pending) c.self.view_is ∙ c.requires.free in
-    let all : s.acked ≡ length log = all-acked log s.acked i.low none in
-    let setting : Setting = setting_in s.store s.limit in
-    let b : Page = page_of g.J.Naming.base s.core log s.acked setting s.shower.shown in
-    let disk = s.store.disk in
-    let counted : c.len.result ≡ length log = grind (arith, common_steps, c.len.ensures) in
-    let full : s.limit ≤ length (flat (singles (take s.acked log))) = subst (λ (n : ℕ). s.limit ≤ n) (counted ∙ ap length (sym (acked-is log s.acked all))) c.if-len-self.true in
-    (refl, subst (λ (l : Ledger g.row.D.Denot). l.limit ≤ length (flat l.acked)) c.self.view_is full)
+pub find_room-requires-clause-left : goal.find_room-requires-clause-left
+find_room-requires-clause-left g c = ap (λ (r : Ready). r.durable) c.requires.made ∙ ap (after c.args.self.now.whole.durable) (sym c.from_ref.ensures.value)
 
-pub returns-then-len-self-clause-any_moment : goal.returns-then-len-self-clause-any_moment
-returns-then-len-self-clause-any_moment g c =
-    let s = c.self.inside in
-    let i = c.self.invariant in
-    let e = c.args.change in
-    let log : List Edit = map arc_value s.log.items in
-    let none : singles (drop s.acked log) ≡ [] = ap (λ (l : Ledger g.row.D.Denot). l.pending) c.self.view_is ∙ c.requires.free in
-    let all : s.acked ≡ length log = all-acked log s.acked i.low none in
-    let setting : Setting = setting_in s.store s.limit in
-    let b : Page = page_of g.J.Naming.base s.core log s.acked setting s.shower.shown in
-    let disk = s.store.disk in
-    subst (λ (l : Ledger g.row.D.Denot). EachMoment g.D.Disk.moment g.D.Disk.left_since l.disk l.disk (HoldsEither l.whole.durable (applied l.whole.durable e))) c.self.view_is
-    (still-either g.D.Disk.seen g.D.Disk.unsynced g.D.Disk.moment g.D.Disk.left_since b e disk (g.met.D.Disk.only_now disk) i.images i.folded none)
+pub find_room-requires-clause-group : goal.find_room-requires-clause-group
+find_room-requires-clause-group g c = subst (λ (es : List Edit). is_group es ≡ true) (sym c.from_ref.ensures.value) refl
 
-pub returns-in_err-after-clause-any_moment : goal.returns-in_err-after-clause-any_moment
-returns-in_err-after-clause-any_moment g c =
-    let s = c.self.inside in
-    let i = c.self.invariant in
-    let e = c.args.change in
-    let log : List Edit = map arc_value s.log.items in
-    let none : singles (drop s.acked log) ≡ [] = ap (λ (l : Ledger g.row.D.Denot). l.pending) c.self.view_is ∙ c.requires.free in
-    let all : s.acked ≡ length log = all-acked log s.acked i.low none in
-    let setting : Setting = setting_in s.store s.limit in
-    let b : Page = page_of g.J.Naming.base s.core log s.acked setting s.shower.shown in
-    let disk = s.store.disk in
-    subst (λ (l : Ledger g.row.D.Denot). EachMoment g.D.Disk.moment g.D.Disk.left_since l.disk l.disk (HoldsEither l.whole.durable (applied l.whole.durable e))) c.self.view_is
-    (still-either g.D.Disk.seen g.D.Disk.unsynced g.D.Disk.moment g.D.Disk.left_since b e disk (g.met.D.Disk.only_now disk) i.images i.folded none)
+pub find_room-requires-clause-wanted : goal.find_room-requires-clause-wanted
+find_room-requires-clause-wanted g c = subst (λ (es : List Edit). list_all can_be_wanted es ≡ true) (sym c.from_ref.ensures.value) (ap (λ (b : Bool). b && true) c.requires.wanted)
 
-pub returns-in_default-clause-any_moment : goal.returns-in_default-clause-any_moment
-returns-in_default-clause-any_moment g c =
-    let s = c.self.inside in
-    let i = c.self.invariant in
-    let e = c.args.change in
-    let log : List Edit = map arc_value s.log.items in
-    let none : singles (drop s.acked log) ≡ [] = ap (λ (l : Ledger g.row.D.Denot). l.pending) c.self.view_is ∙ c.requires.free in
-    let all : s.acked ≡ length log = all-acked log s.acked i.low none in
-    let setting : Setting = setting_in s.store s.limit in
-    let b : Page = page_of g.J.Naming.base s.core log s.acked setting s.shower.shown in
-    let disk = s.store.disk in
-    subst (λ (l : Ledger g.row.D.Denot). EachMoment g.D.Disk.moment g.D.Disk.left_since l.disk l.disk (HoldsEither l.whole.durable (applied l.whole.durable e))) c.self.view_is
-    (still-either g.D.Disk.seen g.D.Disk.unsynced g.D.Disk.moment g.D.Disk.left_since b e disk (g.met.D.Disk.only_now disk) i.images i.folded none)
-
-pub save-requires-clause-few : goal.save-requires-clause-few
-save-requires-clause-few g c =
-    let s = c.self.inside in
-    let i = c.self.invariant in
-    let log : List Edit = map arc_value s.log.items in
-    let none : singles (drop s.acked log) ≡ [] = ap (λ (l : Ledger g.row.D.Denot). l.pending) c.self.view_is ∙ c.requires.free in
-    let all : s.acked ≡ length log = all-acked log s.acked i.low none in
-    let counted : c.len.result ≡ length log = grind (arith, common_steps, c.len.ensures) in
-    let few : length (flat (singles (take s.acked log))) < s.limit = subst (λ (n : ℕ). n < s.limit) (counted ∙ ap length (sym (acked-is log s.acked all))) c.if-len-self.false in
-    subst (λ (l : Ledger g.row.D.Denot). length (flat l.acked) < l.limit) c.self.view_is few
-
-pub returns-then-len-self-clause-openable : goal.returns-then-len-self-clause-openable
-returns-then-len-self-clause-openable g c =
-    let i = c.self.invariant in
-    let disk = c.self.inside.store.disk in
-    same-openable g.D.Disk.seen g.D.Disk.unsynced g.D.Disk.moment g.D.Disk.left_since _ _ c.self.view_is (g.met.D.Disk.only_now disk) i.generations i.roomy
-
-pub returns-in_err-after-clause-openable : goal.returns-in_err-after-clause-openable
-returns-in_err-after-clause-openable g c =
-    let i = c.self.invariant in
-    let disk = c.self.inside.store.disk in
-    same-openable g.D.Disk.seen g.D.Disk.unsynced g.D.Disk.moment g.D.Disk.left_since _ _ c.self.view_is (g.met.D.Disk.only_now disk) i.generations i.roomy
-
-pub returns-in_default-clause-openable : goal.returns-in_default-clause-openable
-returns-in_default-clause-openable g c =
-    let i = c.self.invariant in
-    let disk = c.self.inside.store.disk in
-    same-openable g.D.Disk.seen g.D.Disk.unsynced g.D.Disk.moment g.D.Disk.left_since _ _ c.self.view_is (g.met.D.Disk.only_now disk) i.generations i.roomy
-
-pub returns-then-not-has_room-clause-any_moment : goal.returns-then-not-has_room-clause-any_moment
-returns-then-not-has_room-clause-any_moment g c =
-    let s = c.self.inside in
-    let i = c.self.invariant in
-    let e = c.args.change in
-    let log : List Edit = map arc_value s.log.items in
-    let none : singles (drop s.acked log) ≡ [] = ap (λ (l : Ledger g.row.D.Denot). l.pending) c.self.view_is ∙ c.requires.free in
-    let all : s.acked ≡ length log = all-acked log s.acked i.low none in
-    let setting : Setting = setting_in s.store s.limit in
-    let b : Page = page_of g.J.Naming.base s.core log s.acked setting s.shower.shown in
-    let disk = s.store.disk in
-    subst (λ (l : Ledger g.row.D.Denot). EachMoment g.D.Disk.moment g.D.Disk.left_since l.disk l.disk (HoldsEither l.whole.durable (applied l.whole.durable e))) c.self.view_is
-    (still-either g.D.Disk.seen g.D.Disk.unsynced g.D.Disk.moment g.D.Disk.left_since b e disk (g.met.D.Disk.only_now disk) i.images i.folded none)
-
-pub returns-then-not-has_room-clause-openable : goal.returns-then-not-has_room-clause-openable
-returns-then-not-has_room-clause-openable g c =
-    let i = c.self.invariant in
-    let disk = c.self.inside.store.disk in
-    same-openable g.D.Disk.seen g.D.Disk.unsynced g.D.Disk.moment g.D.Disk.left_since _ _ c.self.view_is (g.met.D.Disk.only_now disk) i.generations i.roomy
-
-pub returns-then-not-has_room-clause-err : goal.returns-then-not-has_room-clause-err
-returns-then-not-has_room-clause-err g c =
-    let s = c.self.inside in
-    let i = c.self.invariant in
-    let e = c.args.change in
-    let log : List Edit = map arc_value s.log.items in
-    let none : singles (drop s.acked log) ≡ [] = ap (λ (l : Ledger g.row.D.Denot). l.pending) c.self.view_is ∙ c.requires.free in
-    let all : s.acked ≡ length log = all-acked log s.acked i.low none in
-    let counted : c.len.result ≡ length log = grind (arith, common_steps, c.len.ensures) in
-    let few : length (flat (singles (take s.acked log))) < s.limit = subst (λ (n : ℕ). n < s.limit) (counted ∙ ap length (sym (acked-is log s.acked all))) c.if-len-self.false in
-    let left : c.args.next.durable ≡ applied s.core.durable e = ap (λ (r : Ready). r.durable) c.requires.made ∙ ap (λ (l : Ledger g.row.D.Denot). applied l.whole.durable e) (sym c.self.view_is) in
-    let going : s.store.halted ≡ false = goes-on s.store.halted log s.acked i.halted all in
-    let nowhere : FitsThere s.store.size e s.core.durable (applied s.core.durable e) → ⊥ = λ there.
-    let asked : FitsThere s.store.size e c.durable.result.now c.after.result.now =
-    same-room (FitsThere s.store.size e) s.core.durable c.durable.result.now (applied s.core.durable e) c.after.result.now (sym c.durable.ensures) (sym (c.after.ensures ∙ left)) there in
-    cc ((c.has_room.ensures.exact c.requires.wanted).1 (going, asked), c.if-not-has_room.true) in
-    let full : not (group_fits s.store.size (after g.J.Naming.base (flat (singles (take s.acked log)))) (after g.J.Naming.base (flat (singles (take s.acked log)) ++ e ∷ [])) (e ∷ [])) ≡ true =
-    device-full s.store.size g.J.Naming.base s.core.durable (applied s.core.durable e) (singles (take s.acked log)) e i.folded.durable refl nowhere in (
-      refl,
-      subst (λ (l : Ledger g.row.D.Denot). length (flat l.acked) < l.limit) c.self.view_is few,
-      subst (λ (l : Ledger g.row.D.Denot). not (group_fits l.size (after l.base (flat l.acked)) (after l.base (flat l.acked ++ e ∷ [])) (e ∷ [])) ≡ true) c.self.view_is full,
-    )
-
-pub returns-in_err-after-clause-err : goal.returns-in_err-after-clause-err
-returns-in_err-after-clause-err g c =
-    let s = c.self.inside in
-    let i = c.self.invariant in
-    let e = c.args.change in
-    let log : List Edit = map arc_value s.log.items in
-    let none : singles (drop s.acked log) ≡ [] = ap (λ (l : Ledger g.row.D.Denot). l.pending) c.self.view_is ∙ c.requires.free in
-    let all : s.acked ≡ length log = all-acked log s.acked i.low none in
-    let counted : c.len.result ≡ length log = grind (arith, common_steps, c.len.ensures) in
-    let few : length (flat (singles (take s.acked log))) < s.limit = subst (λ (n : ℕ). n < s.limit) (counted ∙ ap length (sym (acked-is log s.acked all))) c.if-len-self.false in
-    let left : c.args.next.durable ≡ applied s.core.durable e = ap (λ (r : Ready). r.durable) c.requires.made ∙ ap (λ (l : Ledger g.row.D.Denot). applied l.whole.durable e) (sym c.self.view_is) in
-    let there : FindsRoom s.store.size s.core.durable (applied s.core.durable e) e =
-    same-room (λ (k next : Kept). FindsRoom s.store.size k next e) c.durable.result.now s.core.durable c.after.result.now (applied s.core.durable e) c.durable.ensures (c.after.ensures ∙ left) (c.has_room.ensures.found.0 c.if-not-has_room.false).1 in
-    let room : HasRoom (page_of g.J.Naming.base s.core log s.acked (setting_in s.store s.limit) s.shower.shown) e =
-    record { few = few; device = device-fits s.store.size g.J.Naming.base s.core.durable (applied s.core.durable e) (singles (take s.acked log)) e i.folded.durable refl there } in
+pub returns-in_err-find_room-clause-err : goal.returns-in_err-find_room-clause-err
+returns-in_err-find_room-clause-err g c =
+    let b : Page = page c.args.self.now in
     let p = err_from_is_err_and c.from_residual.result c.from_residual.ensures.1 in
-    rw (p.1, p.2) (refl, subst (λ (l : Ledger g.row.D.Denot). HasRoom (page l) e) c.self.view_is room)
+    let none : HasNoRoom c.in_err-find_room.field-0.0 b (c.args.change ∷ []) = subst (HasNoRoom c.in_err-find_room.field-0.0 b) c.from_ref.ensures.value c.in_err-find_room.ensures.err in
+    rw (p.1, p.2) (unroomed c.in_err-find_room.field-0.0 b (c.args.change ∷ []) none)
 
-pub returns-in_default-clause-err : goal.returns-in_default-clause-err
-returns-in_default-clause-err g c =
-    let s = c.self.inside in
-    let i = c.self.invariant in
-    let e = c.args.change in
-    let log : List Edit = map arc_value s.log.items in
-    let none : singles (drop s.acked log) ≡ [] = ap (λ (l : Ledger g.row.D.Denot). l.pending) c.self.view_is ∙ c.requires.free in
-    let all : s.acked ≡ length log = all-acked log s.acked i.low none in
-    let counted : c.len.result ≡ length log = grind (arith, common_steps, c.len.ensures) in
-    let few : length (flat (singles (take s.acked log))) < s.limit = subst (λ (n : ℕ). n < s.limit) (counted ∙ ap length (sym (acked-is log s.acked all))) c.if-len-self.false in
-    let left : c.args.next.durable ≡ applied s.core.durable e = ap (λ (r : Ready). r.durable) c.requires.made ∙ ap (λ (l : Ledger g.row.D.Denot). applied l.whole.durable e) (sym c.self.view_is) in
-    let there : FindsRoom s.store.size s.core.durable (applied s.core.durable e) e =
-    same-room (λ (k next : Kept). FindsRoom s.store.size k next e) c.durable.result.now s.core.durable c.after.result.now (applied s.core.durable e) c.durable.ensures (c.after.ensures ∙ left) (c.has_room.ensures.found.0 c.if-not-has_room.false).1 in
-    let room : HasRoom (page_of g.J.Naming.base s.core log s.acked (setting_in s.store s.limit) s.shower.shown) e =
-    record { few = few; device = device-fits s.store.size g.J.Naming.base s.core.durable (applied s.core.durable e) (singles (take s.acked log)) e i.folded.durable refl there } in
-    (refl, subst (λ (l : Ledger g.row.D.Denot). HasRoom (page l) e) c.self.view_is room)
+pub returns-in_err-find_room-clause-any_moment : goal.returns-in_err-find_room-clause-any_moment
+returns-in_err-find_room-clause-any_moment g c =
+    let l = c.args.self.now in
+    subst (λ (es : List Edit). EachMoment g.D.Disk.moment g.D.Disk.left_since l.disk l.disk (HoldsEither l.whole.durable (after l.whole.durable es))) c.from_ref.ensures.value c.find_room.ensures.still
+
+pub returns-in_err-find_room-clause-faults : goal.returns-in_err-find_room-clause-faults
+returns-in_err-find_room-clause-faults g c =
+    let b : Page = page c.args.self.now in
+    let p = err_from_is_err_and c.from_residual.result c.from_residual.ensures.1 in
+    let none : HasNoRoom c.in_err-find_room.field-0.0 b (c.args.change ∷ []) = subst (HasNoRoom c.in_err-find_room.field-0.0 b) c.from_ref.ensures.value c.in_err-find_room.ensures.err in
+    rw (p.1, p.2, unroomed-calm c.in_err-find_room.field-0.0 b (c.args.change ∷ []) none) (omega arith)
+
+pub returns-in_err-change-clause-err : goal.returns-in_err-change-clause-err
+returns-in_err-change-clause-err g c =
+    let b : Page = page c.args.self.now in
+    let p = err_from_is_err_and c.from_residual-in_err-change.result c.from_residual-in_err-change.ensures.1 in
+    rw (p.1, p.2) (refl, subst (HasRoom b) c.from_ref.ensures.value c.in_ok-find_room.ensures.ok)
+
+pub returns-in_err-change-clause-any_moment : goal.returns-in_err-change-clause-any_moment
+returns-in_err-change-clause-any_moment g c =
+    let l = c.args.self.now in
+    subst (λ (es : List Edit). EachMoment g.D.Disk.moment g.D.Disk.left_since l.disk l.disk (HoldsEither l.whole.durable (after l.whole.durable es))) c.from_ref.ensures.value c.find_room.ensures.still
+
+pub save-requires-clause-made : goal.save-requires-clause-made
+save-requires-clause-made g c =
+    let e : Edit = c.args.change in
+    let d : Kept = c.args.self.now.whole.durable in
+    let shared : map arc_value c.from_ref-2.result.now ≡ e ∷ [] = ap (map arc_value) c.from_ref-2.ensures.value ∙ ap (λ (x : Edit). x ∷ []) c.in_ok-change.ensures in
+    c.requires.made ∙ ap (ready (applied d e)) (sym (append-nil (voided_by e))) ∙ ap (left_together d) (sym shared)
+
+pub save-requires-clause-fit : goal.save-requires-clause-fit
+save-requires-clause-fit g c =
+    let e : Edit = c.args.change in
+    let d : Kept = c.args.self.now.whole.durable in
+    let shared : map arc_value c.from_ref-2.result.now ≡ e ∷ [] = ap (map arc_value) c.from_ref-2.ensures.value ∙ ap (λ (x : Edit). x ∷ []) c.in_ok-change.ensures in
+    subst (λ (es : List Edit). FollowInTurn d (made_all es)) (sym shared) (c.requires.fits, tt)
+
+pub save-requires-clause-room : goal.save-requires-clause-room
+save-requires-clause-room g c =
+    let e : Edit = c.args.change in
+    let shared : map arc_value c.from_ref-2.result.now ≡ e ∷ [] = ap (map arc_value) c.from_ref-2.ensures.value ∙ ap (λ (x : Edit). x ∷ []) c.in_ok-change.ensures in
+    subst (HasRoom (page c.args.self.now)) (c.from_ref.ensures.value ∙ sym shared) c.in_ok-find_room.ensures.ok
+
+pub save-requires-clause-found : goal.save-requires-clause-found
+save-requires-clause-found g c =
+    let e : Edit = c.args.change in
+    let l = c.args.self.now in
+    let shared : map arc_value c.from_ref-2.result.now ≡ e ∷ [] = ap (map arc_value) c.from_ref-2.ensures.value ∙ ap (λ (x : Edit). x ∷ []) c.in_ok-change.ensures in
+    subst (FindsRoom l.size l.whole.durable c.args.next.durable) (c.from_ref.ensures.value ∙ sym shared) c.in_ok-find_room.ensures.found
+
+pub returns-in_err-save-clause-any_moment : goal.returns-in_err-save-clause-any_moment
+returns-in_err-save-clause-any_moment g c =
+    let e : Edit = c.args.change in
+    let l = c.args.self.now in
+    let shared : map arc_value c.from_ref-2.result.now ≡ e ∷ [] = ap (map arc_value) c.from_ref-2.ensures.value ∙ ap (λ (x : Edit). x ∷ []) c.in_ok-change.ensures in
+    subst (λ (es : List Edit). EachMoment g.D.Disk.moment g.D.Disk.left_since l.disk c.save.new.self.disk (HoldsEither l.whole.durable (after l.whole.durable es))) shared c.save.ensures.any_moment
+
+pub returns-clause-any_moment : goal.returns-clause-any_moment
+returns-clause-any_moment g c =
+    let e : Edit = c.args.change in
+    let l = c.args.self.now in
+    let shared : map arc_value c.from_ref-2.result.now ≡ e ∷ [] = ap (map arc_value) c.from_ref-2.ensures.value ∙ ap (λ (x : Edit). x ∷ []) c.in_ok-change.ensures in
+    subst (λ (es : List Edit). EachMoment g.D.Disk.moment g.D.Disk.left_since l.disk c.save.new.self.disk (HoldsEither l.whole.durable (after l.whole.durable es))) shared c.save.ensures.any_moment
+
+pub returns-in_err-save-clause-err : goal.returns-in_err-save-clause-err
+returns-in_err-save-clause-err g c =
+    let e : Edit = c.args.change in
+    let shared : map arc_value c.from_ref-2.result.now ≡ e ∷ [] = ap (map arc_value) c.from_ref-2.ensures.value ∙ ap (λ (x : Edit). x ∷ []) c.in_ok-change.ensures in
+    let p = err_from_is_err_and c.from_residual-in_err-save.result c.from_residual-in_err-save.ensures.1 in
+    rw (p.1, p.2) (subst (IsUnkept c.in_err-save.field-0.0 (page c.args.self.now) (page c.save.new.self)) shared c.in_err-save.ensures.err)
+
+pub returns-clause-ok : goal.returns-clause-ok
+returns-clause-ok g c =
+    let e : Edit = c.args.change in
+    let shared : map arc_value c.from_ref-2.result.now ≡ e ∷ [] = ap (map arc_value) c.from_ref-2.ensures.value ∙ ap (λ (x : Edit). x ∷ []) c.in_ok-change.ensures in
+    subst (IsMore (page c.args.self.now) (page c.save.new.self)) shared c.in_ok-save.ensures.ok

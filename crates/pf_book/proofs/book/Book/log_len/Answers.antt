@@ -9,4 +9,4 @@ pub returns : goal.returns
 returns g c =
     let log : List Edit = map arc_value c.self.inside.log.items in
     let counted : c.len.result ≡ length log = grind (arith, common_steps, c.len.ensures) in
-    counted ∙ ap length (sym (whole-log log c.self.inside.acked)) ∙ ap (λ (b : Ledger g.row.D.Denot). length (log_in (page b))) c.self.view_is
+    counted ∙ ap length (sym (whole-log log c.self.inside.sizes.items c.self.inside.acked c.self.invariant.cuts)) ∙ ap (λ (b : Ledger g.row.D.Denot). length (log_in (page b))) c.self.view_is

@@ -1,4 +1,4 @@
-use Rattle.std.proofs.Common.{◌≡◌, length, map, Some, refl, sym, ap, ◌∙◌, subst}
+use Rattle.std.proofs.Common.{◌≡◌, [], ◌∷◌, length, map, Some, refl, sym, ap, ◌∙◌, subst}
 use Rattle.std.specs.Arc.{arc_value}
 use Rattle.pf_core.specs.{Pages.Page, Worlds.flat}
 use Rattle.pf_book.specs.Books.{Ledger, page, IsMore}
@@ -8,15 +8,15 @@ use Rattle.pf_book.proofs.book.Book.make.Goals as goal
 pub returns-then-show_all-clause-made : goal.returns-then-show_all-clause-made
 returns-then-show_all-clause-made g c =
     let s = c.self.inside in
-    let number : s.acked ≡ length (flat c.keep.new.self.acked) = counted-acked (map arc_value s.log.items) s.acked c.self.invariant.low ∙ ap (λ (l : Ledger g.row.D.Denot). length (flat l.acked)) c.self.view_is in
+    let number : s.acked ≡ length (flat c.keep.new.self.acked) = counted-acked (map arc_value s.log.items) s.sizes.items s.acked c.self.invariant.cuts c.self.invariant.low ∙ ap (λ (l : Ledger g.row.D.Denot). length (flat l.acked)) c.self.view_is in
     (refl, page c.keep.new.self, record { more = c.in-Ok.ensures.ok; number = number }, c.if-show_all.ensures.page)
 
 pub returns-else-show_all-clause-made : goal.returns-else-show_all-clause-made
 returns-else-show_all-clause-made g c =
     let s = c.self.inside in
     let same : page c.show_all.new.self ≡ page c.keep.new.self = c.if-show_all.ensures.page in
-    let number : s.acked ≡ length (flat c.keep.new.self.acked) = counted-acked (map arc_value s.log.items) s.acked c.self.invariant.low ∙ ap (λ (l : Ledger g.row.D.Denot). length (flat l.acked)) c.self.view_is in
-    (refl, record { more = subst (λ (p : Page). IsMore (page c.args.self.now) p c.args.change) (sym same) c.in-Ok.ensures.ok; number = number ∙ ap (λ (p : Page). length (flat p.acked)) (sym same) })
+    let number : s.acked ≡ length (flat c.keep.new.self.acked) = counted-acked (map arc_value s.log.items) s.sizes.items s.acked c.self.invariant.cuts c.self.invariant.low ∙ ap (λ (l : Ledger g.row.D.Denot). length (flat l.acked)) c.self.view_is in
+    (refl, record { more = subst (λ (p : Page). IsMore (page c.args.self.now) p (c.args.change ∷ [])) (sym same) c.in-Ok.ensures.ok; number = number ∙ ap (λ (p : Page). length (flat p.acked)) (sym same) })
 
 pub returns-then-show_all-clause-given : goal.returns-then-show_all-clause-given
 returns-then-show_all-clause-given g c =

@@ -13,11 +13,11 @@ invariant_of-result g c =
     let s = c.self.inside in
     let i = c.self.invariant in
     let log : List Edit = map arc_value s.log.items in
-    let whole : log_in (page c.args.self.now) ≡ log = ap (λ (l : Ledger g.row.D.Denot). log_in (page l)) (sym c.self.view_is) ∙ whole-log log s.acked in
+    let whole : log_in (page c.args.self.now) ≡ log = ap (λ (l : Ledger g.row.D.Denot). log_in (page l)) (sym c.self.view_is) ∙ whole-log log s.sizes.items s.acked i.cuts in
     let front : c.front.result.front ≡ log = ap (λ (p : Past). p.front) c.front.ensures ∙ i.log_is in
     let acked : c.front.result.acked ≡ s.acked = ap (λ (p : Past). p.acked) c.front.ensures ∙ i.acked_is in
     let counted : c.len.result ≡ length log = grind (arith, common_steps, c.len.ensures) in
-    let all : s.acked ≡ length (flat c.args.self.now.acked) = counted-acked log s.acked i.low ∙ ap (λ (l : Ledger g.row.D.Denot). length (flat l.acked)) c.self.view_is in
+    let all : s.acked ≡ length (flat c.args.self.now.acked) = counted-acked log s.sizes.items s.acked i.cuts i.low ∙ ap (λ (l : Ledger g.row.D.Denot). length (flat l.acked)) c.self.view_is in
     record {
       seq_is = counted ∙ ap length (sym front);
       last = λ e some. subst (λ (l : List Edit). EndsIn l e) (whole ∙ sym front) (c.requires.last e some).0;
@@ -29,14 +29,15 @@ invariant_of-result g c =
 pub returns-clause-front : goal.returns-clause-front
 returns-clause-front g c =
     let s = c.self.inside in
+    let i = c.self.invariant in
     let log : List Edit = map arc_value s.log.items in
-    let whole : log_in (page c.args.self.now) ≡ log = ap (λ (l : Ledger g.row.D.Denot). log_in (page l)) (sym c.self.view_is) ∙ whole-log log s.acked in
+    let whole : log_in (page c.args.self.now) ≡ log = ap (λ (l : Ledger g.row.D.Denot). log_in (page l)) (sym c.self.view_is) ∙ whole-log log s.sizes.items s.acked i.cuts in
     ap (λ (p : Past). p.front) c.front.ensures ∙ c.self.invariant.log_is ∙ sym whole
 
 pub returns-clause-acked : goal.returns-clause-acked
 returns-clause-acked g c =
     let s = c.self.inside in
-    ap (λ (p : Past). p.acked) c.front.ensures ∙ c.self.invariant.acked_is ∙ counted-acked (map arc_value s.log.items) s.acked c.self.invariant.low
+    ap (λ (p : Past). p.acked) c.front.ensures ∙ c.self.invariant.acked_is ∙ counted-acked (map arc_value s.log.items) s.sizes.items s.acked c.self.invariant.cuts c.self.invariant.low
     ∙ ap (λ (l : Ledger g.row.D.Denot). length (flat l.acked)) c.self.view_is
 
 pub returns-clause-token : goal.returns-clause-token
@@ -47,7 +48,7 @@ returns-clause-token g c =
     let log : List Edit = map arc_value s.log.items in
     let begins : IsPrefix s.shower.shown log = prefix_trans s.shower.shown (take s.offered log) log (subst (λ (l : List Edit). IsPrefix s.shower.shown l) i.offered_is i.shown_is) (take_begins log s.offered) in
     let fits : ShownFits r (length s.shower.shown) (length log) =
-    subst (λ (l : List Edit). ShownFits r (length s.shower.shown) (length l)) (whole-log log s.acked)
+    subst (λ (l : List Edit). ShownFits r (length s.shower.shown) (length l)) (whole-log log s.sizes.items s.acked i.cuts)
     (subst (λ (l : Ledger g.row.D.Denot). ShownFits r l.shown (length (log_in (page l)))) (sym c.self.view_is) c.requires.shown) in
-    let whole : log_in (page c.args.self.now) ≡ log = ap (λ (l : Ledger g.row.D.Denot). log_in (page l)) (sym c.self.view_is) ∙ whole-log log s.acked in
+    let whole : log_in (page c.args.self.now) ≡ log = ap (λ (l : Ledger g.row.D.Denot). log_in (page l)) (sym c.self.view_is) ∙ whole-log log s.sizes.items s.acked i.cuts in
     c.token_after.ensures ∙ token-is r s.shower.shown log begins fits ∙ ap (token_of r) (sym whole)

@@ -1,6 +1,6 @@
 use Rattle.std.proofs.Common.{ℕ, List, subst}
 use Rattle.pf_disk.specs.Disk.{IsImage}
-use Rattle.pf_core.specs.{Pages.IsAt, Worlds.{Held, idle}}
+use Rattle.pf_core.specs.{Pages.{IsAt, IsFolded}, Worlds.{Held, idle}}
 use Rattle.pf_book.specs.Books.{Ledger, page, HoldsLeft, IsOpenable}
 use Rattle.pf_book.proofs.Calling.{front-left}
 use Rattle.pf_book.proofs.book.Book.rests.Goals as goal
@@ -13,3 +13,6 @@ returns-clause-images g c =
 pub returns-clause-openable : goal.returns-clause-openable
 returns-clause-openable g c =
     subst (IsOpenable g.D.Disk.seen g.D.Disk.unsynced) c.self.view_is (record { generations = c.self.invariant.generations; roomy = c.self.invariant.roomy })
+
+pub returns-clause-folded : goal.returns-clause-folded
+returns-clause-folded g c = subst (λ (l : Ledger g.row.D.Denot). IsFolded (page l)) c.self.view_is c.self.invariant.folded

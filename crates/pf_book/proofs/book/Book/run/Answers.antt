@@ -1,6 +1,6 @@
 use Rattle.std.proofs.Common.{ℕ, List, subst}
 use Rattle.pf_disk.specs.Disk.{IsImage}
-use Rattle.pf_core.specs.{Calls.call, Pages.IsAt, Worlds.{Held, idle, upshot}}
+use Rattle.pf_core.specs.{Calls.call, Pages.{IsAt, IsFolded}, Worlds.{Held, idle, upshot}}
 use Rattle.std.specs.Prelude.{nat_lt}
 use Rattle.pf_core.proofs.LongerWorlds.{stands-on}
 use Rattle.pf_book.specs.Books.{Ledger, page, HoldsLeft}
@@ -12,6 +12,7 @@ returns-clause-worlds g c = λ first world stands.
     let old = c.args.self.now in
     let new = c.call-reply.new.self in
     stands-on first (page old) (page new) world (call c.args.command c.call-reply.result.0) (upshot new.shown (nat_lt (g.D.Disk.fault_count old.disk) (g.D.Disk.fault_count new.disk))) stands (c.call-reply.ensures.leads stands.held stands.at)
+    (subst (λ (l : Ledger g.row.D.Denot). IsFolded (page l)) c.self.view_is c.self.invariant.folded)
 
 pub returns-clause-images : goal.returns-clause-images
 returns-clause-images g c =

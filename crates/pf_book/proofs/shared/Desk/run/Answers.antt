@@ -9,21 +9,21 @@ use Rattle.pf_book.proofs.shared.Desk.run.Goals as goal
 pub invariant_of-self : goal.invariant_of-self
 invariant_of-self g c =
     let old = c.self.inside.book in
-    let new = c.answer.new.self in
+    let new = c.answer-answer.new.self in
     let t : Upshot = upshot new.shown (nat_lt (g.D.Disk.fault_count old.disk) (g.D.Disk.fault_count new.disk)) in
-    let e = c.answer.ensures in
-    reached-on g.J.Naming.base g.J.Chapter.setting (page old) (page new) c.args.command.now c.answer.result.0 t c.self.invariant e.leads e.base e.setting
+    let e = c.answer-answer.ensures in
+    reached-on g.J.Naming.base g.J.Chapter.setting (page old) (page new) c.args.command.now c.answer-answer.result.0 t c.self.invariant e.leads c.rests.ensures.folded e.base e.setting
 
 pub returns-clause-answered : goal.returns-clause-answered
 returns-clause-answered g c =
     let old = c.self.inside.book in
-    let new = c.answer.new.self in
+    let new = c.answer-answer.new.self in
     let t : Upshot = upshot new.shown (nat_lt (g.D.Disk.fault_count old.disk) (g.D.Disk.fault_count new.disk)) in
-    let e = c.answer.ensures in
-    answered g.J.Naming.base g.J.Chapter.setting (page old) (page new) c.args.command.now c.answer.result.0 t c.self.invariant e.leads c.answer.result.1 (option_copied c.args.last) e.front e.acked e.given e.token e.follows
+    let e = c.answer-answer.ensures in
+    answered g.J.Naming.base g.J.Chapter.setting (page old) (page new) c.args.command.now c.answer-answer.result.0 t c.self.invariant e.leads c.rests.ensures.folded c.answer-answer.result.1 (option_copied c.args.last) e.front e.acked e.given e.token e.follows
 
 pub returns-clause-any_moment : goal.returns-clause-any_moment
 returns-clause-any_moment g c =
     let before : Ledger g.row.D.Denot → Type 0 =
-    λ l. (h : Held) → IsAt h (page l) → EachMoment g.D.Disk.moment g.D.Disk.left_since l.disk c.answer.new.self.disk (HoldsLeft h (calling c.args.command.now)) in
-    subst before c.self.view_is c.answer.ensures.any_moment
+    λ l. (h : Held) → IsAt h (page l) → EachMoment g.D.Disk.moment g.D.Disk.left_since l.disk c.answer-answer.new.self.disk (HoldsLeft h (calling c.args.command.now)) in
+    subst before c.self.view_is c.answer-answer.ensures.any_moment

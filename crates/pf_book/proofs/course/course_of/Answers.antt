@@ -1,0 +1,38 @@
+use Rattle.std.proofs.{Common.{◌≡◌, ◌≢◌, ◌+◌, ◌<◌, ◌≤◌, ℕ, [], List, ◌∷◌, ◌++◌, drop, length, Ok, Err, Option, Result, refl, sym, ap, ◌∙◌, subst, arith}, lemmas.List.drop_more}
+use Rattle.std.specs.Prelude.{flat_map}
+use Rattle.pf_ticket.proofs.Keeping.{keeps_the_limits}
+use Rattle.pf_core.specs.declared.{command.Command.Command, reply.Refusal.Refusal, reply.Refusal.TheVariants.Memory, reply.Reply.Reply, step.Step.Step}
+use Rattle.pf_core.specs.{Commands.{step_by}, Durable.Edits.{Edit, after, voided_by}, Nexts.Ready, Wholes.{Whole, plain, IsMadeFrom}, Worlds.{amid, changes_of, changes_due, replies_due}}
+use Rattle.pf_book.specs.Courses.{ready_of, found_by}
+use Rattle.pf_book.proofs.Coursing.{Steps, tickets_there, step-behind, step-amidst, number-amidst, replies-on, changes-on, fit-on, wanted-on, few-on, left-on}
+use Rattle.pf_book.proofs.course.course_of.Goals as goal
+
+pub loop-command-preserved : goal.loop-command-preserved
+loop-command-preserved c =
+    let at = c.loop-command in
+    let inv = at.invariant in
+    let w : Whole = c.args.core.now in
+    let i : ℕ = at.command-index in
+    let commands : List Command = c.args.commands.now in
+    let k : Command = c.command-item.result in
+    let s : Result Step Refusal = plain c.step-step.result in
+    let before : Option Ready = at.course.next in
+    let changes : List Edit = at.course.changes.items in
+    let new = c.take.new.self in
+    let low : i < length commands = c.loop-command-test.true in
+    let steps : Steps w before k s = subst (λ (x : Whole). Steps x before k s) inv.core c.step-step.ensures.reply in
+    let is : s ≡ step_by (tickets_there w changes) (after w.durable changes) k = step-behind w changes k before s inv.next steps c.in_ok-take.ensures.known in
+    let from : IsMadeFrom (found_by w.durable before) c.step-step.result = subst (λ (x : Whole). IsMadeFrom (found_by x.durable before) c.step-step.result) inv.core c.step-step.ensures.made in
+    let wants : new.changes.items ≡ changes ++ changes_of s = c.in_ok-take.ensures.changes in
+    let left : drop i commands ≡ k ∷ drop (i + 1) commands = drop_more commands i k low ∙ ap (λ (x : Command). x ∷ drop (i + 1) commands) (sym c.command-item.is) in
+    record {
+      core = c.step-step.ensures.same ∙ inv.core;
+      next = c.in_ok-take.ensures.next ∙ left-on w.durable changes before c.step-step.result inv.next from ∙ ap (ready_of w.durable) (sym wants);
+      replies = λ h calm. replies-on h at.course.replies.items new.replies.items (replies_due h [] commands) changes new.changes.items k (drop i commands) (drop (i + 1) commands) s
+          (step-amidst h w c.args.acked changes k s calm is) left (c.in_ok-take.ensures.replies (amid h changes) (number-amidst h w c.args.acked changes calm)) wants (inv.replies h calm);
+      changes = λ h calm. changes-on h (changes_due h [] commands) changes new.changes.items k (drop i commands) (drop (i + 1) commands) s
+          (step-amidst h w c.args.acked changes k s calm is) left wants (inv.changes h calm);
+      fit = fit-on w.durable (tickets_there w changes) changes new.changes.items k s is wants inv.fit;
+      wanted = wanted-on (tickets_there w changes) (after w.durable changes) changes new.changes.items k s (keeps_the_limits.commit w.tickets (flat_map voided_by changes) c.requires.tickets) is wants inv.wanted;
+      few = omega (arith, few-on changes new.changes.items s wants, inv.few);
+    }

@@ -1,0 +1,50 @@
+-- What the receipts of a group say, and what a group is answered under the lock. Own.
+use Rattle.std.specs.Prelude.{◌≡◌, ℕ, List, [], ◌∷◌, ◌++◌, length, slice_get, map, ⊤, Option, Result, Ok, Err}
+use Rattle.pf_core.specs.declared.{command.Command.Command, reply.Refusal.Refusal, reply.Reply.Reply}
+use Rattle.pf_core.specs.{Durable.Edits.{Kept, Edit}, Worlds.{Setting, Held, Upshot, Event, up, down, called_group, flat, log_of, amid, changes_of, changes_with, step_in, heard_group, state_after, IsWorld}}
+use Rattle.pf_book.specs.Receipts.{Slip, token_of, Follows}
+
+-- a reply with its receipt
+abbrev pub Answered : Type 0
+Answered = Reply × Slip
+
+-- the replies alone, or the refusal of the whole
+abbrev pub replies_of : Result (List Answered) Refusal → Result (List Reply) Refusal
+replies_of (Ok answers) = Ok (map (λ a. a.0) answers)
+replies_of (Err e) = Err e
+
+-- The receipt of a command in the course of a group, which is shown with all before it behind the group: its front has the changes of the
+-- group up to and with the command's own, and all of them are acknowledged.
+pub record IsAnsweredAmid (h : Held) (c : Command) (shown : List Edit) (r : Reply) (slip : Slip) : Type 0 where
+  pub front : slip.front ≡ log_of h ++ changes_of (step_in h c)
+  pub acked : slip.acked ≡ length slip.front
+  pub change : slip.change ≡ slice_get (changes_of (step_in h c)) 0
+  pub token : slip.token ≡ token_of r shown
+
+-- each command's in turn, behind the changes that the group wants so far
+abbrev pub AreAnswered : Held → List Edit → List Edit → List Command → List Answered → Type 0
+AreAnswered h shown changes [] answers = answers ≡ []
+AreAnswered h shown changes (c ∷ cs) [] = ⊥
+AreAnswered h shown changes (c ∷ cs) (a ∷ answers) =
+    IsAnsweredAmid (amid h changes) c shown a.0 a.1 × AreAnswered h shown (changes_with h changes c) cs answers
+
+-- a group that is refused whole has no receipt
+abbrev pub HasReceipts : Held → List Edit → List Command → Result (List Answered) Refusal → Type 0
+HasReceipts h shown commands (Ok answers) = AreAnswered h shown [] commands answers
+HasReceipts h shown commands (Err e) = ⊤
+
+-- What a group under the lock is answered, each command with its receipt, or refused whole, where the caller may have handed in a receipt:
+-- there is a world whose last event is this group.
+pub record IsGroupAnswered (base : Kept) (setting : Setting) (commands : List Command) (result : Result (List Answered) Refusal) (last : Option Slip) : Type 0 where
+  pub first : Kept
+  pub world : List Event
+  -- the opening, as it had come when the group began
+  pub before : Held
+  pub came : Upshot
+  pub comes : state_after (down first) world ≡ up before
+  pub base_is : before.base ≡ base
+  pub setting_is : before.setting ≡ setting
+  pub legal : IsWorld first (world ++ called_group commands (replies_of result) came ∷ [])
+  pub receipts : HasReceipts before (log_of (heard_group before commands (replies_of result) came)) commands result
+  -- the front of the receipt that was handed in begins the history before it, where what it has as acknowledged is so
+  pub follows : Follows last (log_of before) (length (flat before.acked))

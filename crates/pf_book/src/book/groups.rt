@@ -1,0 +1,176 @@
+//! Groups of commands, whose changes are kept together.
+ghost use Rattle.std.specs.{Arc.arc_value, List.list_all, Prelude.{◌≡◌, ◌+◌, ◌≤◌, ◌++◌, ◌∷◌, [], ℕ, List, Ok, true, false, IfOk, IfErr, OnOk, length, map, take, nat_lt, fold, if◌then◌else◌}};
+ghost use Rattle.pf_disk.specs.Disk.{EachMoment, IsImage};
+ghost use Rattle.pf_core.specs.Refusing.{and_then, unless};
+ghost use Rattle.pf_core.specs.declared.reply.Refusal.TheVariants as told;
+ghost use Rattle.pf_core.specs.{Calls.replies_in, Commands.group_words, Durable.Edits.{Kept, after}, Pages.{IsAt, StandsFor, LeadsGroup}, Worlds.{Held, idle, grouping, upshot, Event, called_group, changes_due, is_fault, is_halted, flat, LegalReplies, shown_by}};
+ghost use Rattle.pf_store.specs.{Groups.{can_be_wanted, is_group, made_all}, Stores.{FollowInTurn, HoldsEither}};
+ghost use Rattle.pf_book.specs.Books.{page, HoldsLeft, left_together, listed, replied, IsMore, IsUnkept, AreMade, AreNumbered, StaysOpenable, StaysUnlessAnyKept, is_fault_result};
+
+use crate::book::Book;
+use crate::chapter::Chapter;
+use crate::course::{Course, all_stored, course_of};
+use crate::saving::share_all;
+use pf_core::{Change, Command, Next, Refusal, Reply, check_group};
+use pf_disk::Disk;
+use std::sync::{Arc, Wait};
+
+// The replies without the changes.
+fn alone(answer: Result<(Vec<Reply>, Vec<Arc<Change>>), Refusal>) -> Result<Vec<Reply>, Refusal>
+    ensures { listed result ≡ replied answer }
+{
+    match answer {
+        Ok((replies, _)) => Ok(replies),
+        Err(refusal) => Err(refusal),
+    }
+}
+
+impl<D: Disk + Drop, J: Chapter, R: Wait + Drop> Book<D, J, R> {
+    // Keeps changes of the core's as one group, which leave this, and shares them for receipts. They aren't shown yet.
+    fn keep_all(&mut self, changes: Vec<Change>, next: Next) -> Result<Vec<Arc<Change>>, Refusal>
+        requires made { next ≡ left_together self.old.whole.durable changes.items }
+        requires fit { FollowInTurn self.old.whole.durable (made_all changes.items) }
+        requires wanted { list_all can_be_wanted changes.items ≡ true }
+        requires group { is_group changes.items ≡ true }
+        requires free { self.old.pending ≡ [] }
+        ensures ok { OnOk result (IsMore (page self.old) (page self.new) changes.items) }
+        ensures given { IfOk result (λ given. map arc_value given.items ≡ changes.items) }
+        ensures err { IfErr result (λ e. IsUnkept e (page self.old) (page self.new) changes.items) }
+        ensures any_moment { EachMoment D.moment D.left_since self.old.disk self.new.disk
+            (HoldsEither self.old.whole.durable (after self.old.whole.durable changes.items)) }
+        ensures still { IfErr result (λ e. is_fault e ≡ false → self.new.disk ≡ self.old.disk) }
+        ensures openable { StaysOpenable D.moment D.left_since self.old self.new }
+        ensures moments { D.moment self.new.disk ≤ D.moment self.old.disk + 10 }
+        ensures same_size { length (D.seen self.new.disk) ≡ length (D.seen self.old.disk) }
+        ensures faults { D.fault_count self.new.disk ≡ D.fault_count self.old.disk + (if is_fault_result result then 1 else 0) }
+    {
+        self.find_room(changes.as_slice(), &next)?;
+        let changes = share_all(self.alloc, changes)?;
+        self.save(changes.as_slice(), next)?;
+        Ok(changes)
+    }
+
+    // Keeps the changes of a group, for which these replies are due, and shows them. Where they are kept they are shared for receipts.
+    fn make_all(
+        &mut self,
+        mut replies: Vec<Reply>,
+        changes: Vec<Change>,
+        next: Next,
+    ) -> Result<(Vec<Reply>, Vec<Arc<Change>>), Refusal>
+        requires made { next ≡ left_together self.old.whole.durable changes.items }
+        requires fit { FollowInTurn self.old.whole.durable (made_all changes.items) }
+        requires wanted { list_all can_be_wanted changes.items ≡ true }
+        requires group { is_group changes.items ≡ true }
+        requires free { self.old.pending ≡ [] }
+        ensures made { AreMade (replied result) replies.items changes.items (page self.old) (page self.new) }
+        ensures given { IfOk result (λ r. map arc_value r.1.items ≡ changes.items) }
+        ensures any_moment { EachMoment D.moment D.left_since self.old.disk self.new.disk
+            (HoldsEither self.old.whole.durable (after self.old.whole.durable changes.items)) }
+        ensures still { IfErr result (λ e. is_fault e ≡ false → self.new.disk ≡ self.old.disk) }
+        ensures openable { StaysOpenable D.moment D.left_since self.old self.new }
+        ensures moments { D.moment self.new.disk ≤ D.moment self.old.disk + 10 }
+        ensures same_size { length (D.seen self.new.disk) ≡ length (D.seen self.old.disk) }
+        ensures faults { D.fault_count self.new.disk ≡ D.fault_count self.old.disk + (if is_fault_result result then 1 else 0) }
+    {
+        match self.keep_all(changes, next) {
+            Ok(given) => {
+                if self.show_all() {
+                    Ok((replies, given))
+                } else {
+                    all_stored(&mut replies);
+                    Ok((replies, given))
+                }
+            }
+            Err(refusal) => Err(refusal),
+        }
+    }
+
+    // Whether a group may be begun: no group is pending, and its own words don't refuse it.
+    fn check_all(&self, commands: &[Command]) -> Result<(), Refusal>
+        ensures { result ≡ and_then (unless (is_halted self.now.pending) told.Halted) (group_words commands.now) }
+    {
+        if self.acked < self.log.len() {
+            return Err(Refusal::Halted);
+        }
+        check_group(commands)
+    }
+
+    // A group of commands, wherever the opening has come to, with its changes, if they were kept.
+    fn call_all(&mut self, commands: &[Command]) -> Result<(Vec<Reply>, Vec<Arc<Change>>), Refusal>
+        ensures leads { (h : Held) → IsAt h (page self.old) → LeadsGroup h (page self.new) commands.now (replied result)
+            (upshot self.new.shown (nat_lt (D.fault_count self.old.disk) (D.fault_count self.new.disk))) }
+        ensures any_moment { (h : Held) → IsAt h (page self.old)
+            → EachMoment D.moment D.left_since self.old.disk self.new.disk (HoldsLeft h (grouping commands.now)) }
+        ensures given { IfOk result (λ r. (h : Held) → IsAt h (page self.old) → map arc_value r.1.items ≡ changes_due h [] commands.now) }
+        ensures openable { StaysOpenable D.moment D.left_since self.old self.new }
+        ensures moments { D.moment self.new.disk ≤ D.moment self.old.disk + 10 }
+        ensures same_size { length (D.seen self.new.disk) ≡ length (D.seen self.old.disk) }
+        ensures faults { D.fault_count self.new.disk ≡ D.fault_count self.old.disk + (if is_fault_result result then 1 else 0) }
+        ensures base { self.new.base ≡ self.old.base }
+        ensures setting { (page self.new).setting ≡ (page self.old).setting }
+        ensures stays { StaysUnlessAnyKept (replied result) self.old self.new }
+    {
+        self.check_all(commands)?;
+        let Course {
+            replies,
+            changes,
+            next,
+        } = course_of(self.alloc, &mut self.core, self.acked, commands)?;
+        match next {
+            Some(next) => self.make_all(replies, changes, next),
+            None => Ok((replies, Vec::new(self.alloc))),
+        }
+    }
+
+    /// Several commands, whose changes are kept in one record: 1 to 64 commits, changes of tables and commands on states. Each is replied to as
+    /// if those before it had been called by themselves, and the numbers of their changes go on one by one. A crash keeps all the changes or
+    /// none of them.
+    ///
+    /// `Ok`: a reply to each command, which may be its refusal by the core; the changes are on the device. They are shown with all before
+    /// them, and then answered `Applied`; or each of them is `Stored`, as memory was refused for that. Where no command wants a change the
+    /// device isn't written.
+    ///
+    /// `Err` refuses all of them, for the first of these that holds: `Halted`, where the device failed in an earlier call; `BadCount`, of no
+    /// commands or more than 64; `NotGrouped`, with the first command of another kind; `HistoryFull`, where the history would have more
+    /// changes than it may have; `Full`, exactly where a bank has no room for the record of all of them behind a snapshot of what was kept
+    /// before, or less than 64 bytes left behind one of what is kept then; `Fault`, where a call of the device failed. `Memory` may come
+    /// instead of any reply but the first three; but once all changes are made the two limits come before any further want of memory. All
+    /// growths but those for showing come before the device is written. After every `Err` but `Fault` all is as before, and no call of the
+    /// device was made. After `Fault` the changes stand in the history, not acknowledged, and all else is as before; each later command
+    /// that may change something is `Halted`. Own.
+    pub fn group(&mut self, commands: &[Command]) -> Result<Vec<Reply>, Refusal>
+        // The replies, or the refusal, are legal in each world that the Book stood for, and it stands for that with this group at its end.
+        ensures worlds { (first : Kept) (world : List Event) → StandsFor first (page self.old) world →
+            StandsFor first (page self.new) (world ++ called_group commands.now (listed result)
+            (upshot self.new.shown (nat_lt (D.fault_count self.old.disk) (D.fault_count self.new.disk))) ∷ []) }
+        ensures legal { (h : Held) → IsAt h (page self.old)
+            → LegalReplies h commands.now (listed result) (nat_lt (D.fault_count self.old.disk) (D.fault_count self.new.disk)) }
+
+        // At each moment of the call an image holds what some crash within it leaves of the opening, and after it what one then leaves.
+        ensures any_moment { (h : Held) → IsAt h (page self.old)
+            → EachMoment D.moment D.left_since self.old.disk self.new.disk (HoldsLeft h (grouping commands.now)) }
+        ensures images { (h : Held) → IsAt h (page self.new) → (c : List ℕ)
+            → IsImage (D.seen self.new.disk) (D.unsynced self.new.disk) c → HoldsLeft h idle c }
+
+        // What is kept is the fold of all that was acknowledged, and what is shown is the fold of as many changes as are shown.
+        ensures fold { self.new.whole.durable ≡ after self.new.base (flat self.new.acked) }
+        ensures published { self.new.published ≡ after self.new.base (take self.new.shown (flat self.new.acked)) }
+        ensures shown { self.new.shown ≡ fold (λ n r. shown_by r n) self.old.shown (replies_in (listed result)) }
+        ensures numbered { IfOk (listed result) (λ replies. AreNumbered replies (length (flat self.old.acked)) (length (flat self.new.acked))) }
+        ensures stays { StaysUnlessAnyKept (listed result) self.old self.new }
+        ensures base { self.new.base ≡ self.old.base }
+        ensures setting { (page self.new).setting ≡ (page self.old).setting }
+
+        // What an opening needs of each image at each moment of the call.
+        ensures openable { StaysOpenable D.moment D.left_since self.old self.new }
+
+        ensures moments { D.moment self.new.disk ≤ D.moment self.old.disk + 10 }
+        ensures same_size { length (D.seen self.new.disk) ≡ length (D.seen self.old.disk) }
+        ensures faults { D.fault_count self.new.disk ≡ D.fault_count self.old.disk + (if is_fault_result (listed result) then 1 else 0) }
+    {
+        let result = alone(self.call_all(commands));
+        // looked at, so that what a Book keeps is known here
+        let _ = &self.core;
+        result
+    }
+}

@@ -1,0 +1,113 @@
+//! What the commands of a group come to, one after the other, before any of it is kept.
+ghost use Rattle.std.specs.{Prelude.{◌≡◌, ◌≢◌, ◌≤◌, ◌<◌, ◌+◌, ◌^◌, ◌++◌, ◌∷◌, [], List, IfOk, OnOk, Ok, Err, true, length, map}, List.{AllByRecursion, list_all}};
+ghost use Rattle.pf_ticket.specs.{Laws.Tickets.IsWithin as AreTicketsWithin, Mentions.{after as moved_by, switches}};
+ghost use Rattle.pf_core.specs.declared.reply.Refusal.TheVariants as told;
+ghost use Rattle.pf_core.specs.declared.{command.HistoryCommand.HistoryCommand, step.Step.TheVariants.OfHistory};
+ghost use Rattle.pf_core.specs.{Commands.{may_be_grouped, step_by}, Wholes.{plain, IsMadeFrom}, Worlds.{Held, log_of, as_stored, changes_of, changes_due, replies_due, reply_to}};
+ghost use Rattle.pf_store.specs.{Groups.{can_be_wanted, made_all}, Stores.FollowInTurn};
+ghost use Rattle.pf_book.specs.Courses.{IsCalm, ready_of, found_by, left_to};
+
+use pf_core::{Change, Command, Core, Next, ReadyStep, Refusal, Reply};
+use std::alloc::{AllocError, Global};
+use std::mem;
+
+/// The replies to a group's commands so far, the changes that these want, and what all of them leave, where there are any.
+#[derive(Drop)]
+pub(crate) struct Course {
+    pub(crate) replies: Vec<Reply>,
+    pub(crate) changes: Vec<Change>,
+    pub(crate) next: Option<Next>,
+}
+
+impl Course {
+    // The step of the next command, behind the changes so far.
+    fn step(&self, core: &mut Core, command: &Command) -> Result<ReadyStep, Refusal>
+        requires may { may_be_grouped command.now ≡ true }
+        ensures reply { (plain result ≢ Err told.Memory) → plain result ≡ step_by
+            (moved_by core.old.tickets (switches (found_by core.old.durable self.now.next).voided))
+            (found_by core.old.durable self.now.next).durable command.now }
+        ensures made { IsMadeFrom (found_by core.old.durable self.now.next) result }
+        ensures same { core.new ≡ core.old }
+    {
+        match &self.next {
+            Some(next) => core.step_ready_from(next, command),
+            None => core.step_ready(command),
+        }
+    }
+
+    // Takes the step of one command more, behind so many changes that were acknowledged.
+    fn take(&mut self, acked: usize, step: Result<ReadyStep, Refusal>) -> Result<(), AllocError>
+        requires few { (acked < 2 ^ 62) × (length self.old.changes.items < 2 ^ 62) }
+        requires own { (x : HistoryCommand) → plain step ≢ Ok (OfHistory x) }
+        ensures replies { OnOk result ((h : Held) → length (log_of h) ≡ acked + length self.old.changes.items
+            → self.new.replies.items ≡ self.old.replies.items ++ reply_to h (plain step) ∷ []) }
+        ensures changes { OnOk result (self.new.changes.items ≡ self.old.changes.items ++ changes_of (plain step)) }
+        ensures next { OnOk result (self.new.next ≡ left_to step self.old.next) }
+        ensures known { OnOk result (plain step ≢ Err told.Memory) }
+    {
+        match step {
+            Ok(ReadyStep::Done(answer)) => self.replies.push(Reply::Answer(answer))?,
+            Ok(ReadyStep::Wants(change, next, outcome)) => {
+                self.changes.push(change)?;
+                self.next = Some(next);
+                let seq = (acked + self.changes.len()) as u64;
+                self.replies.push(Reply::Applied { seq, outcome })?;
+            }
+            Ok(ReadyStep::OfHistory(_)) => unreachable!(),
+            Err(Refusal::Memory) => return Err(AllocError),
+            Err(refusal) => self.replies.push(Reply::Refused(refusal))?,
+        }
+        Ok(())
+    }
+}
+
+/// What the commands of a group come to, behind so many changes that were acknowledged. `AllocError`: memory was refused, and nothing
+/// changes.
+pub(crate) fn course_of(
+    alloc: Global,
+    core: &mut Core,
+    acked: usize,
+    commands: &[Command],
+) -> Result<Course, AllocError>
+    requires may { AllByRecursion (λ c. may_be_grouped c ≡ true) commands.now }
+    requires few { (acked < 2 ^ 62) × (length commands.now < 2 ^ 62) }
+    requires tickets { AreTicketsWithin core.old.tickets }
+    ensures replies { IfOk result (λ r. (h : Held) → IsCalm h core.old acked → r.replies.items ≡ replies_due h [] commands.now) }
+    ensures changes { IfOk result (λ r. (h : Held) → IsCalm h core.old acked → r.changes.items ≡ changes_due h [] commands.now) }
+    ensures next { IfOk result (λ r. r.next ≡ ready_of core.old.durable r.changes.items) }
+    ensures fit { IfOk result (λ r. FollowInTurn core.old.durable (made_all r.changes.items)) }
+    ensures wanted { IfOk result (λ r. list_all can_be_wanted r.changes.items ≡ true) }
+    ensures few { IfOk result (λ r. length r.changes.items ≤ length commands.now) }
+    ensures same { core.new ≡ core.old }
+{
+    let mut course = Course {
+        replies: Vec::with_capacity(alloc, commands.len())?,
+        changes: Vec::new(alloc),
+        next: None,
+    };
+    for command in commands {
+        let step = course.step(core, command);
+        course.take(acked, step)?;
+    }
+    Ok(course)
+}
+
+// A change that is kept and not shown.
+fn stored(reply: Reply) -> Reply
+    ensures { result ≡ as_stored reply }
+{
+    match reply {
+        Reply::Applied { seq, outcome } => Reply::Stored { seq, outcome },
+        reply => reply,
+    }
+}
+
+/// Says of all changes that they are kept and not shown. It takes no memory.
+pub(crate) fn all_stored(replies: &mut [Reply])
+    ensures { replies.new ≡ map as_stored replies.old }
+{
+    for reply in replies.iter_mut() {
+        let told = mem::replace(reply, Reply::Refused(Refusal::Memory));
+        *reply = stored(told);
+    }
+}

@@ -1,0 +1,85 @@
+//! What a save of changes needs in memory, and where the changes go then.
+ghost use Rattle.std.specs.Prelude.{◌≡◌, ◌+◌, ◌<◌, ◌≤◌, ◌++◌, IfOk, OnOk, length, map, vec_len, vec_capacity, if◌then◌else◌};
+ghost use Rattle.std.specs.Arc.{arc_value};
+
+use crate::showing::shared;
+use pf_core::{Change, Durable, Next};
+use pf_past::{Naming, Tip};
+use std::alloc::{AllocError, Global};
+use std::sync::Arc;
+
+/// A change that can have several owners. `AllocError`: memory was refused.
+pub(crate) fn share(alloc: Global, change: Change) -> Result<Arc<Change>, AllocError>
+    ensures { IfOk result (λ c. arc_value c ≡ change) }
+{
+    Ok(Arc::new(alloc, change)?)
+}
+
+/// Changes that can have several owners. `AllocError`: memory was refused.
+pub(crate) fn share_all(alloc: Global, changes: Vec<Change>) -> Result<Vec<Arc<Change>>, AllocError>
+    ensures { IfOk result (λ v. map arc_value v.items ≡ changes.items) }
+{
+    let mut all = Vec::with_capacity(alloc, changes.len())?;
+    for change in changes {
+        all.push(share(alloc, change)?)?;
+    }
+    Ok(all)
+}
+
+/// Changes for the log and for the history, and what all of them leave.
+#[derive(Drop)]
+pub(crate) struct Copies {
+    pub(crate) logged: Vec<Arc<Change>>,
+    pub(crate) noted: Vec<Arc<Change>>,
+    pub(crate) after: Arc<Durable>,
+}
+
+/// Shares changes that leave this, and makes places for them in a log and for their number among the groups' sizes. `AllocError`: the log and
+/// the sizes are as before.
+pub(crate) fn prepare(
+    alloc: Global,
+    log: &mut Vec<Arc<Change>>,
+    sizes: &mut Vec<usize>,
+    changes: &[Arc<Change>],
+    next: &Next,
+) -> Result<Copies, AllocError>
+    ensures logged { IfOk result (λ c. map arc_value c.logged.items ≡ map arc_value changes.now) }
+    ensures noted { IfOk result (λ c. map arc_value c.noted.items ≡ map arc_value changes.now) }
+    ensures after { IfOk result (λ c. arc_value c.after ≡ next.now.durable) }
+    ensures room { IfOk result (λ c. vec_len log.new + vec_len c.logged ≤ vec_capacity log.new) }
+    ensures place { OnOk result (vec_len sizes.new < vec_capacity sizes.new) }
+    ensures log { log.new.items ≡ log.old.items }
+    ensures sizes { sizes.new.items ≡ sizes.old.items }
+{
+    let logged = shared(alloc, changes)?;
+    let noted = shared(alloc, changes)?;
+    let after = next.durable()?;
+    log.reserve(logged.len())?;
+    sizes.reserve(1)?;
+    Ok(Copies {
+        logged,
+        noted,
+        after,
+    })
+}
+
+/// Puts changes behind a log that has places for them.
+pub(crate) fn put_all(log: &mut Vec<Arc<Change>>, mut changes: Vec<Arc<Change>>)
+    requires room { vec_len log.old + vec_len changes ≤ vec_capacity log.old }
+    ensures { log.new.items ≡ log.old.items ++ changes.items }
+{
+    match log.append(&mut changes) {
+        Ok(()) => {}
+        Err(_) => unreachable!(),
+    }
+}
+
+/// Notes changes in the history, which were acknowledged or not.
+pub(crate) fn note_all<J: Naming>(tip: &mut Tip<J>, changes: Vec<Arc<Change>>, acked: bool)
+    ensures front { tip.new.front ≡ tip.old.front ++ map arc_value changes.items }
+    ensures acked { tip.new.acked ≡ tip.old.acked + (if acked then length changes.items else 0) }
+{
+    for change in changes {
+        tip.add(change, acked);
+    }
+}
