@@ -2,6 +2,7 @@
 ghost use Rattle.pf_book.specs.Books.{IsNamed};
 ghost use Rattle.pf_store_tests.specs.declared.books.TheConstants.{HISTORY_LIMIT};
 
+use crate::rows::GROUPED;
 use pf_book::{Book, Chapter, Disk, Opening, Reply};
 use pf_disk::MemDisk;
 use pf_line::{parse_line, write_reply};
@@ -46,19 +47,53 @@ pub fn replies<D: Disk + Drop, J: Chapter, H: Wait + Drop>(
     Ok(text)
 }
 
-/// The reply to a line, with bars between its lines.
+/// The reply to a line, with bars between its lines. A line that begins with `group` gives the replies to all in it.
 pub fn reply<D: Disk + Drop, J: Chapter, H: Wait + Drop>(
     alloc: Global,
     book: &mut Book<D, J, H>,
     line: &str,
 ) -> Result<String, AllocError> {
+    if let Some(lines) = line.strip_prefix("group") {
+        return group_replies(alloc, book, lines.trim_start());
+    }
     let reply = match parse_line(alloc, line.as_bytes()) {
         Ok(Some(command)) => book.run(command),
         Ok(None) => return Ok(String::new(alloc)),
         Err(refusal) => Reply::Refused(refusal),
     };
+    text_of(alloc, &reply)
+}
+
+// The replies to the commands of one group, or the refusal of them all. A line that is no command is left out.
+fn group_replies<D: Disk + Drop, J: Chapter, H: Wait + Drop>(
+    alloc: Global,
+    book: &mut Book<D, J, H>,
+    lines: &str,
+) -> Result<String, AllocError> {
+    let mut commands = Vec::new(alloc);
+    for line in lines.split(GROUPED) {
+        if let Ok(Some(command)) = parse_line(alloc, line.as_bytes()) {
+            commands.push(command)?;
+        }
+    }
+    let replies = match book.group(&commands) {
+        Ok(replies) => replies,
+        Err(refusal) => return text_of(alloc, &Reply::Refused(refusal)),
+    };
+    let mut text = String::new(alloc);
+    for (place, reply) in replies.iter().enumerate() {
+        if place > 0 {
+            text.push_str(GROUPED)?;
+        }
+        text.push_str(&text_of(alloc, reply)?)?;
+    }
+    Ok(text)
+}
+
+// A reply's text, with bars between its lines.
+fn text_of(alloc: Global, reply: &Reply) -> Result<String, AllocError> {
     let mut bytes = Vec::new(alloc);
-    if write_reply(&mut bytes, &reply).is_err() {
+    if write_reply(&mut bytes, reply).is_err() {
         return Err(AllocError);
     }
     joined(alloc, std::str::from_utf8(&bytes).unwrap_or(""))

@@ -2,6 +2,9 @@
 
 use std::alloc::{AllocError, Global};
 
+/// What stands between the lines of a group, and between its replies.
+pub const GROUPED: &str = " + ";
+
 /// Rows that are played in turn, over what an opening gives where they open a device.
 #[derive(Drop)]
 pub struct Segment {

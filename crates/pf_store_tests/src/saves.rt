@@ -6,7 +6,8 @@ ghost use Rattle.pf_store_tests.specs.declared.books.TheConstants.{HISTORY_LIMIT
 use crate::books::{HISTORY_LIMIT, closed_gate, replies, replies_over, reply};
 use crate::crashes::fill;
 use crate::rows::{
-    Segment, cut_bar, cut_word, fill_at_random, lines_of, number, put_bytes, segments, tell_row,
+    GROUPED, Segment, cut_bar, cut_word, fill_at_random, lines_of, number, put_bytes, segments,
+    tell_row,
 };
 use pf_book::{Book, Chapter, Disk, FuseDisk, MemDisk, OpenFault, Opening, format};
 use pf_disk::Fill;
@@ -134,6 +135,7 @@ impl<H: Wait + Drop + Copy> Bench<H> {
             "openings" => self.open_often(told, number(rest)),
             "faults" => self.tell_faults(told, rest),
             "failing" => self.tell_failing(told, rest),
+            "pairs" => self.tell_pairs(told, rest),
             _ => Ok(()),
         }
     }
@@ -146,7 +148,10 @@ impl<H: Wait + Drop + Copy> Bench<H> {
     ) -> Result<(), AllocError> {
         let (word, rest) = cut_word(row);
         match word {
-            "bytes" | "with" | "openings" | "faults" | "failing" => self.play_device(told, row),
+            "bytes" | "with" | "openings" | "faults" | "failing" | "pairs" => {
+                self.play_device(told, row)
+            }
+            "times" => self.call_often(told, book, rest),
             "snapshot" => self.tell_snapshot(told, book),
             "crash" => self.tell_crash(told, book.disk(), rest),
             "crashes" => self.tell_crashes(told, book.disk()),
@@ -227,12 +232,26 @@ impl<H: Wait + Drop + Copy> Bench<H> {
     ) -> Result<(), AllocError> {
         let text = reply(self.alloc, book, line)?;
         told.push_str(&text)?;
-        if text.starts_with("applied") {
+        if text.contains("applied") {
             self.keep(book)?;
             let gate = closed_gate(self.alloc, &self.bytes)?;
             write!(told, ", gate {gate}")?;
         }
         Ok(())
+    }
+
+    /// One line of a client, so many times: the reply to the last.
+    fn call_often<J: Chapter>(
+        &mut self,
+        told: &mut String,
+        book: &mut Book<MemDisk, J, H>,
+        how: &str,
+    ) -> Result<(), AllocError> {
+        let (times, line) = cut_word(how);
+        for _ in 1..number(times) {
+            reply(self.alloc, book, line)?;
+        }
+        self.call(told, book, line)
     }
 
     /// Other bytes at some places, until the device is opened.
@@ -401,6 +420,49 @@ impl<H: Wait + Drop + Copy> Bench<H> {
         self.tell_opened(told, below.image(self.alloc, u64::MAX, Fill::Old)?)?;
         told.push_str("; or ")?;
         self.tell_opened(told, below.image(self.alloc, u64::MAX, Fill::New)?)
+    }
+
+    /// Each of some lines with each behind it in one group, after other lines: the replies to the two, and whether they come to the same one by
+    /// one.
+    fn tell_pairs(&self, told: &mut String, how: &str) -> Result<(), AllocError> {
+        let (before, lines) = how.rsplit_once(" | ").unwrap_or(("", how));
+        for first in lines.split(GROUPED) {
+            self.tell_pairs_of(told, before, first, lines)?;
+        }
+        Ok(())
+    }
+
+    fn tell_pairs_of(
+        &self,
+        told: &mut String,
+        before: &str,
+        first: &str,
+        lines: &str,
+    ) -> Result<(), AllocError> {
+        let places = before.split(" | ").count();
+        for second in lines.split(GROUPED) {
+            let one_by_one = self.replies_behind(
+                before,
+                &format!(in self.alloc; "{first} | {second}")?,
+            )?;
+            let pair = format!(in self.alloc; "{first}{GROUPED}{second}")?;
+            let grouped = self.replies_behind(before, &format!(in self.alloc; "group {pair}")?)?;
+            let replies = grouped.split(", ").nth(places).unwrap_or("");
+            let is_same = grouped.replace(self.alloc, GROUPED, ", ")? == one_by_one;
+            write!(
+                told,
+                "\n  {pair}: {replies}; one by one the same: {is_same}"
+            )?;
+        }
+        Ok(())
+    }
+
+    /// The replies to lines and to some behind them over the device with its bytes, and to what is asked of all that is kept then.
+    fn replies_behind(&self, before: &str, lines: &str) -> Result<String, AllocError> {
+        let mut told = String::new(self.alloc);
+        let all = format!(in self.alloc; "{before} | {lines} | {QUESTIONS}")?;
+        self.tell_replies(&mut told, self.bytes.to_vec(self.alloc)?, &all)?;
+        Ok(told)
     }
 
     /// The replies to lines over a device with these bytes.
