@@ -2,6 +2,7 @@ pub mod Pushed
 pub mod Taken
 pub mod Told
 pub mod Sized
+pub mod Recording
 pub mod Leading
 pub mod Refusing
 pub mod Saving

@@ -105,26 +105,26 @@ module _ {D : Type 0} (seen : D → List ℕ) (unsynced : D → ℕ → Bool) wh
     pub stores : IsReady seen unsynced banks → HaveKept seen banks d → faults banks.journal.disk < 2 ^ 63 → IsStore seen unsynced faults banks
     stores ready k few = record { ready = ready; content = k.content; keeps = k.keeps; few = few }
 
-    module _ (ready : IsReady seen unsynced banks) (k : HaveKept seen banks d) (n : ℕ) (six : n ≡ 6) where
+    module _ (ready : IsReady seen unsynced banks) (k : HaveKept seen banks d) (n : ℕ) (twelve : n ≡ 12) where
       -- an opening's record has room nowhere
       pub tells_full : (e : Kept) → IsFull (seen banks.journal.disk) e
-          → (banks.journal.end < banks.journal.gate + (n + 6)) × (bank_size (length (seen banks.journal.disk)) < HEADER + snapshot_length d + (n + 6))
+          → (banks.journal.end < banks.journal.gate + n) × (bank_size (length (seen banks.journal.disk)) < HEADER + snapshot_length d + n)
       tells_full e full =
           let old = seen banks.journal.disk in
           let mine = have_held k in
           let at : full.held.bank.at ≡ banks.at = one_at old e d full.held mine in
           let gate : gate_of old e full.held ≡ gate_of old d mine = one_gate old e d full.held mine in
           let same : snapshot_length e ≡ snapshot_length d = ap (λ (x : Kept). snapshot_length x) (one_held old e d full.held mine) in
-          (omega (arith, full.here, at, gate, k.keeps.start, k.keeps.gate, ready.end, six), omega (arith, full.there, same, six))
+          (omega (arith, full.here, at, gate, k.keeps.start, k.keeps.gate, ready.end, twelve), omega (arith, full.there, same, twelve))
 
-      pub is_full : banks.generation < 2 ^ 63 → d.epoch < last_epoch → (banks.journal.end < banks.journal.gate + (n + 6)) × (bank_size (length (seen banks.journal.disk)) < HEADER + snapshot_length d + (n + 6))
+      pub is_full : banks.generation < 2 ^ 63 → d.epoch < last_epoch → (banks.journal.end < banks.journal.gate + n) × (bank_size (length (seen banks.journal.disk)) < HEADER + snapshot_length d + n)
           → IsFull (seen banks.journal.disk) d
       is_full early low full = record {
         held = have_held k;
         early = omega (arith, early, k.keeps.generation);
         low = low;
-        here = omega (arith, full.0, k.keeps.start, k.keeps.gate, ready.end, six);
-        there = omega (arith, full.1, six);
+        here = omega (arith, full.0, k.keeps.start, k.keeps.gate, ready.end, twelve);
+        there = omega (arith, full.1, twelve);
       }
 
       -- an opening's record has room in the bank that counts, or hasn't
@@ -138,12 +138,12 @@ module _ {D : Type 0} (seen : D → List ℕ) (unsynced : D → ℕ → Bool) wh
         gate : gate_of image e held ≡ gate_of image d (have_held k)
         gate = one_gate image e d held (have_held k)
 
-        pub room_here : HasRoomHere image e held → banks.journal.gate + (n + 6) ≤ banks.journal.end
-        room_here here = omega (arith, here, at, gate, k.keeps.start, k.keeps.gate, ready.end, six)
+        pub room_here : HasRoomHere image e held → banks.journal.gate + n ≤ banks.journal.end
+        room_here here = omega (arith, here, at, gate, k.keeps.start, k.keeps.gate, ready.end, twelve)
 
-        pub no_room_here : ¬ HasRoomHere image e held → banks.journal.end < banks.journal.gate + (n + 6)
+        pub no_room_here : ¬ HasRoomHere image e held → banks.journal.end < banks.journal.gate + n
         no_room_here full =
-            not_greater _ _ (λ fits. full (omega (arith, fits, at, gate, k.keeps.start, k.keeps.gate, ready.end, six)))
+            not_greater _ _ (λ fits. full (omega (arith, fits, at, gate, k.keeps.start, k.keeps.gate, ready.end, twelve)))
 
         pub by_generation : generation_of image e held ≡ banks.generation
         by_generation = ap (λ (c : Content). c.generation) (one_content image held.content k.content held.bank (have_held k).bank) ∙ sym k.keeps.generation

@@ -15,6 +15,7 @@ use Rattle.std.specs.{Prelude.{◌≡◌, ℕ, ◌==◌, ◌^◌, ◌&&◌, not,
 use Rattle.std.proofs.Common.{inl, inr}
 use Rattle.pf_addr.specs.{Bytes.{Forms.{Shape, nat, both, either, list, Value, Form, Spells, number, front, or, pair, counted, that}, Lists.ordered}, Path.{Names.name_order, PathForms.{TextShape, path_form, table_name_form}}}
 use Rattle.pf_anchor.specs.Forms.{at_most, RulesShape, rules_form, plain_ruled, ruled_in, NamedShape, named_form, plain_entries, plain_named, entries_in, named_in}
+use Rattle.pf_journal.specs.{Journal.IsOf, declared.journal.Record.Record}
 use Rattle.pf_core.specs.{declared.durable.change.Item.Item, Durable.Edits.{Edit, commits, adds, deletes, sets, acts, removes}}
 use Rattle.pf_core.specs.declared.durable.change.Item.TheVariants as item
 use Rattle.pf_store.specs.declared.groups.change.Recorded.{Recorded, TheVariants.Made as made, TheVariants.Opens as opens}
@@ -146,3 +147,9 @@ have_form rs = is_group rs && list_all has_form rs
 pub record IsRecorded (version : ℕ) (rs : List Recorded) (payload : List ℕ) : Type 0 where
   pub spelled : Spells (group_form version) (map plain_record rs) payload
   pub told : rs ≡ map record_in (map plain_record rs)
+
+-- The record is of a payload, the bytes of a group in a version.
+pub record IsRecordOf (version : ℕ) (rs : List Recorded) (whole : Record) : Type 0 where
+  pub payload : List ℕ
+  pub is : IsOf payload whole
+  pub recorded : IsRecorded version rs payload

@@ -1,6 +1,6 @@
 //! Changes in bytes: what a record's payload means. Read first `specs/Groups.antt`, which has each kind of change by its bytes.
 //!
-//! - `group`: [`write_group`] and [`read_group`]: what one record keeps.
+//! - `group`: [`write_group`] and [`read_group`]: what one record keeps; `record_group` and `record_opening`: the record itself.
 //! - `as_change`: [`AsChange`]: a change that is handed in as it is, or shared.
 //! - `change`: [`Recorded`]: a change or an opening as a record has it.
 //! - `items`: what a commit replaces, rules or tables.
@@ -23,7 +23,7 @@ mod telling;
 pub use as_change::AsChange;
 pub use change::Recorded;
 pub use fault::GroupFault;
-pub(crate) use group::{have_form, write_opening};
+pub(crate) use group::{have_form, record_group, record_opening};
 pub use group::{read_group, write_group};
 pub(crate) use items::{push_rules, read_rules};
 pub use laws::payloads_tell_one_group;

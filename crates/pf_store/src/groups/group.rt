@@ -1,8 +1,8 @@
 //! Groups: what one record keeps.
-ghost use Rattle.std.specs.{Prelude.{◌≡◌, ◌+◌, ◌<◌, ◌≤◌, ◌&&◌, [], ◌∷◌, true, false, length, map, List, ℕ, IfOk, IfErr, OnOk}, List.list_all};
+ghost use Rattle.std.specs.{Prelude.{◌≡◌, ◌+◌, ◌^◌, ◌<◌, ◌≤◌, ◌&&◌, ◌++◌, [], ◌∷◌, true, false, length, map, List, ℕ, IfOk, IfErr, OnOk}, List.list_all};
 ghost use Rattle.pf_addr.specs.{Bytes.Forms.{counted, onto, Fits}, Bytes.Readers.Reads};
-ghost use Rattle.pf_store.specs.declared.limits.TheConstants.{OPENING_PAYLOAD};
-ghost use Rattle.pf_store.specs.{Groups.{change_form, group_form, have_form, has_form, is_group, made_all, plain_record, record_in, IsRecorded}, Lengths.payload_length};
+ghost use Rattle.pf_store.specs.declared.limits.TheConstants.{AROUND, OPENING_RECORD};
+ghost use Rattle.pf_store.specs.{Groups.{change_form, group_form, have_form, has_form, is_group, made_all, plain_record, record_in, IsRecorded, IsRecordOf}, Lengths.payload_length};
 
 use crate::groups::as_change::AsChange;
 use crate::groups::change::{OPEN, Recorded, has_change_form, push_change, push_record};
@@ -12,6 +12,7 @@ use pf_addr::bytes::{
     Fault, Layout, Rest, Stop, decode, push_bytes, push_u8, push_u32, read_times, read_u8,
 };
 use pf_core::GROUP_LIMIT;
+use pf_journal::Record;
 use std::alloc::{AllocError, Global};
 
 // A group, as a record has it.
@@ -149,21 +150,48 @@ pub fn write_group<C: AsChange>(
     if !have_form(changes) {
         return Err(GroupFault::NoForm);
     }
-    tell_changes(changes);
     let mut out = Vec::new(alloc);
-    push_changes(&mut out, version, changes)?;
+    push_group(&mut out, version, changes)?;
     Ok(out)
 }
 
-/// The bytes of an opening with this epoch, a group of its own, which are the same in each version. `AllocError`: memory was refused.
-pub(crate) fn write_opening(alloc: Global, epoch: u32) -> Result<Vec<u8>, AllocError>
-    ensures written { IfOk result (λ v. (version : ℕ) → IsRecorded version (Recorded.Opens epoch ∷ []) v.items) }
-    ensures length { IfOk result (λ v. length v.items ≡ OPENING_PAYLOAD) }
+// Puts the bytes of a group of changes behind others.
+fn push_group<C: AsChange>(out: &mut Vec<u8>, version: u8, changes: &[C]) -> Result<(), AllocError>
+    requires { have_form (made_all (map C.edit changes.now)) ≡ true }
+    ensures { OnOk result ((payload : List ℕ) × (out.new.items ≡ out.old.items ++ payload)
+        × IsRecorded version (made_all (map C.edit changes.now)) payload) }
 {
-    let mut out = Vec::new(alloc);
-    push_bytes(&mut out, &[1, OPEN])?;
-    push_u32(&mut out, epoch)?;
-    Ok(out)
+    tell_changes(changes);
+    push_changes(out, version, changes)
+}
+
+/// The record of a group of changes in a version, where they have bytes, fewer than 2^32. `AllocError`: memory was refused.
+pub(crate) fn record_group<C: AsChange>(
+    alloc: Global,
+    version: u8,
+    changes: &[C],
+) -> Result<Record, AllocError>
+    requires formed { have_form (made_all (map C.edit changes.now)) ≡ true }
+    requires short { payload_length (made_all (map C.edit changes.now)) < 2 ^ 32 }
+    ensures made { IfOk result (λ made. IsRecordOf version (made_all (map C.edit changes.now)) made) }
+    ensures long { IfOk result (λ made. length made.behind.items + 1 ≡ payload_length (made_all (map C.edit changes.now)) + AROUND) }
+{
+    let mut record = Record::begin(alloc)?;
+    push_group(&mut record.behind, version, changes)?;
+    record.close()?;
+    Ok(record)
+}
+
+/// The record of an opening with this epoch, a group of its own, which is the same in each version. `AllocError`: memory was refused.
+pub(crate) fn record_opening(alloc: Global, epoch: u32) -> Result<Record, AllocError>
+    ensures made { IfOk result (λ made. (version : ℕ) → IsRecordOf version (Recorded.Opens epoch ∷ []) made) }
+    ensures long { IfOk result (λ made. length made.behind.items + 1 ≡ OPENING_RECORD) }
+{
+    let mut record = Record::begin(alloc)?;
+    push_bytes(&mut record.behind, &[1, OPEN])?;
+    push_u32(&mut record.behind, epoch)?;
+    record.close()?;
+    Ok(record)
 }
 
 /// What these bytes record in a version: 1 to 64 changes and openings. `NoForm`: they are nothing's. `Memory`: a growth was refused.

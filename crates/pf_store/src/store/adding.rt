@@ -1,12 +1,12 @@
 //! Adding a record, behind a switch to the other bank where it has no room.
 ghost use Rattle.std.specs.Prelude.{◌≡◌, ◌↔◌, ◌+◌, ◌^◌, ◌<◌, ◌≤◌, true, List, ℕ, length, OnOk, OnErr, IsErrOf, if◌then◌else◌};
 ghost use Rattle.pf_disk.specs.Disk.{EachMoment};
+ghost use Rattle.pf_journal.specs.Journal.{IsOf};
 ghost use Rattle.pf_snap.specs.{Banks.bank_size, Faults.is_switch_fault, Ready.IsReady};
 ghost use Rattle.pf_core.specs.Durable.Edits.{Kept};
 ghost use Rattle.pf_store.specs.declared.groups.change.Recorded.{Recorded};
-ghost use Rattle.pf_store.specs.{Durables.durable_has_form, Groups.IsRecorded, Lengths.snapshot_length, Snapshots.IsBankOf, StoreFaults.is_add_fault, StoreKept.HaveKept, Openings.{IsAsLongAs, IsNoLaterThan}, Stores.{FollowInTurn, left_by_all, Holds, HoldsEither}};
+ghost use Rattle.pf_store.specs.{Durables.durable_has_form, Groups.IsRecordOf, Lengths.snapshot_length, Snapshots.IsBankOf, StoreFaults.is_add_fault, StoreKept.HaveKept, Openings.{IsAsLongAs, IsNoLaterThan}, Stores.{FollowInTurn, left_by_all, Holds, HoldsEither}};
 
-use crate::limits::AROUND;
 use crate::snapshots::push_snapshot;
 use crate::store::fault::AddFault;
 use crate::store::lengths::has_room;
@@ -14,63 +14,62 @@ use pf_core::Durable;
 use pf_disk::Disk;
 use pf_journal::Record;
 use pf_snap::{Banks, HEADER, NEWEST, NextBank, SwitchFault};
-use std::alloc::{AllocError, Global};
+use std::alloc::AllocError;
 
-/// Adds a record of a group that follows what is kept, with this payload, in ten moments of the device at most. Where the bank that counts has no
-/// room for it, the other one is begun before with a snapshot of what is kept, in the memory of the next bank. All memory is taken before
-/// the device's first call.
+/// Adds this record of a group that follows what is kept, in ten moments of the device at most. Where the bank that counts has no room for
+/// it, the other one is begun before with a snapshot of what is kept, in the memory of the next bank. All memory is taken before the
+/// device's first call.
 ///
-/// The payload is in the version of the bank that counts, which is that of the other one too: there is one so far.
+/// The record is in the version of the bank that counts, which is that of the other one too: there is one so far.
 ///
 /// The banks are ready and hold what is kept. `Full`: the record has no room, and wouldn't have it behind such a snapshot either.
 pub(crate) fn add<D: Disk>(
-    alloc: Global,
     banks: &mut Banks<D>,
     next: &mut NextBank,
     durable: &Durable,
-    payload: &[u8],
+    added: &Record,
 ) -> Result<(), AddFault>
     requires ready { IsReady D.seen D.unsynced banks.old }
     requires kept { HaveKept D.seen banks.old durable.now }
     requires early { banks.old.generation + 1 < 2 ^ 64 }
     requires few { D.fault_count banks.old.journal.disk < 2 ^ 63 }
-    requires small { length payload.now + AROUND < 2 ^ 64 }
-    ensures any_moment { (xs : List Recorded) → IsRecorded banks.old.version xs payload.now → FollowInTurn durable.now xs
+    requires made { (payload : List ℕ) × IsOf payload added.now }
+    ensures any_moment { (xs : List Recorded) → IsRecordOf banks.old.version xs added.now → FollowInTurn durable.now xs
         → EachMoment D.moment D.left_since banks.old.journal.disk banks.new.journal.disk (HoldsEither durable.now (left_by_all durable.now xs)) }
     ensures generations { EachMoment D.moment D.left_since banks.old.journal.disk banks.new.journal.disk
         (IsNoLaterThan (banks.old.generation + 1)) }
     ensures lengths { EachMoment D.moment D.left_since banks.old.journal.disk banks.new.journal.disk
         (IsAsLongAs (D.seen banks.old.journal.disk)) }
-    ensures kept { OnOk result ((xs : List Recorded) → IsRecorded banks.old.version xs payload.now → FollowInTurn durable.now xs
+    ensures kept { OnOk result ((xs : List Recorded) → IsRecordOf banks.old.version xs added.now → FollowInTurn durable.now xs
         → HaveKept D.seen banks.new (left_by_all durable.now xs)) }
     ensures ready { OnOk result (IsReady D.seen D.unsynced banks.new) }
-    ensures full { IsErrOf result AddFault.Full ↔ ((banks.old.journal.end < banks.old.journal.gate + (length payload.now + AROUND))
-        × (bank_size (length (D.seen banks.old.journal.disk)) < HEADER + snapshot_length durable.now + (length payload.now + AROUND))) }
+    ensures full { IsErrOf result AddFault.Full ↔ ((banks.old.journal.end < banks.old.journal.gate + (length added.now.behind.items + 1))
+        × (bank_size (length (D.seen banks.old.journal.disk)) < HEADER + snapshot_length durable.now + (length added.now.behind.items + 1))) }
     ensures unchanged_where_full { IsErrOf result AddFault.Full → banks.new ≡ banks.old }
     ensures unchanged_without_memory { IsErrOf result AddFault.Memory → banks.new ≡ banks.old }
     ensures generation { banks.new.generation ≤ banks.old.generation + 1 }
     ensures generation_stays { banks.old.generation ≤ banks.new.generation }
-    ensures here { OnOk result (banks.old.journal.gate + (length payload.now + AROUND) ≤ banks.old.journal.end
+    ensures here { OnOk result (banks.old.journal.gate + (length added.now.behind.items + 1) ≤ banks.old.journal.end
         → banks.new.generation ≡ banks.old.generation) }
-    ensures there { OnOk result (banks.old.journal.end < banks.old.journal.gate + (length payload.now + AROUND)
+    ensures there { OnOk result (banks.old.journal.end < banks.old.journal.gate + (length added.now.behind.items + 1)
         → banks.new.generation ≡ banks.old.generation + 1) }
     ensures same_size { length (D.seen banks.new.journal.disk) ≡ length (D.seen banks.old.journal.disk) }
     ensures moments { D.moment banks.new.journal.disk ≤ D.moment banks.old.journal.disk + 10 }
     ensures faults { D.fault_count banks.new.journal.disk
         ≡ D.fault_count banks.old.journal.disk + (if is_add_fault result then 1 else 0) }
 {
-    let needed = payload.len() + AROUND;
+    // its gate, and what is behind it
+    let needed = 1 + added.behind.len();
     let fits_here = needed <= banks.room();
     if !fits_here && !has_room(durable, banks.size(), needed) {
         return Err(AddFault::Full);
     }
-    let record = Record::of(alloc, payload)?;
     if fits_here {
-        banks.append_record(&record)?;
+        banks.append_record(added)?;
         return Ok(());
     }
     switch(banks, next, durable)?;
-    banks.append_record(&record)?;
+    banks.append_record(added)?;
     Ok(())
 }
 

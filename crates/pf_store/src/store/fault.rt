@@ -79,14 +79,6 @@ pub(crate) enum AddFault {
     Fault,
 }
 
-impl From<AllocError> for AddFault {
-    ghost from_gives = { λ _ e. e ≡ adding.Memory };
-
-    fn from(_: AllocError) -> Self {
-        AddFault::Memory
-    }
-}
-
 impl From<DiskFault> for AddFault {
     ghost from_gives = { λ _ e. e ≡ adding.Fault };
 

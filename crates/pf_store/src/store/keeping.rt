@@ -6,17 +6,18 @@ ghost use Rattle.pf_snap.specs.{Banks.bank_size, Ready.IsReady};
 ghost use Rattle.pf_core.specs.{Durable.Edits.Kept, Laws.Durable.IsWithin, Worlds.{last_epoch, raised}};
 ghost use Rattle.pf_store.specs.declared.store.fault.SaveFault.TheVariants as saving;
 ghost use Rattle.pf_store.specs.declared.store.fault.OpenFault.TheVariants as opening;
-ghost use Rattle.pf_store.specs.declared.limits.TheConstants.{AROUND, OPENING_PAYLOAD};
+ghost use Rattle.pf_store.specs.declared.limits.TheConstants.{AROUND, OPENING_RECORD};
 ghost use Rattle.pf_store.specs.declared.groups.change.Recorded.TheVariants as recorded;
-ghost use Rattle.pf_store.specs.{Groups.{can_be_wanted, is_group, made_all, IsRecorded}, Lengths.payload_length, Stores.{FollowInTurn, left_by_all, Holds, HoldsEither, FindsRoom, HasRoom}, StoreKept.{Stands, HaveKept}, StoreFaults.{is_save_fault, TellsRoom, is_fault}, Openings.{HasRoomHere, IsUnopened, IsFull, IsOfOpening, IsAsLongAs, IsNoLaterThan, LeavesRoom, generation_of}};
+ghost use Rattle.pf_store.specs.{Groups.{can_be_wanted, is_group, made_all, IsRecordOf}, Lengths.payload_length, Stores.{FollowInTurn, left_by_all, Holds, HoldsEither, FindsRoom, HasRoom}, StoreKept.{Stands, HaveKept}, StoreFaults.{is_save_fault, TellsRoom, is_fault}, Openings.{HasRoomHere, IsUnopened, IsFull, IsOfOpening, IsAsLongAs, IsNoLaterThan, LeavesRoom, generation_of}};
 
-use crate::groups::{AsChange, GroupFault, write_group, write_opening};
+use crate::groups::{AsChange, record_group, record_opening};
 use crate::store::adding::add;
 use crate::store::fault::{AddFault, OpenFault, SaveFault};
 use crate::store::lengths::find_room;
 use crate::store::replaying::replay;
 use pf_core::Durable;
 use pf_disk::Disk;
+use pf_journal::Record;
 use pf_snap::{Banks, NextBank};
 use std::alloc::Global;
 use std::marker::Model;
@@ -119,12 +120,11 @@ impl<D: Disk> Store<D> {
         if !self.has_room(before, changes, after) {
             return Err(SaveFault::Full);
         }
-        let payload = match write_group(alloc, self.banks.version, changes) {
-            Ok(payload) => payload,
-            Err(GroupFault::Memory) => return Err(SaveFault::Memory),
-            Err(GroupFault::NoForm) => unreachable!(),
+        let record = match record_group(alloc, self.banks.version, changes) {
+            Ok(record) => record,
+            Err(_) => return Err(SaveFault::Memory),
         };
-        match add(alloc, &mut self.banks, &mut self.next, before, &payload) {
+        match add(&mut self.banks, &mut self.next, before, &record) {
             Ok(()) => Ok(()),
             Err(AddFault::Memory) => Err(SaveFault::Memory),
             Err(AddFault::Full) => Err(SaveFault::Full),
@@ -249,13 +249,13 @@ fn raise_on<D: Disk>(
     ensures no_fault { IfOk result (λ r. D.fault_count r.1.disk ≡ D.fault_count banks.journal.disk) }
     ensures fault { IfErr result (λ e. D.fault_count e.1 ≡ D.fault_count banks.journal.disk + (if is_fault e.0 then 1 else 0)) }
 {
-    let (raised, payload) = match raise(alloc, durable) {
+    let (raised, record) = match raise(alloc, durable) {
         Ok(raised) => raised,
         Err(fault) => return Err((fault, banks.into_disk())),
     };
     let mut banks = banks;
     let mut next = NextBank::new(alloc);
-    match add(alloc, &mut banks, &mut next, durable, &payload) {
+    match add(&mut banks, &mut next, durable, &record) {
         Ok(()) => Ok((
             raised,
             Store {
@@ -270,11 +270,11 @@ fn raise_on<D: Disk>(
     }
 }
 
-// What is kept in the next epoch, and the payload of that opening.
-fn raise(alloc: Global, durable: &Durable) -> Result<(Durable, Vec<u8>), OpenFault>
+// What is kept in the next epoch, and the record of that opening.
+fn raise(alloc: Global, durable: &Durable) -> Result<(Durable, Record), OpenFault>
     ensures raised { IfOk result (λ r. r.0 ≡ raised durable.now) }
-    ensures payload { IfOk result (λ r. (version : ℕ) → IsRecorded version (recorded.Opens (durable.now.epoch + 1) ∷ []) r.1.items) }
-    ensures length { IfOk result (λ r. length r.1.items ≡ OPENING_PAYLOAD) }
+    ensures made { IfOk result (λ r. (version : ℕ) → IsRecordOf version (recorded.Opens (durable.now.epoch + 1) ∷ []) r.1) }
+    ensures long { IfOk result (λ r. length r.1.behind.items + 1 ≡ OPENING_RECORD) }
     ensures next { IfOk result (λ r. durable.now.epoch < last_epoch) }
     ensures refused { IfErr result (λ e. ((e ≡ opening.Memory) × (durable.now.epoch < last_epoch))
         ⊎ ((e ≡ opening.EpochsExhausted) × (durable.now.epoch ≡ last_epoch))) }
@@ -283,6 +283,6 @@ fn raise(alloc: Global, durable: &Durable) -> Result<(Durable, Vec<u8>), OpenFau
         return Err(OpenFault::EpochsExhausted);
     };
     let raised = durable.in_epoch(epoch)?;
-    let payload = write_opening(alloc, epoch)?;
-    Ok((raised, payload))
+    let record = record_opening(alloc, epoch)?;
+    Ok((raised, record))
 }

@@ -1,9 +1,9 @@
-use Rattle.std.proofs.Common.{◌≡◌, ◌+◌, ⊎_elim, ℕ, List, [], ◌∷◌, arith, length, Err, refl, sym, ◌∙◌, ap, subst}
+use Rattle.std.proofs.Common.{◌+◌, ⊎_elim, ℕ, List, [], ◌∷◌, arith, length, Err, refl, sym, ◌∙◌, ap, subst}
 use Rattle.pf_disk.specs.Disk.{EachMoment}
 use Rattle.pf_disk.proofs.Images.{only_read}
 use Rattle.pf_snap.specs.Banks as snap
 use Rattle.pf_core.specs.{Durable.Edits.Kept, Worlds.raised}
-use Rattle.pf_store.specs.{Groups.IsRecorded, Openings.{IsAsLongAs, IsNoLaterThan, IsUnopened}, Stores.{Holds, HoldsEither}}
+use Rattle.pf_store.specs.{Openings.{IsAsLongAs, IsNoLaterThan, IsUnopened}, Stores.{Holds, HoldsEither}}
 use Rattle.pf_store.specs.declared.groups.change.Recorded.TheVariants.{Opens as opens}
 use Rattle.pf_store.proofs.Refusing.{held_in_want}
 use Rattle.pf_store.proofs.Saving.{before, by_generation, have_held, is_full, no_later, no_room_here, room_here, stores, tells_full, unmoved, unmoved_generations, unmoved_lengths}
@@ -18,36 +18,41 @@ returns-in-Err-clause-any_moment_err g c =
     subst (λ e. EachMoment d.moment d.left_since b.journal.disk e (HoldsEither k (raised k))) (sym c.into_disk.ensures)
     (before d.seen d.unsynced d.moment d.left_since b.journal.disk b.journal.disk k (raised k) run)
 
+pub add-requires-clause-made : goal.add-requires-clause-made
+add-requires-clause-made g c =
+    let is = c.in-Ok.ensures.made c.args.banks.version in
+    (is.payload, is.is)
+
 pub invariant_of-result : goal.invariant_of-result
 invariant_of-result g c going =
     let d = g.D.Disk in
     let k = c.args.durable.now in
-    let is = subst (IsRecorded c.args.banks.version (opens (k.epoch + 1) ∷ [])) (sym c.deref.ensures.value) (c.in-Ok.ensures.payload c.args.banks.version) in
+    let is = c.in-Ok.ensures.made c.args.banks.version in
     stores d.seen d.unsynced d.fault_count c.add.new.banks (raised k) c.in-Ok-add.ensures.ready (c.in-Ok-add.ensures.kept (opens (k.epoch + 1) ∷ []) is (refl, tt))
     (omega (arith, c.requires.few, c.in-Ok-add.ensures.faults))
 
 pub returns-in-Ok-add-clause-room : goal.returns-in-Ok-add-clause-room
 returns-in-Ok-add-clause-room g c e full =
     let d = g.D.Disk in
-    let six : length c.deref.result.now ≡ 6 = ap length c.deref.ensures.value ∙ c.in-Ok.ensures.length in
-    cc (c.in-Ok-add.ensures.full.1 (tells_full d.seen d.unsynced d.fault_count c.args.banks c.args.durable.now c.requires.ready c.requires.kept (length c.deref.result.now) six e full))
+    let twelve = c.in-Ok.ensures.long in
+    cc (c.in-Ok-add.ensures.full.1 (tells_full d.seen d.unsynced d.fault_count c.args.banks c.args.durable.now c.requires.ready c.requires.kept (length c.in-Ok.raised.1.behind.items + 1) twelve e full))
 
 pub returns-in-Ok-add-clause-here : goal.returns-in-Ok-add-clause-here
 returns-in-Ok-add-clause-here g c e held room =
     let d = g.D.Disk in
     let b = c.args.banks in
-    let six : length c.deref.result.now ≡ 6 = ap length c.deref.ensures.value ∙ c.in-Ok.ensures.length in
-    let here = room_here d.seen d.unsynced d.fault_count b c.args.durable.now c.requires.ready c.requires.kept (length c.deref.result.now) six e held room in
-    let by = by_generation d.seen d.unsynced d.fault_count b c.args.durable.now c.requires.ready c.requires.kept (length c.deref.result.now) six e held in
+    let twelve = c.in-Ok.ensures.long in
+    let here = room_here d.seen d.unsynced d.fault_count b c.args.durable.now c.requires.ready c.requires.kept (length c.in-Ok.raised.1.behind.items + 1) twelve e held room in
+    let by = by_generation d.seen d.unsynced d.fault_count b c.args.durable.now c.requires.ready c.requires.kept (length c.in-Ok.raised.1.behind.items + 1) twelve e held in
     c.in-Ok-add.ensures.here here ∙ sym by
 
 pub returns-in-Ok-add-clause-there : goal.returns-in-Ok-add-clause-there
 returns-in-Ok-add-clause-there g c e held full =
     let d = g.D.Disk in
     let b = c.args.banks in
-    let six : length c.deref.result.now ≡ 6 = ap length c.deref.ensures.value ∙ c.in-Ok.ensures.length in
-    let there = no_room_here d.seen d.unsynced d.fault_count b c.args.durable.now c.requires.ready c.requires.kept (length c.deref.result.now) six e held full in
-    let by = by_generation d.seen d.unsynced d.fault_count b c.args.durable.now c.requires.ready c.requires.kept (length c.deref.result.now) six e held in
+    let twelve = c.in-Ok.ensures.long in
+    let there = no_room_here d.seen d.unsynced d.fault_count b c.args.durable.now c.requires.ready c.requires.kept (length c.in-Ok.raised.1.behind.items + 1) twelve e held full in
+    let by = by_generation d.seen d.unsynced d.fault_count b c.args.durable.now c.requires.ready c.requires.kept (length c.in-Ok.raised.1.behind.items + 1) twelve e held in
     c.in-Ok-add.ensures.there there ∙ ap (λ (n : ℕ). n + 1) (sym by)
 
 pub returns-in-Ok-add-clause-stands : goal.returns-in-Ok-add-clause-stands
@@ -55,16 +60,16 @@ returns-in-Ok-add-clause-stands g c =
     let d = g.D.Disk in
     let k = c.args.durable.now in
     let disk = c.add.new.banks.journal.disk in
-    let is = subst (IsRecorded c.args.banks.version (opens (k.epoch + 1) ∷ [])) (sym c.deref.ensures.value) (c.in-Ok.ensures.payload c.args.banks.version) in
+    let is = c.in-Ok.ensures.made c.args.banks.version in
     let holds = have_held d.seen d.unsynced d.fault_count c.add.new.banks (raised k) (c.in-Ok-add.ensures.kept (opens (k.epoch + 1) ∷ []) is (refl, tt)) in
     record { holds = subst (λ (x : Kept). Holds (d.seen disk) x) (sym c.in-Ok.ensures.raised) holds; synced = c.in-Ok-add.ensures.ready.journal.synced }
 
 pub returns-in-Err-Full-clause-refused : goal.returns-in-Err-Full-clause-refused
 returns-in-Err-Full-clause-refused g c =
     let d = g.D.Disk in
-    let six : length c.deref.result.now ≡ 6 = ap length c.deref.ensures.value ∙ c.in-Ok.ensures.length in (
+    let twelve = c.in-Ok.ensures.long in (
       c.args.durable.now,
-      is_full d.seen d.unsynced d.fault_count c.args.banks c.args.durable.now c.requires.ready c.requires.kept (length c.deref.result.now) six c.requires.early c.in-Ok.ensures.next
+      is_full d.seen d.unsynced d.fault_count c.args.banks c.args.durable.now c.requires.ready c.requires.kept (length c.in-Ok.raised.1.behind.items + 1) twelve c.requires.early c.in-Ok.ensures.next
           (c.in-Err-Full.ensures.full.0 (ap Err c.in-Err-Full.field-0-is)),
     )
 
@@ -84,7 +89,7 @@ returns-in-Ok-add-clause-generations g c image is_image =
     let d = g.D.Disk in
     let k = c.args.durable.now in
     let new = c.add.new.banks in
-    let is = subst (IsRecorded c.args.banks.version (opens (k.epoch + 1) ∷ [])) (sym c.deref.ensures.value) (c.in-Ok.ensures.payload c.args.banks.version) in
+    let is = c.in-Ok.ensures.made c.args.banks.version in
     let kept = c.in-Ok-add.ensures.kept (opens (k.epoch + 1) ∷ []) is (refl, tt) in
     let same = only_read (d.seen new.journal.disk) (d.unsynced new.journal.disk) image c.in-Ok-add.ensures.ready.journal.synced is_image in
     no_later new.generation kept.content (omega (arith, kept.keeps.generation)) image
@@ -102,7 +107,7 @@ returns-clause-refused g c = c.requires.kept.keeps.holds.size
 pub returns-in-Ok-add-clause-any_moment : goal.returns-in-Ok-add-clause-any_moment
 returns-in-Ok-add-clause-any_moment g c =
     let k = c.args.durable.now in
-    let is = subst (IsRecorded c.args.banks.version (opens (k.epoch + 1) ∷ [])) (sym c.deref.ensures.value) (c.in-Ok.ensures.payload c.args.banks.version) in
+    let is = c.in-Ok.ensures.made c.args.banks.version in
     c.add.ensures.any_moment (opens (k.epoch + 1) ∷ []) is (refl, tt)
 
 pub returns-in-Err-Memory-clause-any_moment_err : goal.returns-in-Err-Memory-clause-any_moment_err
@@ -110,7 +115,7 @@ returns-in-Err-Memory-clause-any_moment_err g c =
     let d = g.D.Disk in
     let b = c.args.banks in
     let k = c.args.durable.now in
-    let is = subst (IsRecorded b.version (opens (k.epoch + 1) ∷ [])) (sym c.deref.ensures.value) (c.in-Ok.ensures.payload b.version) in
+    let is = c.in-Ok.ensures.made b.version in
     subst (λ e. EachMoment d.moment d.left_since b.journal.disk e (HoldsEither k (raised k))) (sym c.into_disk-in-Err-Memory.ensures)
     (c.add.ensures.any_moment (opens (k.epoch + 1) ∷ []) is (refl, tt))
 
@@ -119,7 +124,7 @@ returns-in-Err-Full-clause-any_moment_err g c =
     let d = g.D.Disk in
     let b = c.args.banks in
     let k = c.args.durable.now in
-    let is = subst (IsRecorded b.version (opens (k.epoch + 1) ∷ [])) (sym c.deref.ensures.value) (c.in-Ok.ensures.payload b.version) in
+    let is = c.in-Ok.ensures.made b.version in
     subst (λ e. EachMoment d.moment d.left_since b.journal.disk e (HoldsEither k (raised k))) (sym c.into_disk-in-Err-Full.ensures)
     (c.add.ensures.any_moment (opens (k.epoch + 1) ∷ []) is (refl, tt))
 
@@ -128,7 +133,7 @@ returns-clause-any_moment_err g c =
     let d = g.D.Disk in
     let b = c.args.banks in
     let k = c.args.durable.now in
-    let is = subst (IsRecorded b.version (opens (k.epoch + 1) ∷ [])) (sym c.deref.ensures.value) (c.in-Ok.ensures.payload b.version) in
+    let is = c.in-Ok.ensures.made b.version in
     subst (λ e. EachMoment d.moment d.left_since b.journal.disk e (HoldsEither k (raised k))) (sym c.into_disk-in-Err-Fault.ensures)
     (c.add.ensures.any_moment (opens (k.epoch + 1) ∷ []) is (refl, tt))
 
