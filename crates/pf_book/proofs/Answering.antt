@@ -3,10 +3,11 @@ use Rattle.std.proofs.Common.{◌≡◌, ◌⊎◌, inl, inr, ℕ, ◌+◌, ◌<
 use Rattle.std.specs.{Prelude.◌&&◌, Option.ForSome}
 use mathlib.Core.List.{IsPrefix}
 use Rattle.pf_core.specs.declared.{command.Command.Command, command.HistoryCommand.HistoryCommand, command.HistoryCommand.TheVariants.{Log, Publish}, reply.Outcome.Outcome, reply.Refusal.Refusal, reply.Refusal.TheVariants.Halted, reply.Reply.Reply, reply.Reply.TheVariants.{Answer, Applied, Stored, Refused}, step.Step.Step, step.Step.TheVariants.{Done, Wants, OfHistory}}
-use Rattle.pf_core.specs.{Calls.call, Commands.{step_by, may_change}, Durable.Edits.{Kept, Edit}, Pages.{Page, IsAt, IsFolded, Leads}, Worlds.{Setting, Held, down, Upshot, called, flat, log_of, durable_of, is_halted, acked_by, step_in, or_refused, due_at, due, group_in, heard, room_for, shown_by, State, StandsIn, LegalReply, LegalCall, IsLegal}}
-use Rattle.pf_core.proofs.{Fronts.flat-append, Groups.{IsKept, IsNotKept, kept-or-not}, Stepping.unhalted, LongerWorlds.{flat-push, stands-on, in-two}}
+use Rattle.pf_core.specs.{Calls.call, Commands.{step_by, may_change}, Durable.Edits.{Kept, Edit}, Pages.{Page, IsAt, IsFolded, Leads, LeadsGroup, StandsFor}, Worlds.{Setting, Held, down, Upshot, called, called_group, heard_group, flat, log_of, durable_of, is_halted, acked_by, step_in, or_refused, due_at, due, group_in, heard, room_for, shown_by, State, StandsIn, LegalReply, LegalCall, IsLegal}}
+use Rattle.pf_core.proofs.{Fronts.flat-append, Groups.{IsKept, IsNotKept, kept-or-not}, Stepping.unhalted, LongerWorlds.{flat-push, stands-on, stands-on-group, in-two}}
 use Rattle.pf_book.proofs.Calling.{wants-may}
 use Rattle.pf_past.proofs.Fronts.{prefix_whole}
+use Rattle.pf_book.specs.Groups.{Answered as Told, HasReceipts, IsGroupAnswered, replies_of}
 use Rattle.pf_book.specs.{Books.{log_in, IsMore, IsNumbered, IsTold}, Receipts.{Slip, EndsIn, ShownFits, token_of, IsAdded, IsGiven, Follows, IsReached, IsLast, IsChangeOf, IsAnswered}}
 
 -- ---- lists
@@ -253,3 +254,37 @@ module _ (base : Kept) (setting : Setting) (c : Command) (slip : Slip) (last : O
   still-acked r handed is a =
       let before : handed.acked ≤ length (flat a.before.acked) = (a.follows handed is).1 in
       omega (arith, before, a.acked, more-acked a.before.acked (acked_by r (group_in a.before c)))
+
+-- ---- one group under the lock
+
+module _ (base : Kept) (setting : Setting) (old new : Page) (commands : List Command) (answers : Result (List Told) Refusal) (t : Upshot) (reached : IsReached base setting old)
+    (leads : (h : Held) → IsAt h old → LeadsGroup h new commands (replies_of answers) t) (folded : IsFolded new) where
+  stands-then : StandsFor reached.first new (reached.world ++ called_group commands (replies_of answers) t ∷ [])
+  stands-then = stands-on-group reached.first old new reached.world commands (replies_of answers) t reached.stands (leads reached.stands.held reached.stands.at) folded
+
+  -- what a group leads to is reached too
+  pub reached-behind : new.base ≡ old.base → new.setting ≡ old.setting → IsReached base setting new
+  reached-behind same_base same_setting = record {
+    base_is = same_base ∙ reached.base_is;
+    setting_is = same_setting ∙ reached.setting_is;
+    first = reached.first;
+    world = reached.world ++ called_group commands (replies_of answers) t ∷ [];
+    stands = stands-then;
+  }
+
+  pub group-answered : (last : Option Slip) → ((h : Held) → IsAt h old → HasReceipts h (log_in new) commands answers) → Follows last (log_in old) (length (flat old.acked)) → IsGroupAnswered base setting commands answers last
+  group-answered last receipts follows =
+      let h : Held = reached.stands.held in
+      let at : IsAt h old = reached.stands.at in
+      record {
+        first = reached.first;
+        world = reached.world;
+        before = h;
+        came = t;
+        comes = reached.stands.comes;
+        base_is = sym at.base ∙ reached.base_is;
+        setting_is = sym at.setting ∙ reached.setting_is;
+        legal = stands-then.legal;
+        receipts = subst (λ (l : List Edit). HasReceipts h l commands answers) (log-at (heard_group h commands (replies_of answers) t) new (leads h at).at) (receipts h at);
+        follows = subst (λ (gs : List (List Edit)). Follows last (log_of h) (length (flat gs))) at.acked (subst (λ (l : List Edit). Follows last l (length (flat old.acked))) (log-at h old at) follows);
+      }

@@ -4,9 +4,14 @@ use Rattle.std.specs.{Prelude.{IfSome, slice_get, sum}, Option.ForSome}
 use mathlib.Core.List.{IsPrefix}
 use Rattle.pf_core.specs.{Durable.Edits.Edit, Worlds.{flat, grouped}}
 use Rattle.pf_past.specs.Pasts.{Past, Begins}
-use Rattle.pf_past.proofs.Fronts.{prefix_length, prefix_get}
+use Rattle.std.proofs.lemmas.List.{length-take-le}
+use Rattle.pf_past.proofs.Fronts.{prefix_length, prefix_get, prefix_trans}
 use Rattle.pf_book.specs.{Books.{cut, change_in}, Receipts.{EndsIn, IsReceipt}}
-use Rattle.pf_book.proofs.Parts.{whole-log, counted-acked}
+use Rattle.pf_book.proofs.Parts.{whole-log, counted-acked, take_begins}
+
+-- the first changes of what a front has begin the history too
+pub begins-first : (seq : ℕ) (front log : List Edit) → IsPrefix front log → IsPrefix (take seq front) log
+begins-first seq front log begins = prefix_trans (take seq front) front log (take_begins front seq) begins
 
 -- the history begins with what a receipt saw
 pub begins-log : (past tip : Past) (log : List Edit) (sizes : List ℕ) (acked : ℕ) → Begins past tip → tip.front ≡ log → sum sizes ≡ acked → IsPrefix past.front (flat (cut sizes log ++ grouped (drop acked log)))
@@ -18,10 +23,10 @@ still-acked past tip log sizes acked begins is cuts low = omega (arith, begins.1
 
 -- and its change is acknowledged
 pub acked-too : (past tip : Past) (seq : ℕ) (change : Option Edit) (log : List Edit) (sizes : List ℕ) (acked : ℕ) → Begins past tip → tip.acked ≡ acked → sum sizes ≡ acked → acked ≤ length log → IsReceipt past seq change →
-    ForSome change (λ e. length past.front ≤ length (flat (cut sizes log)))
+    ForSome change (λ e. length (take seq past.front) ≤ length (flat (cut sizes log)))
 acked-too past tip seq change log sizes acked begins is cuts low receipt = λ e some.
     let here : seq ≤ past.acked = receipt.acked e some in
-    omega (arith, here, receipt.seq_is, begins.1, is, counted-acked log sizes acked cuts low)
+    omega (arith, here, length-take-le seq past.front receipt.within, begins.1, is, counted-acked log sizes acked cuts low)
 
 get-last : (xs : List Edit) (e : Edit) (n : ℕ) → n ≡ length xs → slice_get (xs ++ e ∷ []) n ≡ Some e
 get-last [] e zero is = refl

@@ -1,6 +1,7 @@
 -- What the receipts of a group say, and what a group is answered under the lock. Own.
-use Rattle.std.specs.Prelude.{◌≡◌, ℕ, List, [], ◌∷◌, ◌++◌, length, slice_get, map, ⊤, Option, Result, Ok, Err}
-use Rattle.pf_core.specs.declared.{command.Command.Command, reply.Refusal.Refusal, reply.Reply.Reply}
+use Rattle.std.specs.Prelude.{◌≡◌, ℕ, ◌+◌, List, [], ◌∷◌, ◌++◌, length, slice_get, take, drop, map, Vec, Bool, true, false, if◌then◌else◌, ⊤, Option, None, Result, Ok, Err}
+use Rattle.std.specs.declared.alloc.Global.{Global}
+use Rattle.pf_core.specs.declared.{command.Command.Command, reply.Refusal.Refusal, reply.Reply.Reply, reply.Reply.TheVariants.{Answer, Applied, Stored, Refused}}
 use Rattle.pf_core.specs.{Durable.Edits.{Kept, Edit}, Worlds.{Setting, Held, Upshot, Event, up, down, called_group, flat, log_of, amid, changes_of, changes_with, step_in, heard_group, state_after, IsWorld}}
 use Rattle.pf_book.specs.Receipts.{Slip, token_of, Follows}
 
@@ -33,6 +34,11 @@ abbrev pub HasReceipts : Held → List Edit → List Command → Result (List An
 HasReceipts h shown commands (Ok answers) = AreAnswered h shown [] commands answers
 HasReceipts h shown commands (Err e) = ⊤
 
+-- what is told as a list
+abbrev pub told : {X : Type 0} → Result (Vec X Global) Refusal → Result (List X) Refusal
+told (Ok answers) = Ok answers.items
+told (Err e) = Err e
+
 -- What a group under the lock is answered, each command with its receipt, or refused whole, where the caller may have handed in a receipt:
 -- there is a world whose last event is this group.
 pub record IsGroupAnswered (base : Kept) (setting : Setting) (commands : List Command) (result : Result (List Answered) Refusal) (last : Option Slip) : Type 0 where
@@ -48,3 +54,36 @@ pub record IsGroupAnswered (base : Kept) (setting : Setting) (commands : List Co
   pub receipts : HasReceipts before (log_of (heard_group before commands (replies_of result) came)) commands result
   -- the front of the receipt that was handed in begins the history before it, where what it has as acknowledged is so
   pub follows : Follows last (log_of before) (length (flat before.acked))
+
+-- ---- how receipts are made
+
+abbrev pub is_kept : Reply → Bool
+is_kept (Answer a) = false
+is_kept (Applied seq outcome) = true
+is_kept (Stored seq outcome) = true
+is_kept (Refused e) = false
+
+-- how many of these kept a change
+abbrev pub kept_count : List Reply → ℕ
+kept_count [] = 0
+kept_count (r ∷ replies) = (if is_kept r then 1 else 0) + kept_count replies
+
+-- how many changes the history has behind a reply, which had so many before it
+abbrev pub behind : Reply → ℕ → ℕ
+behind r n = n + (if is_kept r then 1 else 0)
+
+-- of changes that are given to replies in turn, the one that a reply gets, and what is left to those behind it
+abbrev pub given_to : Reply → List Edit → Option Edit
+given_to r given = if is_kept r then slice_get given 0 else None
+
+abbrev pub left_behind : Reply → List Edit → List Edit
+left_behind r given = if is_kept r then drop 1 given else given
+
+-- the receipt of a reply behind which the history has so many changes, all of them acknowledged
+abbrev pub slip_at : List Edit → ℕ → Option Edit → Reply → Slip
+slip_at log n change r = record { front = take n log; acked = n; change = change; token = token_of r log }
+
+-- Replies with their receipts, of which the first is behind so many changes: each that kept a change is given the next of these.
+abbrev pub paired : List Edit → ℕ → List Reply → List Edit → List Answered
+paired log n [] given = []
+paired log n (r ∷ replies) given = (r, slip_at log (behind r n) (given_to r given) r) ∷ paired log (behind r n) replies (left_behind r given)

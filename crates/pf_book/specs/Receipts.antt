@@ -1,5 +1,5 @@
 -- What the receipt of a reply says, and what a call is answered under the lock. Own.
-use Rattle.std.specs.{Prelude.{◌≡◌, ℕ, ◌≤◌, List, [], ◌∷◌, ◌++◌, length, ⊤, Option, None, Some, IfSome}, Option.ForSome}
+use Rattle.std.specs.{Prelude.{◌≡◌, ℕ, ◌≤◌, List, [], ◌∷◌, ◌++◌, length, take, ⊤, Option, None, Some, IfSome}, Option.ForSome}
 use mathlib.Core.List.{IsPrefix}
 use Rattle.pf_core.specs.declared.{command.Command.Command, reply.Reply.Reply, reply.Reply.TheVariants.{Answer, Applied, Stored, Refused}}
 use Rattle.pf_core.specs.{Calls.call, Durable.Edits.{Kept, Edit}, Pages.{Page, StandsFor}, Worlds.{Setting, Held, Upshot, Event, up, down, called, flat, log_of, group_in, heard, state_after, IsWorld}}
@@ -21,10 +21,10 @@ pub record Slip : Type 0 where
 abbrev pub EndsIn : List Edit → Edit → Type 0
 EndsIn front e = (rest : List Edit) × (front ≡ rest ++ e ∷ [])
 
--- what a receipt's type keeps, whose front is this
+-- what a receipt's type keeps, whose front is the first so many of these
 pub record IsReceipt (past : Past) (seq : ℕ) (change : Option Edit) : Type 0 where
-  pub seq_is : seq ≡ length past.front
-  pub last : ForSome change (λ e. EndsIn past.front e)
+  pub within : seq ≤ length past.front
+  pub last : ForSome change (λ e. EndsIn (take seq past.front) e)
   pub acked : ForSome change (λ e. seq ≤ past.acked)
 
 -- The history has as many changes as the receipt says, and the receipt's change, where it has one, under its number.

@@ -10,9 +10,11 @@ use pf_view::Token;
 use std::marker::Model;
 use std::sync::Arc;
 
-/// Stands for the history as it was at a reply: each later history of the opening begins with it. Contracts see it as a `Slip`. Own.
+/// Stands for the history as it was at a reply, in a group with its changes so far: each later history of the opening begins with it.
+/// Contracts see it as a `Slip`. Own.
 #[derive(Drop)]
 pub struct Receipt<J: Chapter> {
+    // the history behind the call, of which the first so many changes are the receipt's
     pub(crate) front: Front<J>,
     pub(crate) seq: usize,
     pub(crate) change: Option<Arc<Change>>,
@@ -20,12 +22,12 @@ pub struct Receipt<J: Chapter> {
 }
 
 impl<J: Chapter> Model for Receipt<J> {
-    ghost use Rattle.std.specs.{Arc.arc_value, Option.option_map};
+    ghost use Rattle.std.specs.{Arc.arc_value, Option.option_map, Prelude.{min, take}};
     ghost use Rattle.pf_book.specs.Receipts.{Slip, IsReceipt};
 
     ghost Value = { Slip };
 
-    ghost view = { λ r. record { front = r.front.front; acked = r.front.acked; change = option_map arc_value r.change; token = r.token } };
+    ghost view = { λ r. record { front = take r.seq r.front.front; acked = min r.seq r.front.acked; change = option_map arc_value r.change; token = r.token } };
 
     ghost invariant = { λ r. IsReceipt r.front r.seq (option_map arc_value r.change) };
 }

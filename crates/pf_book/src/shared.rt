@@ -1,13 +1,13 @@
 //! A Book that threads share.
-ghost use Rattle.std.specs.{Option.option_copied, Prelude.{ℕ, List}};
+ghost use Rattle.std.specs.{Option.option_copied, Prelude.{ℕ, List, nat_lt}};
 ghost use Rattle.pf_disk.specs.Disk.{EachMoment, IsImage};
-ghost use Rattle.pf_core.specs.{Pages.IsAt, Worlds.{Held, idle, calling}};
-ghost use Rattle.pf_book.specs.{Books.{HoldsLeft, IsOpenable, StaysOpenable, StaysUnlessKept, page}, Receipts.{IsReached, IsAnswered}};
+ghost use Rattle.pf_core.specs.{Calls.call, Pages.{IsAt, Leads, LeadsGroup}, Worlds.{Held, idle, calling, grouping, upshot}};
+ghost use Rattle.pf_book.specs.{Books.{HoldsLeft, IsOpenable, StaysOpenable, StaysUnlessAnyKept, StaysUnlessKept, page}, Groups.{IsGroupAnswered, replies_of, told}, Receipts.{IsReached, IsAnswered}};
 
 use crate::book::Book;
 use crate::chapter::Chapter;
 use crate::receipt::Receipt;
-use pf_core::{Command, Reply};
+use pf_core::{Command, Refusal, Reply};
 use pf_disk::Disk;
 use std::marker::Model;
 use std::sync::{Mutex, Wait};
@@ -29,9 +29,11 @@ impl<D: Disk + Drop, J: Chapter, R: Wait + Drop> Model for Desk<D, J, R> {
 }
 
 impl<D: Disk + Drop, J: Chapter, R: Wait + Drop> Desk<D, J, R> {
-    // One call. At each moment of it an image of the device holds what some crash within it leaves of the opening.
+    // One call, and no other. At each moment of it an image of the device holds what some crash within it leaves of the opening.
     fn run(&mut self, command: &Command, last: Option<&Receipt<J>>) -> (Reply, Receipt<J>)
         ensures answered { IsAnswered J.base J.setting command.now result.0 result.1 (option_copied last.entry) }
+        ensures leads { (h : Held) → IsAt h (page self.old) → Leads h (page self.new) (call command.now result.0)
+            (upshot self.new.shown (nat_lt (D.fault_count self.old.disk) (D.fault_count self.new.disk))) }
         ensures any_moment { (h : Held) → IsAt h (page self.old)
             → EachMoment D.moment D.left_since self.old.disk self.new.disk (HoldsLeft h (calling command.now)) }
         ensures openable { StaysOpenable D.moment D.left_since self.old self.new }
@@ -40,6 +42,25 @@ impl<D: Disk + Drop, J: Chapter, R: Wait + Drop> Desk<D, J, R> {
         let answer = self.book.answer(command, last);
         self.book.rests();
         answer
+    }
+
+    // One group, and no other call. At each moment of it an image of the device holds what some crash within it leaves of the opening.
+    fn group(
+        &mut self,
+        commands: &[Command],
+        last: Option<&Receipt<J>>,
+    ) -> Result<Vec<(Reply, Receipt<J>)>, Refusal>
+        ensures answered { IsGroupAnswered J.base J.setting commands.now (told result) (option_copied last.entry) }
+        ensures leads { (h : Held) → IsAt h (page self.old) → LeadsGroup h (page self.new) commands.now (replies_of (told result))
+            (upshot self.new.shown (nat_lt (D.fault_count self.old.disk) (D.fault_count self.new.disk))) }
+        ensures any_moment { (h : Held) → IsAt h (page self.old)
+            → EachMoment D.moment D.left_since self.old.disk self.new.disk (HoldsLeft h (grouping commands.now)) }
+        ensures openable { StaysOpenable D.moment D.left_since self.old self.new }
+        ensures stays { StaysUnlessAnyKept (replies_of (told result)) self.old self.new }
+    {
+        let answers = self.book.answer_all(commands, last);
+        self.book.rests();
+        answers
     }
 }
 
@@ -73,6 +94,25 @@ impl<D: Disk + Drop, J: Chapter, R: Wait + Drop> Shared<D, J, R> {
         ensures { IsAnswered J.base J.setting command result.0 result.1 (option_copied last.entry) }
     {
         self.desk.lock(rt).run(&command, last)
+    }
+
+    /// A group of commands, as `Book::group` runs it, with a receipt for each reply. It waits for the lock, and under it for workers that are
+    /// judging.
+    ///
+    /// The replies are legal in a world of this opening whose last event is this group. Each receipt's front is the history up to and with the
+    /// changes of the group's commands so far; its change is the one that its command wanted, if it was kept; and after `Applied` its token is
+    /// of all that the group's history shows. The history before the group begins with the front of a receipt that is handed in, and that
+    /// receipt's change, where it has one, is acknowledged there. `Err` refuses the group whole, as `Book::group` says, and is legal in such a
+    /// world too. The places for the answers are made before the device is written. Own.
+    pub fn group<W: Wait>(
+        &self,
+        rt: &W,
+        commands: &[Command],
+        last: Option<&Receipt<J>>,
+    ) -> Result<Vec<(Reply, Receipt<J>)>, Refusal>
+        ensures { IsGroupAnswered J.base J.setting commands.now (told result) (option_copied last.entry) }
+    {
+        self.desk.lock(rt).group(commands, last)
     }
 
     /// The Book, once all callers have ended. It confirms each receipt of this opening, and each image of its device holds what a crash

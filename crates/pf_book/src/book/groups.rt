@@ -86,7 +86,7 @@ impl<D: Disk + Drop, J: Chapter, R: Wait + Drop> Book<D, J, R> {
     }
 
     // Whether a group may be begun: no group is pending, and its own words don't refuse it.
-    fn check_all(&self, commands: &[Command]) -> Result<(), Refusal>
+    pub(super) fn check_all(&self, commands: &[Command]) -> Result<(), Refusal>
         ensures { result ≡ and_then (unless (is_halted self.now.pending) told.Halted) (group_words commands.now) }
     {
         if self.acked < self.log.len() {
@@ -96,7 +96,10 @@ impl<D: Disk + Drop, J: Chapter, R: Wait + Drop> Book<D, J, R> {
     }
 
     // A group of commands, wherever the opening has come to, with its changes, if they were kept.
-    fn call_all(&mut self, commands: &[Command]) -> Result<(Vec<Reply>, Vec<Arc<Change>>), Refusal>
+    pub(super) fn call_all(
+        &mut self,
+        commands: &[Command],
+    ) -> Result<(Vec<Reply>, Vec<Arc<Change>>), Refusal>
         ensures leads { (h : Held) → IsAt h (page self.old) → LeadsGroup h (page self.new) commands.now (replied result)
             (upshot self.new.shown (nat_lt (D.fault_count self.old.disk) (D.fault_count self.new.disk))) }
         ensures any_moment { (h : Held) → IsAt h (page self.old)

@@ -1,19 +1,20 @@
 //! Replies with their receipts, and receipts confirmed.
-ghost use Rattle.std.specs.Prelude.{◌≡◌, ◌≤◌, ◌↔◌, length, IsTrue, nat_lt};
+ghost use Rattle.std.specs.Prelude.{◌≡◌, ◌<◌, ◌≤◌, ◌↔◌, ◌^◌, [], length, map, take, drop, vec_capacity, IsTrue, nat_lt};
 ghost use Rattle.pf_disk.specs.Disk.{EachMoment};
-ghost use Rattle.std.specs.{Arc.arc_value, Option.{ForSome, option_copied, option_map}};
+ghost use Rattle.std.specs.{Arc.arc_value, List.AllByRecursion, Option.{ForSome, option_copied, option_map}, Vec.Iter.into_iter_items};
 ghost use mathlib.Core.List.{IsPrefix};
-ghost use Rattle.pf_core.specs.{Calls.call, Pages.{IsAt, Leads}, Worlds.{Held, calling, flat, upshot}};
-ghost use Rattle.pf_book.specs.{Books.{HoldsLeft, StaysOpenable, StaysUnlessKept, page, log_in}, Receipts.{token_of, Confirms, EndsIn, Follows, IsGiven, ShownFits}};
+ghost use Rattle.pf_core.specs.{Calls.call, Pages.{IsAt, Leads, LeadsGroup}, Worlds.{Held, calling, grouping, flat, upshot}};
+ghost use Rattle.pf_book.specs.{Groups.{behind, is_kept, given_to, kept_count, left_behind, paired, slip_at, told, replies_of, HasReceipts}, Books.{StaysUnlessAnyKept, HoldsLeft, StaysOpenable, StaysUnlessKept, page, log_in}, Receipts.{token_of, Confirms, EndsIn, Follows, IsGiven, ShownFits}};
 
 use crate::book::Book;
 use crate::chapter::Chapter;
 use crate::receipt::Receipt;
-use pf_core::{Change, Command, Reply};
+use pf_core::{Change, Command, Refusal, Reply};
 use pf_disk::Disk;
 use pf_past::Front;
 use pf_view::{Seer, Shower, Token};
 use std::sync::{Arc, Wait};
+use std::vec::IntoIter;
 
 // After `Applied` a token of what is shown.
 fn token_after<J: Chapter, R: Wait + Drop>(reply: &Reply, shower: &Shower<J, R>) -> Option<Token<J>>
@@ -23,6 +24,32 @@ fn token_after<J: Chapter, R: Wait + Drop>(reply: &Reply, shower: &Shower<J, R>)
         Reply::Applied { .. } => Some(shower.token()),
         Reply::Answer(_) | Reply::Stored { .. } | Reply::Refused(_) => None,
     }
+}
+
+// Whether it says that a change was kept.
+fn is_kept(reply: &Reply) -> bool
+    ensures { result ≡ is_kept reply.now }
+{
+    match reply {
+        Reply::Applied { .. } | Reply::Stored { .. } => true,
+        Reply::Answer(_) | Reply::Refused(_) => false,
+    }
+}
+
+// How many changes the history has behind a reply, which had so many before it.
+fn behind(reply: &Reply, before: usize) -> usize
+    requires { before < 2 ^ 63 }
+    ensures { result ≡ behind reply.now before }
+{
+    if is_kept(reply) { before + 1 } else { before }
+}
+
+// The next of the changes that are given to replies in turn, where the reply kept one.
+fn give(reply: &Reply, given: &mut IntoIter<Arc<Change>>) -> Option<Arc<Change>>
+    ensures given { option_map arc_value result ≡ given_to reply.now (map arc_value (into_iter_items given.old)) }
+    ensures left { map arc_value (into_iter_items given.new) ≡ left_behind reply.now (map arc_value (into_iter_items given.old)) }
+{
+    if is_kept(reply) { given.next() } else { None }
 }
 
 impl<D: Disk + Drop, J: Chapter, R: Wait + Drop> Book<D, J, R> {
@@ -46,12 +73,62 @@ impl<D: Disk + Drop, J: Chapter, R: Wait + Drop> Book<D, J, R> {
         ensures base { self.new.base ≡ self.old.base }
         ensures setting { (page self.new).setting ≡ (page self.old).setting }
     {
-        if let Some(last) = last {
-            self.begins_with(last);
-        }
+        self.look_at(last);
         let (reply, change) = self.call(command);
         let receipt = self.receipt(&reply, change);
         (reply, receipt)
+    }
+
+    /// A group of commands, with a receipt for each reply, behind a caller that may hand in a receipt.
+    pub(crate) fn answer_all(
+        &mut self,
+        commands: &[Command],
+        last: Option<&Receipt<J>>,
+    ) -> Result<Vec<(Reply, Receipt<J>)>, Refusal>
+        ensures leads { (h : Held) → IsAt h (page self.old) → LeadsGroup h (page self.new) commands.now (replies_of (told result))
+            (upshot self.new.shown (nat_lt (D.fault_count self.old.disk) (D.fault_count self.new.disk))) }
+        ensures any_moment { (h : Held) → IsAt h (page self.old)
+            → EachMoment D.moment D.left_since self.old.disk self.new.disk (HoldsLeft h (grouping commands.now)) }
+        ensures receipts { (h : Held) → IsAt h (page self.old) → HasReceipts h (log_in (page self.new)) commands.now (told result) }
+        ensures openable { StaysOpenable D.moment D.left_since self.old self.new }
+        ensures stays { StaysUnlessAnyKept (replies_of (told result)) self.old self.new }
+        ensures follows { Follows (option_copied last.entry) (log_in (page self.old)) (length (flat self.old.acked)) }
+        ensures base { self.new.base ≡ self.old.base }
+        ensures setting { (page self.new).setting ≡ (page self.old).setting }
+    {
+        self.look_at(last);
+        self.answer_each(commands)
+    }
+
+    // The same, with no receipt handed in. The places for the answers are made before any change is.
+    fn answer_each(&mut self, commands: &[Command]) -> Result<Vec<(Reply, Receipt<J>)>, Refusal>
+        ensures leads { (h : Held) → IsAt h (page self.old) → LeadsGroup h (page self.new) commands.now (replies_of (told result))
+            (upshot self.new.shown (nat_lt (D.fault_count self.old.disk) (D.fault_count self.new.disk))) }
+        ensures any_moment { (h : Held) → IsAt h (page self.old)
+            → EachMoment D.moment D.left_since self.old.disk self.new.disk (HoldsLeft h (grouping commands.now)) }
+        ensures receipts { (h : Held) → IsAt h (page self.old) → HasReceipts h (log_in (page self.new)) commands.now (told result) }
+        ensures openable { StaysOpenable D.moment D.left_since self.old self.new }
+        ensures stays { StaysUnlessAnyKept (replies_of (told result)) self.old self.new }
+        ensures base { self.new.base ≡ self.old.base }
+        ensures setting { (page self.new).setting ≡ (page self.old).setting }
+    {
+        self.check_all(commands)?;
+        let answers = Vec::with_capacity(self.alloc, commands.len())?;
+        let before = self.log.len();
+        match self.call_all(commands) {
+            Ok((replies, given)) => Ok(self.pair(before, replies, given, answers)),
+            Err(refusal) => Err(refusal),
+        }
+    }
+
+    // What a receipt that is handed in says of the history, if there is one.
+    fn look_at(&mut self, last: Option<&Receipt<J>>)
+        ensures same { self.new ≡ self.old }
+        ensures follows { Follows (option_copied last.entry) (log_in (page self.old)) (length (flat self.old.acked)) }
+    {
+        if let Some(last) = last {
+            self.begins_with(last);
+        }
     }
 
     // The history begins with the front of each receipt, and what was acknowledged at its reply is, its change too.
@@ -82,6 +159,53 @@ impl<D: Disk + Drop, J: Chapter, R: Wait + Drop> Book<D, J, R> {
             change,
             token: token_after(reply, &self.shower),
         }
+    }
+
+    // The receipt of a reply in a group that was answered just now, behind which the history has so many changes, and of the change that
+    // was kept with it.
+    fn receipt_at(&self, seq: usize, reply: &Reply, change: Option<Arc<Change>>) -> Receipt<J>
+        requires calm { self.now.pending ≡ [] }
+        requires within { seq ≤ length (log_in (page self.now)) }
+        requires last { ForSome (option_map arc_value change) (λ e. EndsIn (take seq (log_in (page self.now))) e) }
+        requires shown { ShownFits reply.now self.now.shown (length (log_in (page self.now))) }
+        ensures { result ≡ slip_at (log_in (page self.now)) seq (option_map arc_value change) reply.now }
+    {
+        Receipt {
+            front: self.tip.front(),
+            seq,
+            change,
+            token: token_after(reply, &self.shower),
+        }
+    }
+
+    // The replies to a group that was answered just now, with their receipts: behind so many changes, of which the others are given.
+    fn pair(
+        &self,
+        before: usize,
+        replies: Vec<Reply>,
+        given: Vec<Arc<Change>>,
+        mut answers: Vec<(Reply, Receipt<J>)>,
+    ) -> Vec<(Reply, Receipt<J>)>
+        requires calm { self.now.pending ≡ [] }
+        requires empty { answers.items ≡ [] }
+        requires room { length replies.items ≤ vec_capacity answers }
+        requires given { drop before (log_in (page self.now)) ≡ map arc_value given.items }
+        requires within { before ≤ length (log_in (page self.now)) }
+        requires kept { kept_count replies.items ≡ length (map arc_value given.items) }
+        requires shown { AllByRecursion (λ r. ShownFits r self.now.shown (length (log_in (page self.now)))) replies.items }
+        ensures { result.items ≡ paired (log_in (page self.now)) before replies.items (map arc_value given.items) }
+    {
+        // looked at, so that what a Book keeps is known here
+        let _ = &self.core;
+        let mut given = given.into_iter();
+        let mut seq = before;
+        for reply in replies {
+            let change = give(&reply, &mut given);
+            seq = behind(&reply, seq);
+            let receipt = self.receipt_at(seq, &reply, change);
+            answers.push_reserved((reply, receipt));
+        }
+        answers
     }
 
     /// Whether the history has at least as many changes as the receipt's number says, and under this number the receipt's change, where it

@@ -1,4 +1,4 @@
-use Rattle.std.proofs.{Common.{◌≡◌, ◌≤◌, List, length, map, sym, ap, ◌∙◌, subst, arith}, lemmas.Bool.le-leb, lemmas.Grind.common_steps}
+use Rattle.std.proofs.{Common.{◌≡◌, ◌≤◌, List, length, map, sym, ap, ◌∙◌, subst, arith}, lemmas.Bool.le-leb, lemmas.Grind.common_steps, lemmas.List.length-take-le}
 use Rattle.std.specs.{Arc.arc_value, Option.ForSome}
 use Rattle.pf_core.specs.Durable.Edits.{Edit}
 use Rattle.pf_book.specs.{Books.{Ledger, page, log_in}, Receipts.{Slip, EndsIn}}
@@ -12,7 +12,7 @@ returns-clause-yes g c =
     let log : List Edit = map arc_value s.log.items in
     let whole : log_in (page c.args.self.now) ≡ log = ap (λ (l : Ledger g.row.D.Denot). log_in (page l)) (sym (c.self.view_is ∙ c.begins_with.ensures.same)) ∙ whole-log log s.sizes.items s.acked c.self.invariant.cuts in
     let counted : c.len.result ≡ length log = grind (arith, common_steps, c.len.ensures) in
-    let seq : c.receipt.inside.seq ≡ length c.args.receipt.now.front = c.receipt.invariant.seq_is ∙ ap (λ (x : Slip). length x.front) c.receipt.view_is in
+    let seq : c.receipt.inside.seq ≡ length c.args.receipt.now.front = sym (length-take-le c.receipt.inside.seq c.receipt.inside.front.front c.receipt.invariant.within) ∙ ap (λ (x : Slip). length x.front) c.receipt.view_is in
     let short : length c.args.receipt.now.front ≤ length (log_in (page c.args.self.now)) = prefix_length c.args.receipt.now.front (log_in (page c.args.self.now)) c.begins_with.ensures.begins in
     le-leb c.receipt.inside.seq c.len.result (omega (arith, seq, short, ap length whole, counted))
 

@@ -1,4 +1,4 @@
-use Rattle.std.proofs.{Common.{◌≡◌, ◌≤◌, List, length, map, take, sym, ap, ◌∙◌, subst, arith}, lemmas.Grind.common_steps}
+use Rattle.std.proofs.{Common.{◌≡◌, ◌≤◌, List, length, map, take, sym, ap, ◌∙◌, subst, arith}, lemmas.{Grind.common_steps, List.take_all}}
 use Rattle.std.specs.Arc.{arc_value}
 use mathlib.Core.List.{IsPrefix}
 use Rattle.pf_core.specs.{Durable.Edits.Edit, Worlds.flat}
@@ -19,8 +19,8 @@ invariant_of-result g c =
     let counted : c.len.result ≡ length log = grind (arith, common_steps, c.len.ensures) in
     let all : s.acked ≡ length (flat c.args.self.now.acked) = counted-acked log s.sizes.items s.acked i.cuts i.low ∙ ap (λ (l : Ledger g.row.D.Denot). length (flat l.acked)) c.self.view_is in
     record {
-      seq_is = counted ∙ ap length (sym front);
-      last = λ e some. subst (λ (l : List Edit). EndsIn l e) (whole ∙ sym front) (c.requires.last e some).0;
+      within = omega (arith, counted, ap length front);
+      last = λ e some. subst (λ (l : List Edit). EndsIn l e) (whole ∙ sym (ap (take c.len.result) front ∙ take_all c.len.result log (omega (arith, counted)))) (c.requires.last e some).0;
       acked = λ e some.
           let no_more : length (log_in (page c.args.self.now)) ≤ length (flat c.args.self.now.acked) = (c.requires.last e some).1 in
           omega (arith, no_more, counted, ap length whole, acked, all);
@@ -32,13 +32,18 @@ returns-clause-front g c =
     let i = c.self.invariant in
     let log : List Edit = map arc_value s.log.items in
     let whole : log_in (page c.args.self.now) ≡ log = ap (λ (l : Ledger g.row.D.Denot). log_in (page l)) (sym c.self.view_is) ∙ whole-log log s.sizes.items s.acked i.cuts in
-    ap (λ (p : Past). p.front) c.front.ensures ∙ c.self.invariant.log_is ∙ sym whole
+    let counted : c.len.result ≡ length log = grind (arith, common_steps, c.len.ensures) in
+    ap (λ (p : Past). take c.len.result p.front) c.front.ensures ∙ ap (take c.len.result) c.self.invariant.log_is ∙ take_all c.len.result log (omega (arith, counted)) ∙ sym whole
 
 pub returns-clause-acked : goal.returns-clause-acked
 returns-clause-acked g c =
     let s = c.self.inside in
-    ap (λ (p : Past). p.acked) c.front.ensures ∙ c.self.invariant.acked_is ∙ counted-acked (map arc_value s.log.items) s.sizes.items s.acked c.self.invariant.cuts c.self.invariant.low
-    ∙ ap (λ (l : Ledger g.row.D.Denot). length (flat l.acked)) c.self.view_is
+    let log : List Edit = map arc_value s.log.items in
+    let counted : c.len.result ≡ length log = grind (arith, common_steps, c.len.ensures) in
+    let acked : c.front.result.acked ≡ s.acked = ap (λ (p : Past). p.acked) c.front.ensures ∙ c.self.invariant.acked_is in
+    let all : s.acked ≡ length (flat c.args.self.now.acked) =
+    counted-acked log s.sizes.items s.acked c.self.invariant.cuts c.self.invariant.low ∙ ap (λ (l : Ledger g.row.D.Denot). length (flat l.acked)) c.self.view_is in
+    omega (arith, acked, all, counted, c.self.invariant.low)
 
 pub returns-clause-token : goal.returns-clause-token
 returns-clause-token g c =
