@@ -1,16 +1,19 @@
 -- The receipts of one caller, each within the last.
-use Rattle.std.proofs.Common.{◌≡◌, ◌∙◌, ℕ, List, [], ◌∷◌, Option, Some, None, Result, Ok, Err, inl, inr, refl, ap}
+use Rattle.std.proofs.{Common.{◌≡◌, ◌∙◌, ℕ, List, [], ◌∷◌, ◌++◌, Option, Some, None, Result, Ok, Err, inl, inr, refl, sym, ap, subst, append_assoc, append-nil}, lemmas.List.Elements.{All-nil, All-cons, All-weaker}}
+use Rattle.std.specs.{Prelude.map, Option.ForSome}
+use mathlib.Core.List.{IsPrefix}
 use Rattle.pf_rule.specs.Packets.{PlainPacket}
-use Rattle.pf_core.specs.declared.{command.Command.Command, command.Command.TheVariants.States, command.StateCommand.TheVariants.Peer, reply.Reply.Reply}
-use Rattle.pf_core.specs.{Durable.Edits.Kept, Worlds.Setting}
-use Rattle.pf_book.specs.Receipts.{Slip, IsAnswered}
+use Rattle.pf_core.specs.declared.{command.Command.Command, reply.Refusal.Refusal, reply.Reply.Reply}
+use Rattle.pf_core.specs.{Durable.Edits.{Kept, Edit}, Worlds.{Setting, Held, State, Event, LegalGroup, IsLegal, down, called_group, log_of, heard_group, step_in, changes_of, flat, grouped, amid, changes_with}}
+use Rattle.pf_core.proofs.{Courses.{accepted, flat-with}, LongerWorlds.in-two}
+use Rattle.pf_book.specs.{Groups.{Answered as Receipted, IsAnsweredAmid, AreAnswered, IsGroupAnswered, replies_of}, Receipts.{Slip, IsAnswered}}
 use Rattle.pf_past.proofs.Fronts.{prefix_self, prefix_trans}
 use Rattle.pf_book.proofs.Answering.{front-begins}
 use Rattle.pf_session.specs.declared.line_engine.fault.EngineFault.{EngineFault}
 use Rattle.pf_session.specs.declared.line_engine.fault.EngineFault.TheVariants as fault
 use Rattle.pf_session.specs.LineEngine.Sessions as sessions
 use Rattle.pf_session.specs.Server.Streams as streams
-use Rattle.pf_session.specs.{LineEngine.Sessions.{Answered, CutOff}, Server.{Chains.Chain, Sittings.{RunsBy, Sitting, TakesLine, at_next_line}, Streams.{Item, TakesItem}}, Laws.Receipts.{ChainWithin, IsWithin, SitsWithin, TakesWithin}}
+use Rattle.pf_session.specs.{LineEngine.Sessions.{Answered, CutOff}, Server.{Chains.Chain, Sittings.{RunsBy, Sitting, TakesLine, at_next_line}, Streams.{CutShort, Item, Part, Taken, TakesPart, asked, last_receipt}}, Laws.Receipts.{AreWithin, ChainWithin, IsWithin, SitsWithin, TakesPartWithin, TakesWithin}}
 use Rattle.pf_session.proofs.Sitting.{line-moves}
 
 -- ---- two receipts
@@ -29,27 +32,38 @@ within-answer base setting c r slip a b answered is = λ last some. (slip, is, f
 
 -- ---- along a chain
 
-module _ {S L : Type 0} (receipt : S → Option Slip) (Step : L → S → S → List ℕ → Type 0)
-    (rises : (x : L) (a b : S) (text : List ℕ) → Step x a b text → IsWithin (receipt a) (receipt b)) where
+module _ {S L : Type 0} (receipt : S → Option Slip) (Step : L → S → S → List ℕ → Type 0) (Within : Option Slip → L → S → S → List ℕ → Type 0)
+    (rises : (x : L) (a b : S) (text : List ℕ) → Step x a b text → IsWithin (receipt a) (receipt b))
+    (within : (last : Option Slip) (x : L) (a b : S) (text : List ℕ) → Step x a b text → IsWithin (receipt b) last → Within last x a b text) where
   chain-rises : (a b : S) (xs : List L) (text : List ℕ) → Chain Step a b xs text → IsWithin (receipt a) (receipt b)
   chain-rises a b [] text (same, none) = within-same (receipt a) (receipt b) (ap receipt same)
   chain-rises a b (x ∷ xs) text (mid, first, rest, step, more, is) =
       within-then (receipt a) (receipt mid) (receipt b) (rises x a mid first step) (chain-rises mid b xs rest more)
 
-  chain-within : (last : Option Slip) (a b : S) (xs : List L) (text : List ℕ) → IsWithin (receipt b) last → Chain Step a b xs text → ChainWithin last receipt Step a b xs text
+  chain-within : (last : Option Slip) (a b : S) (xs : List L) (text : List ℕ) → IsWithin (receipt b) last → Chain Step a b xs text → Chain (Within last) a b xs text
   chain-within last a b [] text end (same, none) = (same, none)
   chain-within last a b (x ∷ xs) text end (mid, first, rest, step, more, is) =
-      (mid, first, rest, (step, within-then (receipt mid) (receipt b) last (chain-rises mid b xs rest more) end), chain-within last mid b xs rest end more, is)
+      (mid, first, rest, within last x a mid first step (within-then (receipt mid) (receipt b) last (chain-rises mid b xs rest more) end), chain-within last mid b xs rest end more, is)
 
-  answered-within : (last : Option Slip) {xs : List L} {a b : S} {h i : Option (List ℕ)} → IsWithin (receipt b) last → Answered (Chain Step) xs a b h i
-      → IsWithin (receipt a) (receipt b) × Answered (ChainWithin last receipt Step) xs a b h i
+  chain-both : (last : Option Slip) (a b : S) (xs : List L) (text : List ℕ) → IsWithin (receipt b) last → Chain Step a b xs text → IsWithin (receipt a) (receipt b) × Chain (Within last) a b xs text
+  chain-both last a b xs text end chain = (chain-rises a b xs text chain, chain-within last a b xs text end chain)
+
+-- ---- what was answered
+
+module _ {S L : Type 0} (receipt : S → Option Slip) (Serves : S → S → List L → List ℕ → Type 0) (Within : Option Slip → S → S → List L → List ℕ → Type 0)
+    (both : (last : Option Slip) (a b : S) (xs : List L) (text : List ℕ) → IsWithin (receipt b) last → Serves a b xs text → IsWithin (receipt a) (receipt b) × Within last a b xs text) where
+  answered-within : (last : Option Slip) {xs : List L} {a b : S} {h i : Option (List ℕ)} → IsWithin (receipt b) last → Answered Serves xs a b h i
+      → IsWithin (receipt a) (receipt b) × Answered (Within last) xs a b h i
   answered-within last {xs} {a} {b} end all =
-      (chain-rises a b xs all.text all.served, record { text = all.text; served = chain-within last a b xs all.text end all.served; written = all.written })
+      let (rise, served) = both last a b xs all.text end all.served in
+      (rise, record { text = all.text; served = served; written = all.written })
 
-  cut_off-within : {xs : List L} {a b : S} {h i : Option (List ℕ)} → CutOff (Chain Step) xs a b h i
-      → IsWithin (receipt a) (receipt b) × CutOff (ChainWithin (receipt b) receipt Step) xs a b h i
+  all-within : {xs : List L} {a b : S} {h i : Option (List ℕ)} → Answered Serves xs a b h i → IsWithin (receipt a) (receipt b) × Answered (Within (receipt b)) xs a b h i
+  all-within {xs} {a} {b} all = answered-within (receipt b) (within-same (receipt b) (receipt b) refl) all
+
+  cut_off-within : {xs : List L} {a b : S} {h i : Option (List ℕ)} → CutOff Serves xs a b h i → IsWithin (receipt a) (receipt b) × CutOff (Within (receipt b)) xs a b h i
   cut_off-within {xs} {a} {b} cut =
-      let rest = chain-rises cut.before b cut.last cut.text cut.served in
+      let (rest, served) = both (receipt b) cut.before b cut.last cut.text (within-same (receipt b) (receipt b) refl) cut.served in
       let (front, answered) = answered-within (receipt b) rest cut.answered in (
         within-then (receipt a) (receipt cut.before) (receipt b) front rest,
         record {
@@ -62,38 +76,97 @@ module _ {S L : Type 0} (receipt : S → Option Slip) (Step : L → S → S → 
           mid = cut.mid;
           answered = answered;
           text = cut.text;
-          served = chain-within (receipt b) cut.before b cut.last cut.text (within-same (receipt b) (receipt b) refl) cut.served;
+          served = served;
           front = cut.front;
         },
       )
 
-  all-within : {xs : List L} {a b : S} {h i : Option (List ℕ)} → Answered (Chain Step) xs a b h i
-      → IsWithin (receipt a) (receipt b) × Answered (ChainWithin (receipt b) receipt Step) xs a b h i
-  all-within {xs} {a} {b} all = answered-within (receipt b) (within-same (receipt b) (receipt b) refl) all
-
-module _ {S : Type 0} (receipt : S → Option Slip) (Step : List ℕ → S → S → List ℕ → Type 0)
-    (rises : (x : List ℕ) (a b : S) (text : List ℕ) → Step x a b text → IsWithin (receipt a) (receipt b)) where
+module _ {S : Type 0} (receipt : S → Option Slip) (Serves : S → S → List (List ℕ) → List ℕ → Type 0) (Within : Option Slip → S → S → List (List ℕ) → List ℕ → Type 0)
+    (both : (last : Option Slip) (a b : S) (xs : List (List ℕ)) (text : List ℕ) → IsWithin (receipt b) last → Serves a b xs text → IsWithin (receipt a) (receipt b) × Within last a b xs text) where
   session-within : (result : Result (Unit {0}) EngineFault) (input : List ℕ) (lines : List (List ℕ)) (rest : List ℕ) (unread : Option (List ℕ)) (a b : S) (h i : Option (List ℕ))
-      → sessions.Ends (Chain Step) result input lines rest unread a b h i
-      → IsWithin (receipt a) (receipt b) × sessions.Ends (ChainWithin (receipt b) receipt Step) result input lines rest unread a b h i
-  session-within (Ok u) input lines rest unread a b h i (all, end) = let (rise, within) = all-within receipt Step rises all in (rise, (within, end))
-  session-within (Err fault.Read) input lines rest unread a b h i all = all-within receipt Step rises all
-  session-within (Err fault.Write) input lines rest unread a b h i (inl cut) = let (rise, within) = cut_off-within receipt Step rises cut in (rise, inl within)
-  session-within (Err fault.Write) input lines rest unread a b h i (inr (cut, end)) = let (rise, within) = cut_off-within receipt Step rises cut in (rise, inr (within, end))
+      → sessions.Ends Serves result input lines rest unread a b h i
+      → IsWithin (receipt a) (receipt b) × sessions.Ends (Within (receipt b)) result input lines rest unread a b h i
+  session-within (Ok u) input lines rest unread a b h i (all, end) = let (rise, within) = all-within receipt Serves Within both all in (rise, (within, end))
+  session-within (Err fault.Read) input lines rest unread a b h i all = all-within receipt Serves Within both all
+  session-within (Err fault.Write) input lines rest unread a b h i (inl cut) = let (rise, within) = cut_off-within receipt Serves Within both cut in (rise, inl within)
+  session-within (Err fault.Write) input lines rest unread a b h i (inr (cut, end)) = let (rise, within) = cut_off-within receipt Serves Within both cut in (rise, inr (within, end))
   session-within (Err fault.Memory) input lines rest unread a b h i (none, same, written) = (within-same (receipt a) (receipt b) (ap receipt same), (none, same, written))
 
-module _ {S : Type 0} (receipt : S → Option Slip) (Step : Item → S → S → List ℕ → Type 0)
-    (rises : (x : Item) (a b : S) (text : List ℕ) → Step x a b text → IsWithin (receipt a) (receipt b)) where
+module _ {S : Type 0} (receipt : S → Option Slip) (Serves : S → S → List Part → List ℕ → Type 0) (Within : Option Slip → S → S → List Part → List ℕ → Type 0)
+    (both : (last : Option Slip) (a b : S) (xs : List Part) (text : List ℕ) → IsWithin (receipt b) last → Serves a b xs text → IsWithin (receipt a) (receipt b) × Within last a b xs text) where
+  taken-within : {xs : List Item} {a b : S} {h i : Option (List ℕ)} → Taken Serves xs a b h i → IsWithin (receipt a) (receipt b) × Taken (Within (receipt b)) xs a b h i
+  taken-within p =
+      let (rise, answered) = all-within receipt Serves Within both p.answered in (rise, record { parts = p.parts; joined = p.joined; answered = answered })
+
+  cut_short-within : {xs : List Item} {a b : S} {h i : Option (List ℕ)} → CutShort Serves xs a b h i → IsWithin (receipt a) (receipt b) × CutShort (Within (receipt b)) xs a b h i
+  cut_short-within p =
+      let (rise, cut) = cut_off-within receipt Serves Within both p.cut in (rise, record { parts = p.parts; joined = p.joined; cut = cut })
+
   stream-within : (result : Result (Unit {0}) EngineFault) (input : List ℕ) (unread : Option (List ℕ)) (a b : S) (h i : Option (List ℕ))
-      → streams.Ends (Chain Step) result input unread a b h i
-      → IsWithin (receipt a) (receipt b) × streams.Ends (ChainWithin (receipt b) receipt Step) result input unread a b h i
-  stream-within (Ok u) input unread a b h i (ms, e, reads, all, end) = let (rise, within) = all-within receipt Step rises all in (rise, (ms, e, reads, within, end))
-  stream-within (Err fault.Read) input unread a b h i (ms, rest, reads, all) = let (rise, within) = all-within receipt Step rises all in (rise, (ms, rest, reads, within))
-  stream-within (Err fault.Write) input unread a b h i (ms, e, reads, inl cut) = let (rise, within) = cut_off-within receipt Step rises cut in (rise, (ms, e, reads, inl within))
-  stream-within (Err fault.Write) input unread a b h i (ms, e, reads, inr (cut, end)) =
-      let (rise, within) = cut_off-within receipt Step rises cut in (rise, (ms, e, reads, inr (within, end)))
+      → streams.Ends Serves result input unread a b h i
+      → IsWithin (receipt a) (receipt b) × streams.Ends (Within (receipt b)) result input unread a b h i
+  stream-within (Ok u) input unread a b h i (ms, e, reads, all, end) = let (rise, within) = taken-within all in (rise, (ms, e, reads, within, end))
+  stream-within (Err fault.Read) input unread a b h i (ms, rest, reads, all) = let (rise, within) = taken-within all in (rise, (ms, rest, reads, within))
+  stream-within (Err fault.Write) input unread a b h i (ms, e, reads, inl cut) = let (rise, within) = cut_short-within cut in (rise, (ms, e, reads, inl within))
+  stream-within (Err fault.Write) input unread a b h i (ms, e, reads, inr (cut, end)) = let (rise, within) = cut_short-within cut in (rise, (ms, e, reads, inr (within, end)))
   stream-within (Err fault.Memory) input unread a b h i (before, piece, ms, rest, is, short, reads, all) =
-      let (rise, within) = all-within receipt Step rises all in (rise, (before, piece, ms, rest, is, short, reads, within))
+      let (rise, within) = taken-within all in (rise, (before, piece, ms, rest, is, short, reads, within))
+
+-- ---- a group
+
+module _ (h : Held) (none : h.pending ≡ []) where
+  -- the history in the course of a group has what the group wants so far at its end
+  log-amid : (changes : List Edit) → log_of (amid h changes) ≡ log_of h ++ changes
+  log-amid changes =
+      let kept : log_of h ≡ flat h.acked = ap (λ (gs : List (List Edit)). flat (h.acked ++ gs)) none ∙ ap flat (append-nil h.acked) in
+      ap (λ (gs : List (List Edit)). flat ((h.acked ++ grouped changes) ++ gs)) none ∙ ap flat (append-nil (h.acked ++ grouped changes)) ∙ flat-with h.acked changes
+      ∙ ap (λ (l : List Edit). l ++ changes) (sym kept)
+
+  front-amid : (changes shown : List Edit) (c : Command) (r : Reply) (slip : Slip) → IsAnsweredAmid (amid h changes) c shown r slip → slip.front ≡ log_of h ++ changes_with h changes c
+  front-amid changes shown c r slip one =
+      one.front ∙ ap (λ (l : List Edit). l ++ changes_of (step_in (amid h changes) c)) (log-amid changes) ∙ append_assoc (log_of h) changes (changes_of (step_in (amid h changes) c))
+
+  answers-within : (shown changes : List Edit) (commands : List Command) (answers : List Receipted) (last : Option Slip)
+      → ForSome last (λ l. IsPrefix l.front (log_of h ++ changes)) → AreAnswered h shown changes commands answers
+      → IsWithin last (last_receipt last (Ok answers)) × AreWithin (Ok answers) (last_receipt last (Ok answers))
+  answers-within shown changes [] answers last begins are =
+      subst (λ (l : List Receipted). IsWithin last (last_receipt last (Ok l)) × AreWithin (Ok l) (last_receipt last (Ok l))) (sym are)
+      (within-same last last refl, All-nil (λ (a : Receipted). IsWithin (Some a.1) last))
+  answers-within shown changes (c ∷ commands) [] last begins are = absurd are
+  answers-within shown changes (c ∷ commands) (a ∷ answers) last begins (one, more) =
+      let grown : List Edit = changes_with h changes c in
+      let front : a.1.front ≡ log_of h ++ grown = front-amid changes shown c a.0 a.1 one in
+      let new : Option Slip = last_receipt (Some a.1) (Ok answers) in
+      let own : ForSome (Some a.1) (λ l. IsPrefix l.front (log_of h ++ grown)) =
+      λ slip is. let same : slip ≡ a.1 = cc (is) in subst (λ (s : Slip). IsPrefix s.front (log_of h ++ grown)) (sym same) (subst (λ (l : List Edit). IsPrefix a.1.front l) front (prefix_self a.1.front)) in
+      let (rise, all) = answers-within shown grown commands answers (Some a.1) own more in
+      let first : IsWithin last (Some a.1) = λ slip is. (
+        a.1,
+        refl,
+        subst (λ (l : List Edit). IsPrefix slip.front l) (append_assoc (log_of h) changes (changes_of (step_in (amid h changes) c)) ∙ sym front)
+            (prefix_trans slip.front (log_of h ++ changes) ((log_of h ++ changes) ++ changes_of (step_in (amid h changes) c)) (begins slip is) (changes_of (step_in (amid h changes) c), refl)),
+      ) in
+      (within-then last (Some a.1) new first rise, All-cons (λ (b : Receipted). IsWithin (Some b.1) new) a answers rise all)
+
+module _ (base : Kept) (setting : Setting) (commands : List Command) (old : Option Slip) where
+  -- nothing was pending where a group is answered
+  none-pending : (answers : List Receipted) (answered : IsGroupAnswered base setting commands (Ok answers) old) → answered.before.pending ≡ []
+  none-pending answers answered =
+      let event : Event = called_group commands (replies_of (Ok answers)) answered.came in
+      let legal : LegalGroup answered.before commands (replies_of (Ok answers)) answered.came =
+      subst (λ (st : State). IsLegal st event) answered.comes (in-two (down answered.first) answered.world event [] answered.legal).here in
+      (accepted answered.before commands (map (λ (a : Receipted). a.0) answers) answered.came.failed legal.reply).taken.none
+
+  group-within : (result : Result (List Receipted) Refusal) → IsGroupAnswered base setting commands result old → IsWithin old (last_receipt old result) × AreWithin result (last_receipt old result)
+  group-within (Ok answers) answered =
+      answers-within answered.before (none-pending answers answered) (log_of (heard_group answered.before commands (replies_of (Ok answers)) answered.came)) [] commands answers old
+      (λ slip is. subst (λ (l : List Edit). IsPrefix slip.front l) (sym (append-nil (log_of answered.before))) (answered.follows slip is).0) answered.receipts
+  group-within (Err e) answered = (within-same old old refl, tt)
+
+are-within : (result : Result (List Receipted) Refusal) (mid last : Option Slip) → IsWithin mid last → AreWithin result mid → AreWithin result last
+are-within (Ok answers) mid last end all =
+    All-weaker (λ (a : Receipted). IsWithin (Some a.1) mid) (λ (a : Receipted). IsWithin (Some a.1) last) (λ a one. within-then (Some a.1) mid last one end) answers all
+are-within (Err e) mid last end all = tt
 
 -- ---- a session, and a peer
 
@@ -108,16 +181,31 @@ module _ (base : Kept) (setting : Setting) where
   line-rises : (passed : ℕ → Type 0) (line : List ℕ) (a b : Sitting) (text : List ℕ) → TakesLine passed base setting line a b text → IsWithin a.last b.last
   line-rises passed line a b text takes = line-moves base setting (λ (s t : Sitting). IsWithin s.last t.last) still-rises runs-rise line (at_next_line a) b text takes.told
 
-  item-rises : (x : Item) (a b : Option Slip) (text : List ℕ) → TakesItem base setting x a b text → IsWithin a b
-  item-rises (Ok m) a b text run = within-answer base setting (States (Peer m)) run.reply run.slip a b run.answered run.kept
-  item-rises (Err f) a b text (same, told) = within-same a b same
+  part-rises : (part : Part) (a b : Option Slip) (text : List ℕ) → TakesPart base setting part a b text → IsWithin a b
+  part-rises (Ok ms) a b text run = subst (λ (s : Option Slip). IsWithin a s) (sym run.kept) (group-within base setting (asked ms) a run.result run.answered).0
+  part-rises (Err f) a b text (same, told) = within-same a b same
+
+  part-within : (last : Option Slip) (part : Part) (a b : Option Slip) (text : List ℕ) → TakesPart base setting part a b text → IsWithin b last → TakesPartWithin last base setting part a b text
+  part-within last (Ok ms) a b text run end =
+      let all : AreWithin run.result b = subst (λ (s : Option Slip). AreWithin run.result s) (sym run.kept) (group-within base setting (asked ms) a run.result run.answered).1 in
+      (run, are-within run.result b last end all, end)
+  part-within last (Err f) a b text tells end = (tells, end)
+
+  parts-within : (last a b : Option Slip) (parts : List Part) (text : List ℕ) → IsWithin b last → Chain (TakesPart base setting) a b parts text → IsWithin a b × Chain (TakesPartWithin last base setting) a b parts text
+  parts-within = chain-both (λ (slip : Option Slip). slip) (TakesPart base setting) (λ (l : Option Slip). TakesPartWithin l base setting) part-rises part-within
+
+  lines-within : (passed : ℕ → Type 0) (last : Option Slip) (a b : Sitting) (lines : List (List ℕ)) (text : List ℕ) → IsWithin b.last last → Chain (TakesLine passed base setting) a b lines text
+      → IsWithin a.last b.last × ChainWithin last (λ (s : Sitting). s.last) (TakesLine passed base setting) a b lines text
+  lines-within passed = chain-both (λ (s : Sitting). s.last) (TakesLine passed base setting) (λ l line a b told. TakesLine passed base setting line a b told × IsWithin b.last l) (line-rises passed) (λ l line a b told takes end. (takes, end))
 
 pub sits-within : (passed : ℕ → Type 0) → SitsWithin passed
 sits-within passed base setting result unread unread' old new held held' s =
-    let (rise, ends) = session-within (λ (t : Sitting). t.last) (TakesLine passed base setting) (line-rises base setting passed) result s.input s.lines s.rest unread' old new held held' s.ends in
+    let (rise, ends) = session-within (λ (t : Sitting). t.last) (Chain (TakesLine passed base setting)) (λ (l : Option Slip). ChainWithin l (λ (t : Sitting). t.last) (TakesLine passed base setting)) (lines-within base setting passed)
+    result s.input s.lines s.rest unread' old new held held' s.ends in
     (rise, record { input = s.input; lines = s.lines; rest = s.rest; read = s.read; cut = s.cut; ends = ends })
 
 pub takes-within : TakesWithin
 takes-within base setting result unread unread' old new held held' s =
-    let (rise, ends) = stream-within (λ (slip : Option Slip). slip) (TakesItem base setting) (item-rises base setting) result s.input unread' old new held held' s.ends in
+    let (rise, ends) = stream-within (λ (slip : Option Slip). slip) (Chain (TakesPart base setting)) (λ (l : Option Slip). Chain (TakesPartWithin l base setting)) (parts-within base setting)
+    result s.input unread' old new held held' s.ends in
     (rise, record { input = s.input; read = s.read; ends = ends })

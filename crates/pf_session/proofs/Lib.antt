@@ -3,7 +3,9 @@ pub mod Answering
 pub mod Moving
 pub mod Told
 pub mod Sitting
+pub mod Replying
 pub mod Streaming
+pub mod Grouping
 pub mod Learning
 pub mod Acknowledging
 pub mod Following

@@ -9,4 +9,5 @@ pub use Rattle.pf_core.specs.Durable.Edits
 pub use Rattle.pf_core.specs.Pages
 pub use Rattle.pf_core.specs.Worlds
 pub use Rattle.pf_book.specs.Books
+pub use Rattle.pf_book.specs.Groups
 pub use Rattle.pf_book.specs.Receipts

@@ -32,7 +32,7 @@ pub fn what_is_told_stays_acknowledged<G: Gate>()
 
 /// Each reply that a session or a peer over a shared Book was written was answered by a history with which that of the last receipt begins:
 /// the front of the reply's receipt begins that of the receipt which the caller then has, as `serve_from` and `serve_peer_from` give it.
-/// So does that of the receipt which it handed in first.
+/// So does that of the receipt which it handed in first. Of a peer's messages those have no receipt whose group was refused whole.
 pub fn the_last_receipt_has_all<G: Gate>()
     ensures sessions { (gate : G) (session : ℕ) → SitsWithin (G.passed gate session) }
     ensures peers { TakesWithin }

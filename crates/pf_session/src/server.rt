@@ -2,7 +2,7 @@
 //!
 //! - `gate`: what a session passes before each line.
 //! - `session`: a session's lines, by the Book and the session's seer.
-//! - `stream`: a peer's messages, by the Book.
+//! - `stream`: a peer's messages in groups, by the Book.
 
 mod gate;
 mod session;

@@ -1,10 +1,11 @@
 -- What the receipt that a session or a peer has at the end says of all that it was answered. Own.
-use Rattle.std.specs.{Prelude.{◌≡◌, ℕ, List, Option, Some, Result}, Option.ForSome}
+use Rattle.std.specs.{Prelude.{◌≡◌, ℕ, List, All, Option, Some, Result, Ok, Err, ⊤}, Option.ForSome}
 use mathlib.Core.List.{IsPrefix}
+use Rattle.pf_core.specs.declared.reply.Refusal.{Refusal}
 use Rattle.pf_core.specs.{Durable.Edits.Kept, Worlds.Setting}
-use Rattle.pf_book.specs.Receipts.{Slip}
+use Rattle.pf_book.specs.{Groups.{Answered as Receipted}, Receipts.Slip}
 use Rattle.pf_session.specs.declared.line_engine.fault.EngineFault.{EngineFault}
-use Rattle.pf_session.specs.{LineEngine.Sessions.IsSession, Server.{Chains.Chain, Sittings.{Sits, Sitting, TakesLine}, Streams.{IsStream, Takes, TakesItem}}}
+use Rattle.pf_session.specs.{LineEngine.Sessions.IsSession, Server.{Chains.Chain, Sittings.{Sits, Sitting, TakesLine}, Streams.{IsStream, Part, RunsGroup, Takes, TakesPart}}}
 
 -- the front of the one receipt, if there is one, begins that of the other
 abbrev pub IsWithin : Option Slip → Option Slip → Type 0
@@ -21,9 +22,18 @@ SitsWithin passed = (base : Kept) (setting : Setting) (result : Result (Unit {0}
     → IsWithin old.last new.last
     × IsSession (ChainWithin new.last (λ (s : Sitting). s.last) (TakesLine passed base setting)) result unread unread' old new held held'
 
--- so it is of a peer's
+-- the receipts of a group's answers are; one that was refused whole has none
+abbrev pub AreWithin : Result (List Receipted) Refusal → Option Slip → Type 0
+AreWithin (Ok answers) last = All (λ a. IsWithin (Some a.1) last) answers
+AreWithin (Err e) last = ⊤
+
+-- A part of a peer's stream was taken, and the receipt of each of its answers is within the last one, as is the one that there is behind it.
+abbrev pub TakesPartWithin : Option Slip → Kept → Setting → Part → Option Slip → Option Slip → List ℕ → Type 0
+TakesPartWithin last base setting (Ok ms) old new text = (run : RunsGroup base setting ms old new text) × AreWithin run.result last × IsWithin new last
+TakesPartWithin last base setting (Err f) old new text = TakesPart base setting (Err f) old new text × IsWithin new last
+
+-- A peer's own receipt, and that of each of its messages, is within the one that it has at the end.
 abbrev pub TakesWithin : Type 0
 TakesWithin = (base : Kept) (setting : Setting) (result : Result (Unit {0}) EngineFault) (unread unread' : Option (List ℕ))
     (old new : Option Slip) (held held' : Option (List ℕ)) → IsStream (Takes base setting) result unread unread' old new held held'
-    → IsWithin old new
-    × IsStream (ChainWithin new (λ (slip : Option Slip). slip) (TakesItem base setting)) result unread unread' old new held held'
+    → IsWithin old new × IsStream (Chain (TakesPartWithin new base setting)) result unread unread' old new held held'

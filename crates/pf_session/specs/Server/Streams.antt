@@ -1,12 +1,12 @@
--- A peer's stream over a Book that others use too: each message is one call. Own.
-use Rattle.std.specs.{Prelude.{◌≡◌, ℕ, ◌≤◌, length, List, [], ◌∷◌, ◌++◌, map, Option, Some, None, Result, Ok, Err, ◌⊎◌, ⊤}, Io.KnownBytes.{Appends, Consumes, IsAtEnd}}
+-- A peer's stream over a Book that others use too: its messages are given to it in groups. Own.
+use Rattle.std.specs.{Prelude.{◌≡◌, ℕ, ◌<◌, ◌≤◌, length, List, [], ◌∷◌, ◌++◌, map, flat_map, fold, Option, Some, None, Result, Ok, Err, ◌⊎◌, ⊤}, Io.KnownBytes.{Appends, Consumes, IsAtEnd}}
 use Rattle.pf_addr.specs.Writing.{WritesFront}
 use Rattle.pf_state.specs.declared.{peer.fault.FeedError.FeedError, peer.fault.PeerFault.PeerFault, peer.fault.PeerFault.TheVariants.Ended, peer.message.Message.Message}
 use Rattle.pf_state.specs.Peer.{Outcomes.TakenAs, Streams.{Ending, Unfinished, Faulty, Reads}}
-use Rattle.pf_core.specs.declared.{command.Command.TheVariants.States, command.StateCommand.TheVariants.Peer, reply.Refusal.TheVariants.BadPeer, reply.Reply.Reply, reply.Reply.TheVariants.Refused}
+use Rattle.pf_core.specs.declared.{command.Command.Command, command.Command.TheVariants.States, command.StateCommand.TheVariants.Peer, group.TheConstants.GROUP_LIMIT, reply.Refusal.Refusal, reply.Refusal.TheVariants.BadPeer, reply.Reply.TheVariants.Refused}
 use Rattle.pf_core.specs.{Durable.Edits.Kept, Worlds.Setting}
 use Rattle.pf_line.specs.Reply.Replies.{reply_text}
-use Rattle.pf_book.specs.Receipts.{Slip, IsAnswered}
+use Rattle.pf_book.specs.{Groups.{Answered as Receipted, IsGroupAnswered}, Receipts.Slip}
 use Rattle.pf_session.specs.declared.{line_engine.fault.EngineFault.EngineFault, server.stream.Goes.Goes, server.stream.Goes.TheVariants.{On, Over}}
 use Rattle.pf_session.specs.declared.line_engine.fault.EngineFault.TheVariants as fault
 use Rattle.pf_session.specs.{LineEngine.Sessions.{Answered, CutOff}, Server.Chains.Chain}
@@ -24,22 +24,64 @@ wrong (Faulty f) = Err f ∷ []
 abbrev pub items : List Message → List Item
 items ms = map Ok ms
 
--- The Book ran the message, with the receipt of the last one handed in.
-pub record IsRun (base : Kept) (setting : Setting) (m : Message) (old new : Option Slip) (text : List ℕ) : Type 0 where
-  pub reply : Reply
-  pub slip : Slip
-  pub answered : IsAnswered base setting (States (Peer m)) reply slip old
-  pub told : text ≡ reply_text reply
-  pub kept : new ≡ Some slip
+-- ---- parts
 
--- A message was run, and a fault is told.
-abbrev pub TakesItem : Kept → Setting → Item → Option Slip → Option Slip → List ℕ → Type 0
-TakesItem base setting (Ok m) old new text = IsRun base setting m old new text
-TakesItem base setting (Err f) old new text = (new ≡ old) × (text ≡ reply_text (Refused (BadPeer f)))
+-- what is done at once: a group of messages is run, or a fault is told
+abbrev pub Part : Type 0
+Part = Result (List Message) PeerFault
 
--- These took the receipt of the last call from the one to the other, and were told this.
-abbrev pub Takes : Kept → Setting → Option Slip → Option Slip → List Item → List ℕ → Type 0
-Takes base setting old new all text = Chain (TakesItem base setting) old new all text
+abbrev pub items_in : Part → List Item
+items_in (Ok ms) = items ms
+items_in (Err f) = Err f ∷ []
+
+-- what the Book is asked
+abbrev pub asked : List Message → List Command
+asked ms = map (λ m. States (Peer m)) ms
+
+-- a reply for each message; of a group that was refused whole, the refusal for each
+abbrev pub group_text : List Message → Result (List Receipted) Refusal → List ℕ
+group_text ms (Ok answers) = flat_map (λ a. reply_text a.0) answers
+group_text ms (Err e) = flat_map (λ m. reply_text (Refused e)) ms
+
+-- the receipt that there is behind a group: that of its last message, or the old one where it was refused whole
+abbrev pub last_receipt : Option Slip → Result (List Receipted) Refusal → Option Slip
+last_receipt old (Ok answers) = fold (λ last a. Some a.1) old answers
+last_receipt old (Err e) = old
+
+-- The Book ran these messages as one group, with the receipt of the last call handed in.
+pub record RunsGroup (base : Kept) (setting : Setting) (ms : List Message) (old new : Option Slip) (text : List ℕ) : Type 0 where
+  pub some : 0 < length ms
+  pub few : length ms ≤ GROUP_LIMIT
+  pub result : Result (List Receipted) Refusal
+  pub answered : IsGroupAnswered base setting (asked ms) result old
+  pub told : text ≡ group_text ms result
+  pub kept : new ≡ last_receipt old result
+
+-- A group was run, or a fault was told.
+abbrev pub TakesPart : Kept → Setting → Part → Option Slip → Option Slip → List ℕ → Type 0
+TakesPart base setting (Ok ms) old new text = RunsGroup base setting ms old new text
+TakesPart base setting (Err f) old new text = (new ≡ old) × (text ≡ reply_text (Refused (BadPeer f)))
+
+-- These parts, one after the other, took the receipt of the last call from the one to the other, and were told this.
+abbrev pub Takes : Kept → Setting → Option Slip → Option Slip → List Part → List ℕ → Type 0
+Takes base setting old new parts text = Chain (TakesPart base setting) old new parts text
+
+-- All of this was taken, part by part, and all that was told was written.
+pub record Taken {S : Type 0} (Serves : S → S → List Part → List ℕ → Type 0)
+    (all : List Item) (old new : S) (held held' : Option (List ℕ)) : Type 0 where
+  pub parts : List Part
+  pub joined : flat_map items_in parts ≡ all
+  pub answered : Answered Serves parts old new held held'
+
+-- Some of it was taken, part by part from the front on, and then a write failed: all that was told was written but what the last part was
+-- told, and some front of that was.
+pub record CutShort {S : Type 0} (Serves : S → S → List Part → List ℕ → Type 0)
+    (all : List Item) (old new : S) (held held' : Option (List ℕ)) : Type 0 where
+  pub parts : List Part
+  pub joined : flat_map items_in parts ≡ all
+  pub cut : CutOff Serves parts old new held held'
+
+-- ---- the stream
 
 -- the stream has a fault, or the reader is at its end
 abbrev pub HasEnded : Ending → Option (List ℕ) → Type 0
@@ -49,21 +91,21 @@ HasEnded (Faulty f) unread = ⊤
 -- What was done for this input. At its end, and at a fault, all its messages are run, and what is wrong is told; where no more could be read
 -- all its messages are run. Where a write failed, some are, from the front on; some front of what is wrong may be out only where all of it
 -- would be told. Where memory was refused, all are that were whole before the last piece of it, which is what one read may give.
-abbrev pub Ends : {S : Type 0} → (S → S → List Item → List ℕ → Type 0)
+abbrev pub Ends : {S : Type 0} → (S → S → List Part → List ℕ → Type 0)
     → Result (Unit {0}) EngineFault → List ℕ → Option (List ℕ) → S → S → Option (List ℕ) → Option (List ℕ) → Type 0
 Ends Serves (Ok u) input unread old new held held' =
-    (ms : List Message) × (e : Ending) × Reads input ms e × Answered Serves (items ms ++ wrong e) old new held held' × HasEnded e unread
+    (ms : List Message) × (e : Ending) × Reads input ms e × Taken Serves (items ms ++ wrong e) old new held held' × HasEnded e unread
 Ends Serves (Err fault.Read) input unread old new held held' =
-    (ms : List Message) × (rest : List ℕ) × Reads input ms (Unfinished rest) × Answered Serves (items ms) old new held held'
+    (ms : List Message) × (rest : List ℕ) × Reads input ms (Unfinished rest) × Taken Serves (items ms) old new held held'
 Ends Serves (Err fault.Write) input unread old new held held' =
     (ms : List Message) × (e : Ending) × Reads input ms e
-    × (CutOff Serves (items ms) old new held held' ⊎ (CutOff Serves (items ms ++ wrong e) old new held held' × HasEnded e unread))
+    × (CutShort Serves (items ms) old new held held' ⊎ (CutShort Serves (items ms ++ wrong e) old new held held' × HasEnded e unread))
 Ends Serves (Err fault.Memory) input unread old new held held' =
-    (before piece : List ℕ) × (ms : List Message) × (rest : List ℕ) × (input ≡ before ++ piece) × (length piece ≤ 65536)
-    × Reads before ms (Unfinished rest) × Answered Serves (items ms) old new held held'
+    (before piece : List ℕ) × (ms : List Message) × (rest : List ℕ) × (input ≡ before ++ piece) × (length piece ≤ 131072)
+    × Reads before ms (Unfinished rest) × Taken Serves (items ms) old new held held'
 
 -- What was read, and what was done for it.
-pub record IsStream {S : Type 0} (Serves : S → S → List Item → List ℕ → Type 0)
+pub record IsStream {S : Type 0} (Serves : S → S → List Part → List ℕ → Type 0)
     (result : Result (Unit {0}) EngineFault) (unread unread' : Option (List ℕ)) (old new : S) (held held' : Option (List ℕ)) : Type 0 where
   pub input : List ℕ
   pub read : Consumes unread unread' input
@@ -104,12 +146,18 @@ TellsEnd (Err fault.Read) end held held' = ⊥
 TellsEnd (Err fault.Write) end held held' = WritesFront held held' (end_text end)
 TellsEnd (Err fault.Memory) end held held' = ⊥
 
--- messages were run, and a fault was told behind them, if there was one; or a failed write cut that off
-abbrev pub RunsFed : {S : Type 0} → (S → S → List Item → List ℕ → Type 0)
+-- messages were run, or a failed write cut that short
+abbrev pub RunsAll : {S A E : Type 0} → (S → S → List Part → List ℕ → Type 0)
+    → Result A E → List Message → S → S → Option (List ℕ) → Option (List ℕ) → Type 0
+RunsAll Serves (Ok x) ms old new held held' = Taken Serves (items ms) old new held held'
+RunsAll Serves (Err e) ms old new held held' = CutShort Serves (items ms) old new held held'
+
+-- messages were run, and a fault was told behind them, if there was one; or a failed write cut that short
+abbrev pub RunsFed : {S : Type 0} → (S → S → List Part → List ℕ → Type 0)
     → Result Goes EngineFault → List Message → Option PeerFault → S → S → Option (List ℕ) → Option (List ℕ) → Type 0
-RunsFed Serves (Ok goes) ms fault old new held held' = IsGoing goes fault × Answered Serves (items ms ++ told fault) old new held held'
+RunsFed Serves (Ok goes) ms fault old new held held' = IsGoing goes fault × Taken Serves (items ms ++ told fault) old new held held'
 RunsFed Serves (Err fault.Read) ms fault old new held held' = ⊥
-RunsFed Serves (Err fault.Write) ms fault old new held held' = CutOff Serves (items ms ++ told fault) old new held held'
+RunsFed Serves (Err fault.Write) ms fault old new held held' = CutShort Serves (items ms ++ told fault) old new held held'
 RunsFed Serves (Err fault.Memory) ms fault old new held held' = ⊥
 
 -- nothing was done
@@ -118,7 +166,7 @@ pub record Waits {S : Type 0} (old new : S) (held held' : Option (List ℕ)) : T
   pub bytes : held' ≡ held
 
 -- what a piece brought was run; or memory was refused for it
-abbrev pub TakesPiece : {S : Type 0} → (S → S → List Item → List ℕ → Type 0)
+abbrev pub TakesPiece : {S : Type 0} → (S → S → List Part → List ℕ → Type 0)
     → Result Goes EngineFault → List ℕ → Option (List ℕ) → Option (List ℕ) → S → S → Option (List ℕ) → Option (List ℕ) → Type 0
 TakesPiece Serves result piece kept kept' old new held held' =
     ((ms : List Message) × (fault : Option PeerFault) × TakenAs kept piece kept' ms fault × RunsFed Serves result ms fault old new held held')
@@ -127,10 +175,10 @@ TakesPiece Serves result piece kept kept' old new held held' =
 -- ---- so far
 
 -- the messages of the input were run, and the reader keeps the rest
-pub record SoFar {S : Type 0} (Serves : S → S → List Item → List ℕ → Type 0)
+pub record SoFar {S : Type 0} (Serves : S → S → List Part → List ℕ → Type 0)
     (input : List ℕ) (kept : Option (List ℕ)) (old new : S) (held held' : Option (List ℕ)) : Type 0 where
   pub messages : List Message
   pub rest : List ℕ
   pub reads : Reads input messages (Unfinished rest)
   pub kept_is : kept ≡ Some rest
-  pub answered : Answered Serves (items messages) old new held held'
+  pub taken : Taken Serves (items messages) old new held held'

@@ -1,24 +1,25 @@
 //! A peer's stream of messages over a Book that others use too.
-ghost use Rattle.std.specs.Prelude.{◌<◌, ◌≤◌, ℕ, List, Option, None, length, Ok};
+ghost use Rattle.std.specs.Prelude.{◌≡◌, ◌<◌, ◌≤◌, ℕ, List, Option, None, IfOk, Ok, flat_map, length};
 ghost use Rattle.pf_addr.specs.Writing.{Writes};
+ghost use Rattle.pf_state.specs.declared.peer.message.Message.{Message};
 ghost use Rattle.pf_state.specs.Peer.Outcomes.{finished};
 ghost use Rattle.pf_core.specs.declared.{reply.Refusal.TheVariants.BadPeer, reply.Reply.TheVariants.Refused};
 ghost use Rattle.pf_line.specs.Reply.Replies.{reply_text};
 ghost use Rattle.pf_book.specs.Receipts.{Slip};
-ghost use Rattle.pf_session.specs.{LineEngine.Pieces.Answers, Server.Streams.{IsStream, RunsFed, Takes, TakesItem, TakesPiece, TellsEnd, TellsFault, items}};
+ghost use Rattle.pf_session.specs.Server.Streams.{IsStream, RunsAll, RunsFed, RunsGroup, Takes, TakesPiece, TellsEnd, TellsFault, asked, last_receipt};
 
 use crate::line_engine::EngineFault;
 use crate::telling::refuse;
 use pf_book::{Chapter, Disk, Receipt, Shared};
-use pf_core::{Command, Refusal, StateCommand};
+use pf_core::{Command, GROUP_LIMIT, Refusal, Reply, StateCommand};
 use pf_line::write_reply;
 use pf_state::peer::{Fed, Message, PeerFault, PeerReader};
-use std::alloc::Global;
+use std::alloc::{AllocError, Global};
 use std::io::{self, ErrorKind, Read, Write};
 use std::sync::Wait;
 
-// How many bytes are read at once.
-const PIECE_LEN: usize = 65_536;
+// How many bytes are read at once: a group of messages, each of as many states as an export writes in one.
+const PIECE_LEN: usize = 131_072;
 
 // So many reads are never made.
 const MOST_READS: u64 = 1 << 62;
@@ -41,29 +42,7 @@ pub(crate) enum Goes {
 }
 
 impl<'a, W: Wait, D: Disk + Drop, J: Chapter, H: Wait + Drop> Follower<'a, W, D, J, H> {
-    // Runs a message.
-    fn run<O: Write>(&mut self, message: Message, writer: &mut O) -> io::Result<()>
-        ensures { (text : List ℕ) × TakesItem J.base J.setting (Ok message) self.old.last self.new.last text ×
-            Writes result (O.contents writer.old) (O.contents writer.new) text }
-    {
-        let command = Command::States(StateCommand::Peer(message));
-        let (reply, receipt) = self.shared.run(self.rt, command, self.last.as_ref());
-        self.last = Some(receipt);
-        write_reply(writer, &reply)
-    }
-
-    // Runs messages, one after the other.
-    fn run_all<O: Write>(&mut self, messages: Vec<Message>, writer: &mut O) -> io::Result<()>
-        ensures { Answers (Takes J.base J.setting) result (items messages.items) self.old.last self.new.last
-            (O.contents writer.old) (O.contents writer.new) }
-    {
-        for message in messages {
-            self.run(message, writer)?;
-        }
-        Ok(())
-    }
-
-    // Takes the next piece of the stream.
+    // Takes the next piece of the stream. All that it needs of memory comes before the first of its messages is run.
     fn take<O: Write>(
         &mut self,
         alloc: Global,
@@ -74,23 +53,101 @@ impl<'a, W: Wait, D: Disk + Drop, J: Chapter, H: Wait + Drop> Follower<'a, W, D,
         ensures { TakesPiece (Takes J.base J.setting) result piece.now peer.old peer.new self.old.last self.new.last
             (O.contents writer.old) (O.contents writer.new) }
     {
-        match peer.feed(alloc, piece) {
-            Ok(fed) => self.run_fed(fed, writer),
-            Err(_) => Err(EngineFault::Memory),
-        }
+        let Ok(Fed { messages, fault }) = peer.feed(alloc, piece) else {
+            return Err(EngineFault::Memory);
+        };
+        let Ok(commands) = commands_of(alloc, messages) else {
+            return Err(EngineFault::Memory);
+        };
+        self.run_fed(&commands, fault, writer)
     }
 
     // Runs the messages that a piece brought, and tells its fault.
-    fn run_fed<O: Write>(&mut self, fed: Fed, writer: &mut O) -> Result<Goes, EngineFault>
-        ensures { RunsFed (Takes J.base J.setting) result fed.messages.items fed.fault self.old.last self.new.last
-            (O.contents writer.old) (O.contents writer.new) }
+    fn run_fed<O: Write>(
+        &mut self,
+        commands: &[Command],
+        fault: Option<PeerFault>,
+        writer: &mut O,
+    ) -> Result<Goes, EngineFault>
+        ensures { (messages : List Message) → commands.now ≡ asked messages
+            → RunsFed (Takes J.base J.setting) result messages fault self.old.last self.new.last (O.contents writer.old) (O.contents writer.new) }
     {
-        let Fed { messages, fault } = fed;
-        match self.run_all(messages, writer) {
+        match self.run_all(commands, writer) {
             Ok(()) => tell_fault(fault, writer),
             Err(_) => Err(EngineFault::Write),
         }
     }
+
+    // Runs messages in groups, one after the other.
+    fn run_all<O: Write>(&mut self, commands: &[Command], writer: &mut O) -> io::Result<()>
+        ensures { (messages : List Message) → commands.now ≡ asked messages
+            → RunsAll (Takes J.base J.setting) result messages self.old.last self.new.last (O.contents writer.old) (O.contents writer.new) }
+    {
+        for group in commands.chunks(GROUP_LIMIT) {
+            self.run_group(group, writer)?;
+        }
+        Ok(())
+    }
+
+    // Runs messages as one group, and tells each its reply.
+    fn run_group<O: Write>(&mut self, commands: &[Command], writer: &mut O) -> io::Result<()>
+        requires some { 0 < length commands.now }
+        requires few { length commands.now ≤ GROUP_LIMIT }
+        ensures { (messages : List Message) → commands.now ≡ asked messages
+            → (text : List ℕ) × RunsGroup J.base J.setting messages self.old.last self.new.last text
+            × Writes result (O.contents writer.old) (O.contents writer.new) text }
+    {
+        match self.shared.group(self.rt, commands, self.last.as_ref()) {
+            Ok(answers) => {
+                let written = write_replies(&answers, writer);
+                self.keep_last(answers);
+                written
+            }
+            Err(refusal) => refuse_each(commands, refusal, writer),
+        }
+    }
+
+    // Keeps the receipt of the last of these answers.
+    fn keep_last(&mut self, mut answers: Vec<(Reply, Receipt<J>)>)
+        ensures { self.new.last ≡ last_receipt self.old.last (Ok answers.items) }
+    {
+        if let Some((_, receipt)) = answers.pop() {
+            self.last = Some(receipt);
+        }
+    }
+}
+
+// The commands of messages, in one growth.
+fn commands_of(alloc: Global, messages: Vec<Message>) -> Result<Vec<Command>, AllocError>
+    ensures { IfOk result (λ commands. commands.items ≡ asked messages.items) }
+{
+    let mut commands = Vec::with_capacity(alloc, messages.len())?;
+    for message in messages {
+        commands.push(Command::States(StateCommand::Peer(message)))?;
+    }
+    Ok(commands)
+}
+
+fn write_replies<J: Chapter, O: Write>(
+    answers: &[(Reply, Receipt<J>)],
+    writer: &mut O,
+) -> io::Result<()>
+    ensures { Writes result (O.contents writer.old) (O.contents writer.new) (flat_map (λ a. reply_text a.0) answers.now) }
+{
+    for answer in answers {
+        write_reply(writer, &answer.0)?;
+    }
+    Ok(())
+}
+
+// Tells each command of a group its refusal.
+fn refuse_each<O: Write>(commands: &[Command], refusal: Refusal, writer: &mut O) -> io::Result<()>
+    ensures { Writes result (O.contents writer.old) (O.contents writer.new) (flat_map (λ c. reply_text (Refused refusal)) commands.now) }
+{
+    for _ in commands {
+        refuse(writer, refusal)?;
+    }
+    Ok(())
 }
 
 // Tells what is wrong with the stream, if anything is, behind which nothing more is told.
@@ -128,15 +185,18 @@ fn tell_end<O: Write>(peer: &mut PeerReader, writer: &mut O) -> Result<(), Engin
     }
 }
 
-/// Has the messages of a peer's stream run by a Book that sessions use too, each by one `Shared::run` with the receipt of the one before, and
-/// writes a reply line for each, until the reader is at its end. Own.
+/// Has the messages of a peer's stream run by a Book that sessions use too, and writes a reply line for each, until the reader is at its
+/// end. The messages that one read makes whole are given to `Shared::group` in groups of 64 and a last one of what is left, each with the
+/// receipt of the call before. Where a group is refused whole, each of its messages is told that refusal, and those behind it are run
+/// all the same. Own.
 ///
 /// A fault of the stream, or its end within a message, is told in a line, as a `peer` line with such bytes is, and nothing is told behind
 /// it. The writer is flushed before each read and at the end. A read that was interrupted is made again; there are fewer than 2^62 reads.
 ///
 /// `Err(Read)`: a read failed, or there were too many; the whole messages before are answered. `Err(Write)`: a write or a flush failed; of
-/// the last reply some front may be out. `Err(Memory)`: memory was refused for the buffer, and nothing was read, or for a piece of the
-/// stream, of 65,536 bytes at most, and the messages that were whole before it are answered.
+/// the replies to the last group some front may be out, and no later message was run. `Err(Memory)`: memory was refused for the buffer,
+/// and nothing was read, or for a piece of the stream, of 131,072 bytes at most; the messages that were whole before it are answered, and
+/// those that it made whole weren't run.
 pub fn serve_peer<W: Wait, D: Disk + Drop, J: Chapter, H: Wait + Drop, R: Read, O: Write>(
     rt: &W,
     alloc: Global,
@@ -151,10 +211,10 @@ pub fn serve_peer<W: Wait, D: Disk + Drop, J: Chapter, H: Wait + Drop, R: Read, 
     serve_peer_from(rt, alloc, reader, writer, shared, &mut last)
 }
 
-/// The same, where the first call hands in the receipt that the caller has, if it has one. Behind it the caller has that of the last call,
-/// or its own where there was none. Own.
+/// The same, where the first call hands in the receipt that the caller has, if it has one. Behind it the caller has that of the last message
+/// whose group wasn't refused whole, or its own where there was none. Own.
 ///
-/// The front of the receipt that the caller then has begins with what each reply was answered by, as
+/// The front of the receipt that the caller then has begins with what each reply that has a receipt was answered by, as
 /// [`the_last_receipt_has_all`](crate::laws::the_last_receipt_has_all) says. So does the history of the Book that confirms it.
 pub fn serve_peer_from<W: Wait, D: Disk + Drop, J: Chapter, H: Wait + Drop, R: Read, O: Write>(
     rt: &W,

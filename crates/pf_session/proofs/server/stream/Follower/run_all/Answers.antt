@@ -1,33 +1,32 @@
-use Rattle.std.proofs.{Common.{◌≡◌, ◌∙◌, ◌∷◌, [], ◌++◌, Ok, length, ap, append_assoc, arith}, lemmas.Result.err_from_is_err_and}
-use Rattle.std.specs.Vec.Iter.{into_iter_items}
-use Rattle.pf_session.specs.{Server.Streams.{items}}
-use Rattle.pf_session.proofs.Streaming.{item-cut, item-taken, items-then, taken-then}
+use Rattle.std.proofs.{Common.{◌∙◌, ap}, lemmas.Result.err_from_is_err_and}
+use Rattle.std.specs.Slice.Iter.{chunks_rest, chunks_size}
+use Rattle.pf_session.proofs.Grouping.{begun, one-cut, one-more}
 use Rattle.pf_session.proofs.server.stream.Follower.run_all.Goals as goal
 
-pub loop-message-preserved : goal.loop-message-preserved
-loop-message-preserved g c =
-    let at = c.loop-message in
-    let m = c.in-Some.message in
-    let base = g.J.Naming.base in
-    let setting = g.J.Chapter.setting in
-    let steps : into_iter_items at.message-iterator ≡ m ∷ into_iter_items c.next.new.self = c.in-Some.ensures.steps.0 in
-    let (text, step, written) = c.in_ok-run.ensures in
+pub loop-group-init : goal.loop-group-init
+loop-group-init g c =
+    let made = c.chunks-group-items.ensures in
+    let same = c.into_iter-group-iterator.ensures.into_iter_gives in
     record {
-      all = append_assoc at.yielded (m ∷ []) _ ∙ rw (← steps) at.invariant.all;
-      len = let was = at.invariant.len in let gone = c.in-Some.ensures.steps.1 in let short = ap length steps in omega arith;
-      ran = rw (items-then at.yielded (m ∷ [])) (taken-then base setting at.invariant.ran (item-taken base setting (Ok m) text step written));
+      size = ap chunks_size same ∙ made.size;
+      ran = λ messages is. begun g.J.Naming.base g.J.Chapter.setting messages (chunks_rest c.into_iter-group-iterator.result) c.args.self.now.last (g.O.Write.contents c.args.writer.now) (ap chunks_rest same ∙ made.rest ∙ is);
     }
 
-pub returns-in_err-run : goal.returns-in_err-run
-returns-in_err-run g c =
-    let at = c.loop-message in
-    let m = c.in-Some.message in
-    let base = g.J.Naming.base in
-    let setting = g.J.Chapter.setting in
-    let others = into_iter_items c.next.new.self in
-    let steps : into_iter_items at.message-iterator ≡ m ∷ others = c.in-Some.ensures.steps.0 in
-    let all : at.yielded ++ (m ∷ others) ≡ c.args.messages.items = rw (← steps) (at.invariant.all ∙ c.into_iter-message-iterator.ensures.into_iter_gives.0) in
+pub loop-group-preserved : goal.loop-group-preserved
+loop-group-preserved g c =
+    let at = c.loop-group in
+    let steps = c.in-Some.ensures.steps in
+    record {
+      size = steps.0 ∙ at.invariant.size;
+      ran = λ messages is.
+          one-more g.J.Naming.base g.J.Chapter.setting messages (chunks_rest at.group-iterator) c.in-Some.group.now (chunks_rest c.next.new.self) c.args.self.now.last at.self.last c.run_group.new.self.last
+          (g.O.Write.contents c.args.writer.now) (g.O.Write.contents at.writer) (g.O.Write.contents c.run_group.new.writer) steps.1.0 (at.invariant.ran messages is) c.in_ok-run_group.ensures;
+    }
+
+pub returns-in_err-run_group : goal.returns-in_err-run_group
+returns-in_err-run_group g c = λ messages is.
+    let at = c.loop-group in
+    let steps = c.in-Some.ensures.steps in
     let (e, failed, same) = err_from_is_err_and c.from_residual.result c.from_residual.ensures.1 in
-    let (text, step, front) = c.in_err-run.ensures in
-    rw (failed, ← all, items-then at.yielded (m ∷ others))
-    (item-cut base setting (Ok m) (items others) c.run.new.self.last text at.invariant.ran step front)
+    rw failed (one-cut g.J.Naming.base g.J.Chapter.setting messages (chunks_rest at.group-iterator) c.in-Some.group.now (chunks_rest c.next.new.self) c.args.self.now.last at.self.last c.run_group.new.self.last
+    (g.O.Write.contents c.args.writer.now) (g.O.Write.contents at.writer) (g.O.Write.contents c.run_group.new.writer) steps.1.0 (at.invariant.ran messages is) c.in_err-run_group.ensures)
