@@ -1,0 +1,653 @@
+"""The plain reading of a disk's bytes: whether `pfd` opens an image, and what it then holds; or which refusal it gives, and its place.
+
+It was written once, slowly, from docs/DISK.md and not from the code, so that two readings that were made apart can be compared. What that
+page says of rules, entries and states is how many bytes they have; what stands in these is a table here (`rule`, `entry`, `state`), and which
+names, paths and numbers are allowed is as docs/LINES.md has it.
+
+    read(image)       what `pfd show` finds: a Found, or Refusal is raised
+    shown(image)      the lines that `pfd show` prints, or the one line of its refusal
+    refused(image)    the words by which `pfd run` and `pfd serve` would refuse to open it, or None
+    snapshot(held)    the bytes of a snapshot of what is held
+
+It sees nothing of want of memory, of a device that fails, or of a file's name and length that the words ask for.
+"""
+import hashlib
+from typing import NamedTuple
+
+OPEN = 0xA5
+LEAST_SIZE, MOST_SIZE = 256, 1_073_741_824
+# The bytes of a bank's header, of an opening's record with its gate and the gate behind it, of a rule, and of what stands behind a state's flow.
+HEADER, OPENING, RULE, ALL_ONES = 24, 12, 204, b"\xff" * 8
+MOST_GENERATION = (1 << 63) - 1
+LAST_EPOCH = (1 << 32) - 1
+MOST_RULES, MOST_RULESETS, MOST_TABLES, MOST_ENTRIES, MOST_STATES = 1024, 1024, 1024, 65_536, 65_536
+MOST_CHANGES, MOST_ITEMS = 64, 64
+MOST_PATH, MOST_PARTS, MOST_PART, MOST_NAME, MOST_INTERFACE, MOST_REFERENCE = 255, 16, 63, 31, 15, 63
+NAME_BYTES = frozenset(b"ABCDEFGHIJKLMNOPQRSTUVWXYZabcdefghijklmnopqrstuvwxyz0123456789_.-")
+TCP, UDP = 6, 17
+BLOCK, PASS, ANCHOR = 0, 1, 2
+ANY, NETWORK, TABLE = 0, 1, 2
+
+
+class Refusal(Exception):
+    """An image that isn't opened, with the program's words for it."""
+
+
+class NoForm(Exception):
+    """Bytes that nothing is written as."""
+
+
+class NoFit(Exception):
+    """A change that doesn't fit what is kept before it."""
+
+
+def demand(holds, fault=NoForm):
+    if not holds:
+        raise fault
+
+
+class Reader:
+    """Bytes that are taken from the front on."""
+
+    def __init__(self, some):
+        self.some, self.place = some, 0
+
+    def take(self, count):
+        demand(self.place + count <= len(self.some))
+        self.place += count
+        return self.some[self.place - count : self.place]
+
+    def number(self, width):
+        return int.from_bytes(self.take(width), "big")
+
+    def zeros(self, count):
+        demand(not any(self.take(count)))
+
+    def one_of(self, *allowed):
+        byte = self.number(1)
+        demand(byte in allowed)
+        return byte
+
+    def end(self):
+        demand(self.place == len(self.some))
+
+
+class Bound(NamedTuple):
+    """The main rule that a state is bound to, by its number and the checksum of the main rules then."""
+
+    number: int
+    checksum: bytes
+
+
+class State(NamedTuple):
+    """What stands behind a state's name. `bound` is None for the default rule."""
+
+    generation: int
+    direction: int
+    family: int
+    protocol: int
+    source: bytes
+    destination: bytes
+    source_port: int
+    destination_port: int
+    bound: Bound | None
+
+    def flow(self):
+        """The same for each two states of one flow: that of the packets that come in."""
+        ends = (self.source, self.source_port), (self.destination, self.destination_port)
+        return (self.family, self.protocol, *(ends if self.direction == 1 else ends[::-1]))
+
+
+class Held:
+    """What a disk holds: rules by path, entries by path and name, states by id and creator."""
+
+    def __init__(self, epoch):
+        self.epoch, self.rulesets, self.tables, self.states, self.flows = epoch, {}, {}, {}, {}
+
+    def put_rules(self, path, rules):
+        put(self.rulesets, path, rules)
+
+    def put_table(self, key, entries):
+        put(self.tables, key, entries)
+
+    def put_state(self, name, state):
+        self.drop_state(name)
+        self.states[name] = state
+        self.flows[state.flow()] = name
+
+    def drop_state(self, name):
+        state = self.states.pop(name, None)
+        if state is not None:
+            del self.flows[state.flow()]
+
+    def checksum(self):
+        """MD5 over the bytes of the main rules."""
+        return hashlib.md5(b"".join(self.rulesets.get(b"", []))).digest()
+
+    def within_limits(self):
+        return (len(self.rulesets) <= MOST_RULESETS and len(self.tables) <= MOST_TABLES and len(self.states) <= MOST_STATES
+                and all(len(rules) <= MOST_RULES for rules in self.rulesets.values())
+                and all(len(entries) <= MOST_ENTRIES for entries in self.tables.values()))
+
+
+def put(some, key, value):
+    """What is empty isn't there."""
+    if value:
+        some[key] = value
+    else:
+        some.pop(key, None)
+
+
+# Names and paths
+
+
+def is_name(some, most):
+    return 1 <= len(some) <= most and NAME_BYTES.issuperset(some)
+
+
+def is_part(some):
+    """A component of a path."""
+    return is_name(some, MOST_PART) and some not in (b"..", b"-")
+
+
+def is_path(some, most=MOST_PATH):
+    parts = some.split(b"/")
+    return len(some) <= most and len(parts) <= MOST_PARTS and all(map(is_part, parts))
+
+
+def path(reader):
+    """Behind its length; main's has no bytes."""
+    some = reader.take(reader.number(1))
+    demand(some == b"" or is_path(some))
+    return some
+
+
+def table_name(reader):
+    some = reader.take(reader.number(1))
+    demand(is_name(some, MOST_NAME))
+    return some
+
+
+def filled(some):
+    """A name in a field that has zeros behind it, down to none at all."""
+    name = some.rstrip(b"\0")
+    demand(b"\0" not in name)
+    return name
+
+
+# Addresses, entries and states
+
+
+def address(some, family):
+    """16 bytes, of which an IPv4 address has the first four and zeros behind them."""
+    demand(family == 6 or not any(some[4:]))
+    return some
+
+
+def network(family, length, some):
+    """An address whose bits behind the length are zeros."""
+    demand(length <= (32 if family == 4 else 128))
+    address(some, family)
+    demand(int.from_bytes(some, "big") & ((1 << 128 - length) - 1) == 0)
+    return family, some, length
+
+
+def entry(reader):
+    """20 bytes: family, length, 1 where it is negated, a zero, and the address. It gives the network, and whether it is negated."""
+    family, length, negated = reader.one_of(4, 6), reader.number(1), reader.one_of(0, 1)
+    reader.zeros(1)
+    return network(family, length, reader.take(16)), negated == 1
+
+
+def entries(reader):
+    """Entries behind their number, as they were handed in."""
+    return [entry(reader) for _ in range(reader.number(4))]
+
+
+def table(reader):
+    """Entries behind their number, in the order of a table: IPv4 before IPv6, then by address, then the shorter first."""
+    rows = entries(reader)
+    demand(len(rows) <= MOST_ENTRIES and rises([row[0] for row in rows]))
+    return dict(rows)
+
+
+def rises(keys):
+    return all(one < other for one, other in zip(keys, keys[1:]))
+
+
+def flow(reader):
+    """40 bytes of a record: direction, family, protocol, a zero, both addresses and both ports."""
+    direction, family, protocol = reader.one_of(1, 2), reader.one_of(4, 6), reader.number(1)
+    reader.zeros(1)
+    source, destination = (address(reader.take(16), family) for _ in range(2))
+    ports = reader.number(2), reader.number(2)
+    demand(protocol != 0 and (ports == (0, 0) or protocol in (TCP, UDP)))
+    return direction, family, protocol, source, destination, *ports
+
+
+def bound(reader):
+    """32 bytes: 0 for the default rule or 1 for a main rule, three zeros, its number, a checksum, eight zeros."""
+    kind = reader.one_of(0, 1)
+    reader.zeros(3)
+    number, checksum = reader.number(4), reader.take(16)
+    reader.zeros(8)
+    demand(kind == 1 or (number == 0 and not any(checksum)))
+    return Bound(number, checksum) if kind == 1 else None
+
+
+def state_name(reader):
+    return reader.number(8), reader.number(4)
+
+
+def state(reader):
+    """96 bytes: id, creator, generation, the flow, eight bytes of all ones, and what it is bound to."""
+    name, generation, parts = state_name(reader), reader.number(4), flow(reader)
+    demand(reader.take(8) == ALL_ONES)
+    return name, State(generation, *parts, bound(reader))
+
+
+# Rules
+
+
+class Host(NamedTuple):
+    kind: int
+    negated: int
+    length: int
+    test: int
+    ports: tuple
+    address: bytes
+    name: bytes
+
+
+class Rule(NamedTuple):
+    effect: int
+    direction: int
+    quick: int
+    keeps: int
+    family: int
+    protocol: int
+    interface: bytes
+    source: Host
+    destination: Host
+    reference: bytes
+    wildcard: int
+
+
+def port_test(reader):
+    """0 none; 1 to 6 by one port; 7 to 9 by two. What doesn't apply is 0."""
+    test, ports = reader.one_of(*range(10)), (reader.number(2), reader.number(2))
+    demand(not any(ports) if test == 0 else test >= 7 or ports[1] == 0)
+    return test, ports
+
+
+def host(reader, family):
+    """56 bytes: kind, negated, length, the test of a port, its two ports, the address, and the table's name in 32."""
+    kind, negated, length = reader.one_of(ANY, NETWORK, TABLE), reader.one_of(0, 1), reader.number(1)
+    test, ports = port_test(reader)
+    some, name = reader.take(16), filled(reader.take(32))
+    demand(kind != ANY or negated == 0)
+    demand(kind == NETWORK or (length == 0 and not any(some)))
+    demand(is_name(name, MOST_NAME) if kind == TABLE else name == b"")
+    if kind == NETWORK:
+        demand(family != 0)
+        network(family, length, some)
+    return Host(kind, negated, length, test, ports, some, name)
+
+
+def reference(reader, effect):
+    """68 bytes: a path in 64, 1 where `/*` stood behind it, three zeros. Only an anchor rule has one."""
+    name, wildcard = filled(reader.take(64)), reader.one_of(0, 1)
+    reader.zeros(3)
+    demand(is_path(name, MOST_REFERENCE - 2 * wildcard) if effect == ANCHOR else name == b"" and wildcard == 0)
+    return name, wildcard
+
+
+def rule_of(some):
+    """204 bytes as the rule that they tell."""
+    reader = Reader(some)
+    effect, direction = reader.one_of(BLOCK, PASS, ANCHOR), reader.one_of(0, 1, 2)
+    quick, keeps, family, protocol = reader.one_of(0, 1), reader.one_of(0, 1), reader.one_of(0, 4, 6), reader.number(1)
+    demand(keeps == 0 or effect == PASS)
+    reader.zeros(2)
+    interface = filled(reader.take(16))
+    demand(interface == b"" or is_name(interface, MOST_INTERFACE))
+    source, destination = host(reader, family), host(reader, family)
+    demand(protocol in (TCP, UDP) or source.test == destination.test == 0)
+    name, wildcard = reference(reader, effect)
+    reader.end()
+    return Rule(effect, direction, quick, keeps, family, protocol, interface, source, destination, name, wildcard)
+
+
+def rule(reader):
+    """The bytes of a rule, which are one."""
+    some = reader.take(RULE)
+    rule_of(some)
+    return some
+
+
+def rules(reader):
+    count = reader.number(4)
+    demand(count <= MOST_RULES)
+    return [rule(reader) for _ in range(count)]
+
+
+# A snapshot
+
+
+def read_snapshot(some):
+    """What was kept when the bank was begun. No ruleset and no table is empty, each stands in its order, and no state's name or flow twice."""
+    reader = Reader(some)
+    held = Held(reader.number(4))
+    read_rulesets(reader, held)
+    read_tables(reader, held)
+    read_states(reader, held)
+    reader.end()
+    demand(held.within_limits())
+    return held
+
+
+def read_rulesets(reader, held):
+    keys = []
+    for _ in range(reader.number(4)):
+        keys.append(path(reader))
+        some = rules(reader)
+        demand(some)
+        held.put_rules(keys[-1], some)
+    demand(rises(keys))
+
+
+def read_tables(reader, held):
+    keys = []
+    for _ in range(reader.number(4)):
+        keys.append((path(reader), table_name(reader)))
+        some = table(reader)
+        demand(some)
+        held.put_table(keys[-1], some)
+    demand(rises(keys))
+
+
+def read_states(reader, held):
+    names = []
+    for _ in range(reader.number(4)):
+        name, one = state(reader)
+        names.append(name)
+        demand(one.flow() not in held.flows)
+        held.put_state(name, one)
+    demand(rises(names))
+
+
+def text_with_length(some):
+    return bytes([len(some)]) + some
+
+
+def number_bytes(number, width=4):
+    return number.to_bytes(width, "big")
+
+
+def entry_bytes(net, negated):
+    family, some, length = net
+    return bytes([family, length, negated, 0]) + some
+
+
+def flow_bytes(one):
+    head = bytes([one.direction, one.family, one.protocol, 0])
+    return head + one.source + one.destination + number_bytes(one.source_port, 2) + number_bytes(one.destination_port, 2)
+
+
+def state_bytes(name, one):
+    bound_to = bytes([1, 0, 0, 0]) + number_bytes(one.bound.number) + one.bound.checksum if one.bound else bytes(24)
+    return number_bytes(name[0], 8) + number_bytes(name[1]) + number_bytes(one.generation) + flow_bytes(one) + ALL_ONES + bound_to + bytes(8)
+
+
+def snapshot(held):
+    """The bytes of a snapshot of what is held."""
+    some = [number_bytes(held.epoch), number_bytes(len(held.rulesets))]
+    for key, forms in sorted(held.rulesets.items()):
+        some += [text_with_length(key), number_bytes(len(forms)), *forms]
+    some.append(number_bytes(len(held.tables)))
+    for (at, name), rows in sorted(held.tables.items()):
+        some += [text_with_length(at), text_with_length(name), number_bytes(len(rows))]
+        some += [entry_bytes(net, negated) for net, negated in sorted(rows.items())]
+    some.append(number_bytes(len(held.states)))
+    some += [state_bytes(name, one) for name, one in sorted(held.states.items())]
+    return b"".join(some)
+
+
+# A record's payload: a group of changes and openings. Each is read, and then made to follow what the ones before it left.
+
+
+def follow_group(held, payload):
+    reader = Reader(payload)
+    count = reader.number(1)
+    demand(1 <= count <= MOST_CHANGES)
+    changes = [change(reader) for _ in range(count)]
+    reader.end()
+    for make, *words in changes:
+        make(held, *words)
+
+
+def change(reader):
+    """The function that makes the change, and what it is called with."""
+    kind = reader.one_of(1, 2, 3, 4, 5, 6, 7)
+    if kind == 1:
+        return commit, items(reader)
+    if kind in (2, 3, 4):
+        return {2: add, 3: delete, 4: replace}[kind], (path(reader), table_name(reader)), entries(reader)
+    if kind == 5:
+        return take_steps, [step(reader) for _ in range(reader.number(4))]
+    if kind == 6:
+        return remove, state_name(reader)
+    return begin_epoch, reader.number(4)
+
+
+def items(reader):
+    """What a commit replaces: 1, a path and its rules; or 2, a path and the tables that were defined there, in the order of their names."""
+    count = reader.number(1)
+    demand(1 <= count <= MOST_ITEMS)
+    return [item(reader) for _ in range(count)]
+
+
+def item(reader):
+    kind, key = reader.one_of(1, 2), path(reader)
+    if kind == 1:
+        return kind, key, rules(reader)
+    rows = [(table_name(reader), table(reader)) for _ in range(reader.number(4))]
+    demand(rises([name for name, _ in rows]) and len(rows) <= MOST_TABLES)
+    return kind, key, rows
+
+
+def commit(held, replaced):
+    """Of rulesets each is replaced whole, of tables those that were defined; what is empty then is gone. No ruleset is named twice."""
+    named = [(kind, key) for kind, key, _ in replaced]
+    demand(len(set(named)) == len(named), NoFit)
+    for kind, key, some in replaced:
+        if kind == 1:
+            held.put_rules(key, some)
+        else:
+            for name, rows in some:
+                held.put_table((key, name), rows)
+    demand(held.within_limits(), NoFit)
+
+
+def without_conflict(rows):
+    """No list names a network with both signs."""
+    signs = {}
+    for net, negated in rows:
+        demand(signs.setdefault(net, negated) == negated, NoFit)
+
+
+def edit(held, key, made):
+    held.put_table(key, made)
+    demand(held.within_limits(), NoFit)
+
+
+def add(held, key, rows):
+    """An entry whose network is there stays as it is, with its own sign."""
+    without_conflict(rows)
+    made = dict(held.tables.get(key, {}))
+    for net, negated in rows:
+        made.setdefault(net, negated)
+    edit(held, key, made)
+
+
+def delete(held, key, rows):
+    """An entry that isn't there with this sign changes nothing."""
+    without_conflict(rows)
+    gone = set(rows)
+    edit(held, key, {net: negated for net, negated in held.tables.get(key, {}).items() if (net, negated) not in gone})
+
+
+def replace(held, key, rows):
+    without_conflict(rows)
+    edit(held, key, dict(rows))
+
+
+def step(reader):
+    """1 and a state to insert; 2, an id and a creator to delete; 3 and a creator to clear."""
+    kind = reader.one_of(1, 2, 3)
+    if kind == 1:
+        return kind, state(reader)
+    return kind, state_name(reader) if kind == 2 else reader.number(4)
+
+
+def take_steps(held, steps):
+    for kind, what in steps:
+        take_step(held, kind, what)
+        demand(len(held.states) <= MOST_STATES, NoFit)
+
+
+def take_step(held, kind, what):
+    """What became of an insert, or how many states are gone."""
+    if kind == 1:
+        return insert(held, *what)
+    names = [what] if kind == 2 else [name for name in held.states if name[1] == what]
+    gone = [name for name in names if name in held.states]
+    for name in gone:
+        held.drop_state(name)
+    return len(gone)
+
+
+def insert(held, name, new):
+    """The first of these that holds: stale, clash, replaced, new. The first two change nothing."""
+    old = held.states.get(name)
+    if old is not None and old.generation >= new.generation:
+        return "stale"
+    if held.flows.get(new.flow(), name) != name:
+        return "clash"
+    held.put_state(name, new)
+    return "new" if old is None else "replaced"
+
+
+def remove(held, name):
+    held.drop_state(name)
+
+
+def begin_epoch(held, epoch):
+    """An opening: its epoch is the next one."""
+    demand(epoch == held.epoch + 1, NoFit)
+    held.epoch = epoch
+
+
+# An image
+
+
+class Found(NamedTuple):
+    """What an image holds: the bank that counts by its first place, its generation, the place of its closed gate, and whether the other
+    bank's gate is open."""
+
+    held: Held
+    start: int
+    generation: int
+    gate: int
+    is_other_open: bool
+
+
+def read(image):
+    """What the image holds. The refusals come in this order: the size, no open gate, two banks of one generation, the header of the bank
+    that counts, its snapshot, its records from the first on."""
+    if len(image) % 2 or not LEAST_SIZE <= len(image) <= MOST_SIZE:
+        raise Refusal("bad size")
+    half = len(image) // 2
+    start, is_other_open = counting(image, half)
+    bank = image[start : start + half]
+    generation, length = header(bank, start)
+    held = snapshot_of(bank, length, start)
+    gate = follow_records(held, bank, HEADER + length, start)
+    return Found(held, start, generation, start + gate, is_other_open)
+
+
+def counting(image, half):
+    """The first place of the bank that counts: of those whose gate is open the one with the greater generation."""
+    starts = [start for start in (0, half) if image[start] == OPEN]
+    if not starts:
+        raise Refusal("no bank")
+    generations = [int.from_bytes(image[start + 8 : start + 16], "big") for start in starts]
+    if len(starts) == 2 and generations[0] == generations[1]:
+        raise Refusal("corrupt at 0")
+    return starts[generations.index(max(generations))], len(starts) == 2
+
+
+def header(bank, start):
+    """The generation and the snapshot's length."""
+    reader = Reader(bank)
+    try:
+        reader.take(1)
+        reader.one_of(1)
+        reader.zeros(6)
+        generation, length = reader.number(8), reader.number(4)
+        reader.zeros(4)
+        demand(generation <= MOST_GENERATION and HEADER + length + 1 <= len(bank))
+    except NoForm:
+        raise Refusal(f"corrupt at {start}") from None
+    return generation, length
+
+
+def snapshot_of(bank, length, start):
+    try:
+        return read_snapshot(bank[HEADER : HEADER + length])
+    except NoForm:
+        raise Refusal(f"corrupt at {start + HEADER}") from None
+
+
+def follow_records(held, bank, gate, start):
+    """Makes the changes of each record behind an open gate, and gives the place of the closed one."""
+    while bank[gate] == OPEN:
+        length = int.from_bytes(bank[gate + 1 : gate + 5], "big")
+        try:
+            demand(gate + 6 + length <= len(bank))
+            follow_group(held, bank[gate + 5 : gate + 5 + length])
+        except (NoForm, NoFit):
+            raise Refusal(f"corrupt at {start + gate}") from None
+        gate += 5 + length
+    return gate
+
+
+def has_room(image, found):
+    """Whether an opening's record finds room, in its bank or in the other one behind a snapshot of what is held."""
+    half = len(image) // 2
+    return found.gate - found.start + OPENING <= half or HEADER + len(snapshot(found.held)) + OPENING <= half
+
+
+def refused(image):
+    """Why it isn't opened to be changed, or None."""
+    try:
+        found = read(image)
+    except Refusal as refusal:
+        return str(refusal)
+    if found.held.epoch == LAST_EPOCH:
+        return "epochs exhausted"
+    return None if has_room(image, found) else "full"
+
+
+def told(held):
+    """What `pfd show` prints of what is held."""
+    counts = [f"rulesets {len(held.rulesets)}", f"tables {len(held.tables)}", f"states {len(held.states)}"]
+    return [f"epoch {held.epoch}", f"sum {held.checksum().hex()}", *counts]
+
+
+def shown(image):
+    """The lines that `pfd show` prints."""
+    try:
+        return told(read(image).held)
+    except Refusal as refusal:
+        return [f"pfd: {refusal}"]
