@@ -1,7 +1,7 @@
--- What is shown, and what workers see of it.
+-- What is shown, and what workers see and learn of it.
 use Rattle.std.proofs.{Common.{◌≡◌, ℕ, ◌+◌, ◌≤◌, ◌&&◌, Bool, false, ◌⊎◌, inl, inr, List, [], ◌∷◌, ◌++◌, length, take, refl, sym, ap, ◌∙◌, subst, append-nil, le_refl, le_trans, Result, Ok, Err, arith}, lemmas.List.length-append}
 use Rattle.std.specs.Prelude.{fold, ⊤}
-use Rattle.pf_core.specs.{declared.{command.Command.Command, command.HistoryCommand.HistoryCommand, command.HistoryCommand.TheVariants.Log, command.HistoryCommand.TheVariants.Publish, command.Question.Question, command.Question.TheVariants.Judge, command.Question.TheVariants.Test, command.Question.TheVariants.ShowRules, command.Question.TheVariants.ShowTables, command.Question.TheVariants.ShowStates, command.Question.TheVariants.Sum, command.Question.TheVariants.Export, reply.Answer.Answer, reply.Refusal.Refusal, reply.Reply.Reply, reply.Reply.TheVariants.Answer as Answered, reply.Reply.TheVariants.Applied, reply.Reply.TheVariants.Stored, reply.Reply.TheVariants.Refused, step.Step.TheVariants.Done}, Calls.{Call, replies_in}, Commands.{answer_of, step_by, may_change}, Durable.Edits.{Kept, Edit}, History.{acked_of, earlier, acknowledged, history}, Laws.{Openings.{IsFrontOf, seen, KeepsSeen}, Worlds.{hides, hidden_by, hidden_since, ShowsAll}}, Worlds.{Held, State, up, down, log_of, durable_of, flat, is_halted, step_in, told_of_history, group_in, Upshot, Event, called, called_group, entered, learned, crashed, opened, refused_opening, acked_by, shown_by_answer, shown_by, heard, heard_group, changes_due, group_all, next, LegalReply, LegalCall, LegalGroup, IsLegal, state_after, IsLegalFrom}}
+use Rattle.pf_core.specs.{declared.{command.Command.Command, command.HistoryCommand.HistoryCommand, command.HistoryCommand.TheVariants.Log, command.HistoryCommand.TheVariants.Publish, command.Question.Question, command.Question.TheVariants.Judge, command.Question.TheVariants.Test, command.Question.TheVariants.ShowRules, command.Question.TheVariants.ShowTables, command.Question.TheVariants.ShowStates, command.Question.TheVariants.Sum, command.Question.TheVariants.Export, reply.Answer.Answer, reply.Refusal.Refusal, reply.Reply.Reply, reply.Reply.TheVariants.Answer as Answered, reply.Reply.TheVariants.Applied, reply.Reply.TheVariants.Stored, reply.Reply.TheVariants.Refused, step.Step.TheVariants.Done}, Calls.{Call, replies_in}, Commands.{answer_of, step_by, may_change}, Durable.Edits.{Kept, Edit}, History.{acked_of, earlier, acknowledged, history}, Laws.{Openings.{IsFrontOf, seen, IsSeenBy, KeepsSeen, KeepsLearnt}, Worlds.{hides, hidden_by, hidden_since, ShowsAll}}, Worlds.{Held, State, up, down, log_of, durable_of, flat, is_halted, step_in, told_of_history, group_in, Upshot, Event, called, called_group, entered, learned, crashed, opened, refused_opening, acked_by, shown_by_answer, shown_by, heard, heard_group, changes_due, group_all, next, LegalReply, LegalCall, LegalGroup, IsLegal, state_after, IsLegalFrom}}
 use Rattle.pf_ticket.specs.Tickets.{Open}
 use Rattle.pf_core.proofs.{Fronts.{flat-append, front-trans, front-behind, front-take, front-flat}, Groups.{IsKept, either, acknowledged-front}, Courses.{AreShown, length-with, IsAccepted, accepted, accepted-course}, Stepping.{IsOfSteps, step-answers, unhalted}, Limits.{IsOfHistory, answered-step, IsApplied, applied-step, AreFewUnacknowledged, few-unacknowledged}, LongerWorlds.{flat-push, AreLegal, in-two}}
 
@@ -125,23 +125,40 @@ shows_all first world h legal comes =
     let few : AreFewUnacknowledged world h = few-unacknowledged first world h legal comes in
     record { within = shown.within; all = shown.all; one = few.one; none = few.none }
 
--- ---- what a worker saw
+-- ---- what a worker saw or learnt
 
 entered-within : (st : State) (worker n : ℕ) (hidden : Bool) → IsLegal st (entered worker n) → IsShownIn st hidden → n ≤ length (flat (acked_of st))
 entered-within (up h) worker n hidden legal shown = le_trans legal.1 shown.within
 entered-within (down d) worker n hidden legal shown = absurd legal
 
+learned-within : (st : State) (worker n : ℕ) (hidden : Bool) → IsLegal st (learned worker n) → IsShownIn st hidden → n ≤ length (flat (acked_of st))
+learned-within (up h) worker n hidden legal shown = le_trans legal shown.within
+learned-within (down d) worker n hidden legal shown = absurd legal
+
+-- what was acknowledged where an event stands is kept behind it, whatever the event and what comes later
+stays-behind : (event : Event) (first : Kept) (world later : List Event) (n : ℕ) → n ≤ length (flat (acked_of (state_after (down first) world))) → IsSeenBy event first world later n
+stays-behind event first world later n within =
+    let st : State = down first in
+    let more : List Event = event ∷ later in
+    let here : List Edit = flat (acked_of (state_after st world)) in
+    let before : List Edit = flat (earlier st world) in
+    record {
+      acknowledged = within;
+      stays = front-trans (seen first world n) (flat (acknowledged st world)) (flat (history st (world ++ more)))
+          (subst (λ (l : List Edit). IsFrontOf (seen first world n) l) (sym (flat-append (earlier st world) (acked_of (state_after st world)))) (front-behind before (take n here) here (front-take n here)))
+          (front-flat (acknowledged st world) (history st (world ++ more)) (acknowledged-front st world more));
+    }
+
 pub keeps_seen : KeepsSeen
 keeps_seen first world later worker n legal =
     let st : State = down first in
-    let mid : State = state_after st world in
     let parts : AreLegal st world (entered worker n) later = in-two st world (entered worker n) later legal in
-    let more : List Event = entered worker n ∷ later in
-    let here : List Edit = flat (acked_of mid) in
-    let before : List Edit = flat (earlier st world) in
-    record {
-      acknowledged = entered-within mid worker n (hidden_since world) parts.here (shown-from st false world parts.before tt);
-      stays = front-trans (seen first world n) (flat (acknowledged st world)) (flat (history st (world ++ more)))
-          (subst (λ (l : List Edit). IsFrontOf (seen first world n) l) (sym (flat-append (earlier st world) (acked_of mid))) (front-behind before (take n here) here (front-take n here)))
-          (front-flat (acknowledged st world) (history st (world ++ more)) (acknowledged-front st world more));
-    }
+    stays-behind (entered worker n) first world later n
+    (entered-within (state_after st world) worker n (hidden_since world) parts.here (shown-from st false world parts.before tt))
+
+pub keeps_learnt : KeepsLearnt
+keeps_learnt first world later worker n legal =
+    let st : State = down first in
+    let parts : AreLegal st world (learned worker n) later = in-two st world (learned worker n) later legal in
+    stays-behind (learned worker n) first world later n
+    (learned-within (state_after st world) worker n (hidden_since world) parts.here (shown-from st false world parts.before tt))

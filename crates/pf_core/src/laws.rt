@@ -1,7 +1,7 @@
 //! What follows from the definitions that contracts cite: functions that do nothing, whose contracts are the laws.
 ghost use Rattle.std.specs.Prelude.{◌≡◌};
 ghost use Rattle.pf_core.specs.declared.group.TheConstants.{GROUP_LIMIT};
-ghost use Rattle.pf_core.specs.{Worlds.last_epoch, Laws.Commands.{LeaveTheOtherKind, WantsWhatFits, SwitchesAll, VoidsTheNamed, KeepsNoneValid, LeavesTheOthers, MentionsTheNamed, RefusedMentionNothing, TrackMakesOne}, Laws.Groups.GroupsAreInTurn, Laws.Openings.{VoidsTickets, KeepsWhole, GivesAllThatWasKept, GivesTheFold, KeepsAcknowledged, KeepsSeen, RaisesTheEpoch, CrashesAreEvents}, Laws.Worlds.{TicketsAreOfTheCalls, GivesEachOnce, KeepsTheLimits, CommitsNameOnce, ShowsAll, TestsTellTheEntry, JudgesTellTheVerdict}};
+ghost use Rattle.pf_core.specs.{Worlds.last_epoch, Laws.Commands.{LeaveTheOtherKind, WantsWhatFits, SwitchesAll, VoidsTheNamed, KeepsNoneValid, LeavesTheOthers, MentionsTheNamed, RefusedMentionNothing, TrackMakesOne}, Laws.Groups.GroupsAreInTurn, Laws.Openings.{VoidsTickets, KeepsWhole, GivesAllThatWasKept, GivesTheFold, KeepsAcknowledged, KeepsSeen, KeepsLearnt, RaisesTheEpoch, CrashesAreEvents}, Laws.Worlds.{TicketsAreOfTheCalls, GivesEachOnce, KeepsTheLimits, CommitsNameOnce, ShowsAll, TestsTellTheEntry, JudgesTellTheVerdict}};
 
 /// No opening has an epoch past 4,294,967,295.
 pub fn the_last_epoch()
@@ -99,8 +99,8 @@ pub fn answers_rest_on_what_is_kept()
 
 /// Of every world, over crashes and openings: no ticket that was given before an opening is valid after it; every group of changes, so
 /// every commit, stands whole or not at all; what each later opening gives is, but for its epoch, the fold of all changes that were kept
-/// since the first base, in order and each once, with every change that was acknowledged before; what a worker saw was acknowledged, and
-/// what is kept begins with it.
+/// since the first base, in order and each once, with every change that was acknowledged before; what a worker saw or learnt was
+/// acknowledged, and what is kept begins with it.
 pub fn worlds()
     ensures void { VoidsTickets }
     ensures whole { KeepsWhole }
@@ -108,6 +108,7 @@ pub fn worlds()
     ensures fold { GivesTheFold }
     ensures acknowledged { KeepsAcknowledged }
     ensures seen { KeepsSeen }
+    ensures learnt { KeepsLearnt }
     ensures epochs { RaisesTheEpoch }
 {}
 

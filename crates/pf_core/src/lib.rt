@@ -10,8 +10,8 @@
 //! change fits) and specs/Commands.antt (the one step that a command is due), then specs/Worlds.antt: lists of calls, of groups of
 //! commands, of what workers see, of crashes and openings, and which of these are legal. What holds in every such world, as that no limit
 //! is passed, nothing stands twice and no ticket is given twice, says specs/Laws/Worlds.antt; specs/Laws/Openings.antt says what each
-//! opening gives of all that was kept before it (specs/History.antt), and that what a worker saw stays; specs/Laws/Commands.antt says
-//! what one step does, and specs/Laws/Groups.antt what a group comes to beside its commands one by one.
+//! opening gives of all that was kept before it (specs/History.antt), and that what a worker saw or learnt stays;
+//! specs/Laws/Commands.antt says what one step does, and specs/Laws/Groups.antt what a group comes to beside its commands one by one.
 //!
 //! `durable` is what is kept and its changes. It uses no other module, and knows of tickets only the names of rulesets and the lists of
 //! defined tables. `command` and `reply` are values over it; `group` says which commands may be kept together; `table_edit` and

@@ -1,7 +1,7 @@
--- What holds of every world over crashes and openings: what each opening gives, and what workers saw of it.
+-- What holds of every world over crashes and openings: what each opening gives, and what workers saw and learnt of it.
 use Rattle.std.specs.{Prelude.{◌≡◌, ℕ, ◌<◌, ◌≤◌, false, List, [], ◌∷◌, ◌++◌, length, take, ⊤}, List.AllByRecursion}
 use Rattle.pf_ticket.specs.{declared.{name.RulesetName.RulesetName, ticket.Ticket.Ticket}, Tickets.is_valid}
-use Rattle.pf_core.specs.{Durable.Edits.{Kept, Edit, in_epoch, after}, History.{base_of, acked_of, acknowledged, earlier, history, offered, AreAmong, tickets_given}, Worlds.{Setting, Held, State, up, down, Doing, Event, entered, crashed, opened, flat, next, state_after, IsWorld}}
+use Rattle.pf_core.specs.{Durable.Edits.{Kept, Edit, in_epoch, after}, History.{base_of, acked_of, acknowledged, earlier, history, offered, AreAmong, tickets_given}, Worlds.{Setting, Held, State, up, down, Doing, Event, entered, learned, crashed, opened, flat, next, state_after, IsWorld}}
 
 -- ---- tickets
 
@@ -55,20 +55,30 @@ GivesAllThatWasKept = (first : Kept) (world later : List Event) (setting : Setti
     IsWorld first ((world ++ later) ++ opened setting ∷ []) →
     IsGiven first world later (base_of (state_after (down first) ((world ++ later) ++ opened setting ∷ [])))
 
--- ---- what is seen
+-- ---- what is seen and learnt
 
 -- the changes that a worker sees who sees the first n of the opening that a world comes to: with those of all openings before it
 abbrev pub seen : Kept → List Event → ℕ → List Edit
 seen first world n = flat (earlier (down first) world) ++ take n (flat (acked_of (state_after (down first) world)))
 
--- the n changes that a worker saw were acknowledged in their opening, and what is kept begins with all that he saw, whatever came later
-pub record IsSeen (first : Kept) (world later : List Event) (worker n : ℕ) : Type 0 where
+-- By this event, behind a world, a worker saw n changes or learnt of them: they were acknowledged in their opening, and what is kept begins
+-- with them, behind those of all openings before, whatever came later.
+pub record IsSeenBy (event : Event) (first : Kept) (world later : List Event) (n : ℕ) : Type 0 where
   pub acknowledged : n ≤ length (flat (acked_of (state_after (down first) world)))
-  pub stays : IsFrontOf (seen first world n) (flat (history (down first) (world ++ entered worker n ∷ later)))
+  pub stays : IsFrontOf (seen first world n) (flat (history (down first) (world ++ event ∷ later)))
+
+-- the n changes that a worker saw were acknowledged in their opening, and what is kept begins with all that he saw, whatever came later
+abbrev pub IsSeen : Kept → (world later : List Event) → (worker n : ℕ) → Type 0
+IsSeen first world later worker n = IsSeenBy (entered worker n) first world later n
 
 abbrev pub KeepsSeen : Type 0
 KeepsSeen = (first : Kept) (world later : List Event) (worker n : ℕ) → IsWorld first (world ++ entered worker n ∷ later) →
     IsSeen first world later worker n
+
+-- the same of the n changes that a worker learnt of, whether he ever judges by them or not
+abbrev pub KeepsLearnt : Type 0
+KeepsLearnt = (first : Kept) (world later : List Event) (worker n : ℕ) → IsWorld first (world ++ learned worker n ∷ later) →
+    IsSeenBy (learned worker n) first world later n
 
 -- ---- crashes
 

@@ -187,7 +187,7 @@ fn tell_end<O: Write>(peer: &mut PeerReader, writer: &mut O) -> Result<(), Engin
 
 /// Has the messages of a peer's stream run by a Book that sessions use too, and writes a reply line for each, until the reader is at its
 /// end. The messages that one read makes whole are given to `Shared::group` in groups of 64 and a last one of what is left, each with the
-/// receipt of the call before. Where a group is refused whole, each of its messages is told that refusal, and those behind it are run
+/// receipt of the last message before that has one. Where a group is refused whole, each of its messages is told that refusal, and those behind it are run
 /// all the same. Own.
 ///
 /// A fault of the stream, or its end within a message, is told in a line, as a `peer` line with such bytes is, and nothing is told behind
