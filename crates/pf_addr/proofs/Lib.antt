@@ -1,5 +1,3 @@
-pub mod Collecting
-pub mod Cutting
 mod PathTexts
 pub mod NamesRead
 pub mod PathsRead
@@ -7,11 +5,9 @@ pub mod ReferencesRead
 pub mod PathBytes
 pub mod Nesting
 pub mod Numbers
-pub mod Fronts
+pub mod ClearedBits
 pub mod Writers
 pub mod Addresses
 pub mod FaultsTold
 pub mod NameFaultsTold
-pub mod BytesInTurn
-pub mod BytesRead
-pub mod BytesFilled
+pub mod FirstBytes

@@ -1,8 +1,10 @@
 -- A word that is no name, no path or no reference is refused with the fault that it has by cases, and with no other.
 use Rattle.std.proofs.{Common.{not, ◌≡◌, ◌≢◌, inl, inr, ℕ, ◌<◌, ◌≤◌, ◌&&◌, Bool, true, false, List, [], ◌∷◌, ◌++◌, length, Some, None, Option, Ok, Err, refl, sym, ap, subst, ◌∙◌, arith}, lemmas.Bool.Decides.{leb_tells, nat_tests}, lemmas.Bool.{lt-ltb, ltb-true}, lemmas.List.length-append, lemmas.Slice.Eq.bytes_eq-Decides}
 use Rattle.std.specs.{Prelude.{codes, nat_lt, if◌then◌else◌}, List.{AllByRecursion, list_all}, Option.{option_map_or, option_or}, Str.bytes_eq}
-use Rattle.pf_addr.specs.declared.{form.fault.Kind.Kind, form.fault.Kind.TheVariants.{BadWord, NameTooLong, BadProto}, path.limits.TheConstants.{PATH_LIMIT, COMPONENT_LIMIT, DEPTH_LIMIT, REFERENCE_LIMIT}}
-use Rattle.pf_addr.specs.{Form.Told.TellsFaults, Form.Words.Word, Path.FaultCases.{IsNameFault, IsComponentFault, IsFaultWithin, too_long, bad_component, too_deep, IsPathFault, IsUnquoted, IsUnended, IsReferenceFault}, Path.Names.{is_name_byte, name_of}, Path.PathGrammar.IsComponent, Path.Paths.{components, is_component, component_fault, first_fault, depth_fault, fault_within, path_fault, path_of, main}, Path.References.{refers, ending, before, unquoted, quoted, split_wildcard, reference_fault, reference_of}}
+use Rattle.pf_addr.specs.declared.path.limits.TheConstants.{PATH_LIMIT, COMPONENT_LIMIT, DEPTH_LIMIT, REFERENCE_LIMIT}
+use Rattle.pf_form.specs.declared.form.fault.Kind.{Kind, TheVariants.{BadWord, NameTooLong, BadProto}}
+use Rattle.pf_addr.specs.Path.{FaultCases.{IsNameFault, IsComponentFault, IsFaultWithin, too_long, bad_component, too_deep, IsPathFault, IsUnquoted, IsUnended, IsReferenceFault}, Names.{is_name_byte, name_of}, PathGrammar.IsComponent, Paths.{components, is_component, component_fault, first_fault, depth_fault, fault_within, path_fault, path_of, main}, References.{refers, ending, before, unquoted, quoted, split_wildcard, reference_fault, reference_of}}
+use Rattle.pf_form.specs.Form.{FaultsFound.TellsFaults, Words.Word}
 use Rattle.pf_addr.proofs.{FaultsTold.{length_none, tells}, PathsRead.{component_is, component_faultless, each_is, each_faultless}, ReferencesRead.{before_is, before_end, in_quotes, unquoted_is}}
 
 -- ---- a name

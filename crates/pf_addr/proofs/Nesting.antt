@@ -1,7 +1,8 @@
 -- Paths within one another: which bytes the code compares, and that what is within a path is deeper.
 use Rattle.std.proofs.{Common.{◌≡◌, ◌≢◌, ℕ, ◌+◌, ◌==◌, ◌<◌, ◌≤◌, Bool, true, false, cond, List, [], ◌∷◌, ◌++◌, length, take, drop, Some, None, Option, refl, sym, ap, subst, ◌∙◌, append_assoc, arith}, Math.Seq.{take-append_seam, drop-append_seam}, lemmas.Bool.Decides.nat_tests, lemmas.List.{take-append-drop, append_cancel_left}, lemmas.List.Sums.{sum_by-append, sum_by-cons}, lemmas.Slice.Eq.bytes_eq-Decides}
 use Rattle.std.specs.{Prelude.{◌&&◌, ◌||◌, nat_lt, not, count_by, if◌then◌else◌}, List.list_any, Option.{is_none, option_or}}
-use Rattle.pf_addr.specs.declared.{form.fault.Kind.Kind, path.limits.TheConstants.DEPTH_LIMIT}
+use Rattle.pf_addr.specs.declared.path.limits.TheConstants.{DEPTH_LIMIT}
+use Rattle.pf_form.specs.declared.form.fault.Kind.{Kind}
 use Rattle.pf_addr.specs.{Path.Paths.{is_slash, components, first_fault, depth_fault, path_fault}, Path.Nested.{depth, front, within, path_within, is_single, is_child}, Laws.Path.Nested.{NoDeeper, LeadsDeeper, ChildHasOneMore, EachIsAChild}}
 use Rattle.pf_addr.proofs.{PathTexts.count_components, PathsRead.{none_parts, none_of}}
 

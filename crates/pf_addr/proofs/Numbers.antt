@@ -1,7 +1,8 @@
 -- The pieces of a text, read one after the other.
 use Rattle.std.proofs.{Common.{◌≡◌, ℕ, ◌+◌, ◌-◌, ◌<◌, ◌≤◌, ◌==◌, List, [], ◌∷◌, ◌++◌, length, take, drop, set, Some, None, Result, Ok, Err, refl, sym, ap, ◌∙◌, arith, append_assoc}, lemmas.List.{length-take-le, length-drop, length-append, take_rest}, lemmas.List.Splits.length-slice_split}
 use Rattle.std.specs.List.{slice_split, position}
-use Rattle.pf_addr.specs.{Form.Forms.◌>>=◌, Collected.{parts_of, eight_groups, groups_of}, Grammar.{pieces, four_bytes}, Reading.{One, Last, pieces_at}, Laws.Places.{split_some, split_none}}
+use Rattle.pf_addr.specs.{Collected.{parts_of, eight_groups, groups_of}, Grammar.{pieces, four_bytes}, Reading.{One, Last, pieces_at}, Laws.Places.{split_some, split_none}}
+use Rattle.pf_form.specs.Form.Forms.{◌>>=◌}
 use Rattle.pf_addr.specs.declared.{fault.AddrFault.AddrFault, groups.Groups.Groups, reading.Parts.Parts}
 
 -- what is read, and kept by `make`, where these numbers stand before the rest, which begins at `at`

@@ -2,8 +2,10 @@
 use Rattle.std.proofs.{Common.{◌≡◌, ◌||◌, ◌<◌, ◌≤◌, ◌-◌, ℕ, zero, suc, Bool, true, false, List, [], ◌∷◌, ◌++◌, length, None, refl, ap, arith}, lemmas.Bool.and_parts, lemmas.Bool.Decides.nat_tests, lemmas.List.{length-append, length-replicate, append-nil}}
 use Rattle.std.specs.{Prelude.{replicate}, List.{AllByRecursion, list_all}, Option.is_none}
 use Rattle.pf_addr.specs.declared.path.limits.TheConstants.{PATH_LIMIT, REFERENCE_LIMIT, TABLE_NAME_LIMIT}
-use Rattle.pf_addr.specs.{Bytes.Forms.{Fits, number}, Laws.Bytes.Codes.{flag_fits, flag_again}, Bytes.Names.{filled, padded, before_zero}, Path.Names.{is_name_byte, IsName}, Path.Paths.{is_slash, is_path, path_fault, fault_within}, Path.References.{PlainReference, refers, reference_text, ending}, Path.ReferenceGrammar.IsReference, Path.PathForms.{path_form, table_name_form, name_field, is_name, names_limit, reference_form, plain_reference, reference_of_plain}}
-use Rattle.pf_addr.proofs.{NamesRead.name_only, PathsRead.{names_only, names_found, none_of}, ReferencesRead.names_bytes, BytesFilled.{name_filled, filled_filled}}
+use Rattle.pf_addr.specs.Path.{Names.{is_name_byte, IsName}, Paths.{is_slash, is_path, path_fault, fault_within}, References.{PlainReference, refers, reference_text, ending}, ReferenceGrammar.IsReference, PathForms.{path_form, table_name_form, name_field, is_name, names_limit, reference_form, plain_reference, reference_of_plain}}
+use Rattle.pf_form.specs.{Bytes.{Forms.{Fits, number}, Names.{filled, padded, before_zero}}, Laws.Bytes.Codes.{flag_fits, flag_again}}
+use Rattle.pf_addr.proofs.{NamesRead.name_only, PathsRead.{names_only, names_found, none_of}, ReferencesRead.names_bytes}
+use Rattle.pf_form.proofs.BytesFilled.{name_filled, filled_filled}
 
 -- a byte of a name, or a slash
 abbrev is_path_byte : ℕ → Bool

@@ -1,7 +1,7 @@
 -- The components of a text, as the reader finds them: up to the first slash, and from behind it.
 use Rattle.std.proofs.{Common.{◌≡◌, ℕ, ◌+◌, ◌-◌, ◌<◌, ◌≤◌, Bool, true, false, List, [], ◌∷◌, length, take, drop, Some, None, Option, refl, sym, ap, subst, ◌∙◌, arith}, lemmas.List.take_rest, lemmas.Bool.Decides.nat_tests, lemmas.List.Splits.{length-slice_split, slice_split_first, slice_split_none}, lemmas.List.Sums.{prefix_len-le-length, fails_before_first}, lemmas.Map.Text.is_eq-slice_cmp, lemmas.Slice.Eq.bytes_eq-Decides}
 use Rattle.std.specs.{Prelude.{◌≢◌, count_by, slice_index}, List.{position, position_or_len, All}, Option.option_or, Str.bytes_eq}
-use Rattle.pf_addr.specs.declared.form.fault.Kind.{Kind}
+use Rattle.pf_form.specs.declared.form.fault.Kind.{Kind}
 use Rattle.pf_addr.specs.Path.Paths.{is_slash, components, component_fault, first_fault, same_path}
 
 -- ---- cut at the first slash

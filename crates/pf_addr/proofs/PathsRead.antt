@@ -1,8 +1,10 @@
 -- A word has no fault exactly where the grammar takes it, and reading and writing a path undo each other.
 use Rattle.std.proofs.{Common.{◌≡◌, inl, inr, ℕ, ◌<◌, ◌≤◌, Bool, true, false, List, [], ◌∷◌, length, Some, None, Option, Ok, Err, refl, sym, ap, subst, ◌∙◌, arith}, lemmas.Bool.Decides.nat_tests, lemmas.List.Splits.{length-slice_split, slice_split_at, slice_split_none, join_with_byte-slice_split}, lemmas.List.Sums.AllPass-from_list_all, lemmas.Map.Text.is_eq-slice_cmp, lemmas.Slice.Eq.bytes_eq-Decides}
 use Rattle.std.specs.{Prelude.{codes, if◌then◌else◌}, List.{AllByRecursion, join_with_byte, All}, Option.{is_none, option_map_or, option_or}, Str.bytes_eq}
-use Rattle.pf_addr.specs.declared.{form.fault.Kind.Kind, path.limits.TheConstants.PATH_LIMIT}
-use Rattle.pf_addr.specs.{Path.Names.is_name_byte, Form.Words.Word, Path.Paths.{is_slash, components, component_fault, first_fault, depth_fault, fault_within, path_fault, path_of, path_text, is_path, main}, Path.PathGrammar.{IsComponent, IsNames, IsPathText, SpellsPath}, Laws.Path.Paths.SamePathIsEqual}
+use Rattle.pf_addr.specs.declared.path.limits.TheConstants.{PATH_LIMIT}
+use Rattle.pf_form.specs.declared.form.fault.Kind.{Kind}
+use Rattle.pf_addr.specs.{Path.{Names.is_name_byte, Paths.{is_slash, components, component_fault, first_fault, depth_fault, fault_within, path_fault, path_of, path_text, is_path, main}, PathGrammar.{IsComponent, IsNames, IsPathText, SpellsPath}}, Laws.Path.Paths.SamePathIsEqual}
+use Rattle.pf_form.specs.Form.Words.{Word}
 
 -- ---- components
 

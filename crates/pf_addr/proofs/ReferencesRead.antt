@@ -1,8 +1,10 @@
 -- A word is read as a reference exactly where the grammar takes it.
 use Rattle.std.proofs.{Common.{◌≡◌, inl, inr, ℕ, ◌-◌, ◌<◌, ◌≤◌, ◌⊎◌, ◌||◌, Bool, true, false, List, [], ◌∷◌, ◌++◌, length, take, drop, Some, None, Option, Ok, Err, refl, sym, ap, subst, ◌∙◌, append-nil, arith}, lemmas.Bool.and_parts, lemmas.Bool.Decides.nat_tests, lemmas.List.{length-append, take_at, take-append-drop}, lemmas.List.Folds.list_all-append, lemmas.List.Sums.{AllPass-from_list_all, list_all-from_AllPass}, lemmas.Slice.Eq.bytes_eq-Decides, Math.Seq.drop-append_seam}
 use Rattle.std.specs.{Prelude.{if◌then◌else◌, nat_lt}, List.{AllByRecursion, join_with_byte, list_all, slice_index_or}, Option.{option_and_then, option_map_or}, Str.bytes_eq}
-use Rattle.pf_addr.specs.declared.{form.fault.Kind.Kind, path.limits.TheConstants.REFERENCE_LIMIT}
-use Rattle.pf_addr.specs.{Form.Words.Word, Path.Names.is_name_byte, Path.Paths.is_slash, Path.PathGrammar.{IsComponent, IsNames}, Path.References.{PlainReference, refers, quote, ending, behind, before, unquoted, split_wildcard, reference_fault, reference_in, reference_text, quoted}, Path.ReferenceGrammar.{IsReference, SpellsReference}, Laws.Path.References.{ReferenceIsSpelled, SpelledReferenceIsRead}}
+use Rattle.pf_addr.specs.declared.path.limits.TheConstants.{REFERENCE_LIMIT}
+use Rattle.pf_form.specs.declared.form.fault.Kind.{Kind}
+use Rattle.pf_addr.specs.{Path.{Names.is_name_byte, Paths.is_slash, PathGrammar.{IsComponent, IsNames}, References.{PlainReference, refers, quote, ending, behind, before, unquoted, split_wildcard, reference_fault, reference_in, reference_text, quoted}, ReferenceGrammar.{IsReference, SpellsReference}}, Laws.Path.References.{ReferenceIsSpelled, SpelledReferenceIsRead}}
+use Rattle.pf_form.specs.Form.Words.{Word}
 use Rattle.pf_addr.proofs.PathsRead.{names_only, names_found}
 
 -- ---- fronts and ends

@@ -23,17 +23,17 @@ abbrev pub first_bits : ℕ → Addr → ℕ
 first_bits len a = number_in a / 2 ^ (width (family_of a) - len)
 
 -- A network is a family and the front of an address of it: so many bits, and the number that they write.
-pub record Network : Type 0 where
+pub record PlainNet : Type 0 where
   pub family : Family
   pub len : ℕ
   pub front : ℕ
 
 -- the network of the addresses that begin as this one does
-abbrev pub network_from : Addr → ℕ → Network
+abbrev pub network_from : Addr → ℕ → PlainNet
 network_from a len = record { family = family_of a; len = len; front = first_bits len a }
 
 -- the network of one address
-abbrev pub network_of : Addr → Network
+abbrev pub network_of : Addr → PlainNet
 network_of a = network_from a (width (family_of a))
 
 abbrev pub same_family : Family → Family → Bool
@@ -43,7 +43,7 @@ same_family V6 V4 = false
 same_family V6 V6 = true
 
 -- A network contains an address of its family that begins with its front.
-unfoldable pub contains : Network → Addr → Bool
+unfoldable pub contains : PlainNet → Addr → Bool
 contains n a = same_family n.family (family_of a) && (first_bits n.len a == n.front)
 
 -- the number of an address fits its family's bits
@@ -56,7 +56,7 @@ abbrev pub bit : ℕ → ℕ → ℕ → ℕ
 bit size i n = n / 2 ^ (size - 1 - i) % 2
 
 -- The address is of the network's family, and each of its first bits, as many as the front has, is the front's.
-pub record BeginsAs (net : Network) (a : Addr) : Type 0 where
+pub record BeginsAs (net : PlainNet) (a : Addr) : Type 0 where
   pub family : family_of a ≡ net.family
   pub bits : (i : ℕ) → i < net.len → bit (width (family_of a)) i (number_in a) ≡ bit net.len i net.front
 
@@ -66,6 +66,6 @@ pub record Agree (len : ℕ) (a b : Addr) : Type 0 where
   pub bits : (i : ℕ) → i < len → bit (width (family_of a)) i (number_in a) ≡ bit (width (family_of b)) i (number_in b)
 
 -- The front is within an address of the family, and a number that so many bits can write.
-pub record IsNetwork (net : Network) : Type 0 where
+pub record IsNetwork (net : PlainNet) : Type 0 where
   pub len : net.len ≤ width net.family
   pub front : net.front < 2 ^ net.len

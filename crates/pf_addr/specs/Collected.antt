@@ -1,6 +1,7 @@
 -- What the readers keep of the numbers that they read: the first ones, and how many they are.
 use Rattle.std.specs.Prelude.{ℕ, Bool, List, ◌++◌, length, take, replicate, Result, Ok}
-use Rattle.pf_addr.specs.{Form.Forms.◌>>=◌, Grammar.four_bytes, Reading.{parts_at, groups_at, end_at}}
+use Rattle.pf_addr.specs.{Grammar.four_bytes, Reading.{parts_at, groups_at, end_at}}
+use Rattle.pf_form.specs.Form.Forms.{◌>>=◌}
 use Rattle.pf_addr.specs.declared.{fault.AddrFault.AddrFault, reading.Parts.Parts, groups.Groups.Groups, groups.TheConstants.GROUPS}
 
 abbrev pub parts_of : List ℕ → Parts

@@ -1,10 +1,10 @@
 -- Which texts spell an address or a network: V4 in decimal numbers between dots, V6 in hexadecimal groups between colons
 -- (RFC 4291 section 2.2), a network in CIDR notation (pf.conf(5), PARAMETERS).
 use Rattle.std.specs.{Prelude.{◌≡◌, ℕ, ◌/◌, ◌%◌, ◌<◌, ◌≤◌, nat_le, Bool, ◌&&◌, ◌==◌, ◌⊎◌, List, [], ◌∷◌, ◌++◌, length, take, replicate}, Char.digit_value, List.{AllZip, slice_split}, Int.{from_be_bytes, w32}, Int.Digits.number_from_digits, Str.Parse.{IsNumeral, digits_value}}
-use Rattle.pf_addr.specs.Form.Numbers as digits
+use Rattle.pf_form.specs.Form.Numbers as digits
 use Rattle.pf_addr.specs.declared.{addr.Addr.Addr, reading.TheConstants.NUMBER_DIGITS, groups.TheConstants.{GROUP_DIGITS, GROUPS}}
 use Rattle.pf_addr.specs.declared.addr.Addr.TheVariants as addr
-use Rattle.pf_addr.specs.Address.{Network, width, family_of, network_from, network_of}
+use Rattle.pf_addr.specs.Address.{PlainNet, width, family_of, network_from, network_of}
 
 -- the pieces of a text between such bytes; the empty text has no pieces
 abbrev pub pieces : ℕ → List ℕ → List (List ℕ)
@@ -115,7 +115,7 @@ unfoldable pub SpellsAddr : List ℕ → Addr → Type 0
 SpellsAddr text a = Spells 4 text a
 
 -- an address, of which the last parts may be missing, a slash (47) and how many bits are the front
-pub record SpellsFront (text : List ℕ) (net : Network) : Type 0 where
+pub record SpellsFront (text : List ℕ) (net : PlainNet) : Type 0 where
   pub front : List ℕ
   pub digits : List ℕ
   pub first : Addr
@@ -126,5 +126,5 @@ pub record SpellsFront (text : List ℕ) (net : Network) : Type 0 where
   pub value : net ≡ network_from first len
 
 -- A network is an address alone, or an address and a length.
-unfoldable pub SpellsNet : List ℕ → Network → Type 0
+unfoldable pub SpellsNet : List ℕ → PlainNet → Type 0
 SpellsNet text net = ((a : Addr) × SpellsAddr text a × (net ≡ network_of a)) ⊎ SpellsFront text net

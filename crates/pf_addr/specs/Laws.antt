@@ -5,7 +5,6 @@ pub mod Pieces
 pub mod Reading
 pub mod Digits
 pub mod Spelling
-pub mod Form
-pub mod Bytes
 pub mod Path
 pub mod NetForms
+pub mod NetOrder

@@ -1,10 +1,9 @@
 pub mod Refusing
-pub mod Form
-pub mod Bytes
 pub mod Path
 pub mod Address
 pub mod Nets
 pub mod NetForms
+pub mod NetOrder
 pub mod Grammar
 pub mod FaultCases
 pub mod Reading
@@ -13,3 +12,7 @@ pub mod Spelling
 pub mod Faults
 pub mod Writing
 pub mod Laws
+pub use Rattle.pf_form.specs.Form.FaultsFound
+pub use Rattle.pf_form.specs.Form.Words
+pub use Rattle.pf_form.specs.Bytes.Forms
+pub use Rattle.pf_form.specs.Bytes.Readers

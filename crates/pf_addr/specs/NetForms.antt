@@ -1,7 +1,8 @@
--- Families, addresses and networks in bytes. Own, but for the order of an address's bytes, which is the network's (RFC 791, RFC 4291).
+-- Families, addresses and networks in bytes. The order of an address's bytes is the network's (RFC 791, RFC 4291).
 use Rattle.std.specs.Prelude.{ℕ, ◌-◌, ◌*◌, ◌/◌, ◌^◌, ◌==◌, ◌&&◌, ◌||◌, nat_le, Bool, replicate, if◌then◌else◌}
 use Rattle.pf_addr.specs.declared.addr.{TheConstants.{V4_BITS, V6_BITS}, Family.Family, Family.TheVariants.{V4, V6}}
-use Rattle.pf_addr.specs.{Address.{Network, width}, Bytes.Forms.{nat, Form, number, back, that}}
+use Rattle.pf_addr.specs.Address.{PlainNet, width}
+use Rattle.pf_form.specs.Bytes.Forms.{nat, Form, number, back, that}
 
 abbrev pub family_byte : Family → ℕ
 family_byte V4 = 4
@@ -15,7 +16,7 @@ abbrev pub address_in : ℕ → Form nat
 address_in family = if family == 4 then back (number 4) (replicate 12 0) else number 16
 
 -- behind a network's front are zeros
-abbrev pub first_number : Network → ℕ
+abbrev pub first_number : PlainNet → ℕ
 first_number n = n.front * 2 ^ (width n.family - n.len)
 
 abbrev pub width_of : ℕ → ℕ
@@ -34,6 +35,6 @@ abbrev pub family_of_byte : ℕ → Family
 family_of_byte b = if b == 4 then V4 else V6
 
 -- the network of this family whose front has so many bits and whose first address is this one
-abbrev pub network_at : ℕ → ℕ → ℕ → Network
+abbrev pub network_at : ℕ → ℕ → ℕ → PlainNet
 network_at family len address =
     record { family = family_of_byte family; len = len; front = address / 2 ^ (width (family_of_byte family) - len) }

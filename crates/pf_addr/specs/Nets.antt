@@ -2,13 +2,13 @@
 use Rattle.std.specs.Prelude.{◌≡◌, ℕ, ◌-◌, ◌*◌, ◌/◌, ◌^◌, ◌%◌, ◌<◌, ◌≤◌}
 use Rattle.std.proofs.{Common.{ap, arith}, lemmas.Nat.shr_split}
 use Rattle.pf_addr.specs.declared.net.Net.TheInside.{Inside}
-use Rattle.pf_addr.specs.Address.{Network, width}
+use Rattle.pf_addr.specs.Address.{PlainNet, width}
 
 -- how many bits are behind the front
 abbrev pub host_bits : Inside → ℕ
 host_bits n = width n.family - n.len
 
-abbrev pub network_in : Inside → Network
+abbrev pub network_in : Inside → PlainNet
 network_in n = record { family = n.family; len = n.len; front = n.number / 2 ^ host_bits n }
 
 -- the front is within the address, and the bits past it are zero
@@ -17,7 +17,7 @@ pub record IsWithin (n : Inside) : Type 0 where
   pub number : n.number < 2 ^ width n.family
   pub host : n.number % 2 ^ host_bits n ≡ 0
 
-abbrev pub inside_of : Network → Inside
+abbrev pub inside_of : PlainNet → Inside
 inside_of n = record { family = n.family; number = n.front * 2 ^ (width n.family - n.len); len = n.len }
 
 -- the bits past the front are zero

@@ -8,3 +8,4 @@ pub mod ReferenceGrammar
 pub mod KeptReferences
 pub mod Nested
 pub mod PathForms
+pub mod FirstBytes

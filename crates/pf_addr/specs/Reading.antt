@@ -1,7 +1,8 @@
 -- How a text is read from left to right: what it spells (`Grammar`), or else its fault (`FaultCases`). It is there so that functions
 -- have something to compute; laws say that both are told exactly so.
 use Rattle.std.specs.{Prelude.{ℕ, ◌+◌, ◌-◌, ◌==◌, nat_le, Bool, true, false, ◌&&◌, List, [], ◌∷◌, ◌++◌, length, take, drop, replicate, Option, Some, None, is_some, Result, Ok, Err, if◌then◌else◌}, List.position, Option.ok_or, Str.Parse.digits_value}
-use Rattle.pf_addr.specs.{Form.Forms.◌>>=◌, Form.Numbers.number_of, Address.{Network, width, family_of, network_from, network_of}, Grammar.{is_other, is_short, pieces, v4_number, v6_number, two_groups}}
+use Rattle.pf_addr.specs.{Address.{PlainNet, width, family_of, network_from, network_of}, Grammar.{is_other, is_short, pieces, v4_number, v6_number, two_groups}}
+use Rattle.pf_form.specs.Form.{Forms.◌>>=◌, Numbers.number_of}
 use Rattle.pf_addr.specs.declared.{addr.Addr.Addr, fault.AddrFault.AddrFault, fault.AddrFault.TheVariants.{Empty, BadDigit, TooBig, BadLength, BadGroups}, reading.TheConstants.NUMBER_DIGITS, groups.TheConstants.GROUPS}
 use Rattle.pf_addr.specs.declared.addr.Addr.TheVariants as addr
 
@@ -129,13 +130,13 @@ abbrev pub length_at : ℕ → ℕ → List ℕ → Result ℕ AddrFault
 length_at most at text = ok_or (small_number most text) (BadLength at)
 
 -- with this address, and with a length that begins at `at`
-abbrev pub front_at : ℕ → List ℕ → Addr → Result Network AddrFault
+abbrev pub front_at : ℕ → List ℕ → Addr → Result PlainNet AddrFault
 front_at at digits a = length_at (width (family_of a)) at digits >>= λ len. Ok (network_from a len)
 
 -- with the place of its first slash
-abbrev pub cut_at : List ℕ → Option ℕ → Result Network AddrFault
+abbrev pub cut_at : List ℕ → Option ℕ → Result PlainNet AddrFault
 cut_at text None = addr_at text >>= λ a. Ok (network_of a)
 cut_at text (Some i) = address_at 1 (take i text) >>= front_at (i + 1) (drop (i + 1) text)
 
-abbrev pub net_at : List ℕ → Result Network AddrFault
+abbrev pub net_at : List ℕ → Result PlainNet AddrFault
 net_at text = cut_at text (position is_slash text)

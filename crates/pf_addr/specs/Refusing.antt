@@ -1,4 +1,4 @@
--- Checks one after the other, and what is due where memory may be refused. Own.
+-- Checks one after the other, and what is due where memory may be refused.
 use Rattle.std.specs.Prelude.{◌≡◌, ◌≢◌, ℕ, Bool, true, false, if◌then◌else◌, Option, Some, None, Result, Ok, Err}
 use Rattle.std.proofs.Common.{refl}
 

@@ -3,7 +3,7 @@ ghost use Rattle.std.specs.{Prelude.{◌≡◌, ℕ, ◌+◌, ◌-◌, ◌^◌, 
 ghost use Rattle.pf_addr.specs.{Collected.{groups_of, groups_kept, last_kept}, Grammar.v6_number, Reading.{group_at, has, gap, v6_at}};
 
 use crate::fault::AddrFault;
-use crate::reading::{figure, first_other, place_of, read_v4};
+use crate::reading::{digit_value, first_other, place_of, read_v4};
 
 /// How many digits a group may have, leading zeros among them.
 pub(crate) const GROUP_DIGITS: usize = 4;
@@ -153,7 +153,7 @@ fn hex_value(digits: &[u8]) -> u16
 {
     let mut value = 0;
     for digit in digits {
-        value = value * 16 + figure(*digit);
+        value = value * 16 + digit_value(*digit);
     }
     value
 }

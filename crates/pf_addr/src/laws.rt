@@ -1,14 +1,15 @@
 //! Laws of networks and of texts. Each function's contract is the law, and its body does nothing.
 ghost use Rattle.std.specs.Prelude.{◌≡◌, ◌↔◌, ℕ, ◌^◌, ◌<◌, ◌≤◌, true, List, Ok};
 ghost use Rattle.pf_addr.specs.declared.{addr.Addr.Addr, addr.TheConstants.{V4_BITS, V6_BITS}, groups.TheConstants.{GROUPS, GROUP_DIGITS}, reading.TheConstants.NUMBER_DIGITS};
-ghost use Rattle.pf_addr.specs.{Address.{Network, width, family_of, network_from, contains, IsAddr, BeginsAs, Agree}, FaultCases.{IsAddrFault, IsNetFault}, Form.Told.TellsFaults, Grammar.{SpellsAddr, SpellsNet}, Reading.{addr_at, net_at}, Spelling.{addr_text, net_text}, Laws.Spelling.{IsNetwork, IsNetWord}, Bytes.Forms.Fits, NetForms.{family, family_byte, address_in, first_number, is_network, network_at}};
+ghost use Rattle.pf_addr.specs.{Address.{PlainNet, width, family_of, network_from, contains, IsAddr, BeginsAs, Agree}, FaultCases.{IsAddrFault, IsNetFault}, Grammar.{SpellsAddr, SpellsNet}, Reading.{addr_at, net_at}, Spelling.{addr_text, net_text}, Laws.Spelling.{IsNetwork, IsNetWord}, NetForms.{family, family_byte, address_in, first_number, is_network, network_at}};
+ghost use Rattle.pf_form.specs.{Form.FaultsFound.TellsFaults, Bytes.Forms.Fits};
 
 use crate::addr::Addr;
 
 /// A network contains exactly the addresses of its family whose first bits are its own, bit by bit.
 #[tactic(auto, using(crate::specs::Laws::Bits::contains_by_bits, crate::specs::Laws::Bits::network_agrees))]
 pub fn networks_contain_by_bits()
-    ensures bits { (net : Network) (a : Addr) → IsNetwork net → IsAddr a → (contains net a ≡ true) ↔ BeginsAs net a }
+    ensures bits { (net : PlainNet) (a : Addr) → IsNetwork net → IsAddr a → (contains net a ≡ true) ↔ BeginsAs net a }
     // an address with its length is the network of those that agree with it in so many first bits
     ensures shared { (a b : Addr) (len : ℕ) → len ≤ width (family_of b) → IsAddr a → IsAddr b
         → (contains (network_from b len) a ≡ true) ↔ Agree len a b }
@@ -23,7 +24,7 @@ pub fn written_addr_is_read_again()
 /// The text that a network is written as spells it.
 #[tactic(auto, using(crate::specs::Laws::Spelling::net_text_spells))]
 pub fn written_net_is_read_again()
-    ensures { (net : Network) → IsNetwork net → SpellsNet (net_text net) net }
+    ensures { (net : PlainNet) → IsNetwork net → SpellsNet (net_text net) net }
 {}
 
 /// An address is read from a text exactly where the text spells it. So a text spells at most one.
@@ -36,8 +37,8 @@ pub fn addrs_are_read_as_spelled()
 /// A network is read from a text exactly where the text spells it. So a text spells at most one.
 #[tactic(auto, using(crate::specs::Laws::Reading::net_found, crate::specs::Laws::Reading::net_only))]
 pub fn nets_are_read_as_spelled()
-    ensures read { (text : List ℕ) (net : Network) → net_at text ≡ Ok net → SpellsNet text net }
-    ensures spelled { (text : List ℕ) (net : Network) → SpellsNet text net → net_at text ≡ Ok net }
+    ensures read { (text : List ℕ) (net : PlainNet) → net_at text ≡ Ok net → SpellsNet text net }
+    ensures spelled { (text : List ℕ) (net : PlainNet) → SpellsNet text net → net_at text ≡ Ok net }
 {}
 
 /// Two addresses that are written as one text are one.
@@ -48,13 +49,13 @@ pub fn addrs_have_texts_of_their_own()
 
 /// Two networks that are written as one text are one.
 pub fn nets_have_texts_of_their_own()
-    ensures { (a b : Network) → IsNetwork a → IsNetwork b → net_text a ≡ net_text b → a ≡ b }
+    ensures { (a b : PlainNet) → IsNetwork a → IsNetwork b → net_text a ≡ net_text b → a ≡ b }
 {}
 
 /// A network's text is one word: one to 43 digits, letters from a to f, dots, colons and slashes.
 #[tactic(auto, using(crate::specs::Laws::Spelling::net_text_is_word))]
 pub fn net_text_is_one_word()
-    ensures { (net : Network) → IsNetwork net → IsNetWord 43 (net_text net) }
+    ensures { (net : PlainNet) → IsNetwork net → IsNetWord 43 (net_text net) }
 {}
 
 /// A text that is refused as an address is refused for the one fault that it has, by cases on the text.
@@ -81,9 +82,9 @@ pub fn sizes_are_these()
 /// The bytes of each network can be written, and they tell it: its family, how many bits its front has, and its first address.
 #[tactic(auto, using(crate::specs::Laws::NetForms::family_fits, crate::specs::Laws::NetForms::length_fits, crate::specs::Laws::NetForms::address_fits, crate::specs::Laws::NetForms::network_is, crate::specs::Laws::NetForms::network_again))]
 pub fn networks_have_bytes_of_their_own()
-    ensures family { (n : Network) → Fits family (family_byte n.family) }
-    ensures length { (n : Network) → IsNetwork n → n.len < 256 }
-    ensures address { (n : Network) → IsNetwork n → Fits (address_in (family_byte n.family)) (first_number n) }
-    ensures within { (n : Network) → IsNetwork n → is_network (family_byte n.family) n.len (first_number n) ≡ true }
-    ensures again { (n : Network) → network_at (family_byte n.family) n.len (first_number n) ≡ n }
+    ensures family { (n : PlainNet) → Fits family (family_byte n.family) }
+    ensures length { (n : PlainNet) → IsNetwork n → n.len < 256 }
+    ensures address { (n : PlainNet) → IsNetwork n → Fits (address_in (family_byte n.family)) (first_number n) }
+    ensures within { (n : PlainNet) → IsNetwork n → is_network (family_byte n.family) n.len (first_number n) ≡ true }
+    ensures again { (n : PlainNet) → network_at (family_byte n.family) n.len (first_number n) ≡ n }
 {}

@@ -1,31 +1,29 @@
-//! What all texts and records here are made of: words and grammars, layouts of bytes, numbers in digits, names and paths of rulesets,
-//! IP addresses and networks.
+//! Names and paths of rulesets, IP addresses and networks, in texts and in bytes, and texts put out to a writer.
 //!
-//! A grammar of words is a value (`form`), and one law serves all of them: what is read is what spells a value, and a text that isn't
-//! one is refused at one place with one kind. Layouts of bytes are values too (`bytes`), with laws of the same kind. Addresses and
-//! networks are read and written byte by byte; a network contains the addresses that begin with its front. What is put out to a writer
-//! that may fail is said by the bytes that the writer then holds.
+//! Names and paths are words of grammars and layouts as pf_form has them. Addresses and networks are read and written byte by byte; a
+//! network contains the addresses that begin with its front. What is put out to a writer that may fail is said by the bytes that the
+//! writer then holds.
 //!
 //! The crate knows no rule, no packet, no ruleset and no command. A path is a name for a ruleset, and which paths stand within one another
 //! is all that is known of them.
 //!
-//! Read `specs/Form/Forms.antt` first (what a grammar is, what it spells, where a text goes wrong), then `specs/Address.antt` and
-//! `specs/Grammar.antt` (addresses, networks, their texts), `specs/FaultCases.antt` (each fault by cases on the text) and
-//! `specs/Path/PathGrammar.antt`. `specs/Writing.antt` says what a writer holds, `specs/Refusing.antt` how checks follow one another.
+//! Read `specs/Address.antt` and `specs/Grammar.antt` first (addresses, networks, their texts), then `specs/FaultCases.antt` (each fault
+//! by cases on the text) and `specs/Path/PathGrammar.antt`; layouts of bytes are in `specs/NetForms.antt` and
+//! `specs/Path/PathForms.antt`. `specs/Writing.antt` says what a writer holds, `specs/Refusing.antt` how checks follow one another.
 //!
-//! `form` uses no other module, nor does `bytes`; `path` uses both; addresses and networks, at the root, use both and no path. `laws`
-//! may name all. Of layouts of bytes read `specs/Bytes/Forms.antt` first; those of networks, of paths and of names are in
-//! `specs/NetForms.antt` and `specs/Path/PathForms.antt`.
+//! Paths, names and networks are keys of pf_map's maps (`path::keys`, `net_key`): `specs/NetOrder.antt` has the order of networks, and
+//! `specs/Path/FirstBytes.antt` the number that rises with a text. What maps hold the crate doesn't know.
+//!
+//! `path` uses no other module; addresses and networks, at the root, use no path. `laws` may name all.
 #![tactic(auto)]
 
 mod addr;
-pub mod bytes;
 mod fault;
-pub mod form;
 mod groups;
 mod laws;
 mod net;
 mod net_form;
+mod net_key;
 pub mod path;
 mod reading;
 mod write;

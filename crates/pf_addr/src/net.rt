@@ -1,6 +1,6 @@
 //! Networks.
 ghost use Rattle.std.specs.Prelude.{◌≡◌, ℕ, ◌-◌, ◌*◌, ◌/◌, ◌^◌, ◌≤◌, ◌<◌, length, IfOk, Ok};
-ghost use Rattle.pf_addr.specs.{Address.{Network, contains, width, family_of, network_from, network_of}, Grammar.SpellsNet, Reading.{net_at, cut_at}, Spelling.first_addr};
+ghost use Rattle.pf_addr.specs.{Address.{PlainNet, contains, width, family_of, network_from, network_of}, Grammar.SpellsNet, Reading.{net_at, cut_at}, Spelling.first_addr};
 
 use crate::addr::{Addr, Family, V4_BITS, V6_BITS};
 use crate::fault::AddrFault;
@@ -17,9 +17,9 @@ pub struct Net {
 }
 
 impl Model for Net {
-    ghost use Rattle.pf_addr.specs.Address.{Network};
+    ghost use Rattle.pf_addr.specs.Address.{PlainNet};
 
-    ghost Value = { Network };
+    ghost Value = { PlainNet };
 
     ghost use Rattle.pf_addr.specs.Nets.{network_in, IsWithin, inside_of, inside_of-network_in};
 
@@ -114,7 +114,7 @@ impl Net {
     #[tactic(auto, using(crate::specs::Laws::Reading::net_if_ok, crate::specs::Laws::Reading::net_only))]
     pub fn from_ascii(text: &[u8]) -> Result<Net, AddrFault>
         ensures found { IfOk result (λ n. SpellsNet text.now n) }
-        ensures only { (n : Network) → SpellsNet text.now n → result ≡ Ok n }
+        ensures only { (n : PlainNet) → SpellsNet text.now n → result ≡ Ok n }
         ensures exact { result ≡ net_at text.now }
     {
         Net::with_or_without_len(text)
@@ -123,7 +123,7 @@ impl Net {
     /// As [`Net::from_ascii`].
     pub fn parse(text: &str) -> Result<Net, AddrFault>
         ensures found { IfOk result (λ n. SpellsNet text.now n) }
-        ensures only { (n : Network) → SpellsNet text.now n → result ≡ Ok n }
+        ensures only { (n : PlainNet) → SpellsNet text.now n → result ≡ Ok n }
         ensures exact { result ≡ net_at text.now }
     {
         Net::from_ascii(text.as_bytes())

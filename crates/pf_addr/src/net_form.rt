@@ -1,12 +1,13 @@
 //! Families, addresses and networks in bytes.
 ghost use Rattle.std.specs.{Prelude.{◌≡◌, false, true, IfOk, OnOk}, Option.MatchOption};
-ghost use Rattle.pf_addr.specs.{Address.{family_of, number_in}, Bytes.Forms.onto, Bytes.Readers.Reads, NetForms.{family, family_byte, address_in, first_number, is_network}};
+ghost use Rattle.pf_addr.specs.{Address.{family_of, number_in}, NetForms.{family, family_byte, address_in, first_number, is_network}};
+ghost use Rattle.pf_form.specs.Bytes.{Forms.onto, Readers.Reads};
 
 use crate::addr::{Addr, Family};
-use crate::bytes::{
+use crate::net::Net;
+use pf_form::bytes::{
     Fault, Rest, Stop, expect, push_bytes, push_u32, push_u128, read_u8, read_u32, read_u128,
 };
-use crate::net::Net;
 use std::alloc::AllocError;
 
 impl Family {

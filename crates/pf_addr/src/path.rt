@@ -1,5 +1,6 @@
 //! Names, paths of rulesets, and references to them.
 
+mod keys;
 pub mod laws;
 mod limits;
 mod name;

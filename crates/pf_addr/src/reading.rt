@@ -1,7 +1,8 @@
 //! Addresses as text, and the numbers between the dots of an IPv4 address.
 ghost use Rattle.std.specs.{Prelude.{◌≡◌, ◌+◌, ◌^◌, ◌<◌, ◌==◌, ◌-◌, [], ◌∷◌, length, set, IfSome}, Char.digit_value, List.position};
 ghost use Rattle.pf_addr.specs.declared.reading.TheConstants.{NUMBER_DIGITS};
-ghost use Rattle.pf_addr.specs.{Form.Numbers.number_of, Grammar.is_other, Collected.parts_kept, Reading.{small_number, part_at, part_fault, v4_at, address_at, length_at}};
+ghost use Rattle.pf_addr.specs.{Grammar.is_other, Collected.parts_kept, Reading.{small_number, part_at, part_fault, v4_at, address_at, length_at}};
+ghost use Rattle.pf_form.specs.Form.Numbers.{number_of};
 
 use crate::addr::Addr;
 use crate::fault::AddrFault;
@@ -120,11 +121,11 @@ pub(crate) fn first_other(radix: u16, text: &[u8]) -> Option<usize>
     ensures place { result ≡ position (is_other radix) text.now }
     ensures bound { IfSome result (λ i. i < length text.now) }
 {
-    text.iter().position(|b| figure(*b) >= radix)
+    text.iter().position(|b| digit_value(*b) >= radix)
 }
 
 /// The value of a digit or a letter in either case, 36 of any other byte.
-pub(crate) fn figure(b: u8) -> u16
+pub(crate) fn digit_value(b: u8) -> u16
     ensures { result ≡ digit_value b }
 {
     match b {

@@ -3,16 +3,16 @@ use Rattle.std.proofs.Common.{◌≡◌, ℕ, ◌+◌, Bool, true, false, cond, 
 use Rattle.std.specs.{Prelude.◌||◌, List.list_any}
 use Rattle.pf_addr.specs.{Path.Paths.main, Path.References.PlainReference}
 use Rattle.pf_rule.specs.Rules.{PlainRule}
-use Rattle.pf_anchor.specs.{declared.{evaluated.Evaluated.Evaluated, evaluated.Evaluated.TheVariants.Open, evaluated.Evaluated.TheVariants.Ended}, Matches.{PlainMatch, found}, Rulesets.{Ruled, ruled, targets}, Evaluation.{Tests, and_then, settled, in_turn, effected, evaluation, matching, last_of, verdict_by, rules_at_path}, Laws.Evaluation.{IsAnchor, OwnMatch, EndsOutside, NothingWithin, MatchWithin, QuickEnds, EndsTheVerdict, InTwoParts, PassedOver}}
+use Rattle.pf_anchor.specs.{declared.{evaluated.Evaluated.Evaluated, evaluated.Evaluated.TheVariants.Open, evaluated.Evaluated.TheVariants.Ended}, Matches.{PlainMatch, found}, Rulesets.{PlainPlaced, ruled, targets}, Evaluation.{Tests, and_then, settled, in_turn, effected, evaluation, matching, last_of, verdict_by, rules_at_path}, Laws.Evaluation.{IsAnchor, OwnMatch, EndsOutside, NothingWithin, MatchWithin, QuickEnds, EndsTheVerdict, InTwoParts, PassedOver}}
 use Rattle.pf_anchor.proofs.Evaluations.{none_and_then, and_then_assoc, unrolled}
 
-rule_is : (f : Ruled → Evaluated PlainMatch) (c : List Ruled) (tests : Tests) (p : List ℕ) (n : ℕ) (r : PlainRule) (rs : List PlainRule) (x : Evaluated PlainMatch) →
+rule_is : (f : PlainPlaced → Evaluated PlainMatch) (c : List PlainPlaced) (tests : Tests) (p : List ℕ) (n : ℕ) (r : PlainRule) (rs : List PlainRule) (x : Evaluated PlainMatch) →
     tests p r ≡ true → effected f c p n r.effect ≡ x → rules_at_path f c tests p n (r ∷ rs) ≡ and_then (settled r.quick x) (rules_at_path f c tests p (n + 1) rs)
 rule_is f c tests p n r rs x is effect =
     ap (λ (b : Bool). and_then (cond b (settled r.quick (effected f c p n r.effect)) (Open None)) (rules_at_path f c tests p (n + 1) rs)) is
     ∙ ap (λ (y : Evaluated PlainMatch). and_then (settled r.quick y) (rules_at_path f c tests p (n + 1) rs)) effect
 
-within_is : (f : Ruled → Evaluated PlainMatch) (c : List Ruled) (tests : Tests) (p : List ℕ) (n : ℕ) (r : PlainRule) (s : PlainReference) (rs : List PlainRule) (x : Evaluated PlainMatch) →
+within_is : (f : PlainPlaced → Evaluated PlainMatch) (c : List PlainPlaced) (tests : Tests) (p : List ℕ) (n : ℕ) (r : PlainRule) (s : PlainReference) (rs : List PlainRule) (x : Evaluated PlainMatch) →
     IsAnchor tests p r s → in_turn f (targets c p s) ≡ x → rules_at_path f c tests p n (r ∷ rs) ≡ and_then (settled r.quick x) (rules_at_path f c tests p (n + 1) rs)
 within_is f c tests p n r s rs x is h = rule_is f c tests p n r rs x is.0 (ap (effected f c p n) is.1 ∙ h)
 
@@ -58,7 +58,7 @@ passes_over f c tests p n (r ∷ rs) h =
 -- ---- a whole ruleset
 
 -- what ends at a rule ends the ruleset, where no rule before it did
-ended_at : (c : List Ruled) (tests : Tests) (p : List ℕ) (front back : List PlainRule) (r : PlainRule) (last : Option PlainMatch) (m : PlainMatch) →
+ended_at : (c : List PlainPlaced) (tests : Tests) (p : List ℕ) (front back : List PlainRule) (r : PlainRule) (last : Option PlainMatch) (m : PlainMatch) →
     rules_at_path (evaluation c tests) c tests p 0 front ≡ Open last → rules_at_path (evaluation c tests) c tests p (length front) (r ∷ back) ≡ Ended m → evaluation c tests (ruled p (front ++ r ∷ back)) ≡ Ended m
 ended_at c tests p front back r last m goes_on ends =
     let f = evaluation c tests in

@@ -6,7 +6,7 @@ use Rattle.pf_addr.specs.Path.References.{PlainReference}
 use Rattle.pf_rule.specs.{Rules.PlainRule, declared.{rule.Action.Action, rule.Effect.Effect, rule.Effect.TheVariants.Decide, rule.Effect.TheVariants.Evaluate}}
 use Rattle.pf_lanes.specs.{Masks.{is_set, AreEnds}, Answered.{bit_by, block_mark, eight_from, is_anchor, stops}}
 use Rattle.pf_lanes.proofs.{Bits.{none_set, is_set-and}, Counted.taken_above, Places.eight_get}
-use Rattle.pf_anchor.specs.{Blocks.AreStops, declared.{evaluated.Evaluated.Evaluated, evaluated.Evaluated.TheVariants.Open, evaluated.Evaluated.TheVariants.Ended}, Matches.{PlainMatch, found}, Rulesets.Ruled, Evaluation.{and_then, settled, effected, rules_give}}
+use Rattle.pf_anchor.specs.{Blocks.AreStops, declared.{evaluated.Evaluated.Evaluated, evaluated.Evaluated.TheVariants.Open, evaluated.Evaluated.TheVariants.Ended}, Matches.{PlainMatch, found}, Rulesets.PlainPlaced, Evaluation.{and_then, settled, effected, rules_give}}
 use Rattle.pf_anchor.proofs.{Evaluations.{none_and_then, and_then_assoc}, Turns.then_open}
 
 -- ---- a block, and the rules behind it
@@ -73,7 +73,7 @@ some_is : {A : Type 0} (x y : A) → Some x ≡ Some y → x ≡ y
 some_is x y e = cc e
 
 -- a rule before the last one that matches leaves the evaluation free
-left_open : (f : Ruled → Evaluated PlainMatch) (c : List Ruled) (p : List ℕ) (n : ℕ) (b q : Bool) (e : Effect) → (b ≡ true → (q || is_anchor e) ≡ false) →
+left_open : (f : PlainPlaced → Evaluated PlainMatch) (c : List PlainPlaced) (p : List ℕ) (n : ℕ) (b q : Bool) (e : Effect) → (b ≡ true → (q || is_anchor e) ≡ false) →
     (o : Option PlainMatch) × (cond b (settled q (effected f c p n e)) (Open None) ≡ Open o)
 left_open f c p n false q e free = (None, refl)
 left_open f c p n true false (Decide a) free = (Some (found p n a), refl)
@@ -87,7 +87,7 @@ record IsLast (test : PlainRule → Bool) (rs : List PlainRule) (lane : ℕ) (r 
   pub free : (i : ℕ) → bit_by test (slice_get rs i) ≡ true → bit_by stops (slice_get rs i) ≡ false
   pub none : (i : ℕ) → lane < i → bit_by test (slice_get rs i) ≡ false
 
-last_stands : (f : Ruled → Evaluated PlainMatch) (c : List Ruled) (p : List ℕ) (test : PlainRule → Bool) (n : ℕ) (rs : List PlainRule) (lane : ℕ) (r : PlainRule) (a : Action) →
+last_stands : (f : PlainPlaced → Evaluated PlainMatch) (c : List PlainPlaced) (p : List ℕ) (test : PlainRule → Bool) (n : ℕ) (rs : List PlainRule) (lane : ℕ) (r : PlainRule) (a : Action) →
     IsLast test rs lane r → r.effect ≡ Decide a → rules_give (λ k x. effected f c p k x.effect) test n rs ≡ Open (Some (found p (n + lane) a))
 last_stands f c p test n [] lane r a is decides = absurd (cc (is.there))
 last_stands f c p test n (x ∷ xs) zero r a is decides =
@@ -128,7 +128,7 @@ none_found effect test rules block mask bits none =
     (cases_lt i 8))
 
 -- the last bit's rule decides
-pub last_found : (f : Ruled → Evaluated PlainMatch) (c : List Ruled) (p : List ℕ) (test : PlainRule → Bool) (rules : List PlainRule) (block mask first last : ℕ) (r : PlainRule) (a : Action) →
+pub last_found : (f : PlainPlaced → Evaluated PlainMatch) (c : List PlainPlaced) (p : List ℕ) (test : PlainRule → Bool) (rules : List PlainRule) (block mask first last : ℕ) (r : PlainRule) (a : Action) →
     HasBits test rules block mask → ((i : ℕ) → i < 8 → is_set mask i ≡ true → block_mark stops rules block i ≡ false) → AreEnds mask first last →
     slice_get rules (8 * block + last) ≡ Some r → r.effect ≡ Decide a →
     rules_give (λ k x. effected f c p k x.effect) test (8 * block) (eight_from (8 * block) rules) ≡ Open (Some (found p (8 * block + last) a))

@@ -5,7 +5,7 @@ use Rattle.pf_addr.specs.declared.path.limits.TheConstants.{DEPTH_LIMIT}
 use Rattle.pf_addr.specs.{Path.Paths.main, Path.Nested.{depth, path_within}, Path.References.PlainReference}
 use Rattle.pf_addr.proofs.{PathsRead.same_path_is, Nesting.{leads_deeper, has_one_more}}
 use Rattle.pf_rule.specs.{Packets.PlainPacket, Rules.PlainRule, declared.{rule.Effect.Effect, rule.Effect.TheVariants.Decide, rule.Effect.TheVariants.Evaluate}}
-use Rattle.pf_anchor.specs.{declared.{evaluated.Evaluated.Evaluated, evaluated.Evaluated.TheVariants.Open, evaluated.Evaluated.TheVariants.Ended, verdict.RuleVerdict.TheVariants.Default}, Matches.PlainMatch, Rulesets.{Ruled, ruled, rules_at, leads_from, leads_to, targets}, Configurations.Configuration, Evaluation.{Tests, and_then, in_turn, last_of, effected, rules_give, evaluate_with, levels, evaluation, matching, verdict_by, judged}, Laws.Evaluation.{Unrolls, IsTheOnly, DepthIsEnough}}
+use Rattle.pf_anchor.specs.{declared.{evaluated.Evaluated.Evaluated, evaluated.Evaluated.TheVariants.Open, evaluated.Evaluated.TheVariants.Ended, verdict.RuleVerdict.TheVariants.Default}, Matches.PlainMatch, Rulesets.{PlainPlaced, ruled, rules_at, leads_from, leads_to, targets}, Configurations.PlainConfig, Evaluation.{Tests, and_then, in_turn, last_of, effected, rules_give, evaluate_with, levels, evaluation, matching, verdict_by, judged}, Laws.Evaluation.{Unrolls, IsTheOnly, DepthIsEnough}}
 
 -- ---- evaluations one after the other
 
@@ -45,15 +45,15 @@ deeper p s q is = by (path_within p s.names) refl is where
 
 -- ---- evaluations that agree on what is deeper agree
 
-one_agrees : (f g : Ruled → Evaluated PlainMatch) (e : Ruled) (b : Bool) (es : List Ruled) → (b ≡ true → f e ≡ g e) → in_turn f es ≡ in_turn g es → in_turn f (cond b (e ∷ es) es) ≡ in_turn g (cond b (e ∷ es) es)
+one_agrees : (f g : PlainPlaced → Evaluated PlainMatch) (e : PlainPlaced) (b : Bool) (es : List PlainPlaced) → (b ≡ true → f e ≡ g e) → in_turn f es ≡ in_turn g es → in_turn f (cond b (e ∷ es) es) ≡ in_turn g (cond b (e ∷ es) es)
 one_agrees f g e true es h rest = let here = h refl in cc
 one_agrees f g e false es h rest = rest
 
-pub targets_agree : (f g : Ruled → Evaluated PlainMatch) (p : List ℕ) (s : PlainReference) (c : List Ruled) → ((t : Ruled) → leads_to p s t.0 ≡ true → f t ≡ g t) → in_turn f (targets c p s) ≡ in_turn g (targets c p s)
+pub targets_agree : (f g : PlainPlaced → Evaluated PlainMatch) (p : List ℕ) (s : PlainReference) (c : List PlainPlaced) → ((t : PlainPlaced) → leads_to p s t.0 ≡ true → f t ≡ g t) → in_turn f (targets c p s) ≡ in_turn g (targets c p s)
 targets_agree f g p s [] h = refl
 targets_agree f g p s (e ∷ es) h = one_agrees f g e (leads_to p s e.0) (targets es p s) (h e) (targets_agree f g p s es h)
 
-effects_agree : (f g : Ruled → Evaluated PlainMatch) (c : List Ruled) (p : List ℕ) → ((s : PlainReference) (t : Ruled) → leads_to p s t.0 ≡ true → f t ≡ g t) → (n : ℕ) (e : Effect) → effected f c p n e ≡ effected g c p n e
+effects_agree : (f g : PlainPlaced → Evaluated PlainMatch) (c : List PlainPlaced) (p : List ℕ) → ((s : PlainReference) (t : PlainPlaced) → leads_to p s t.0 ≡ true → f t ≡ g t) → (n : ℕ) (e : Effect) → effected f c p n e ≡ effected g c p n e
 effects_agree f g c p h n (Decide a) = refl
 effects_agree f g c p h n (Evaluate s) = targets_agree f g p s c (h s)
 
@@ -64,15 +64,15 @@ rules_agree f g test h n (r ∷ rs) =
     let rest = rules_agree f g test h (n + 1) rs in
     cc
 
-pub agree : (f g : Ruled → Evaluated PlainMatch) (c : List Ruled) (tests : Tests) (e : Ruled) → ((s : PlainReference) (t : Ruled) → leads_to e.0 s t.0 ≡ true → f t ≡ g t) → evaluate_with f c tests e ≡ evaluate_with g c tests e
+pub agree : (f g : PlainPlaced → Evaluated PlainMatch) (c : List PlainPlaced) (tests : Tests) (e : PlainPlaced) → ((s : PlainReference) (t : PlainPlaced) → leads_to e.0 s t.0 ≡ true → f t ≡ g t) → evaluate_with f c tests e ≡ evaluate_with g c tests e
 agree f g c tests e h = rules_agree (λ n r. effected f c e.0 n r.effect) (λ n r. effected g c e.0 n r.effect) (tests e.0) (λ n r. effects_agree f g c e.0 h n r.effect) 0 e.1
 
 -- ---- one solution
 
-no_level : (f : Ruled → Evaluated PlainMatch) (c : List Ruled) (tests : Tests) (e : Ruled) → DEPTH_LIMIT ≤ depth e.0 + 0 → evaluate_with f c tests e ≡ evaluate_with (λ t. Open None) c tests e
+no_level : (f : PlainPlaced → Evaluated PlainMatch) (c : List PlainPlaced) (tests : Tests) (e : PlainPlaced) → DEPTH_LIMIT ≤ depth e.0 + 0 → evaluate_with f c tests e ≡ evaluate_with (λ t. Open None) c tests e
 no_level f c tests e far = agree f (λ t. Open None) c tests e (λ s t is. let leads = deeper e.0 s t.0 is in absurd (omega (arith, leads.1)))
 
-same_levels : (d k : ℕ) (c : List Ruled) (tests : Tests) (e : Ruled) → DEPTH_LIMIT ≤ depth e.0 + d → DEPTH_LIMIT ≤ depth e.0 + k → levels d c tests e ≡ levels k c tests e
+same_levels : (d k : ℕ) (c : List PlainPlaced) (tests : Tests) (e : PlainPlaced) → DEPTH_LIMIT ≤ depth e.0 + d → DEPTH_LIMIT ≤ depth e.0 + k → levels d c tests e ≡ levels k c tests e
 unfolding levels
 same_levels zero zero c tests e far near = refl
 same_levels zero (suc k) c tests e far near = sym (no_level (levels k c tests) c tests e far)
@@ -80,7 +80,7 @@ same_levels (suc d) zero c tests e far near = no_level (levels d c tests) c test
 same_levels (suc d) (suc k) c tests e far near =
     agree (levels d c tests) (levels k c tests) c tests e (λ s t is. let leads = deeper e.0 s t.0 is in same_levels d k c tests t (omega (arith, leads.0)) (omega (arith, leads.0)))
 
-opened : (d : ℕ) (c : List Ruled) (tests : Tests) (e : Ruled) → DEPTH_LIMIT ≤ depth e.0 + d → levels d c tests e ≡ evaluate_with (evaluation c tests) c tests e
+opened : (d : ℕ) (c : List PlainPlaced) (tests : Tests) (e : PlainPlaced) → DEPTH_LIMIT ≤ depth e.0 + d → levels d c tests e ≡ evaluate_with (evaluation c tests) c tests e
 unfolding levels evaluation
 opened zero c tests e far = sym (no_level (evaluation c tests) c tests e far)
 opened (suc d) c tests e far =
@@ -90,7 +90,7 @@ pub unrolled : Unrolls
 unfolding evaluation
 unrolled c tests e = opened (DEPTH_LIMIT - depth e.0) c tests e (omega arith)
 
-only : (d : ℕ) (c : List Ruled) (tests : Tests) (f : Ruled → Evaluated PlainMatch) → ((e : Ruled) → f e ≡ evaluate_with f c tests e) → (e : Ruled) → DEPTH_LIMIT ≤ depth e.0 + d → f e ≡ levels d c tests e
+only : (d : ℕ) (c : List PlainPlaced) (tests : Tests) (f : PlainPlaced → Evaluated PlainMatch) → ((e : PlainPlaced) → f e ≡ evaluate_with f c tests e) → (e : PlainPlaced) → DEPTH_LIMIT ≤ depth e.0 + d → f e ≡ levels d c tests e
 unfolding levels
 only zero c tests f solves e far = solves e ∙ no_level f c tests e far
 only (suc d) c tests f solves e far =
@@ -106,10 +106,10 @@ depth_is_enough c tests e k enough = same_levels k (DEPTH_LIMIT - depth e.0) c t
 
 -- ---- no rules
 
-pub no_rules : (c : List Ruled) (tests : Tests) (p : List ℕ) → evaluation c tests (ruled p []) ≡ Open None
+pub no_rules : (c : List PlainPlaced) (tests : Tests) (p : List ℕ) → evaluation c tests (ruled p []) ≡ Open None
 no_rules c tests p = unrolled c tests (ruled p [])
 
-pub default_judged : (c : Configuration) (packet : PlainPacket) → rules_at main c.rulesets ≡ [] → Default ≡ judged c packet
+pub default_judged : (c : PlainConfig) (packet : PlainPacket) → rules_at main c.rulesets ≡ [] → Default ≡ judged c packet
 default_judged c packet none =
     let tests = matching c.tables packet in
     sym (ap (λ (rs : List PlainRule). verdict_by (last_of (evaluation c.rulesets tests (ruled main rs)))) none ∙ ap (λ (x : Evaluated PlainMatch). verdict_by (last_of x)) (no_rules c.rulesets tests main))

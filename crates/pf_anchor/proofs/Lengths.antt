@@ -1,12 +1,13 @@
 -- How many bytes rulesets and tables take at their places: a rule 204, an entry 20, and paths, names and lists stand behind numbers.
 use Rattle.std.proofs.{Common.{◌≡◌, ◌+◌, ◌*◌, ◌<◌, ◌≤◌, ℕ, true, List, [], ◌∷◌, ◌++◌, length, map, take, get_or, refl, sym, ap, subst, ◌∙◌, arith}, lemmas.List.{length-append, take_more, take_all, Sums.sum_by-cons, Elements.{All-head, All-tail, All-push}}}
 use Rattle.std.specs.{Prelude.{All}, List.sum_by}
-use Rattle.pf_addr.specs.{Bytes.Forms.length_of, Path.{Paths.is_path, PathForms.{path_form, table_name_form}}}
+use Rattle.pf_addr.specs.Path.{Paths.is_path, PathForms.{path_form, table_name_form}}
+use Rattle.pf_form.specs.Bytes.Forms.{length_of}
 use Rattle.pf_addr.proofs.PathBytes.{path_fits}
 use Rattle.pf_rule.specs.{Rules.{PlainRule, IsRule}, Sum.{Layouts.{rule_layout, plain_rule}}}
 use Rattle.pf_rule.proofs.RuleBytes.{layout_long}
-use Rattle.pf_table.specs.{Entries.Row, EntryForms.{entry, plain_entry}, Laws.EntryForms.entry_long}
-use Rattle.pf_anchor.specs.{declared.limits.TheConstants.{RULE_LIMIT}, Rulesets.Ruled, Tables.Tabled, Forms.{rule_list_form, rules_form, rulesets_form, plain_ruled, entries_form, named_form, plain_named, placed_form, kept_tables_form, plain_tabled, ruled_length, tabled_length}}
+use Rattle.pf_table.specs.{Entries.PlainEntry, EntryForms.{entry, plain_entry}, Laws.EntryForms.entry_long}
+use Rattle.pf_anchor.specs.{declared.limits.TheConstants.{RULE_LIMIT}, Rulesets.PlainPlaced, Tables.PlainPlacedTable, Forms.{rule_list_form, rules_form, rulesets_form, plain_ruled, entries_form, named_form, plain_named, placed_form, kept_tables_form, plain_tabled, ruled_length, tabled_length}}
 
 sum_of-map : {A B : Type 0} (f : B → ℕ) (g : A → B) (xs : List A) → sum_by f (map g xs) ≡ sum_by (λ x. f (g x)) xs
 sum_of-map f g [] = refl
@@ -27,21 +28,21 @@ rules_sum version (r ∷ rs) are =
       rules_sum version rs (All-tail IsRule r rs are),
     )
 
-entries_sum : (es : List Row) → sum_by (length_of entry) (map plain_entry es) ≡ 20 * length es
+entries_sum : (es : List PlainEntry) → sum_by (length_of entry) (map plain_entry es) ≡ 20 * length es
 entries_sum [] = refl
 entries_sum (e ∷ es) = omega (arith, sum_by-cons (length_of entry) (plain_entry e) (map plain_entry es), entry_long e, entries_sum es)
 
 -- ---- a ruleset, and a table
 
-pub ruled_long : (version : ℕ) (r : Ruled) → All IsRule r.1 → ruled_length version r ≡ 5 + length r.0 + 204 * length r.1
+pub ruled_long : (version : ℕ) (r : PlainPlaced) → All IsRule r.1 → ruled_length version r ≡ 5 + length r.0 + 204 * length r.1
 unfolding rules_form rule_list_form path_form
 ruled_long version r are = omega (arith, ones r.0, rules_sum version r.1 are)
 
-pub named_long : (name : List ℕ) (es : List Row) → length_of named_form (plain_named (name, es)) ≡ 5 + length name + 20 * length es
+pub named_long : (name : List ℕ) (es : List PlainEntry) → length_of named_form (plain_named (name, es)) ≡ 5 + length name + 20 * length es
 unfolding named_form entries_form table_name_form
 named_long name es = omega (arith, ones name, entries_sum es)
 
-pub tabled_long : (t : Tabled) → tabled_length t ≡ 6 + length t.0.0 + length t.0.1 + 20 * length t.1
+pub tabled_long : (t : PlainPlacedTable) → tabled_length t ≡ 6 + length t.0.0 + length t.0.1 + 20 * length t.1
 unfolding placed_form named_form entries_form path_form table_name_form
 tabled_long t = omega (arith, ones t.0.0, ones t.0.1, entries_sum t.1)
 
@@ -69,10 +70,10 @@ path_short p is = (path_fits p is).0.0
 -- ---- all of them
 
 -- the same in each version, as rules are
-pub rulesets_long : (version : ℕ) (rs : List Ruled) → length_of (rulesets_form version) (map plain_ruled rs) ≡ 4 + sum_by (ruled_length 1) rs
+pub rulesets_long : (version : ℕ) (rs : List PlainPlaced) → length_of (rulesets_form version) (map plain_ruled rs) ≡ 4 + sum_by (ruled_length 1) rs
 unfolding rulesets_form rules_form rule_list_form rule_layout
 rulesets_long version rs = ap (λ (n : ℕ). 4 + n) (sum_of-map (length_of (rules_form version)) plain_ruled rs)
 
-pub tables_long : (ts : List Tabled) → length_of kept_tables_form (map plain_tabled ts) ≡ 4 + sum_by tabled_length ts
+pub tables_long : (ts : List PlainPlacedTable) → length_of kept_tables_form (map plain_tabled ts) ≡ 4 + sum_by tabled_length ts
 unfolding kept_tables_form
 tables_long ts = ap (λ (n : ℕ). 4 + n) (sum_of-map (length_of placed_form) plain_tabled ts)

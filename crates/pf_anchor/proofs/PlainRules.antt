@@ -3,23 +3,23 @@ use Rattle.std.proofs.Common.{◌≡◌, ◌⊎◌, inl, inr, ℕ, suc, ◌+◌,
 use Rattle.std.specs.List.{list_all, list_any}
 use Rattle.pf_addr.specs.Path.Paths.{main}
 use Rattle.pf_rule.specs.{Rules.PlainRule, declared.{rule.Action.Action, rule.Effect.Effect, rule.Effect.TheVariants.Decide, rule.Effect.TheVariants.Evaluate}}
-use Rattle.pf_anchor.specs.{declared.{evaluated.Evaluated.Evaluated, evaluated.Evaluated.TheVariants.Open, evaluated.Evaluated.TheVariants.Ended}, Matches.{PlainMatch, found}, Rulesets.{Ruled, ruled, rules_at}, Evaluation.{and_then, settled, effected, rules_give, evaluation, matching, last_of, verdict_by}, Laws.Evaluation.{IsDeciding, TellsWhatDecides, decides}}
+use Rattle.pf_anchor.specs.{declared.{evaluated.Evaluated.Evaluated, evaluated.Evaluated.TheVariants.Open, evaluated.Evaluated.TheVariants.Ended}, Matches.{PlainMatch, found}, Rulesets.{PlainPlaced, ruled, rules_at}, Evaluation.{and_then, settled, effected, rules_give, evaluation, matching, last_of, verdict_by}, Laws.Evaluation.{IsDeciding, TellsWhatDecides, decides}}
 use Rattle.pf_anchor.proofs.Evaluations.{none_and_then, unrolled}
 
 -- what rules give from a number on: nothing, or the rule that decides
-abbrev Found : (PlainRule → Bool) → List ℕ → ℕ → List PlainRule → Evaluated PlainMatch → Type 0
-Found test p k rules x =
+abbrev GivesDeciding : (PlainRule → Bool) → List ℕ → ℕ → List PlainRule → Evaluated PlainMatch → Type 0
+GivesDeciding test p k rules x =
     ((list_any test rules ≡ false) × (x ≡ Open None))
     ⊎ ((n : ℕ) × ((r : PlainRule) × ((a : Action) × (IsDeciding test rules n r × (r.effect ≡ Decide a) × (last_of x ≡ Some (found p (k + n) a))))))
 
 -- a rule that decides, and is the first
-here : (test : PlainRule → Bool) (p : List ℕ) (k : ℕ) (r : PlainRule) (rs : List PlainRule) (x : Evaluated PlainMatch) (a : Action) → test r ≡ true → r.effect ≡ Decide a → (r.quick ≡ true) ⊎ (list_any test rs ≡ false) → last_of x ≡ Some (found p k a) → Found test p k (r ∷ rs) x
+here : (test : PlainRule → Bool) (p : List ℕ) (k : ℕ) (r : PlainRule) (rs : List PlainRule) (x : Evaluated PlainMatch) (a : Action) → test r ≡ true → r.effect ≡ Decide a → (r.quick ≡ true) ⊎ (list_any test rs ≡ false) → last_of x ≡ Some (found p k a) → GivesDeciding test p k (r ∷ rs) x
 here test p k r rs x a m decide stands last =
     let at : k ≡ k + 0 = omega arith in
     inr (0, (r, (a, (record { before = []; behind = rs; all = refl; numbered = refl; matches = m; not_ended = refl; stands = stands }, decide, last ∙ ap (λ (n : ℕ). Some (found p n a)) at))))
 
 -- a rule that decides behind one that doesn't end the evaluation
-further : (test : PlainRule → Bool) (p : List ℕ) (k : ℕ) (x : PlainRule) (xs : List PlainRule) (n : ℕ) (r : PlainRule) (a : Action) (y : Evaluated PlainMatch) → not (test x && x.quick) ≡ true → IsDeciding test xs n r → r.effect ≡ Decide a → last_of y ≡ Some (found p (k + 1 + n) a) → Found test p k (x ∷ xs) y
+further : (test : PlainRule → Bool) (p : List ℕ) (k : ℕ) (x : PlainRule) (xs : List PlainRule) (n : ℕ) (r : PlainRule) (a : Action) (y : Evaluated PlainMatch) → not (test x && x.quick) ≡ true → IsDeciding test xs n r → r.effect ≡ Decide a → last_of y ≡ Some (found p (k + 1 + n) a) → GivesDeciding test p k (x ∷ xs) y
 further test p k x xs n r a y passed is decide last =
     let at : k + 1 + n ≡ k + suc n = omega arith in
     inr (suc n, (r, (a, (record { before = x ∷ is.before; behind = is.behind; all = ap (λ rs. x ∷ rs) is.all; numbered = ap suc is.numbered; matches = is.matches; not_ended = rw passed is.not_ended; stands = is.stands }, decide, last ∙ ap (λ (m : ℕ). Some (found p m a)) at))))
@@ -30,8 +30,8 @@ then_stands m d (Ended e) h = h
 then_stands m d (Open None) h = absurd (cc (h))
 then_stands m d (Open (Some e)) h = h
 
-step : (f : Ruled → Evaluated PlainMatch) (c : List Ruled) (test : PlainRule → Bool) (p : List ℕ) (k : ℕ) (x : PlainRule) (xs : List PlainRule) (y : Evaluated PlainMatch) (m q : Bool) (e : Effect) → test x ≡ m → x.quick ≡ q → x.effect ≡ e → decides x ≡ true →
-    Found test p (k + 1) xs y → Found test p k (x ∷ xs) (and_then (cond m (settled q (effected f c p k e)) (Open None)) y)
+step : (f : PlainPlaced → Evaluated PlainMatch) (c : List PlainPlaced) (test : PlainRule → Bool) (p : List ℕ) (k : ℕ) (x : PlainRule) (xs : List PlainRule) (y : Evaluated PlainMatch) (m q : Bool) (e : Effect) → test x ≡ m → x.quick ≡ q → x.effect ≡ e → decides x ≡ true →
+    GivesDeciding test p (k + 1) xs y → GivesDeciding test p k (x ∷ xs) (and_then (cond m (settled q (effected f c p k e)) (Open None)) y)
 step f c test p k x xs y m q (Evaluate s) is quick effect plain rest = absurd (cc (rw effect at plain))
 step f c test p k x xs y true true (Decide a) is quick effect plain rest = here test p k x xs (Ended (found p k a)) a is effect (inl quick) refl
 step f c test p k x xs y true false (Decide a) is quick effect plain (inl none) =
@@ -46,7 +46,7 @@ both : (a b : Bool) → (a && b) ≡ true → (a ≡ true) × (b ≡ true)
 both true b h = (refl, h)
 both false b h = absurd (cc (h))
 
-finds : (f : Ruled → Evaluated PlainMatch) (c : List Ruled) (test : PlainRule → Bool) (p : List ℕ) (k : ℕ) (rules : List PlainRule) → list_all decides rules ≡ true → Found test p k rules (rules_give (λ n r. effected f c p n r.effect) test k rules)
+finds : (f : PlainPlaced → Evaluated PlainMatch) (c : List PlainPlaced) (test : PlainRule → Bool) (p : List ℕ) (k : ℕ) (rules : List PlainRule) → list_all decides rules ≡ true → GivesDeciding test p k rules (rules_give (λ n r. effected f c p n r.effect) test k rules)
 finds f c test p k [] plain = inl (refl, refl)
 finds f c test p k (x ∷ xs) plain =
     let parts = both (decides x) (list_all decides xs) plain in

@@ -4,7 +4,7 @@ use Rattle.std.specs.{Prelude.{map, filter, is_some}, FinMap.{find, is_sorted, s
 use Rattle.pf_addr.proofs.PathsRead.{same_path_is}
 use Rattle.pf_addr.specs.{Path.Nested.is_child, Path.Paths.{path_order, same_path}}
 use Rattle.pf_rule.specs.Rules.{PlainRule}
-use Rattle.pf_anchor.specs.{Laws.Configurations.{ReplacesInTurn, StaysMap, OneMap, in_order, ChildrenHaveRules}, Rulesets.{Ruled, ruled, rules_in}}
+use Rattle.pf_anchor.specs.{Laws.Configurations.{ReplacesInTurn, StaysMap, OneMap, in_order, ChildrenHaveRules}, Rulesets.{PlainPlaced, ruled, rules_in}}
 use Rattle.pf_map.proofs.ListMaps.{lists_replaced, list_maps_stay, one_list_map}
 
 -- ---- replaced
@@ -21,7 +21,7 @@ one_map a b left right read = one_list_map PlainRule nat_list_cmp_total (slice_c
 -- ---- what is found
 
 -- the entry that is found at a path is the ruleset there
-pub ruleset_found : {B : Type 0} (now : B → Ruled) (found : Option B) (p : List ℕ) (v : Option (List PlainRule)) → option_map now found ≡ option_map (λ rs. (p, rs)) v → MatchOption found (rules_in v ≡ []) (λ b. now b ≡ ruled p (rules_in v))
+pub ruleset_found : {B : Type 0} (now : B → PlainPlaced) (found : Option B) (p : List ℕ) (v : Option (List PlainRule)) → option_map now found ≡ option_map (λ rs. (p, rs)) v → MatchOption found (rules_in v ≡ []) (λ b. now b ≡ ruled p (rules_in v))
 ruleset_found now None p None h = refl
 ruleset_found now None p (Some rs) h = absurd (cc (h))
 ruleset_found now (Some b) p None h = absurd (cc (h))
@@ -29,11 +29,11 @@ ruleset_found now (Some b) p (Some rs) h = cc (h)
 
 -- ---- children
 
-pub paths_kept : (test : List ℕ → Bool) (c : List Ruled) → filter test (map (λ (e : Ruled). e.0) c) ≡ map (λ (e : Ruled). e.0) (filter (λ e. test e.0) c)
+pub paths_kept : (test : List ℕ → Bool) (c : List PlainPlaced) → filter test (map (λ (e : PlainPlaced). e.0) c) ≡ map (λ (e : PlainPlaced). e.0) (filter (λ e. test e.0) c)
 paths_kept test [] = refl
 paths_kept test (e ∷ c) = by (test e.0) (paths_kept test c) where
-  by : (b : Bool) → filter test (map (λ (x : Ruled). x.0) c) ≡ map (λ (x : Ruled). x.0) (filter (λ x. test x.0) c) →
-      cond b (e.0 ∷ filter test (map (λ (x : Ruled). x.0) c)) (filter test (map (λ (x : Ruled). x.0) c)) ≡ map (λ (x : Ruled). x.0) (cond b (e ∷ filter (λ x. test x.0) c) (filter (λ x. test x.0) c))
+  by : (b : Bool) → filter test (map (λ (x : PlainPlaced). x.0) c) ≡ map (λ (x : PlainPlaced). x.0) (filter (λ x. test x.0) c) →
+      cond b (e.0 ∷ filter test (map (λ (x : PlainPlaced). x.0) c)) (filter test (map (λ (x : PlainPlaced). x.0) c)) ≡ map (λ (x : PlainPlaced). x.0) (cond b (e ∷ filter (λ x. test x.0) c) (filter (λ x. test x.0) c))
   by true rest = ap (λ (paths : List (List ℕ)). e.0 ∷ paths) rest
   by false rest = rest
 
@@ -50,11 +50,11 @@ second_holds true b p = p
 second_holds false b p = absurd p
 
 -- the paths of a map stand in its order
-below_keys : (k : List ℕ) (es : List Ruled) → T (below_all path_order k es) → T (below_all path_order k (map (λ q. ruled q []) (map (λ (e : Ruled). e.0) es)))
+below_keys : (k : List ℕ) (es : List PlainPlaced) → T (below_all path_order k es) → T (below_all path_order k (map (λ q. ruled q []) (map (λ (e : PlainPlaced). e.0) es)))
 below_keys k [] h = h
 below_keys k (e ∷ es) h = both_hold _ _ (first_holds _ _ h) (below_keys k es (second_holds _ _ h))
 
-keys_sorted : (es : List Ruled) → T (is_sorted path_order es) → T (in_order (map (λ (e : Ruled). e.0) es))
+keys_sorted : (es : List PlainPlaced) → T (is_sorted path_order es) → T (in_order (map (λ (e : PlainPlaced). e.0) es))
 keys_sorted [] h = h
 keys_sorted (e ∷ es) h = both_hold _ _ (below_keys e.0 es (first_holds _ _ h)) (keys_sorted es (second_holds _ _ h))
 
@@ -67,6 +67,6 @@ pub children_have_rules : ChildrenHaveRules
 children_have_rules c p is = record {
   ordered = subst (λ (paths : List (List ℕ)). T (in_order paths)) (sym (paths_kept (is_child p) c)) (keys_sorted (filter (λ e. is_child p e.0) c) (is_sorted-where_key path_order (is_child p) c is.sorted));
   each = λ q.
-      any-filter_same (same_path q) (is_child p) (is_child p q) (λ k same. ap (is_child p) (sym (same_path_is q k same))) (map (λ (e : Ruled). e.0) c)
+      any-filter_same (same_path q) (is_child p) (is_child p q) (λ k same. ap (is_child p) (sym (same_path_is q k same))) (map (λ (e : PlainPlaced). e.0) c)
       ∙ ap (λ (b : Bool). is_child p q && b) (sym (is_some-find path_order q c) ∙ has_rules (find path_order q c) (is.filled q));
 }

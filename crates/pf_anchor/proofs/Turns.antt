@@ -5,10 +5,10 @@ use Rattle.pf_addr.specs.declared.path.limits.TheConstants.{DEPTH_LIMIT}
 use Rattle.pf_addr.specs.{Path.Paths.{path_order, same_path, is_path}, Path.Nested.{depth, path_within, is_child}, Path.References.PlainReference}
 use Rattle.pf_addr.proofs.{PathsRead.same_path_is, Nesting.{path_few, has_one_more}}
 use Rattle.pf_rule.specs.Rules.{PlainRule}
-use Rattle.pf_anchor.specs.{declared.{evaluated.Evaluated.Evaluated, evaluated.Evaluated.TheVariants.Open}, Rulesets.{Ruled, ruled, rules_in, rules_at, leads_from, targets, children}, Evaluation.{and_then, settled, rules_give, in_turn}}
+use Rattle.pf_anchor.specs.{declared.{evaluated.Evaluated.Evaluated, evaluated.Evaluated.TheVariants.Open}, Rulesets.{PlainPlaced, ruled, rules_in, rules_at, leads_from, targets, children}, Evaluation.{and_then, settled, rules_give, in_turn}}
 use Rattle.pf_anchor.proofs.Evaluations.{none_and_then, and_then_none, and_then_assoc}
 
-pub placed_is : (e : Ruled) (p : List ℕ) (es rest : List Ruled) → same_path p e.0 ≡ true → rules_at p es ≡ rules_at p (e ∷ rest) → e ≡ ruled p (rules_at p es)
+pub placed_is : (e : PlainPlaced) (p : List ℕ) (es rest : List PlainPlaced) → same_path p e.0 ≡ true → rules_at p es ≡ rules_at p (e ∷ rest) → e ≡ ruled p (rules_at p es)
 placed_is e p es rest same found =
     let here : rules_at p es ≡ e.1 = found ∙ rw same refl in
     ap (λ (q : List ℕ). ruled q e.1) (sym (same_path_is p e.0 same)) ∙ ap (λ (rs : List PlainRule). ruled p rs) (sym here)
@@ -19,7 +19,7 @@ pub then_open : {M : Type 0} (last latest : Option M) (x : Evaluated M) → and_
 then_open last None x = ap (and_then (Open last)) (none_and_then x)
 then_open last (Some m) x = sym (and_then_assoc (Open last) (Open (Some m)) x)
 
-pub turns_append : {M : Type 0} (f : Ruled → Evaluated M) (a b : List Ruled) → in_turn f (a ++ b) ≡ and_then (in_turn f a) (in_turn f b)
+pub turns_append : {M : Type 0} (f : PlainPlaced → Evaluated M) (a b : List PlainPlaced) → in_turn f (a ++ b) ≡ and_then (in_turn f a) (in_turn f b)
 turns_append f [] b = sym (none_and_then (in_turn f b))
 turns_append f (e ∷ a) b = ap (and_then (f e)) (turns_append f a b) ∙ sym (and_then_assoc (f e) (in_turn f a) (in_turn f b))
 
@@ -40,32 +40,32 @@ rule_passed effect test last n rules r rest left is =
     ∙ ap (and_then (Open last)) (none_and_then (rules_give effect test (n + 1) rest))
 
 -- a ruleset before others: it is a child and the evaluation goes on or ends with it, or it is none
-pub child_step : {M : Type 0} (f : Ruled → Evaluated M) (test : Ruled → Bool) (last : Option M) (e : Ruled) (rest : List Ruled) (x : Evaluated M) →
+pub child_step : {M : Type 0} (f : PlainPlaced → Evaluated M) (test : PlainPlaced → Bool) (last : Option M) (e : PlainPlaced) (rest : List PlainPlaced) (x : Evaluated M) →
     test e ≡ true → x ≡ f e → and_then (Open last) (in_turn f (filter test (e ∷ rest))) ≡ and_then (Open last) (and_then x (in_turn f (filter test rest)))
 child_step {M} f test last e rest x is gives =
     ap (λ (b : Bool). and_then (Open last) (in_turn f (cond b (e ∷ filter test rest) (filter test rest)))) is
     ∙ ap (λ (y : Evaluated M). and_then (Open last) (and_then y (in_turn f (filter test rest)))) (sym gives)
 
-pub no_child_step : {M : Type 0} (f : Ruled → Evaluated M) (test : Ruled → Bool) (last : Option M) (e : Ruled) (rest : List Ruled) →
+pub no_child_step : {M : Type 0} (f : PlainPlaced → Evaluated M) (test : PlainPlaced → Bool) (last : Option M) (e : PlainPlaced) (rest : List PlainPlaced) →
     test e ≡ false → and_then (Open last) (in_turn f (filter test (e ∷ rest))) ≡ and_then (Open last) (in_turn f (filter test rest))
 no_child_step f test last e rest is = ap (λ (b : Bool). and_then (Open last) (in_turn f (cond b (e ∷ filter test rest) (filter test rest)))) is
 
 -- ---- what a reference leads to
 
-filter_none : (c : List Ruled) → filter (λ e. false) c ≡ []
+filter_none : (c : List PlainPlaced) → filter (λ e. false) c ≡ []
 filter_none [] = refl
 filter_none (e ∷ c) = filter_none c
 
-pub no_targets : (c : List Ruled) (p : List ℕ) (r : PlainReference) → path_within p r.names ≡ None → targets c p r ≡ []
+pub no_targets : (c : List PlainPlaced) (p : List ℕ) (r : PlainReference) → path_within p r.names ≡ None → targets c p r ≡ []
 no_targets c p r none = ap (λ (base : Option (List ℕ)). filter (λ e. option_map_or (λ b. leads_from b r.wildcard e.0) base false) c) none ∙ filter_none c
 
-pub targets_from : (c : List Ruled) (p : List ℕ) (r : PlainReference) (base : List ℕ) (wildcard : Bool) → path_within p r.names ≡ Some base → r.wildcard ≡ wildcard → targets c p r ≡ filter (λ e. leads_from base wildcard e.0) c
+pub targets_from : (c : List PlainPlaced) (p : List ℕ) (r : PlainReference) (base : List ℕ) (wildcard : Bool) → path_within p r.names ≡ Some base → r.wildcard ≡ wildcard → targets c p r ≡ filter (λ e. leads_from base wildcard e.0) c
 targets_from c p r base wildcard at is =
     ap (λ (o : Option (List ℕ)). filter (λ e. option_map_or (λ b. leads_from b r.wildcard e.0) o false) c) at ∙ ap (λ (w : Bool). filter (λ e. leads_from base w e.0) c) is
 
 -- ---- the ruleset at a path
 
-abbrev pub alone : List ℕ → Option (List PlainRule) → List Ruled
+abbrev pub alone : List ℕ → Option (List PlainRule) → List PlainPlaced
 alone p None = []
 alone p (Some rs) = ruled p rs ∷ []
 
@@ -82,11 +82,11 @@ sorted_alone : (p : List ℕ) (v : Option (List PlainRule)) → T (is_sorted pat
 sorted_alone p None = tt
 sorted_alone p (Some rs) = tt
 
-found_there : (c : List Ruled) (p q : List ℕ) (b : Bool) → same_path p q ≡ b → cond b (find path_order q c) None ≡ cond b (find path_order p c) None
+found_there : (c : List PlainPlaced) (p q : List ℕ) (b : Bool) → same_path p q ≡ b → cond b (find path_order q c) None ≡ cond b (find path_order p c) None
 found_there c p q true is = ap (λ (k : List ℕ). find path_order k c) (sym (same_path_is p q is))
 found_there c p q false is = refl
 
-pub one_there : (c : List Ruled) (p : List ℕ) → T (is_sorted path_order c) → filter (λ e. same_path p e.0) c ≡ alone p (find path_order p c)
+pub one_there : (c : List PlainPlaced) (p : List ℕ) → T (is_sorted path_order c) → filter (λ e. same_path p e.0) c ≡ alone p (find path_order p c)
 one_there c p sorted =
     same_entries path_order nat_list_cmp_total (slice_cmp-IsAntisymmetric nat_cmp-IsAntisymmetric) (filter (λ e. same_path p e.0) c) (alone p (find path_order p c))
     (is_sorted-where_key path_order (same_path p) c sorted) (sorted_alone p (find path_order p c))
@@ -95,7 +95,7 @@ one_there c p sorted =
     ∙ found_there c p q (same_path p q) refl
     ∙ sym (found_alone p q (same_path p q) (find path_order p c) refl))
 
-pub plain_turn : {M : Type 0} (f : Ruled → Evaluated M) (c : List Ruled) (p : List ℕ) → T (is_sorted path_order c) → f (ruled p []) ≡ Open None → in_turn f (filter (λ e. same_path p e.0) c) ≡ f (ruled p (rules_at p c))
+pub plain_turn : {M : Type 0} (f : PlainPlaced → Evaluated M) (c : List PlainPlaced) (p : List ℕ) → T (is_sorted path_order c) → f (ruled p []) ≡ Open None → in_turn f (filter (λ e. same_path p e.0) c) ≡ f (ruled p (rules_at p c))
 plain_turn f c p sorted nothing = ap (in_turn f) (one_there c p sorted) ∙ by (find path_order p c) where
   by : (v : Option (List PlainRule)) → in_turn f (alone p v) ≡ f (ruled p (rules_in v))
   by None = sym nothing
@@ -108,5 +108,5 @@ child_deeper p q is path = let more = (has_one_more p q is).1.2 in (omega (arith
 
 -- ---- children
 
-pub children_append : (a b : List Ruled) (p : List ℕ) → children (a ++ b) p ≡ children a p ++ children b p
-children_append a b p = ap (filter (is_child p)) (map-append (λ (e : Ruled). e.0) a b) ∙ filter-append (is_child p) (map (λ (e : Ruled). e.0) a) (map (λ (e : Ruled). e.0) b)
+pub children_append : (a b : List PlainPlaced) (p : List ℕ) → children (a ++ b) p ≡ children a p ++ children b p
+children_append a b p = ap (filter (is_child p)) (map-append (λ (e : PlainPlaced). e.0) a b) ∙ filter-append (is_child p) (map (λ (e : PlainPlaced). e.0) a) (map (λ (e : PlainPlaced). e.0) b)

@@ -1,24 +1,24 @@
 -- What is active: rulesets and tables at paths (pf.conf(5), ANCHORS and TABLES).
 use Rattle.std.specs.Prelude.{List, [], fold}
-use Rattle.pf_anchor.specs.{Rulesets.{Ruled, IsMap, with_rules}, Tables.{Tabled, IsTableMap, with_table}}
+use Rattle.pf_anchor.specs.{Rulesets.{PlainPlaced, IsMap, with_rules}, Tables.{PlainPlacedTable, IsTableMap, with_table}}
 
-pub record Configuration : Type 0 where
-  pub rulesets : List Ruled
-  pub tables : List Tabled
+pub record PlainConfig : Type 0 where
+  pub rulesets : List PlainPlaced
+  pub tables : List PlainPlacedTable
 
 -- no rules and no tables
-abbrev pub nothing : Configuration
+abbrev pub nothing : PlainConfig
 nothing = record { rulesets = []; tables = [] }
 
 -- after these rulesets were replaced in turn
-abbrev pub with_rulesets : Configuration → List Ruled → Configuration
+abbrev pub with_rulesets : PlainConfig → List PlainPlaced → PlainConfig
 with_rulesets c items = record { rulesets = fold with_rules c.rulesets items; tables = c.tables }
 
 -- after these tables were replaced in turn
-abbrev pub with_tables : Configuration → List Tabled → Configuration
+abbrev pub with_tables : PlainConfig → List PlainPlacedTable → PlainConfig
 with_tables c items = record { rulesets = c.rulesets; tables = fold with_table c.tables items }
 
 -- both are maps
-pub record IsConfiguration (c : Configuration) : Type 0 where
+pub record IsConfiguration (c : PlainConfig) : Type 0 where
   pub rulesets : IsMap c.rulesets
   pub tables : IsTableMap c.tables

@@ -4,7 +4,7 @@ use Rattle.std.specs.Prelude.{ℕ, zero, suc, ◌+◌, ◌-◌, Bool, cond, List
 use Rattle.pf_addr.specs.declared.path.limits.TheConstants.{DEPTH_LIMIT}
 use Rattle.pf_addr.specs.{Path.Paths.main, Path.Nested.depth}
 use Rattle.pf_rule.specs.{Packets.PlainPacket, Rules.{PlainRule, matches}, declared.{rule.Effect.Effect, rule.Effect.TheVariants.Decide, rule.Effect.TheVariants.Evaluate}}
-use Rattle.pf_anchor.specs.{declared.{evaluated.Evaluated.Evaluated, evaluated.Evaluated.TheVariants.Open, evaluated.Evaluated.TheVariants.Ended, verdict.RuleVerdict.RuleVerdict}, Matches.{PlainMatch, found}, Rulesets.{Ruled, ruled, rules_at, targets}, Tables.{Tabled, tables_say}, Configurations.Configuration}
+use Rattle.pf_anchor.specs.{declared.{evaluated.Evaluated.Evaluated, evaluated.Evaluated.TheVariants.Open, evaluated.Evaluated.TheVariants.Ended, verdict.RuleVerdict.RuleVerdict}, Matches.{PlainMatch, found}, Rulesets.{PlainPlaced, ruled, rules_at, targets}, Tables.{PlainPlacedTable, tables_say}, Configurations.PlainConfig}
 use Rattle.pf_anchor.specs.declared.verdict.RuleVerdict.TheVariants as by
 
 -- ---- one after the other
@@ -32,7 +32,7 @@ rules_give effect test n [] = Open None
 rules_give effect test n (r ∷ rs) = and_then (rule_gives effect test n r) (rules_give effect test (n + 1) rs)
 
 -- rulesets in turn, by what each gives
-abbrev pub in_turn : {M : Type 0} → (Ruled → Evaluated M) → List Ruled → Evaluated M
+abbrev pub in_turn : {M : Type 0} → (PlainPlaced → Evaluated M) → List PlainPlaced → Evaluated M
 in_turn f [] = Open None
 in_turn f (e ∷ es) = and_then (f e) (in_turn f es)
 
@@ -47,31 +47,31 @@ abbrev pub Tests : Type 0
 Tests = List ℕ → PlainRule → Bool
 
 -- what rule n of the ruleset at p does where it matches: it decides, or the rulesets that it leads to are evaluated
-abbrev pub effected : (Ruled → Evaluated PlainMatch) → List Ruled → List ℕ → ℕ → Effect → Evaluated PlainMatch
+abbrev pub effected : (PlainPlaced → Evaluated PlainMatch) → List PlainPlaced → List ℕ → ℕ → Effect → Evaluated PlainMatch
 effected f c p n (Decide a) = Open (Some (found p n a))
 effected f c p n (Evaluate r) = in_turn f (targets c p r)
 
 -- the rules of the ruleset at p from this number on, by what each ruleset gives that they lead to
-abbrev pub rules_at_path : (Ruled → Evaluated PlainMatch) → List Ruled → Tests → List ℕ → ℕ → List PlainRule → Evaluated PlainMatch
+abbrev pub rules_at_path : (PlainPlaced → Evaluated PlainMatch) → List PlainPlaced → Tests → List ℕ → ℕ → List PlainRule → Evaluated PlainMatch
 rules_at_path f c tests p n rs = rules_give (λ k r. effected f c p k r.effect) (tests p) n rs
 
 -- a whole ruleset
-abbrev pub evaluate_with : (Ruled → Evaluated PlainMatch) → List Ruled → Tests → Ruled → Evaluated PlainMatch
+abbrev pub evaluate_with : (PlainPlaced → Evaluated PlainMatch) → List PlainPlaced → Tests → PlainPlaced → Evaluated PlainMatch
 evaluate_with f c tests e = rules_at_path f c tests e.0 0 e.1
 
 -- a ruleset with so many levels of rulesets within one another below it
-unfoldable pub levels : ℕ → List Ruled → Tests → Ruled → Evaluated PlainMatch
+unfoldable pub levels : ℕ → List PlainPlaced → Tests → PlainPlaced → Evaluated PlainMatch
 levels zero c tests e = evaluate_with (λ t. Open None) c tests e
 levels (suc d) c tests e = evaluate_with (levels d c tests) c tests e
 
 -- a ruleset: below a path there are as many levels as it may have further components
-unfoldable pub evaluation : List Ruled → Tests → Ruled → Evaluated PlainMatch
+unfoldable pub evaluation : List PlainPlaced → Tests → PlainPlaced → Evaluated PlainMatch
 evaluation c tests e = levels (DEPTH_LIMIT - depth e.0) c tests e
 
 -- ---- verdicts
 
 -- a rule matches a packet by its tests, with the tables as they are named at its ruleset's path
-abbrev pub matching : List Tabled → PlainPacket → Tests
+abbrev pub matching : List PlainPlacedTable → PlainPacket → Tests
 matching tables packet p r = matches (tables_say tables p) r packet
 
 -- the rule that decides, or the default pass
@@ -80,5 +80,5 @@ verdict_by None = by.Default
 verdict_by (Some m) = by.Rule m.path m.number m.action
 
 -- a packet is judged by the main ruleset, and where its anchor rules match by what they lead to
-abbrev pub judged : Configuration → PlainPacket → RuleVerdict
+abbrev pub judged : PlainConfig → PlainPacket → RuleVerdict
 judged c packet = verdict_by (last_of (evaluation c.rulesets (matching c.tables packet) (ruled main (rules_at main c.rulesets))))

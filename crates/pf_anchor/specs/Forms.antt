@@ -1,5 +1,5 @@
 -- Rulesets and tables in bytes, at their places: the forms of what a configuration keeps. Rules have one in each version, tables have the
--- same in all. Own.
+-- same in all.
 --
 --   a ruleset: its path, the number of its rules in four bytes, and each rule
 --   a table: its path, its name, the number of its entries in four bytes, and each entry
@@ -7,10 +7,11 @@
 -- Rulesets stand in the order of their paths, tables in that of their paths and at one path of their names, entries in that of their table,
 -- each behind their number in four bytes; so nothing stands twice. Among all rulesets and all tables none is empty.
 use Rattle.std.specs.{Prelude.{ℕ, ◌+◌, ◌==◌, ◌&&◌, not, nat_le, Bool, List, length, map}, List.list_all, Ordering.is_lt}
-use Rattle.pf_addr.specs.{Bytes.{Forms.{Shape, both, list, Value, Form, pair, counted, that, length_of}, Lists.ordered}, Path.{Paths.path_order, PathForms.{TextShape, path_form, table_name_form}}}
+use Rattle.pf_addr.specs.Path.{Paths.path_order, PathForms.{TextShape, path_form, table_name_form}}
+use Rattle.pf_form.specs.Bytes.{Forms.{Shape, both, list, Value, Form, pair, counted, that, length_of}, Lists.ordered}
 use Rattle.pf_rule.specs.Sum.{Layouts.{RuleShape, rule_layout, plain_rule}, Reading.rule_of}
-use Rattle.pf_table.specs.{declared.limits.TheConstants.{TABLE_LIMIT}, EntryForms.{EntryShape, entry, plain_entry, entry_of, entry_before}, Entries.Row}
-use Rattle.pf_anchor.specs.{declared.limits.TheConstants.{RULE_LIMIT, RULESET_LIMIT, TABLE_COUNT_LIMIT}, Configurations.Configuration, Rulesets.Ruled, Tables.{Tabled, tabled, table_order}}
+use Rattle.pf_table.specs.{declared.limits.TheConstants.{TABLE_LIMIT}, EntryForms.{EntryShape, entry, plain_entry, entry_of, entry_before}, Entries.PlainEntry}
+use Rattle.pf_anchor.specs.{declared.limits.TheConstants.{RULE_LIMIT, RULESET_LIMIT, TABLE_COUNT_LIMIT}, Configurations.PlainConfig, Rulesets.PlainPlaced, Tables.{PlainPlacedTable, placed_table, table_order}}
 
 abbrev pub at_most : {A : Type 0} → ℕ → List A → Bool
 at_most limit xs = nat_le (length xs) limit
@@ -39,10 +40,10 @@ are_rulesets rs = at_most RULESET_LIMIT rs && list_all (λ r. has_some r.1) rs
 unfoldable pub rulesets_form : ℕ → Form (list RulesShape)
 rulesets_form version = that are_rulesets (ordered ruleset_before 4 (rules_form version))
 
-abbrev pub plain_ruled : Ruled → Value RulesShape
+abbrev pub plain_ruled : PlainPlaced → Value RulesShape
 plain_ruled r = (r.0, map plain_rule r.1)
 
-abbrev pub ruled_in : Value RulesShape → Ruled
+abbrev pub ruled_in : Value RulesShape → PlainPlaced
 ruled_in v = (v.0, map rule_of v.1)
 
 -- ---- tables under their names
@@ -56,16 +57,16 @@ entries_form = that (at_most TABLE_LIMIT) (ordered entry_before 4 entry)
 unfoldable pub named_form : Form NamedShape
 named_form = pair table_name_form entries_form
 
-abbrev pub plain_entries : List Row → List (Value EntryShape)
+abbrev pub plain_entries : List PlainEntry → List (Value EntryShape)
 plain_entries es = map plain_entry es
 
-abbrev pub plain_named : List ℕ × List Row → Value NamedShape
+abbrev pub plain_named : List ℕ × List PlainEntry → Value NamedShape
 plain_named t = (t.0, plain_entries t.1)
 
-abbrev pub entries_in : List (Value EntryShape) → List Row
+abbrev pub entries_in : List (Value EntryShape) → List PlainEntry
 entries_in xs = map entry_of xs
 
-abbrev pub named_in : Value NamedShape → List ℕ × List Row
+abbrev pub named_in : Value NamedShape → List ℕ × List PlainEntry
 named_in v = (v.0, entries_in v.1)
 
 -- ---- tables at their paths
@@ -86,26 +87,26 @@ are_tables ts = at_most TABLE_COUNT_LIMIT ts && list_all (λ t. has_some t.1.1) 
 unfoldable pub kept_tables_form : Form (list PlacedShape)
 kept_tables_form = that are_tables (ordered placed_before 4 placed_form)
 
-abbrev pub plain_tabled : Tabled → Value PlacedShape
+abbrev pub plain_tabled : PlainPlacedTable → Value PlacedShape
 plain_tabled t = (t.0.0, plain_named (t.0.1, t.1))
 
-abbrev pub tabled_in : Value PlacedShape → Tabled
-tabled_in v = tabled v.0 v.1.0 (entries_in v.1.1)
+abbrev pub tabled_in : Value PlacedShape → PlainPlacedTable
+tabled_in v = placed_table v.0 v.1.0 (entries_in v.1.1)
 
 -- ---- both
 
 -- rulesets and tables, each of them a map
-abbrev pub configured : List Ruled → List Tabled → Configuration
+abbrev pub configured : List PlainPlaced → List PlainPlacedTable → PlainConfig
 configured rs ts = record { rulesets = rs; tables = ts }
 
 -- ---- how many bytes they take
 
-abbrev pub ruled_length : ℕ → Ruled → ℕ
+abbrev pub ruled_length : ℕ → PlainPlaced → ℕ
 ruled_length version r = length_of (rules_form version) (plain_ruled r)
 
-abbrev pub tabled_length : Tabled → ℕ
+abbrev pub tabled_length : PlainPlacedTable → ℕ
 tabled_length t = length_of placed_form (plain_tabled t)
 
 -- all of them, behind their numbers
-abbrev pub config_length : ℕ → Configuration → ℕ
+abbrev pub config_length : ℕ → PlainConfig → ℕ
 config_length version c = length_of (rulesets_form version) (map plain_ruled c.rulesets) + length_of kept_tables_form (map plain_tabled c.tables)

@@ -5,31 +5,31 @@ use Rattle.pf_rule.specs.Rules.{PlainRule}
 use Rattle.pf_map.specs.ListMaps.{list_in, list_at, with_list, IsListMap}
 
 -- a path and the rules there
-abbrev pub Ruled : Type 0
-Ruled = List ℕ × List PlainRule
+abbrev pub PlainPlaced : Type 0
+PlainPlaced = List ℕ × List PlainRule
 
-abbrev pub ruled : List ℕ → List PlainRule → Ruled
+abbrev pub ruled : List ℕ → List PlainRule → PlainPlaced
 ruled p rs = (p, rs)
 
 -- the map with the rules at one path replaced; an empty ruleset has no entry
-abbrev pub with_rules : List Ruled → Ruled → List Ruled
+abbrev pub with_rules : List PlainPlaced → PlainPlaced → List PlainPlaced
 with_rules es e = with_list path_order es e
 
 abbrev pub rules_in : Option (List PlainRule) → List PlainRule
 rules_in v = list_in v
 
 -- the rules at a path: none where it has no entry
-abbrev pub rules_at : List ℕ → List Ruled → List PlainRule
+abbrev pub rules_at : List ℕ → List PlainPlaced → List PlainRule
 rules_at p es = list_at path_order p es
 
 -- entries in the order of their paths, none of them twice; each is then what is found at its path, and so has rules
-abbrev pub IsMap : List Ruled → Type 0
+abbrev pub IsMap : List PlainPlaced → Type 0
 IsMap es = IsListMap path_order es
 
 -- ---- rulesets that others lead to
 
 -- the children of a path: the paths of one component more that have rules, in order
-abbrev pub children : List Ruled → List ℕ → List (List ℕ)
+abbrev pub children : List PlainPlaced → List ℕ → List (List ℕ)
 children c p = filter (is_child p) (map (λ e. e.0) c)
 
 -- to the ruleset at a path, or by a wildcard to its children
@@ -41,5 +41,5 @@ abbrev pub leads_to : List ℕ → PlainReference → List ℕ → Bool
 leads_to p r q = option_map_or (λ base. leads_from base r.wildcard q) (path_within p r.names) false
 
 -- the rulesets that it leads to, in order
-abbrev pub targets : List Ruled → List ℕ → PlainReference → List Ruled
+abbrev pub targets : List PlainPlaced → List ℕ → PlainReference → List PlainPlaced
 targets c p r = filter (λ e. leads_to p r e.0) c

@@ -3,7 +3,7 @@
 use Rattle.std.specs.{Prelude.{ℕ, Bool, false, List, Option, filter}, FinMap.find, Option.{option_map_or, option_or}}
 use Rattle.std.specs.declared.cmp.Ordering.{Ordering}
 use Rattle.pf_addr.specs.declared.addr.Addr.{Addr}
-use Rattle.pf_table.specs.{Entries.Row, Tables.table_holds}
+use Rattle.pf_table.specs.{Entries.PlainEntry, Tables.table_holds}
 use Rattle.pf_map.specs.{Pairs.pair_order, ListMaps.{list_at, with_list, IsListMap}}
 use Rattle.pf_addr.specs.{Path.Names.name_order, Path.Paths.{main, path_order, same_path}}
 
@@ -16,39 +16,39 @@ abbrev pub table_order : TableKey → TableKey → Ordering
 table_order = pair_order path_order name_order
 
 -- where a table is, and its entries
-abbrev pub Tabled : Type 0
-Tabled = TableKey × List Row
+abbrev pub PlainPlacedTable : Type 0
+PlainPlacedTable = TableKey × List PlainEntry
 
-abbrev pub tabled : List ℕ → List ℕ → List Row → Tabled
-tabled p name es = ((p, name), es)
+abbrev pub placed_table : List ℕ → List ℕ → List PlainEntry → PlainPlacedTable
+placed_table p name es = ((p, name), es)
 
 -- tables in the order of their paths and names, none of them twice and none of them empty
-abbrev pub IsTableMap : List Tabled → Type 0
+abbrev pub IsTableMap : List PlainPlacedTable → Type 0
 IsTableMap = IsListMap table_order
 
 -- the map with the table at one path and name replaced, or taken out where the new one is empty
-abbrev pub with_table : List Tabled → Tabled → List Tabled
+abbrev pub with_table : List PlainPlacedTable → PlainPlacedTable → List PlainPlacedTable
 with_table = with_list table_order
 
 -- the table at this path and name, where there is one
-abbrev pub table_found : List ℕ → List ℕ → List Tabled → Option (List Row)
+abbrev pub table_found : List ℕ → List ℕ → List PlainPlacedTable → Option (List PlainEntry)
 table_found p name ts = find table_order (p, name) ts
 
 -- its entries: none where there is no table
-abbrev pub table_at : List ℕ → List ℕ → List Tabled → List Row
+abbrev pub table_at : List ℕ → List ℕ → List PlainPlacedTable → List PlainEntry
 table_at p name ts = list_at table_order (p, name) ts
 
 -- the tables at this path, in the order of their names
-abbrev pub tables_at : List ℕ → List Tabled → List Tabled
+abbrev pub tables_at : List ℕ → List PlainPlacedTable → List PlainPlacedTable
 tables_at p ts = filter (λ t. same_path p t.0.0) ts
 
 -- ---- the table that a rule names
 
 -- the table of a name, as the rules of the ruleset at p name it: the one at p where it exists, else the main ruleset's; no path in between
 -- is asked
-abbrev pub named_table : List Tabled → List ℕ → List ℕ → Option (List Row)
+abbrev pub named_table : List PlainPlacedTable → List ℕ → List ℕ → Option (List PlainEntry)
 named_table ts p name = option_or (table_found p name ts) (table_found main name ts)
 
 -- what tables say to these rules: whether the table of a name matches an address; none where there is no table
-abbrev pub tables_say : List Tabled → List ℕ → List ℕ → Addr → Bool
+abbrev pub tables_say : List PlainPlacedTable → List ℕ → List ℕ → Addr → Bool
 tables_say ts p name a = option_map_or (λ es. table_holds es a) (named_table ts p name) false

@@ -1,6 +1,6 @@
 //! What is active: rulesets and tables.
 ghost use Rattle.std.specs.{Prelude.{◌≡◌, ◌<◌, ◌^◌, ℕ, [], ◌∷◌, length, IfOk, nat_lt}, Option.{MatchOption, option_map}};
-ghost use Rattle.pf_anchor.specs.{Forms.{config_length, configured}, Tables.{tabled, table_found, tables_at, named_table, IsTableMap}, Rulesets.{ruled, rules_at, children, IsMap}, Configurations.{nothing, with_rulesets, with_tables}, Limits.{ruleset_refusal, table_refusal}, Evaluation.judged};
+ghost use Rattle.pf_anchor.specs.{Forms.{config_length, configured}, Tables.{placed_table, table_found, tables_at, named_table, IsTableMap}, Rulesets.{ruled, rules_at, children, IsMap}, Configurations.{nothing, with_rulesets, with_tables}, Limits.{ruleset_refusal, table_refusal}, Evaluation.judged};
 ghost use Rattle.pf_addr.specs.Refusing.{Refuses};
 ghost use Rattle.pf_anchor.specs.declared.fault.ConfigFault.TheVariants.{Memory};
 
@@ -18,7 +18,7 @@ use pf_table::Table;
 use std::alloc::{AllocError, Global};
 use std::marker::Model;
 
-/// What is active: the rulesets and the tables, each at its path. Contracts see it as a `Configuration`.
+/// What is active: the rulesets and the tables, each at its path. Contracts see it as a `PlainConfig`.
 pub struct Config {
     rulesets: Rulesets,
     tables: Tables,
@@ -34,9 +34,9 @@ impl Drop for Config {
 }
 
 impl Model for Config {
-    ghost use Rattle.pf_anchor.specs.Configurations.{Configuration};
+    ghost use Rattle.pf_anchor.specs.Configurations.{PlainConfig};
 
-    ghost Value = { Configuration };
+    ghost Value = { PlainConfig };
 
     ghost view = { λ c. record { rulesets = c.rulesets; tables = c.tables } };
 }
@@ -145,8 +145,8 @@ impl Config {
         name: &TableName,
         table: &Table,
     ) -> Result<Config, ConfigFault>
-        ensures whole { IfOk result (λ c. c ≡ with_tables self.now (tabled path.now name.now table.now ∷ [])) }
-        ensures refused { Refuses Memory result (table_refusal (with_tables self.now (tabled path.now name.now table.now ∷ []))) }
+        ensures whole { IfOk result (λ c. c ≡ with_tables self.now (placed_table path.now name.now table.now ∷ [])) }
+        ensures refused { Refuses Memory result (table_refusal (with_tables self.now (placed_table path.now name.now table.now ∷ []))) }
     {
         let items = [PlacedTable::new(alloc, (path.copied(), *name), table.shared()?)?];
         let after = self.with_tables(alloc, &items)?;

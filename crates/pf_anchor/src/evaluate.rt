@@ -1,7 +1,7 @@
 //! Evaluation of rulesets that lead to one another, with tables as their rules name them.
 ghost use Rattle.std.specs.Prelude.{◌≡◌, ◌<◌, ◌≤◌, ◌*◌, ℕ, filter, length, IfSome};
 ghost use Rattle.pf_addr.specs.Path.Nested.{is_child};
-ghost use Rattle.pf_lanes.specs.{Masks.is_set, Answered.{block_match, eight_from}, Probes.{Asking, asked}};
+ghost use Rattle.pf_lanes.specs.{Masks.is_set, Answered.{block_match, eight_from}, Probes.{PlainProbe, asked}};
 ghost use Rattle.pf_anchor.specs.{Rulesets.targets, Tables.tables_say, Blocks.{AreStops, GivesLast, NoneBetween}, Evaluation.{evaluation, effected, in_turn, matching, rules_at_path}};
 
 use crate::config::Config;
@@ -49,7 +49,7 @@ fn prepared<'a>(placed: &'a Placed, packet: &'a Packet) -> Option<Probe<'a>>
 #[inline(always)]
 fn next_near(probe: &Option<Probe<'_>>, from: usize) -> usize
     ensures later { from ≤ result }
-    ensures none { (a : Asking) → IfSome probe.now (λ p. p ≡ a) → NoneBetween a from result }
+    ensures none { (a : PlainProbe) → IfSome probe.now (λ p. p ≡ a) → NoneBetween a from result }
 {
     match probe {
         Some(probe) => probe.next_near(from),

@@ -2,7 +2,7 @@
 ghost use Rattle.std.specs.Prelude.{◌≡◌, ◌+◌, ◌*◌, ℕ, All, length};
 ghost use Rattle.pf_rule.specs.Rules.{IsRule};
 ghost use Rattle.pf_anchor.specs.declared.limits.TheConstants.{RULE_LIMIT, RULESET_LIMIT, TABLE_COUNT_LIMIT};
-ghost use Rattle.pf_anchor.specs.{Forms.{ruled_length, tabled_length}, Rulesets.Ruled, Tables.Tabled, Laws.Configurations.{ReplacesInTurn, StaysMap, OneMap, ChildrenHaveRules}, Laws.Tables.{ReplacesTables, HasItsEntries, OtherNamesStay, OtherPathsStay, StaysTableMap, EmptyIsAbsent, OneTableMap, LeavesTheOther, TablesAtPath, OwnAnswers, OwnHidesMain, MainAnswersElse, NoneElse, OthersAnswerNothing}, Laws.Evaluation.{TellsWhatDecides, Unrolls, IsTheOnly, DepthIsEnough, OwnMatch, EndsOutside, NothingWithin, MatchWithin, InTurn, LeadsToTheseAlone, QuickEnds, EndsTheVerdict, AnchorsNeverDecide, ToldRuleDecides, UnreachedIsNothing, InTwoParts, PassedOver}};
+ghost use Rattle.pf_anchor.specs.{Forms.{ruled_length, tabled_length}, Rulesets.PlainPlaced, Tables.PlainPlacedTable, Laws.Configurations.{ReplacesInTurn, StaysMap, OneMap, ChildrenHaveRules}, Laws.Tables.{ReplacesTables, HasItsEntries, OtherNamesStay, OtherPathsStay, StaysTableMap, EmptyIsAbsent, OneTableMap, LeavesTheOther, TablesAtPath, OwnAnswers, OwnHidesMain, MainAnswersElse, NoneElse, OthersAnswerNothing}, Laws.Evaluation.{TellsWhatDecides, Unrolls, IsTheOnly, DepthIsEnough, OwnMatch, EndsOutside, NothingWithin, MatchWithin, InTurn, LeadsToTheseAlone, QuickEnds, EndsTheVerdict, AnchorsNeverDecide, ToldRuleDecides, UnreachedIsNothing, InTwoParts, PassedOver}};
 
 /// A ruleset has at most 1,024 rules, and there are at most 1,024 rulesets and 1,024 tables.
 pub fn the_limits_of_rulesets()
@@ -15,8 +15,8 @@ pub fn the_limits_of_rulesets()
 /// bytes, and a number four.
 #[tactic(auto, using(crate::proofs::Lengths::ruled_long, crate::proofs::Lengths::tabled_long))]
 pub fn rulesets_and_tables_take_so_many_bytes()
-    ensures ruleset { (version : ℕ) (r : Ruled) → All IsRule r.1 → ruled_length version r ≡ 5 + length r.0 + 204 * length r.1 }
-    ensures table { (t : Tabled) → tabled_length t ≡ 6 + length t.0.0 + length t.0.1 + 20 * length t.1 }
+    ensures ruleset { (version : ℕ) (r : PlainPlaced) → All IsRule r.1 → ruled_length version r ≡ 5 + length r.0 + 204 * length r.1 }
+    ensures table { (t : PlainPlacedTable) → tabled_length t ≡ 6 + length t.0.0 + length t.0.1 + 20 * length t.1 }
 {}
 
 /// After a commit each path has the rules that the commit gives it or else its own, and what has no rules isn't there.

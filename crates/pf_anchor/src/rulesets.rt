@@ -4,12 +4,12 @@ ghost use Rattle.pf_anchor.specs.Forms.{ruled_length};
 
 use crate::rule_list::RuleList;
 use pf_addr::path::Path;
-use pf_map::{Entries, Entry, PagedMap, Weigher};
+use pf_map::{Entries, KeyValue, PagedMap, Weigher};
 use pf_rule::sum::RULE_FORM;
 use std::alloc::{AllocError, Global};
 
-/// A ruleset at its path, shared by all that hold it: path and rules stand once. Contracts see it as a `Ruled`.
-pub type Placed = Entry<Path, RuleList>;
+/// A ruleset at its path, shared by all that hold it: path and rules stand once. Contracts see it as a `PlainPlaced`.
+pub type Placed = KeyValue<Path, RuleList>;
 
 /// How many bytes a ruleset takes where it is kept, in each version: a path behind its length, and rules behind their number. It looks at
 /// no rule.

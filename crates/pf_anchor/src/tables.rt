@@ -1,15 +1,15 @@
 //! The active tables.
 ghost use Rattle.std.specs.Prelude.{◌≡◌};
-ghost use Rattle.pf_addr.specs.Bytes.Forms.{length_of};
+ghost use Rattle.pf_form.specs.Bytes.Forms.{length_of};
 ghost use Rattle.pf_anchor.specs.Forms.{named_form, plain_named};
 
 use pf_addr::path::{Path, TableName};
-use pf_map::{Entries, Entry, Key, PagedMap, Probe, Weigher};
+use pf_map::{Entries, Key, KeyValue, PagedMap, Probe, Weigher};
 use pf_table::Table;
 use std::cmp::Ordering;
 
-/// A table where it is: its path, its name, and its entries, shared by all that hold it. Contracts see it as a `Tabled`.
-pub type PlacedTable = Entry<(Path, TableName), Table>;
+/// A table where it is: its path, its name, and its entries, shared by all that hold it. Contracts see it as a `PlainPlacedTable`.
+pub type PlacedTable = KeyValue<(Path, TableName), Table>;
 
 // How many bytes an entry takes.
 const ENTRY_BYTES: usize = 20;

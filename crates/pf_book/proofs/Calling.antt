@@ -2,78 +2,78 @@
 use Rattle.std.proofs.{Common.{◌≡◌, inl, inr, ℕ, ◌+◌, ◌<◌, ◌≤◌, min, Bool, true, false, cond, List, [], ◌∷◌, ◌++◌, length, take, Result, Ok, Err, refl, sym, ap, ◌∙◌, subst, append-nil, arith}, Math.Bool.and-false, lemmas.Bool.Decides.nat_tests, lemmas.List.{length-append, take_all, take_min, take-append-le}, lemmas.List.Sums.fold_push}
 use Rattle.std.specs.Prelude.{nat_lt, flat_map, ◌&&◌}
 use Rattle.pf_rule.specs.Packets.{PlainPacket}
-use Rattle.pf_ticket.specs.{Tickets.Open, Mentions.{after as moved_by, switches}}
+use Rattle.pf_ticket.specs.{Tickets.PlainTickets, Mentions.{after as moved_by, switches}}
 use Rattle.pf_core.specs.declared.reply.Answer.TheVariants as answer
-use Rattle.pf_core.specs.declared.{command.Command.Command, command.Command.TheVariants.{Transact, Edit as Change, States as OfStates, Ask, History}, command.HistoryCommand.HistoryCommand, command.HistoryCommand.TheVariants.{Log, Publish}, command.Question.TheVariants.Judge, durable.verdict.Verdict.Verdict, reply.Answer.Answer, reply.Outcome.Outcome, reply.Refusal.Refusal, reply.Refusal.TheVariants.{Halted, HistoryFull, Full, Fault, Memory}, reply.Reply.Reply, reply.Reply.TheVariants.{Answer as Answered, Applied, Stored, Refused}, step.Step.Step, step.Step.TheVariants.{Done, Wants, OfHistory}}
-use Rattle.pf_core.specs.{Calls.{Call, call, mentions_of}, Commands.{step_by, may_change, takes_memory}, Durable.Edits.{Kept, Edit, applied, after, voided_by, verdict}, Refusals.OrMemory, Pages.{Page, IsFolded, IsAt, Leads}, Laws.Wanted.{wants_memory, wants_mentions, left_is}, Wholes.Whole, Worlds.{Setting, Held, down, Doing, calling, upshot, Upshot, flat, log_of, durable_of, is_halted, is_fault, step_in, room_for, if_ok, or_refused, due_at, grouped, group_at, due, group_in, group_of, kept_groups, heard, acked_by, pending_by, StandsIn, LegalReply}}
+use Rattle.pf_core.specs.declared.{command.Command.Command, command.Command.TheVariants.{Transact, Edit, States as OfStates, Ask, History}, command.HistoryCommand.HistoryCommand, command.HistoryCommand.TheVariants.{Log, Publish}, command.Question.TheVariants.Judge, durable.verdict.Verdict.Verdict, reply.Answer.Answer, reply.Outcome.Outcome, reply.Refusal.Refusal, reply.Refusal.TheVariants.{Halted, HistoryFull, Full, Fault, Memory}, reply.Reply.Reply, reply.Reply.TheVariants.{Answer as Answered, Applied, Stored, Refused}, step.Step.Step, step.Step.TheVariants.{Done, Wants, OfHistory}}
+use Rattle.pf_core.specs.{Calls.{Call, call, mentions_of}, Commands.{step_by, may_change, takes_memory}, Durable.Changes.{PlainDurable, PlainChange, applied, after, voided_by, verdict}, Refusals.OrMemory, WorldBooks.{WorldBook, IsFolded, IsAt, Leads}, Laws.Wanted.{wants_memory, wants_mentions, left_is}, Cores.PlainCore, Worlds.{Setting, CurrentOpening, down, Doing, calling, upshot, Upshot, flat, log_of, durable_of, is_halted, is_fault, step_in, room_for, if_ok, or_refused, due_at, grouped, group_at, due, group_in, group_of, kept_groups, heard, acked_by, pending_by, StandsIn, LegalReply}}
 use Rattle.pf_core.proofs.{Groups.room-found, LongerWorlds.{flat-push, nothing-leads, refused-leads}, Showing.shows-nothing}
 use Rattle.pf_store.specs.Stores.{Holds, HoldsEither}
 use Rattle.pf_disk.specs.Disk.{EachMoment, IsImage}
 use Rattle.pf_disk.proofs.Moments.{started, weakened}
-use Rattle.pf_book.proofs.{Parts.halted-is, Steps.never-fault}
-use Rattle.pf_book.specs.Books.{Ledger, page, page_of, StaysUnlessKept, judging, log_in, HasRoom, HoldsFront, HoldsLeft, IsMore, IsKept, IsPending, IsUnkept, IsMade, IsTold, is_fault_reply, shows_all}
+use Rattle.pf_book.proofs.{HistoryGroups.halted-is, Steps.never-fault}
+use Rattle.pf_book.specs.Books.{PlainBook, world_book, world_book_of, StaysUnlessKept, judging, log_in, HasRoom, HoldsFront, HoldsLeft, IsMore, IsKept, IsPending, IsUnkept, IsMade, IsTold, is_fault_reply, shows_all}
 
 -- a page with another core
-abbrev pub with_core : Page → Whole → Page
+abbrev pub with_core : WorldBook → PlainCore → WorldBook
 with_core b w = record b { whole = w }
 
 -- what a step says of a core
-abbrev pub Steps : Page → Command → Result Step Refusal → Type 0
+abbrev pub Steps : WorldBook → Command → Result Step Refusal → Type 0
 Steps b c r = OrMemory (takes_memory b.whole.durable c) r (step_by b.whole.tickets b.whole.durable c)
 
 -- no group is pending, or the command changes nothing
-abbrev pub IsFree : Page → Command → Type 0
+abbrev pub IsFree : WorldBook → Command → Type 0
 IsFree b c = (may_change c && is_halted b.pending) ≡ false
 
 -- a command that changes nothing
-pub unchanging : (b : Page) (c : Command) → may_change c ≡ false → IsFree b c
+pub unchanging : (b : WorldBook) (c : Command) → may_change c ≡ false → IsFree b c
 unchanging b c is = ap (λ (m : Bool). m && is_halted b.pending) is
 
 -- none is behind those that were acknowledged
-pub none-behind : (base : Kept) (whole : Whole) (log : List Edit) (sizes : List ℕ) (acked : ℕ) (setting : Setting) (shown : List Edit) (c : Command) → acked ≤ length log → length log ≤ acked → IsFree (page_of base whole log sizes acked setting shown) c
+pub none-behind : (base : PlainDurable) (whole : PlainCore) (log : List PlainChange) (sizes : List ℕ) (acked : ℕ) (setting : Setting) (shown : List PlainChange) (c : Command) → acked ≤ length log → length log ≤ acked → IsFree (world_book_of base whole log sizes acked setting shown) c
 none-behind base whole log sizes acked setting shown c low high =
     let all : nat_lt acked (length log) ≡ false = grind (arith, nat_tests, high) in
     ap (λ (x : Bool). may_change c && x) (halted-is log acked low ∙ all) ∙ and-false (may_change c)
 
 -- what the core keeps is the world's
-pub durable-is : (h : Held) (b : Page) → IsAt h b → IsFolded b → b.whole.durable ≡ durable_of h
-durable-is h b at folded = folded.durable ∙ ap (λ (k : Kept). after k (flat b.acked)) at.base ∙ ap (λ (l : List (List Edit)). after h.base (flat l)) at.acked
+pub durable-is : (h : CurrentOpening) (b : WorldBook) → IsAt h b → IsFolded b → b.whole.durable ≡ durable_of h
+durable-is h b at folded = folded.durable ∙ ap (λ (k : PlainDurable). after k (flat b.acked)) at.base ∙ ap (λ (l : List (List PlainChange)). after h.base (flat l)) at.acked
 
-free-too : (h : Held) (b : Page) (c : Command) → IsAt h b → IsFree b c → (may_change c && is_halted h.pending) ≡ false
-free-too h b c at free = ap (λ (gs : List (List Edit)). may_change c && is_halted gs) (sym at.pending) ∙ free
+free-too : (h : CurrentOpening) (b : WorldBook) (c : Command) → IsAt h b → IsFree b c → (may_change c && is_halted h.pending) ≡ false
+free-too h b c at free = ap (λ (gs : List (List PlainChange)). may_change c && is_halted gs) (sym at.pending) ∙ free
 
 -- where none is pending
-pub is-free : (b : Page) (c : Command) → b.pending ≡ [] → IsFree b c
-is-free b c none = ap (λ (gs : List (List Edit)). may_change c && is_halted gs) none ∙ and-false (may_change c)
+pub is-free : (b : WorldBook) (c : Command) → b.pending ≡ [] → IsFree b c
+is-free b c none = ap (λ (gs : List (List PlainChange)). may_change c && is_halted gs) none ∙ and-false (may_change c)
 
 -- the step that is taken is that of the world's tickets, of what it holds
-own-step : (h : Held) (b : Page) (c : Command) (r : Result Step Refusal) → IsAt h b → IsFolded b → Steps b c r → (r ≡ Err Memory → ⊥) → r ≡ step_by h.tickets (durable_of h) c
+own-step : (h : CurrentOpening) (b : WorldBook) (c : Command) (r : Result Step Refusal) → IsAt h b → IsFolded b → Steps b c r → (r ≡ Err Memory → ⊥) → r ≡ step_by h.tickets (durable_of h) c
 own-step h b c r at folded steps other =
-    steps.0 other ∙ ap (λ (t : Open). step_by t b.whole.durable c) at.tickets ∙ ap (λ (k : Kept). step_by h.tickets k c) (durable-is h b at folded)
+    steps.0 other ∙ ap (λ (t : PlainTickets). step_by t b.whole.durable c) at.tickets ∙ ap (λ (k : PlainDurable). step_by h.tickets k c) (durable-is h b at folded)
 
 -- and so the world's
-step-is : (h : Held) (b : Page) (c : Command) (r : Result Step Refusal) → IsAt h b → IsFolded b → IsFree b c → Steps b c r → (r ≡ Err Memory → ⊥) → r ≡ step_in h c
+step-is : (h : CurrentOpening) (b : WorldBook) (c : Command) (r : Result Step Refusal) → IsAt h b → IsFolded b → IsFree b c → Steps b c r → (r ≡ Err Memory → ⊥) → r ≡ step_in h c
 step-is h b c r at folded free steps other = own-step h b c r at folded steps other ∙ ap (λ (x : Bool). cond x (Err Halted) (step_by h.tickets (durable_of h) c)) (sym (free-too h b c at free))
 
 -- a command that wants a change is one that may
-pub wants-may : (t : Open) (d : Kept) (c : Command) (e : Edit) (o : Outcome) → step_by t d c ≡ Ok (Wants e o) → may_change c ≡ true
+pub wants-may : (t : PlainTickets) (d : PlainDurable) (c : Command) (e : PlainChange) (o : Outcome) → step_by t d c ≡ Ok (Wants e o) → may_change c ≡ true
 wants-may t d (Transact x) e o is = refl
-wants-may t d (Change x) e o is = refl
+wants-may t d (Edit x) e o is = refl
 wants-may t d (OfStates x) e o is = refl
 wants-may t d (Ask q) e o is = absurd (cc (is))
 wants-may t d (History x) e o is = absurd (cc (is))
 
-free-none : (b : Bool) (gs : List (List Edit)) → b ≡ true → (b && is_halted gs) ≡ false → gs ≡ []
+free-none : (b : Bool) (gs : List (List PlainChange)) → b ≡ true → (b && is_halted gs) ≡ false → gs ≡ []
 free-none true [] may free = refl
 free-none true (g ∷ gs) may free = absurd (cc (free))
 free-none false gs may free = absurd (cc (may))
 
 -- so where it may be answered nothing is pending
-pub wants-free : (b : Page) (c : Command) (e : Edit) (o : Outcome) → IsFree b c → Steps b c (Ok (Wants e o)) → b.pending ≡ []
+pub wants-free : (b : WorldBook) (c : Command) (e : PlainChange) (o : Outcome) → IsFree b c → Steps b c (Ok (Wants e o)) → b.pending ≡ []
 wants-free b c e o free steps = free-none (may_change c) b.pending (wants-may b.whole.tickets b.whole.durable c e o (sym (steps.0 (λ m. cc (m))))) free
 
 -- the device didn't fail
-pub no-fault : (h : Held) (new : Page) (c : Call) (shown : ℕ) (failed : Bool) → failed ≡ false → Leads h new c (upshot shown false) → Leads h new c (upshot shown failed)
+pub no-fault : (h : CurrentOpening) (new : WorldBook) (c : Call) (shown : ℕ) (failed : Bool) → failed ≡ false → Leads h new c (upshot shown false) → Leads h new c (upshot shown failed)
 no-fault h new c shown failed is leads = subst (λ (x : Bool). Leads h new c (upshot shown x)) (sym is) leads
 
 pub not-more : (n m : ℕ) → m ≡ n + 0 → nat_lt n m ≡ false
@@ -85,36 +85,36 @@ one-more n m is = grind (arith, nat_tests, is)
 -- ---- nothing is kept
 
 -- once a group is pending a command that may change something is halted
-halted-by : (may : Bool) (gs : List (List Edit)) (rest : Result Step Refusal) → may ≡ true → (gs ≡ [] → ⊥) → cond (may && is_halted gs) (Err Halted) rest ≡ Err Halted
+halted-by : (may : Bool) (gs : List (List PlainChange)) (rest : Result Step Refusal) → may ≡ true → (gs ≡ [] → ⊥) → cond (may && is_halted gs) (Err Halted) rest ≡ Err Halted
 halted-by true [] rest is some = absurd (some refl)
 halted-by true (g ∷ gs) rest is some = refl
 halted-by false gs rest is some = absurd (cc (is))
 
-pub halted-leads : (h : Held) (b : Page) (c : Command) → may_change c ≡ true → (b.pending ≡ [] → ⊥) → IsAt h b → Leads h b (call c (Refused Halted)) (upshot b.shown false)
+pub halted-leads : (h : CurrentOpening) (b : WorldBook) (c : Command) → may_change c ≡ true → (b.pending ≡ [] → ⊥) → IsAt h b → Leads h b (call c (Refused Halted)) (upshot b.shown false)
 halted-leads h b c may some at =
     let is : step_in h c ≡ Err Halted = halted-by (may_change c) h.pending (step_by h.tickets (durable_of h) c) may (λ none. some (at.pending ∙ none)) in
     refused-leads h b b c Halted (inl (sym (ap (due_at h) is))) refl at
 
-answered-legal : (h : Held) (b : Page) (c : Command) (a : Answer) → IsAt h b → IsFolded b → IsFree b c → Steps b c (Ok (Done a)) → LegalReply h c (Answered a) false
+answered-legal : (h : CurrentOpening) (b : WorldBook) (c : Command) (a : Answer) → IsAt h b → IsFolded b → IsFree b c → Steps b c (Ok (Done a)) → LegalReply h c (Answered a) false
 answered-legal h b c a at folded free steps = inl (ap (due_at h) (step-is h b c (Ok (Done a)) at folded free steps (λ m. cc (m))))
 
 -- the core answers, and shows nothing
-pub answer-leads : (h : Held) (b : Page) (w : Whole) (c : Command) (a : Answer) → IsAt h b → IsFolded b → IsFree b c → Steps b c (Ok (Done a)) → w.tickets ≡ moved_by b.whole.tickets (mentions_of (call c (Answered a))) →
+pub answer-leads : (h : CurrentOpening) (b : WorldBook) (w : PlainCore) (c : Command) (a : Answer) → IsAt h b → IsFolded b → IsFree b c → Steps b c (Ok (Done a)) → w.tickets ≡ moved_by b.whole.tickets (mentions_of (call c (Answered a))) →
     Leads h (with_core b w) (call c (Answered a)) (upshot b.shown false)
 answer-leads h b w c a at folded free steps moved =
     let done : step_by h.tickets (durable_of h) c ≡ Ok (Done a) = sym (own-step h b c (Ok (Done a)) at folded steps (λ m. cc (m))) in
     nothing-leads h b w c (Answered a) (answered-legal h b c a at folded free steps) refl refl (shows-nothing h.tickets (durable_of h) c a done h.shown) moved at
 
 -- the core's own refusal
-refusal-is-legal : (h : Held) (b : Page) (c : Command) (e : Refusal) → IsAt h b → IsFolded b → IsFree b c → Steps b c (Err e) → LegalReply h c (Refused e) false
-refusal-is-legal h b c Memory at folded free steps = inr (subst (λ (k : Kept). takes_memory k c ≡ true) (durable-is h b at folded) (steps.1 refl))
+refusal-is-legal : (h : CurrentOpening) (b : WorldBook) (c : Command) (e : Refusal) → IsAt h b → IsFolded b → IsFree b c → Steps b c (Err e) → LegalReply h c (Refused e) false
+refusal-is-legal h b c Memory at folded free steps = inr (subst (λ (k : PlainDurable). takes_memory k c ≡ true) (durable-is h b at folded) (steps.1 refl))
 refusal-is-legal h b c e at folded free steps = inl (ap (due_at h) (step-is h b c (Err e) at folded free steps (λ m. cc (m))))
 
-pub refusal-leads : (h : Held) (b new : Page) (c : Command) (e : Refusal) → IsAt h b → IsFolded b → IsFree b c → Steps b c (Err e) → new ≡ b → Leads h new (call c (Refused e)) (upshot new.shown false)
+pub refusal-leads : (h : CurrentOpening) (b new : WorldBook) (c : Command) (e : Refusal) → IsAt h b → IsFolded b → IsFree b c → Steps b c (Err e) → new ≡ b → Leads h new (call c (Refused e)) (upshot new.shown false)
 refusal-leads h b new c e at folded free steps same = refused-leads h b new c e (refusal-is-legal h b c e at folded free steps) same at
 
 -- a judge leads nowhere else
-pub judged-leads : (h : Held) (b : Page) (packet : PlainPacket) (v : Verdict) → IsFolded b → v ≡ verdict b.whole.durable packet → IsAt h b → Leads h b (judging packet v) (upshot b.shown false)
+pub judged-leads : (h : CurrentOpening) (b : WorldBook) (packet : PlainPacket) (v : Verdict) → IsFolded b → v ≡ verdict b.whole.durable packet → IsAt h b → Leads h b (judging packet v) (upshot b.shown false)
 judged-leads h b packet v folded is at =
     let c : Command = Ask (Judge packet) in
     let a : Answer = answer.Judged v in
@@ -124,26 +124,26 @@ judged-leads h b packet v folded is at =
 -- ---- what is asked of the history
 
 -- the log is what was acknowledged and what is pending
-log-is : (h : Held) (b : Page) → IsAt h b → log_of h ≡ log_in b
-log-is h b at = ap (λ (l : List (List Edit)). flat (l ++ h.pending)) (sym at.acked) ∙ ap (λ (l : List (List Edit)). flat (b.acked ++ l)) (sym at.pending)
+log-is : (h : CurrentOpening) (b : WorldBook) → IsAt h b → log_of h ≡ log_in b
+log-is h b at = ap (λ (l : List (List PlainChange)). flat (l ++ h.pending)) (sym at.acked) ∙ ap (λ (l : List (List PlainChange)). flat (b.acked ++ l)) (sym at.pending)
 
-acked-is : (h : Held) (b : Page) → IsAt h b → length (flat h.acked) ≡ length (flat b.acked)
-acked-is h b at = ap (λ (l : List (List Edit)). length (flat l)) (sym at.acked)
+acked-is : (h : CurrentOpening) (b : WorldBook) → IsAt h b → length (flat h.acked) ≡ length (flat b.acked)
+acked-is h b at = ap (λ (l : List (List PlainChange)). length (flat l)) (sym at.acked)
 
-told-leads : (h : Held) (b new : Page) (x : HistoryCommand) (r : Reply) → IsAt h b → IsTold x r b new → Leads h new (call (History x) r) (upshot new.shown false)
+told-leads : (h : CurrentOpening) (b new : WorldBook) (x : HistoryCommand) (r : Reply) → IsAt h b → IsTold x r b new → Leads h new (call (History x) r) (upshot new.shown false)
 told-leads h b new Log r at (same, is) =
     let a : Answer = answer.Logged (length (log_in b)) (length (flat b.acked)) b.shown in
     let due-is : Answered a ≡ due h (History Log) =
     ap (λ (n : ℕ). Answered (answer.Logged n (length (flat b.acked)) b.shown)) (ap length (sym (log-is h b at)))
     ∙ ap (λ (n : ℕ). Answered (answer.Logged (length (log_of h)) n b.shown)) (sym (acked-is h b at))
     ∙ ap (λ (n : ℕ). Answered (answer.Logged (length (log_of h)) (length (flat h.acked)) n)) at.shown in
-    subst (λ (p : Page). Leads h p (call (History Log) r) (upshot p.shown false)) (sym same)
+    subst (λ (p : WorldBook). Leads h p (call (History Log) r) (upshot p.shown false)) (sym same)
     (subst (λ (y : Reply). Leads h b (call (History Log) y) (upshot b.shown false)) (sym is) (nothing-leads h b b.whole (History Log) (Answered a) (inl due-is) refl refl refl refl at))
 told-leads h b new Publish r at (inl (is, all)) =
     let n : ℕ = length (flat b.acked) in
     let a : Answer = answer.Shown n in
     let due-is : Answered a ≡ due h (History Publish) = ap (λ (m : ℕ). Answered (answer.Shown m)) (sym (acked-is h b at)) in
-    subst (λ (p : Page). Leads h p (call (History Publish) r) (upshot p.shown false)) (sym all)
+    subst (λ (p : WorldBook). Leads h p (call (History Publish) r) (upshot p.shown false)) (sym all)
     (subst (λ (y : Reply). Leads h (shows_all b) (call (History Publish) y) (upshot n false)) (sym is)
     (record {
       legal = record { reply = inl due-is; shown = refl };
@@ -160,7 +160,7 @@ told-leads h b new Publish r at (inr (is, same)) =
     subst (λ (y : Reply). Leads h new (call (History Publish) y) (upshot new.shown false)) (sym is) (refused-leads h b new (History Publish) Memory (inr refl) same at)
 
 -- the step says which command it is
-pub history-leads : (h : Held) (b new : Page) (c : Command) (x : HistoryCommand) (r : Reply) → IsAt h b → Steps b c (Ok (OfHistory x)) → IsTold x r b new → Leads h new (call c r) (upshot new.shown false)
+pub history-leads : (h : CurrentOpening) (b new : WorldBook) (c : Command) (x : HistoryCommand) (r : Reply) → IsAt h b → Steps b c (Ok (OfHistory x)) → IsTold x r b new → Leads h new (call c r) (upshot new.shown false)
 history-leads h b new c x r at steps told =
     let is : c ≡ History x = left_is b.whole.tickets b.whole.durable c x (sym (steps.0 (λ m. cc (m)))) in
     subst (λ (z : Command). Leads h new (call z r) (upshot new.shown false)) (sym is) (told-leads h b new x r at told)
@@ -168,21 +168,21 @@ history-leads h b new c x r at steps told =
 -- ---- a change is wanted
 
 -- the log is what was acknowledged
-pub log-acked : (h : Held) (b : Page) → IsAt h b → b.pending ≡ [] → length (log_of h) ≡ length (flat b.acked)
-log-acked h b at none = ap length (log-is h b at) ∙ ap (λ (l : List (List Edit)). length (flat (b.acked ++ l))) none ∙ ap (λ (l : List (List Edit)). length (flat l)) (append-nil b.acked)
+pub log-acked : (h : CurrentOpening) (b : WorldBook) → IsAt h b → b.pending ≡ [] → length (log_of h) ≡ length (flat b.acked)
+log-acked h b at none = ap length (log-is h b at) ∙ ap (λ (l : List (List PlainChange)). length (flat (b.acked ++ l))) none ∙ ap (λ (l : List (List PlainChange)). length (flat l)) (append-nil b.acked)
 
 -- where there is room for a change
-record IsDue (h : Held) (c : Command) (e : Edit) (n : ℕ) (o : Outcome) : Type 0 where
+record IsDue (h : CurrentOpening) (c : Command) (e : PlainChange) (n : ℕ) (o : Outcome) : Type 0 where
   reply : due h c ≡ Applied n o
   group : group_in h c ≡ (e ∷ []) ∷ []
 
-is-due : (h : Held) (b : Page) (c : Command) (e : Edit) (n : ℕ) (o : Outcome) → IsAt h b → b.pending ≡ [] → Ok (Wants e o) ≡ step_in h c → HasRoom b (e ∷ []) → n ≡ length (flat b.acked) + 1 → IsDue h c e n o
+is-due : (h : CurrentOpening) (b : WorldBook) (c : Command) (e : PlainChange) (n : ℕ) (o : Outcome) → IsAt h b → b.pending ≡ [] → Ok (Wants e o) ≡ step_in h c → HasRoom b (e ∷ []) → n ≡ length (flat b.acked) + 1 → IsDue h c e n o
 is-due h b c e n o at none is found number =
     let log : length (log_of h) ≡ length (flat b.acked) = log-acked h b at none in
     let limit : b.setting.limit ≡ h.setting.limit = ap (λ (s : Setting). s.limit) at.setting in
     let few : length (flat b.acked) + 1 ≤ b.setting.limit = found.few in
     let free : h.setting.is_full h.base h.acked (e ∷ []) ≡ false =
-    ap (λ (s : Setting). s.is_full h.base h.acked (e ∷ [])) (sym at.setting) ∙ ap (λ (k : Kept). b.setting.is_full k h.acked (e ∷ [])) (sym at.base) ∙ ap (λ (l : List (List Edit)). b.setting.is_full b.base l (e ∷ [])) (sym at.acked) ∙ found.device in
+    ap (λ (s : Setting). s.is_full h.base h.acked (e ∷ [])) (sym at.setting) ∙ ap (λ (k : PlainDurable). b.setting.is_full k h.acked (e ∷ [])) (sym at.base) ∙ ap (λ (l : List (List PlainChange)). b.setting.is_full b.base l (e ∷ [])) (sym at.acked) ∙ found.device in
     let room : room_for h (e ∷ []) ≡ Ok tt = room-found h e (omega (arith, few, log, limit)) free in
     let same : length (log_of h) + 1 ≡ n = omega (arith, log, number) in
     record {
@@ -191,7 +191,7 @@ is-due h b c e n o at none is found number =
     }
 
 -- or not: the history is full
-full-history : (h : Held) (b : Page) (c : Command) (e : Edit) (o : Outcome) → IsAt h b → b.pending ≡ [] → Ok (Wants e o) ≡ step_in h c → b.setting.limit < length (flat b.acked) + 1 → LegalReply h c (Refused HistoryFull) false
+full-history : (h : CurrentOpening) (b : WorldBook) (c : Command) (e : PlainChange) (o : Outcome) → IsAt h b → b.pending ≡ [] → Ok (Wants e o) ≡ step_in h c → b.setting.limit < length (flat b.acked) + 1 → LegalReply h c (Refused HistoryFull) false
 full-history h b c e o at none is full =
     let log : length (log_of h) ≡ length (flat b.acked) = log-acked h b at none in
     let limit : b.setting.limit ≡ h.setting.limit = ap (λ (s : Setting). s.limit) at.setting in
@@ -200,39 +200,39 @@ full-history h b c e o at none is full =
     inl (sym (ap (λ (x : Bool). or_refused (cond x (Err HistoryFull) behind) (Applied (length (log_of h) + 1) o)) past) ∙ ap (due_at h) is)
 
 -- or the device is
-full-device : (h : Held) (b : Page) (c : Command) (e : Edit) (o : Outcome) → IsAt h b → b.pending ≡ [] → Ok (Wants e o) ≡ step_in h c → length (flat b.acked) + 1 ≤ b.setting.limit → b.setting.is_full b.base b.acked (e ∷ []) ≡ true → LegalReply h c (Refused Full) false
+full-device : (h : CurrentOpening) (b : WorldBook) (c : Command) (e : PlainChange) (o : Outcome) → IsAt h b → b.pending ≡ [] → Ok (Wants e o) ≡ step_in h c → length (flat b.acked) + 1 ≤ b.setting.limit → b.setting.is_full b.base b.acked (e ∷ []) ≡ true → LegalReply h c (Refused Full) false
 full-device h b c e o at none is few full =
     let log : length (log_of h) ≡ length (flat b.acked) = log-acked h b at none in
     let limit : b.setting.limit ≡ h.setting.limit = ap (λ (s : Setting). s.limit) at.setting in
     let low : nat_lt h.setting.limit (length (log_of h) + 1) ≡ false = grind (arith, nat_tests, few, log, limit) in
     let past : h.setting.is_full h.base h.acked (e ∷ []) ≡ true =
-    ap (λ (s : Setting). s.is_full h.base h.acked (e ∷ [])) (sym at.setting) ∙ ap (λ (k : Kept). b.setting.is_full k h.acked (e ∷ [])) (sym at.base) ∙ ap (λ (l : List (List Edit)). b.setting.is_full b.base l (e ∷ [])) (sym at.acked) ∙ full in
+    ap (λ (s : Setting). s.is_full h.base h.acked (e ∷ [])) (sym at.setting) ∙ ap (λ (k : PlainDurable). b.setting.is_full k h.acked (e ∷ [])) (sym at.base) ∙ ap (λ (l : List (List PlainChange)). b.setting.is_full b.base l (e ∷ [])) (sym at.acked) ∙ full in
     inl (sym (ap (λ (x : Bool). or_refused (cond x (Err HistoryFull) (cond (h.setting.is_full h.base h.acked (e ∷ [])) (Err Full) (Ok tt))) (Applied (length (log_of h) + 1) o)) low
     ∙ ap (λ (x : Bool). or_refused (cond x (Err Full) (Ok tt)) (Applied (length (log_of h) + 1) o)) past) ∙ ap (due_at h) is)
 
 -- what a change that was kept leaves
-more-at : (h : Held) (b new : Page) (c : Command) (e : Edit) (r : Reply) (t : Upshot) → IsAt h b → IsMore b new (e ∷ []) → group_in h c ≡ (e ∷ []) ∷ [] → moved_by h.tickets (mentions_of (call c r)) ≡ moved_by h.tickets (switches (flat_map voided_by (e ∷ []))) →
+more-at : (h : CurrentOpening) (b new : WorldBook) (c : Command) (e : PlainChange) (r : Reply) (t : Upshot) → IsAt h b → IsMore b new (e ∷ []) → group_in h c ≡ (e ∷ []) ∷ [] → moved_by h.tickets (mentions_of (call c r)) ≡ moved_by h.tickets (switches (flat_map voided_by (e ∷ []))) →
     acked_by r ((e ∷ []) ∷ []) ≡ (e ∷ []) ∷ [] → pending_by r ((e ∷ []) ∷ []) ≡ [] → (shown : ℕ) → new.shown ≡ shown → t.shown ≡ shown → IsAt (heard h (call c r) t) new
 more-at h b new c e r t at more group moved acks leaves shown is told = record {
   base = more.base ∙ at.base;
-  tickets = more.tickets ∙ ap (λ (o : Open). moved_by o (switches (flat_map voided_by (e ∷ [])))) at.tickets ∙ sym moved;
-  acked = more.acked ∙ ap (λ (l : List (List Edit)). l ++ (e ∷ []) ∷ []) at.acked ∙ ap (λ (l : List (List Edit)). h.acked ++ l) (sym (ap (acked_by r) group ∙ acks));
-  pending = more.pending ∙ at.pending ∙ sym (append-nil h.pending) ∙ ap (λ (l : List (List Edit)). h.pending ++ l) (sym (ap (pending_by r) group ∙ leaves));
+  tickets = more.tickets ∙ ap (λ (o : PlainTickets). moved_by o (switches (flat_map voided_by (e ∷ [])))) at.tickets ∙ sym moved;
+  acked = more.acked ∙ ap (λ (l : List (List PlainChange)). l ++ (e ∷ []) ∷ []) at.acked ∙ ap (λ (l : List (List PlainChange)). h.acked ++ l) (sym (ap (acked_by r) group ∙ acks));
+  pending = more.pending ∙ at.pending ∙ sym (append-nil h.pending) ∙ ap (λ (l : List (List PlainChange)). h.pending ++ l) (sym (ap (pending_by r) group ∙ leaves));
   shown = is ∙ sym told;
   setting = more.setting ∙ at.setting;
 }
 
-mentioned-is : (h : Held) (c : Command) (e : Edit) (o : Outcome) (n : ℕ) → step_by h.tickets (durable_of h) c ≡ Ok (Wants e o) → moved_by h.tickets (mentions_of (call c (Applied n o))) ≡ moved_by h.tickets (switches (flat_map voided_by (e ∷ [])))
+mentioned-is : (h : CurrentOpening) (c : Command) (e : PlainChange) (o : Outcome) (n : ℕ) → step_by h.tickets (durable_of h) c ≡ Ok (Wants e o) → moved_by h.tickets (mentions_of (call c (Applied n o))) ≡ moved_by h.tickets (switches (flat_map voided_by (e ∷ [])))
 mentioned-is h c e o n is = ap (moved_by h.tickets) (wants_mentions h.tickets (durable_of h) c e o is ∙ ap switches (sym (append-nil (voided_by e))))
 
-next-number : (b new : Page) (e : Edit) → IsMore b new (e ∷ []) → length (flat new.acked) ≡ length (flat b.acked) + 1
-next-number b new e more = ap (λ (l : List (List Edit)). length (flat l)) more.acked ∙ ap length (flat-push b.acked e) ∙ length-append (flat b.acked) (e ∷ [])
+next-number : (b new : WorldBook) (e : PlainChange) → IsMore b new (e ∷ []) → length (flat new.acked) ≡ length (flat b.acked) + 1
+next-number b new e more = ap (λ (l : List (List PlainChange)). length (flat l)) more.acked ∙ ap length (flat-push b.acked e) ∙ length-append (flat b.acked) (e ∷ [])
 
 -- where all is shown
-all-shown-at : (h : Held) (kept : Page) (c : Call) (n : ℕ) → n ≡ length (flat kept.acked) → IsAt (heard h c (upshot kept.shown false)) kept → IsAt (heard h c (upshot n false)) (shows_all kept)
+all-shown-at : (h : CurrentOpening) (kept : WorldBook) (c : Call) (n : ℕ) → n ≡ length (flat kept.acked) → IsAt (heard h c (upshot kept.shown false)) kept → IsAt (heard h c (upshot n false)) (shows_all kept)
 all-shown-at h kept c n number at = record { base = at.base; tickets = at.tickets; acked = at.acked; pending = at.pending; shown = sym number; setting = at.setting }
 
-module _ (h : Held) (b : Page) (c : Command) (e : Edit) (o : Outcome) (at : IsAt h b) (folded : IsFolded b) (free : IsFree b c) (steps : Steps b c (Ok (Wants e o))) where
+module _ (h : CurrentOpening) (b : WorldBook) (c : Command) (e : PlainChange) (o : Outcome) (at : IsAt h b) (folded : IsFolded b) (free : IsFree b c) (steps : Steps b c (Ok (Wants e o))) where
   none : b.pending ≡ []
   none = wants-free b c e o free steps
 
@@ -245,10 +245,10 @@ module _ (h : Held) (b : Page) (c : Command) (e : Edit) (o : Outcome) (at : IsAt
   takes : takes_memory (durable_of h) c ≡ true
   takes = wants_memory h.tickets (durable_of h) c e o wanted
 
-  kept-due : (new : Page) (n : ℕ) → IsKept b new e n → IsDue h c e n o
+  kept-due : (new : WorldBook) (n : ℕ) → IsKept b new e n → IsDue h c e n o
   kept-due new n kept = is-due h b c e n o at none is-step kept.more.room (kept.number ∙ next-number b new e kept.more)
 
-  unkept : (why : Refusal) (new : Page) → IsUnkept why b new (e ∷ []) → (why ≡ Fault → ⊥) → Leads h new (call c (Refused why)) (upshot new.shown false)
+  unkept : (why : Refusal) (new : WorldBook) → IsUnkept why b new (e ∷ []) → (why ≡ Fault → ⊥) → Leads h new (call c (Refused why)) (upshot new.shown false)
   unkept Memory new (same, room) other = refused-leads h b new c Memory (inr takes) same at
   unkept HistoryFull new (same, full) other = refused-leads h b new c HistoryFull (full-history h b c e o at none is-step full) same at
   unkept Full new (same, (few, full)) other = refused-leads h b new c Full (full-device h b c e o at none is-step few full) same at
@@ -256,17 +256,17 @@ module _ (h : Held) (b : Page) (c : Command) (e : Edit) (o : Outcome) (at : IsAt
   unkept why new bad other = absurd bad.1
 
   -- the device failed: the change is pending
-  faulted : (new : Page) → IsPending b new (e ∷ []) → Leads h new (call c (Refused Fault)) (upshot new.shown true)
+  faulted : (new : WorldBook) → IsPending b new (e ∷ []) → Leads h new (call c (Refused Fault)) (upshot new.shown true)
   faulted new pending =
       let n : ℕ = length (flat b.acked) + 1 in
       let kept : IsDue h c e n o = is-due h b c e n o at none is-step pending.room refl in
-      subst (λ (p : Page). Leads h p (call c (Refused Fault)) (upshot p.shown true)) (sym pending.same) (record {
+      subst (λ (p : WorldBook). Leads h p (call c (Refused Fault)) (upshot p.shown true)) (sym pending.same) (record {
         legal = record { reply = inr (due-fault n kept.reply); shown = at.shown };
         at = record {
           base = at.base;
           tickets = at.tickets;
           acked = at.acked ∙ sym (append-nil h.acked);
-          pending = sym (ap (λ (l : List (List Edit)). l ++ group_in h c) (sym at.pending ∙ none) ∙ kept.group);
+          pending = sym (ap (λ (l : List (List PlainChange)). l ++ group_in h c) (sym at.pending ∙ none) ∙ kept.group);
           shown = refl;
           setting = at.setting;
         };
@@ -275,14 +275,14 @@ module _ (h : Held) (b : Page) (c : Command) (e : Edit) (o : Outcome) (at : IsAt
       due-fault : (n : ℕ) → due h c ≡ Applied n o → StandsIn h c true (due h c) (Refused Fault)
       due-fault n is = subst (λ (r : Reply). StandsIn h c true r (Refused Fault)) (sym is) refl
 
-  pub made-leads : (r : Reply) (new : Page) (failed : Bool) → IsMade r o e b new → failed ≡ is_fault_reply r → Leads h new (call c r) (upshot new.shown failed)
+  pub made-leads : (r : Reply) (new : WorldBook) (failed : Bool) → IsMade r o e b new → failed ≡ is_fault_reply r → Leads h new (call c r) (upshot new.shown failed)
   made-leads (Answered a) new failed made is = absurd made
   made-leads (Applied n p) new failed (same, kept, was, all) is =
       let due-is : IsDue h c e n o = kept-due kept n was in
       let shown : IsAt (heard h (call c (Applied n o)) (upshot n false)) (shows_all kept) =
       all-shown-at h kept (call c (Applied n o)) n was.number (more-at h b kept c e (Applied n o) (upshot kept.shown false) at was.more due-is.group (mentioned-is h c e o n wanted) refl refl kept.shown refl refl) in
       subst (λ (x : Bool). Leads h new (call c (Applied n p)) (upshot new.shown x)) (sym is)
-      (subst (λ (q : Page). Leads h q (call c (Applied n p)) (upshot q.shown false)) (sym all)
+      (subst (λ (q : WorldBook). Leads h q (call c (Applied n p)) (upshot q.shown false)) (sym all)
       (subst (λ (x : Outcome). Leads h (shows_all kept) (call c (Applied n x)) (upshot (length (flat kept.acked)) false)) (sym same)
       (subst (λ (m : ℕ). Leads h (shows_all kept) (call c (Applied n o)) (upshot m false)) was.number
       (record { legal = record { reply = inl (sym due-is.reply); shown = refl }; at = shown }))))
@@ -303,33 +303,33 @@ module _ (h : Held) (b : Page) (c : Command) (e : Edit) (o : Outcome) (at : IsAt
 -- ---- crashes
 
 -- what an image holds of a front is what some crash leaves
-pub front-left : (h : Held) (b : Page) (doing : Doing) (c : List ℕ) → IsAt h b → HoldsFront b c → HoldsLeft h doing c
+pub front-left : (h : CurrentOpening) (b : WorldBook) (doing : Doing) (c : List ℕ) → IsAt h b → HoldsFront b c → HoldsLeft h doing c
 front-left h b doing c at (n, holds) =
     let m : ℕ = min n (length b.pending) in
-    let more : List (List Edit) = group_of h doing in
+    let more : List (List PlainChange) = group_of h doing in
     let fronts : take m (h.pending ++ more) ≡ take n b.pending =
-    ap (λ (l : List (List Edit)). take m (l ++ more)) (sym at.pending) ∙ take-append-le m b.pending more (omega arith) ∙ take_min n b.pending in (
+    ap (λ (l : List (List PlainChange)). take m (l ++ more)) (sym at.pending) ∙ take-append-le m b.pending more (omega arith) ∙ take_min n b.pending in (
       after b.base (flat (b.acked ++ take n b.pending)),
       holds,
       (
         m,
-        ap (λ (k : Kept). down k) (ap (λ (l : List (List Edit)). after h.base (flat (h.acked ++ l))) fronts ∙ ap (λ (k : Kept). after k (flat (h.acked ++ take n b.pending))) (sym at.base)
-            ∙ ap (λ (l : List (List Edit)). after b.base (flat (l ++ take n b.pending))) (sym at.acked)),
+        ap (λ (k : PlainDurable). down k) (ap (λ (l : List (List PlainChange)). after h.base (flat (h.acked ++ l))) fronts ∙ ap (λ (k : PlainDurable). after k (flat (h.acked ++ take n b.pending))) (sym at.base)
+            ∙ ap (λ (l : List (List PlainChange)). after b.base (flat (l ++ take n b.pending))) (sym at.acked)),
       ),
     )
 
 -- and so is what it holds while a change is kept that is due
-either-left : (h : Held) (b : Page) (c : Command) (e : Edit) (image : List ℕ) → IsAt h b → IsFolded b → b.pending ≡ [] → group_in h c ≡ (e ∷ []) ∷ [] → HoldsEither b.whole.durable (applied b.whole.durable e) image → HoldsLeft h (calling c) image
-either-left h b c e image at folded none group (inl holds) = front-left h b (calling c) image at (0, subst (λ (k : Kept). Holds image k) (folded.durable ∙ ap (λ (l : List (List Edit)). after b.base (flat l)) (sym (append-nil b.acked))) holds)
+either-left : (h : CurrentOpening) (b : WorldBook) (c : Command) (e : PlainChange) (image : List ℕ) → IsAt h b → IsFolded b → b.pending ≡ [] → group_in h c ≡ (e ∷ []) ∷ [] → HoldsEither b.whole.durable (applied b.whole.durable e) image → HoldsLeft h (calling c) image
+either-left h b c e image at folded none group (inl holds) = front-left h b (calling c) image at (0, subst (λ (k : PlainDurable). Holds image k) (folded.durable ∙ ap (λ (l : List (List PlainChange)). after b.base (flat l)) (sym (append-nil b.acked))) holds)
 either-left h b c e image at folded none group (inr holds) =
-    let kept : kept_groups h (calling c) 1 ≡ h.acked ++ (e ∷ []) ∷ [] = ap (λ (l : List (List Edit)). h.acked ++ take 1 (l ++ group_in h c)) (sym at.pending ∙ none) ∙ ap (λ (l : List (List Edit)). h.acked ++ take 1 l) group in (
+    let kept : kept_groups h (calling c) 1 ≡ h.acked ++ (e ∷ []) ∷ [] = ap (λ (l : List (List PlainChange)). h.acked ++ take 1 (l ++ group_in h c)) (sym at.pending ∙ none) ∙ ap (λ (l : List (List PlainChange)). h.acked ++ take 1 l) group in (
       applied b.whole.durable e,
       holds,
-      (1, ap (λ (k : Kept). down k) (ap (λ (l : List (List Edit)). after h.base (flat l)) kept ∙ ap (after h.base) (flat-push h.acked e) ∙ fold_push applied h.base (flat h.acked) e ∙ ap (λ (k : Kept). applied k e) (sym (durable-is h b at folded)))),
+      (1, ap (λ (k : PlainDurable). down k) (ap (λ (l : List (List PlainChange)). after h.base (flat l)) kept ∙ ap (after h.base) (flat-push h.acked e) ∙ fold_push applied h.base (flat h.acked) e ∙ ap (λ (k : PlainDurable). applied k e) (sym (durable-is h b at folded)))),
     )
 
 -- the change of a reply that keeps one is due
-made-group : (h : Held) (b new : Page) (c : Command) (e : Edit) (o : Outcome) (r : Reply) → IsAt h b → IsFolded b → IsFree b c → Steps b c (Ok (Wants e o)) → IsMade r o e b new →
+made-group : (h : CurrentOpening) (b new : WorldBook) (c : Command) (e : PlainChange) (o : Outcome) (r : Reply) → IsAt h b → IsFolded b → IsFree b c → Steps b c (Ok (Wants e o)) → IsMade r o e b new →
     ((why : Refusal) → r ≡ Refused why → is_fault why ≡ false → ⊥) → group_in h c ≡ (e ∷ []) ∷ []
 made-group h b new c e o (Answered a) at folded free steps made other = absurd made
 made-group h b new c e o (Applied n p) at folded free steps (same, kept, was, all) other = (kept-due h b c e o at folded free steps kept n was).group
@@ -337,7 +337,7 @@ made-group h b new c e o (Stored n p) at folded free steps (same, was) other = (
 made-group h b new c e o (Refused Fault) at folded free steps made other = (is-due h b c e _ o at (wants-free b c e o free steps) (is-step h b c e o at folded free steps) made.room refl).group
 made-group h b new c e o (Refused why) at folded free steps made other = absurd (other why refl refl)
 
-pub made-left : (h : Held) (b new : Page) (c : Command) (e : Edit) (o : Outcome) (r : Reply) (image : List ℕ) → IsAt h b → IsFolded b → IsFree b c → Steps b c (Ok (Wants e o)) → IsMade r o e b new →
+pub made-left : (h : CurrentOpening) (b new : WorldBook) (c : Command) (e : PlainChange) (o : Outcome) (r : Reply) (image : List ℕ) → IsAt h b → IsFolded b → IsFree b c → Steps b c (Ok (Wants e o)) → IsMade r o e b new →
     ((why : Refusal) → r ≡ Refused why → is_fault why ≡ false → ⊥) → HoldsEither b.whole.durable (applied b.whole.durable e) image → HoldsLeft h (calling c) image
 made-left h b new c e o r image at folded free steps made other holds =
     either-left h b c e image at folded (wants-free b c e o free steps) (made-group h b new c e o r at folded free steps made other) holds
@@ -345,10 +345,10 @@ made-left h b new c e o r image at folded free steps made other holds =
 -- ---- over a device
 
 -- the opening that a page is
-abbrev pub own : Page → Held
+abbrev pub own : WorldBook → CurrentOpening
 own b = record { setting = b.setting; base = b.base; tickets = b.whole.tickets; acked = b.acked; pending = b.pending; shown = b.shown; sights = [] }
 
-pub own-at : (b : Page) → IsAt (own b) b
+pub own-at : (b : WorldBook) → IsAt (own b) b
 own-at b = record { base = refl; tickets = refl; acked = refl; pending = refl; shown = refl; setting = refl }
 
 -- the count of faults says whether the device failed
@@ -357,12 +357,12 @@ fault-flag n m true is = grind (arith, nat_tests, is)
 fault-flag n m false is = grind (arith, nat_tests, is)
 
 -- the core's own refusal is none for a fault
-pub err-not-fault : (b : Page) (c : Command) (e : Refusal) → Steps b c (Err e) → is_fault e ≡ false
+pub err-not-fault : (b : WorldBook) (c : Command) (e : Refusal) → Steps b c (Err e) → is_fault e ≡ false
 err-not-fault b c Memory steps = refl
 err-not-fault b c e steps = never-fault b.whole.tickets b.whole.durable c e (sym (steps.0 (λ m. cc (m))))
 
 -- what a change that is wanted leaves where it is refused
-pub made-stays : {D : Type 0} (now new : Ledger D) (r : Reply) (o : Outcome) (e : Edit) → IsMade r o e (page now) (page new) → ((why : Refusal) → r ≡ Refused why → is_fault why ≡ false → new.disk ≡ now.disk) → StaysUnlessKept r now new
+pub made-stays : {D : Type 0} (now new : PlainBook D) (r : Reply) (o : Outcome) (e : PlainChange) → IsMade r o e (world_book now) (world_book new) → ((why : Refusal) → r ≡ Refused why → is_fault why ≡ false → new.disk ≡ now.disk) → StaysUnlessKept r now new
 made-stays now new (Answered a) o e made device = absurd made
 made-stays now new (Applied n p) o e made device = tt
 made-stays now new (Stored n p) o e made device = tt
@@ -373,7 +373,7 @@ made-stays now new (Refused Full) o e made device = record { same = λ is. (made
 made-stays now new (Refused why) o e made device = absurd made.1
 
 -- nor what is asked of the history
-pub told-stays : {D : Type 0} (x : HistoryCommand) (r : Reply) (now new : Ledger D) → IsTold x r (page now) (page new) → new.disk ≡ now.disk → StaysUnlessKept r now new
+pub told-stays : {D : Type 0} (x : HistoryCommand) (r : Reply) (now new : PlainBook D) → IsTold x r (world_book now) (world_book new) → new.disk ≡ now.disk → StaysUnlessKept r now new
 told-stays Log r now new told device = subst (λ (y : Reply). StaysUnlessKept y now new) (sym told.1) device
 told-stays Publish r now new (inl told) device = subst (λ (y : Reply). StaysUnlessKept y now new) (sym told.0) device
 told-stays Publish r now new (inr told) device = subst (λ (y : Reply). StaysUnlessKept y now new) (sym told.0) (record { same = λ is. (told.1, device); pending = λ is. absurd (cc (is)) })
@@ -382,15 +382,15 @@ module _ {D : Type 0} (seen : D → List ℕ) (unsynced : D → ℕ → Bool) (m
   abbrev OnlyNow : D → Type 0
   OnlyNow disk = (c : List ℕ) → left_since disk (moment disk) c → IsImage (seen disk) (unsynced disk) c
 
-  abbrev HoldFronts : D → Page → Type 0
+  abbrev HoldFronts : D → WorldBook → Type 0
   HoldFronts disk b = (c : List ℕ) → IsImage (seen disk) (unsynced disk) c → HoldsFront b c
 
   -- no call of the device was made
-  pub still-left : (h : Held) (b : Page) (doing : Doing) (disk : D) → OnlyNow disk → HoldFronts disk b → IsAt h b → EachMoment moment left_since disk disk (HoldsLeft h doing)
+  pub still-left : (h : CurrentOpening) (b : WorldBook) (doing : Doing) (disk : D) → OnlyNow disk → HoldFronts disk b → IsAt h b → EachMoment moment left_since disk disk (HoldsLeft h doing)
   still-left h b doing disk only images at = started moment left_since disk (HoldsLeft h doing) (λ c left. front-left h b doing c at (images c (only c left)))
 
   -- what was acknowledged is held, where nothing is pending
-  pub still-either : (b : Page) (es : List Edit) (disk : D) → OnlyNow disk → HoldFronts disk b → IsFolded b → b.pending ≡ [] → EachMoment moment left_since disk disk (HoldsEither b.whole.durable (after b.whole.durable es))
+  pub still-either : (b : WorldBook) (es : List PlainChange) (disk : D) → OnlyNow disk → HoldFronts disk b → IsFolded b → b.pending ≡ [] → EachMoment moment left_since disk disk (HoldsEither b.whole.durable (after b.whole.durable es))
   still-either b es disk only images folded none = started moment left_since disk (HoldsEither b.whole.durable (after b.whole.durable es)) (λ c left. inl (front-all c (images c (only c left))))
     where
       no-more : (n : ℕ) → take n b.pending ≡ []
@@ -399,10 +399,10 @@ module _ {D : Type 0} (seen : D → List ℕ) (unsynced : D → ℕ → Bool) (m
       front-all : (c : List ℕ) → HoldsFront b c → Holds c b.whole.durable
       front-all c (n, holds) =
           let is : after b.base (flat (b.acked ++ take n b.pending)) ≡ b.whole.durable =
-          ap (λ (gs : List (List Edit)). after b.base (flat (b.acked ++ gs))) (no-more n) ∙ ap (λ (gs : List (List Edit)). after b.base (flat gs)) (append-nil b.acked) ∙ sym folded.durable in
-          subst (λ (k : Kept). Holds c k) is holds
+          ap (λ (gs : List (List PlainChange)). after b.base (flat (b.acked ++ gs))) (no-more n) ∙ ap (λ (gs : List (List PlainChange)). after b.base (flat gs)) (append-nil b.acked) ∙ sym folded.durable in
+          subst (λ (k : PlainDurable). Holds c k) is holds
 
-  module _ (h : Held) (b new : Page) (c : Command) (e : Edit) (o : Outcome) (at : IsAt h b) (folded : IsFolded b) (free : IsFree b c) (steps : Steps b c (Ok (Wants e o))) (old next : D) (only : OnlyNow old) (images : HoldFronts old b)
+  module _ (h : CurrentOpening) (b new : WorldBook) (c : Command) (e : PlainChange) (o : Outcome) (at : IsAt h b) (folded : IsFolded b) (free : IsFree b c) (steps : Steps b c (Ok (Wants e o))) (old next : D) (only : OnlyNow old) (images : HoldFronts old b)
       (moved : EachMoment moment left_since old next (HoldsEither b.whole.durable (applied b.whole.durable e))) where
     kept-moment : (r : Reply) → IsMade r o e b new → ((why : Refusal) → r ≡ Refused why → is_fault why ≡ false → ⊥) → EachMoment moment left_since old next (HoldsLeft h (calling c))
     kept-moment r made other = weakened moment left_since old next (HoldsEither b.whole.durable (applied b.whole.durable e)) (HoldsLeft h (calling c)) moved (λ image holds. made-left h b new c e o r image at folded free steps made other holds)

@@ -2,10 +2,10 @@
 use Rattle.std.proofs.{Common.{◌≡◌, ◌≢◌, cond, nat_lt, ℕ, zero, suc, ◌+◌, ◌<◌, ◌≤◌, ◌&&◌, Bool, true, false, List, [], ◌∷◌, ◌++◌, length, get_or, Option, None, Some, Result, Ok, Err, refl, sym, ap, ◌∙◌, subst, arith, append_assoc, append-nil, length-append}, lemmas.{Bool.Decides.nat_tests, Iterator.Adapters.position_from-zero, List.map-append}}
 use Rattle.std.specs.{Prelude.{flat_map, not, nat_le, position, ◌==◌, ◌||◌}, List.{AllByRecursion, list_all, position_from}}
 use Rattle.pf_core.specs.Refusing.{unless, refused_at, AreBothPassed, both_passed, not_refused}
-use Rattle.pf_ticket.specs.{Laws.Tickets.IsWithin as AreTicketsWithin, Mentions.{after as moved_by, switches}, Tickets.Open}
+use Rattle.pf_ticket.specs.{Laws.Tickets.IsWithin as AreTicketsWithin, Mentions.{after as moved_by, switches}, Tickets.PlainTickets}
 use Rattle.pf_core.specs.declared.{command.Command.Command, command.Command.TheVariants.History, command.HistoryCommand.HistoryCommand, reply.Answer.Answer, reply.Outcome.Outcome, reply.Refusal.Refusal, reply.Refusal.TheVariants.{BadCount, NotGrouped, Memory}, group.TheConstants.GROUP_LIMIT, reply.Reply.Reply, step.ReadyStep.ReadyStep, step.Step.Step, step.Step.TheVariants.{Done, Wants, OfHistory}}
 use Rattle.pf_core.specs.declared.step.ReadyStep.TheVariants as made
-use Rattle.pf_core.specs.{Commands.{step_by, may_be_grouped, bad_number, group_words, mentioned}, Durable.Edits.{Kept, Edit, after, voided_by, fits}, Laws.Wanted.{left_is, wants_what_fits}, Nexts.{Ready, ready}, Wholes.{Whole, whole, left_behind, answered, stepped, plain, IsMadeFrom}, Worlds.{Held, log_of, durable_of, flat, step_in, reply_to, changes_of, amid, changes_due, replies_due}}
+use Rattle.pf_core.specs.{Commands.{step_by, may_be_grouped, bad_number, group_words, mentioned}, Durable.Changes.{PlainDurable, PlainChange, after, voided_by, fits}, Laws.Wanted.{left_is, wants_what_fits}, Nexts.{PlainNext, next_with}, Cores.{PlainCore, core_with, left_behind, answered, stepped, plain, IsMadeFrom}, Worlds.{CurrentOpening, log_of, durable_of, flat, step_in, reply_to, changes_of, amid, changes_due, replies_due}}
 use Rattle.pf_core.proofs.Courses.{IsOfGroup, told, wanted, refused, step-amid, unhalted-in, step-there, left-there, log-amid}
 use Rattle.pf_store.specs.{Groups.{can_be_wanted, is_group, made_all}, Stores.{FollowInTurn}}
 use Rattle.pf_store.specs.declared.groups.change.Recorded.TheVariants as recorded
@@ -15,91 +15,91 @@ use Rattle.pf_book.proofs.Wanting.{wanted-can, with_tickets}
 
 -- ---- what is left so far
 
-pub so-far : (d : Kept) (changes : List Edit) → found_by d (ready_of d changes) ≡ left_together d changes
+pub so-far : (d : PlainDurable) (changes : List PlainChange) → found_by d (ready_of d changes) ≡ left_together d changes
 so-far d [] = refl
 so-far d (e ∷ es) = refl
 
-some-ready : (d : Kept) (es : List Edit) (e : Edit) → ready_of d (es ++ e ∷ []) ≡ Some (left_together d (es ++ e ∷ []))
+some-ready : (d : PlainDurable) (es : List PlainChange) (e : PlainChange) → ready_of d (es ++ e ∷ []) ≡ Some (left_together d (es ++ e ∷ []))
 some-ready d [] e = refl
 some-ready d (x ∷ es) e = refl
 
 -- where a command wants none nothing more is left
-still-ready : (d : Kept) (changes : List Edit) (before : Option Ready) → before ≡ ready_of d changes → before ≡ ready_of d (changes ++ [])
+still-ready : (d : PlainDurable) (changes : List PlainChange) (before : Option PlainNext) → before ≡ ready_of d changes → before ≡ ready_of d (changes ++ [])
 still-ready d changes before is = is ∙ ap (ready_of d) (sym (append-nil changes))
 
-pub left-on : (d : Kept) (changes : List Edit) (before : Option Ready) (step : Result ReadyStep Refusal) → before ≡ ready_of d changes → IsMadeFrom (found_by d before) step → left_to step before ≡ ready_of d (changes ++ changes_of (plain step))
+pub left-on : (d : PlainDurable) (changes : List PlainChange) (before : Option PlainNext) (step : Result ReadyStep Refusal) → before ≡ ready_of d changes → IsMadeFrom (found_by d before) step → left_to step before ≡ ready_of d (changes ++ changes_of (plain step))
 left-on d changes before (Ok (made.Done a)) is from = still-ready d changes before is
 left-on d changes before (Ok (made.Wants e n o)) is from =
     let behind : found_by d before ≡ left_together d changes = ap (found_by d) is ∙ so-far d changes in
-    let left : n ≡ left_together d (changes ++ e ∷ []) = from ∙ ap (λ (r : Ready). left_behind r e) behind ∙ left-there d changes e in
+    let left : n ≡ left_together d (changes ++ e ∷ []) = from ∙ ap (λ (r : PlainNext). left_behind r e) behind ∙ left-there d changes e in
     ap Some left ∙ sym (some-ready d changes e)
 left-on d changes before (Ok (made.OfHistory c)) is from = still-ready d changes before is
 left-on d changes before (Err e) is from = still-ready d changes before is
 
 -- where nothing is left there are no changes
-pub none-ready : (d : Kept) (changes : List Edit) → None ≡ ready_of d changes → changes ≡ []
+pub none-ready : (d : PlainDurable) (changes : List PlainChange) → None ≡ ready_of d changes → changes ≡ []
 none-ready d [] is = refl
 none-ready d (e ∷ es) is = absurd (cc (is))
 
-pub ready-left : (d : Kept) (changes : List Edit) (n : Ready) → Some n ≡ ready_of d changes → n ≡ left_together d changes
+pub ready-left : (d : PlainDurable) (changes : List PlainChange) (n : PlainNext) → Some n ≡ ready_of d changes → n ≡ left_together d changes
 ready-left d [] n is = absurd (cc (is))
 ready-left d (e ∷ es) n is = cc (is)
 
-pub ready-some : (d : Kept) (changes : List Edit) (n : Ready) → Some n ≡ ready_of d changes → 0 < length changes
+pub ready-some : (d : PlainDurable) (changes : List PlainChange) (n : PlainNext) → Some n ≡ ready_of d changes → 0 < length changes
 ready-some d [] n is = absurd (cc (is))
 ready-some d (e ∷ es) n is = omega arith
 
 -- ---- its step
 
 -- the step that it is due by its core, where this is what is left so far
-abbrev pub Steps : Whole → Option Ready → Command → Result Step Refusal → Type 0
+abbrev pub Steps : PlainCore → Option PlainNext → Command → Result Step Refusal → Type 0
 Steps w before c s = s ≢ Err Memory → s ≡ step_by (moved_by w.tickets (switches (found_by w.durable before).voided)) (found_by w.durable before).durable c
 
-abbrev pub tickets_there : Whole → List Edit → Open
+abbrev pub tickets_there : PlainCore → List PlainChange → PlainTickets
 tickets_there w changes = moved_by w.tickets (switches (flat_map voided_by changes))
 
-pub step-behind : (w : Whole) (changes : List Edit) (c : Command) (before : Option Ready) (s : Result Step Refusal) → before ≡ ready_of w.durable changes → Steps w before c s → s ≢ Err Memory → s ≡ step_by (tickets_there w changes) (after w.durable changes) c
+pub step-behind : (w : PlainCore) (changes : List PlainChange) (c : Command) (before : Option PlainNext) (s : Result Step Refusal) → before ≡ ready_of w.durable changes → Steps w before c s → s ≢ Err Memory → s ≡ step_by (tickets_there w changes) (after w.durable changes) c
 step-behind w changes c before s is steps known =
-    steps known ∙ ap (λ (r : Ready). step_by (moved_by w.tickets (switches r.voided)) r.durable c) (ap (found_by w.durable) is ∙ so-far w.durable changes)
+    steps known ∙ ap (λ (r : PlainNext). step_by (moved_by w.tickets (switches r.voided)) r.durable c) (ap (found_by w.durable) is ∙ so-far w.durable changes)
 
 -- is the one in the course of the group
-pub step-amidst : (h : Held) (w : Whole) (acked : ℕ) (changes : List Edit) (c : Command) (s : Result Step Refusal) → IsCalm h w acked → s ≡ step_by (tickets_there w changes) (after w.durable changes) c → step_in (amid h changes) c ≡ s
+pub step-amidst : (h : CurrentOpening) (w : PlainCore) (acked : ℕ) (changes : List PlainChange) (c : Command) (s : Result Step Refusal) → IsCalm h w acked → s ≡ step_by (tickets_there w changes) (after w.durable changes) c → step_in (amid h changes) c ≡ s
 step-amidst h w acked changes c s calm is =
-    step-there h changes c calm.none ∙ ap (λ (t : Open). step_by (moved_by t (switches (flat_map voided_by changes))) (after (durable_of h) changes) c) calm.tickets
-    ∙ ap (λ (k : Kept). step_by (tickets_there w changes) (after k changes) c) calm.durable ∙ sym is
+    step-there h changes c calm.none ∙ ap (λ (t : PlainTickets). step_by (moved_by t (switches (flat_map voided_by changes))) (after (durable_of h) changes) c) calm.tickets
+    ∙ ap (λ (k : PlainDurable). step_by (tickets_there w changes) (after k changes) c) calm.durable ∙ sym is
 
-pub number-amidst : (h : Held) (w : Whole) (acked : ℕ) (changes : List Edit) → IsCalm h w acked → length (log_of (amid h changes)) ≡ acked + length changes
+pub number-amidst : (h : CurrentOpening) (w : PlainCore) (acked : ℕ) (changes : List PlainChange) → IsCalm h w acked → length (log_of (amid h changes)) ≡ acked + length changes
 number-amidst h w acked changes calm = log-amid h changes calm.none ∙ ap (λ (n : ℕ). n + length changes) calm.number
 
 -- so the replies and the changes so far, with those of the commands that are left, stay what they are
-pub replies-on : (h : Held) (replies replies' total : List Reply) (changes changes' : List Edit) (c : Command) (rest more : List Command) (s : Result Step Refusal) → step_in (amid h changes) c ≡ s → rest ≡ c ∷ more
+pub replies-on : (h : CurrentOpening) (replies replies' total : List Reply) (changes changes' : List PlainChange) (c : Command) (rest more : List Command) (s : Result Step Refusal) → step_in (amid h changes) c ≡ s → rest ≡ c ∷ more
     → replies' ≡ replies ++ reply_to (amid h changes) s ∷ [] → changes' ≡ changes ++ changes_of s → replies ++ replies_due h changes rest ≡ total → replies' ++ replies_due h changes' more ≡ total
 replies-on h replies replies' total changes changes' c rest more s step left says wants so =
-    let a : Held = amid h changes in
-    ap (λ (rs : List Reply). rs ++ replies_due h changes' more) says ∙ ap (λ (es : List Edit). (replies ++ reply_to a s ∷ []) ++ replies_due h es more) wants
+    let a : CurrentOpening = amid h changes in
+    ap (λ (rs : List Reply). rs ++ replies_due h changes' more) says ∙ ap (λ (es : List PlainChange). (replies ++ reply_to a s ∷ []) ++ replies_due h es more) wants
     ∙ append_assoc replies (reply_to a s ∷ []) (replies_due h (changes ++ changes_of s) more)
     ∙ ap (λ (x : Result Step Refusal). replies ++ (reply_to a x ∷ replies_due h (changes ++ changes_of x) more)) (sym step)
     ∙ ap (λ (cs : List Command). replies ++ replies_due h changes cs) (sym left) ∙ so
 
-pub changes-on : (h : Held) (total changes changes' : List Edit) (c : Command) (rest more : List Command) (s : Result Step Refusal) → step_in (amid h changes) c ≡ s → rest ≡ c ∷ more
+pub changes-on : (h : CurrentOpening) (total changes changes' : List PlainChange) (c : Command) (rest more : List Command) (s : Result Step Refusal) → step_in (amid h changes) c ≡ s → rest ≡ c ∷ more
     → changes' ≡ changes ++ changes_of s → changes_due h changes rest ≡ total → changes_due h changes' more ≡ total
 changes-on h total changes changes' c rest more s step left wants so =
-    ap (λ (es : List Edit). changes_due h es more) wants ∙ ap (λ (x : Result Step Refusal). changes_due h (changes ++ changes_of x) more) (sym step) ∙ ap (changes_due h changes) (sym left) ∙ so
+    ap (λ (es : List PlainChange). changes_due h es more) wants ∙ ap (λ (x : Result Step Refusal). changes_due h (changes ++ changes_of x) more) (sym step) ∙ ap (changes_due h changes) (sym left) ∙ so
 
 -- ---- its change
 
 -- it follows those before it
-pub fit-on : (d : Kept) (t : Open) (changes changes' : List Edit) (c : Command) (s : Result Step Refusal) → s ≡ step_by t (after d changes) c → changes' ≡ changes ++ changes_of s → FollowInTurn d (made_all changes) → FollowInTurn d (made_all changes')
+pub fit-on : (d : PlainDurable) (t : PlainTickets) (changes changes' : List PlainChange) (c : Command) (s : Result Step Refusal) → s ≡ step_by t (after d changes) c → changes' ≡ changes ++ changes_of s → FollowInTurn d (made_all changes) → FollowInTurn d (made_all changes')
 fit-on d t changes changes' c (Ok (Wants e o)) is wants so =
     let fit : fits (after d changes) e ≡ Ok tt = wants_what_fits t (after d changes) c e o (sym is) in
-    subst (λ (es : List Edit). FollowInTurn d (made_all es)) (sym wants)
+    subst (λ (es : List PlainChange). FollowInTurn d (made_all es)) (sym wants)
     (subst (FollowInTurn d) (sym (map-append recorded.Made changes (e ∷ [])))
-    (follow_push d (made_all changes) (recorded.Made e) so (subst (λ (k : Kept). fits k e ≡ Ok tt) (sym (left_by_made d changes)) fit)))
-fit-on d t changes changes' c (Ok (Done a)) is wants so = subst (λ (es : List Edit). FollowInTurn d (made_all es)) (sym (wants ∙ append-nil changes)) so
-fit-on d t changes changes' c (Ok (OfHistory x)) is wants so = subst (λ (es : List Edit). FollowInTurn d (made_all es)) (sym (wants ∙ append-nil changes)) so
-fit-on d t changes changes' c (Err e) is wants so = subst (λ (es : List Edit). FollowInTurn d (made_all es)) (sym (wants ∙ append-nil changes)) so
+    (follow_push d (made_all changes) (recorded.Made e) so (subst (λ (k : PlainDurable). fits k e ≡ Ok tt) (sym (left_by_made d changes)) fit)))
+fit-on d t changes changes' c (Ok (Done a)) is wants so = subst (λ (es : List PlainChange). FollowInTurn d (made_all es)) (sym (wants ∙ append-nil changes)) so
+fit-on d t changes changes' c (Ok (OfHistory x)) is wants so = subst (λ (es : List PlainChange). FollowInTurn d (made_all es)) (sym (wants ∙ append-nil changes)) so
+fit-on d t changes changes' c (Err e) is wants so = subst (λ (es : List PlainChange). FollowInTurn d (made_all es)) (sym (wants ∙ append-nil changes)) so
 
-all-push : (es : List Edit) (e : Edit) → list_all can_be_wanted es ≡ true → can_be_wanted e ≡ true → list_all can_be_wanted (es ++ e ∷ []) ≡ true
+all-push : (es : List PlainChange) (e : PlainChange) → list_all can_be_wanted es ≡ true → can_be_wanted e ≡ true → list_all can_be_wanted (es ++ e ∷ []) ≡ true
 all-push [] e all here = ap (λ (b : Bool). b && true) here
 all-push (x ∷ es) e all here = by (can_be_wanted x) all (all-push es e) where
   by : (b : Bool) → (b && list_all can_be_wanted es) ≡ true → (list_all can_be_wanted es ≡ true → can_be_wanted e ≡ true → list_all can_be_wanted (es ++ e ∷ []) ≡ true) → (b && list_all can_be_wanted (es ++ e ∷ [])) ≡ true
@@ -107,14 +107,14 @@ all-push (x ∷ es) e all here = by (can_be_wanted x) all (all-push es e) where
   by false rest more = absurd (cc (rest))
 
 -- and can be wanted
-pub wanted-on : (t : Open) (d : Kept) (changes changes' : List Edit) (c : Command) (s : Result Step Refusal) → AreTicketsWithin t → s ≡ step_by t d c → changes' ≡ changes ++ changes_of s → list_all can_be_wanted changes ≡ true → list_all can_be_wanted changes' ≡ true
+pub wanted-on : (t : PlainTickets) (d : PlainDurable) (changes changes' : List PlainChange) (c : Command) (s : Result Step Refusal) → AreTicketsWithin t → s ≡ step_by t d c → changes' ≡ changes ++ changes_of s → list_all can_be_wanted changes ≡ true → list_all can_be_wanted changes' ≡ true
 wanted-on t d changes changes' c (Ok (Wants e o)) within is wants so = ap (list_all can_be_wanted) wants ∙ all-push changes e so (wanted-can t d c e o within (sym is))
 wanted-on t d changes changes' c (Ok (Done a)) within is wants so = ap (list_all can_be_wanted) (wants ∙ append-nil changes) ∙ so
 wanted-on t d changes changes' c (Ok (OfHistory x)) within is wants so = ap (list_all can_be_wanted) (wants ∙ append-nil changes) ∙ so
 wanted-on t d changes changes' c (Err e) within is wants so = ap (list_all can_be_wanted) (wants ∙ append-nil changes) ∙ so
 
 -- there is one at most
-pub few-on : (changes changes' : List Edit) (s : Result Step Refusal) → changes' ≡ changes ++ changes_of s → length changes' ≤ length changes + 1
+pub few-on : (changes changes' : List PlainChange) (s : Result Step Refusal) → changes' ≡ changes ++ changes_of s → length changes' ≤ length changes + 1
 few-on changes changes' s wants = omega (arith, ap length wants, length-append changes (changes_of s), one s) where
   one : (s : Result Step Refusal) → length (changes_of s) ≤ 1
   one (Ok (Wants e o)) = omega arith
@@ -124,7 +124,7 @@ few-on changes changes' s wants = omega (arith, ap length wants, length-append c
 
 -- ---- a group's command
 
-pub never-history : (t : Open) (d : Kept) (c : Command) (s : Result Step Refusal) → may_be_grouped c ≡ true → (s ≢ Err Memory → s ≡ step_by t d c) → (x : HistoryCommand) → s ≢ Ok (OfHistory x)
+pub never-history : (t : PlainTickets) (d : PlainDurable) (c : Command) (s : Result Step Refusal) → may_be_grouped c ≡ true → (s ≢ Err Memory → s ≡ step_by t d c) → (x : HistoryCommand) → s ≢ Ok (OfHistory x)
 never-history t d c s may steps x is =
     let own : step_by t d c ≡ Ok (OfHistory x) = sym (steps (λ m. cc (m, is))) ∙ is in
     let asked : c ≡ History x = left_is t d c x own in
@@ -136,12 +136,12 @@ unmentioned _ _ (wanted c e o mentions) a is = absurd (cc (is))
 unmentioned _ _ (refused c e) a is = absurd (cc (is))
 
 -- it leaves the tickets as they are until its change is accepted
-pub still-whole : (w : Whole) (c : Command) (s : Result Step Refusal) → may_be_grouped c ≡ true → (s ≢ Err Memory → s ≡ step_by w.tickets w.durable c) → stepped w c s ≡ w
+pub still-whole : (w : PlainCore) (c : Command) (s : Result Step Refusal) → may_be_grouped c ≡ true → (s ≢ Err Memory → s ≡ step_by w.tickets w.durable c) → stepped w c s ≡ w
 still-whole w c (Ok (Done a)) may steps =
-    let h : Held = with_tickets w.tickets w.durable in
+    let h : CurrentOpening = with_tickets w.tickets w.durable in
     let own : step_by w.tickets w.durable c ≡ Ok (Done a) = sym (steps (λ m. cc (m))) in
     let none : mentioned c ≡ [] = unmentioned c (step_in h c) (step-amid h c may) a (unhalted-in h c refl ∙ own) in
-    ap (λ ms. whole w.durable (moved_by w.tickets ms)) none
+    ap (λ ms. core_with w.durable (moved_by w.tickets ms)) none
 still-whole w c (Ok (Wants e o)) may steps = refl
 still-whole w c (Ok (OfHistory x)) may steps = refl
 still-whole w c (Err e) may steps = refl
@@ -186,7 +186,7 @@ well commands is =
     }
 
 -- so its changes are as many as a record may keep
-pub enough : (es : List Edit) (commands : List Command) → AreWell commands → 0 < length es → length es ≤ length commands → is_group es ≡ true
+pub enough : (es : List PlainChange) (commands : List Command) → AreWell commands → 0 < length es → length es ≤ length commands → is_group es ≡ true
 enough es commands w some low = by (length es) some (omega (arith, low, w.few)) where
   by : (n : ℕ) → 0 < n → n ≤ GROUP_LIMIT → (not (n == 0) && nat_le n GROUP_LIMIT) ≡ true
   by n some low = grind (arith, nat_tests, some, low)

@@ -1,32 +1,32 @@
 -- Where changes find room on the device together.
 use Rattle.std.proofs.{Common.{◌≡◌, ◌<◌, ◌≤◌, ℕ, Bool, true, false, List, [], ◌∷◌, ◌++◌, length, refl, ap, sym, ◌∙◌, subst, arith}, lemmas.{Bool.Decides.nat_tests, List.length-map, List.Sums.fold-append}}
 use Rattle.std.specs.{Prelude.{not, nat_le, ◌==◌, ◌&&◌}, List.list_all}
-use Rattle.pf_core.specs.{Durable.Edits.{Kept, Edit, applied, after}, Pages.Page, Worlds.{flat, is_fault}, declared.{group.TheConstants.GROUP_LIMIT, reply.Refusal.Refusal, reply.Refusal.TheVariants.{HistoryFull, Full}}}
+use Rattle.pf_core.specs.{Durable.Changes.{PlainDurable, PlainChange, applied, after}, WorldBooks.WorldBook, Worlds.{flat, is_fault}, declared.{group.TheConstants.GROUP_LIMIT, reply.Refusal.Refusal, reply.Refusal.TheVariants.{HistoryFull, Full}}}
 use Rattle.pf_store.specs.{Groups.{have_form, has_form, is_group, made_all}, Lengths.payload_length, Rooms.group_fits, Stores.{FindsRoom, HasRoom}}
 use Rattle.pf_store.specs.declared.groups.change.Recorded.TheVariants as recorded
-use Rattle.pf_store.proofs.Rooming.{group-fits}
+use Rattle.pf_store.proofs.RoomForGroups.{group-fits}
 use Rattle.pf_book.specs.Books.{HasNoRoom, IsUnkept}
 
-left-is : (base d next : Kept) (groups : List (List Edit)) (es : List Edit) → d ≡ after base (flat groups) → next ≡ after d es → next ≡ after base (flat groups ++ es)
-left-is base d next groups es kept left = left ∙ ap (λ (k : Kept). after k es) kept ∙ sym (fold-append applied base (flat groups) es)
+left-is : (base d next : PlainDurable) (groups : List (List PlainChange)) (es : List PlainChange) → d ≡ after base (flat groups) → next ≡ after d es → next ≡ after base (flat groups ++ es)
+left-is base d next groups es kept left = left ∙ ap (λ (k : PlainDurable). after k es) kept ∙ sym (fold-append applied base (flat groups) es)
 
 -- the same room, told of the base and the groups
-told : (P : Bool → Type 0) (size : ℕ) (base d next : Kept) (groups : List (List Edit)) (es : List Edit) → d ≡ after base (flat groups) → next ≡ after d es →
+told : (P : Bool → Type 0) (size : ℕ) (base d next : PlainDurable) (groups : List (List PlainChange)) (es : List PlainChange) → d ≡ after base (flat groups) → next ≡ after d es →
     P (group_fits size d next es) → P (group_fits size (after base (flat groups)) (after base (flat groups ++ es)) es)
 told P size base d next groups es kept left p =
-    let then : Kept = after base (flat groups ++ es) in
-    subst (λ (k : Kept). P (group_fits size k then es)) kept
-    (subst (λ (k : Kept). P (group_fits size d k es)) (left-is base d next groups es kept left) p)
+    let then : PlainDurable = after base (flat groups ++ es) in
+    subst (λ (k : PlainDurable). P (group_fits size k then es)) kept
+    (subst (λ (k : PlainDurable). P (group_fits size d k es)) (left-is base d next groups es kept left) p)
 
 -- the bytes of these changes have room
-abbrev pub FitThere : ℕ → List Edit → Kept → Kept → Type 0
+abbrev pub FitThere : ℕ → List PlainChange → PlainDurable → PlainDurable → Type 0
 FitThere size es d next = HasRoom size d next (payload_length (made_all es))
 
 -- told of equals
-pub same-room : (P : Kept → Kept → Type 0) (d k next left : Kept) → d ≡ k → next ≡ left → P d next → P k left
-same-room P d k next left kept is room = subst (λ (x : Kept). P k x) is (subst (λ (x : Kept). P x next) kept room)
+pub same-room : (P : PlainDurable → PlainDurable → Type 0) (d k next left : PlainDurable) → d ≡ k → next ≡ left → P d next → P k left
+same-room P d k next left kept is room = subst (λ (x : PlainDurable). P k x) is (subst (λ (x : PlainDurable). P x next) kept room)
 
-pub device-fits : (size : ℕ) (base d next : Kept) (groups : List (List Edit)) (es : List Edit) → d ≡ after base (flat groups) → next ≡ after d es →
+pub device-fits : (size : ℕ) (base d next : PlainDurable) (groups : List (List PlainChange)) (es : List PlainChange) → d ≡ after base (flat groups) → next ≡ after d es →
     FindsRoom size d next es → not (group_fits size (after base (flat groups)) (after base (flat groups ++ es)) es) ≡ false
 device-fits size base d next groups es kept left found =
     told (λ (b : Bool). not b ≡ false) size base d next groups es kept left (ap not ((group-fits size d next es).1 found.room))
@@ -35,7 +35,7 @@ full-by : (b : Bool) → (b ≡ true → ⊥) → not b ≡ true
 full-by true none = absurd (none refl)
 full-by false none = refl
 
-pub device-full : (size : ℕ) (base d next : Kept) (groups : List (List Edit)) (es : List Edit) → d ≡ after base (flat groups) → next ≡ after d es →
+pub device-full : (size : ℕ) (base d next : PlainDurable) (groups : List (List PlainChange)) (es : List PlainChange) → d ≡ after base (flat groups) → next ≡ after d es →
     (FitThere size es d next → ⊥) → not (group_fits size (after base (flat groups)) (after base (flat groups ++ es)) es) ≡ true
 device-full size base d next groups es kept left none =
     told (λ (b : Bool). not b ≡ true) size base d next groups es kept left (full-by (group_fits size d next es) (λ fits. none ((group-fits size d next es).0 fits)))
@@ -47,12 +47,12 @@ both true b is = (refl, is)
 both false b is = absurd (cc (is))
 
 -- it has a change
-pub some-formed : (es : List Edit) → have_form (made_all es) ≡ true → 0 < length es
+pub some-formed : (es : List PlainChange) → have_form (made_all es) ≡ true → 0 < length es
 some-formed [] formed = absurd (cc (formed))
 some-formed (e ∷ es) formed = omega arith
 
 -- and no more than a group may have
-pub few-formed : (es : List Edit) → have_form (made_all es) ≡ true → length es ≤ GROUP_LIMIT
+pub few-formed : (es : List PlainChange) → have_form (made_all es) ≡ true → length es ≤ GROUP_LIMIT
 few-formed es formed =
     let group : is_group (made_all es) ≡ true = (both (is_group (made_all es)) (list_all has_form (made_all es)) formed).0 in
     let few : nat_le (length (made_all es)) GROUP_LIMIT ≡ true = (both (not (length (made_all es) == 0)) (nat_le (length (made_all es)) GROUP_LIMIT) group).1 in
@@ -62,13 +62,13 @@ few-formed es formed =
 -- ---- no room
 
 -- changes that find none leave all as it is
-pub unroomed : (e : Refusal) (b : Page) (es : List Edit) → HasNoRoom e b es → IsUnkept e b b es
+pub unroomed : (e : Refusal) (b : WorldBook) (es : List PlainChange) → HasNoRoom e b es → IsUnkept e b b es
 unroomed HistoryFull b es none = (refl, none)
 unroomed Full b es none = (refl, none)
 unroomed e b es none = absurd none
 
 -- and that is no fault
-pub unroomed-calm : (e : Refusal) (b : Page) (es : List Edit) → HasNoRoom e b es → is_fault e ≡ false
+pub unroomed-calm : (e : Refusal) (b : WorldBook) (es : List PlainChange) → HasNoRoom e b es → is_fault e ≡ false
 unroomed-calm HistoryFull b es none = refl
 unroomed-calm Full b es none = refl
 unroomed-calm e b es none = absurd none

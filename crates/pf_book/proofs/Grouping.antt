@@ -3,30 +3,30 @@ use Rattle.std.proofs.{Common.{◌≡◌, ◌≢◌, ◌⊎◌, inl, inr, Option
 use Rattle.std.specs.Prelude.{IfErr, IfOk, Vec, flat_map, fold, map, nat_lt, not, position}
 use Rattle.std.specs.declared.alloc.Global.{Global}
 use Rattle.pf_core.specs.Refusing.{and_then, unless, refused_at, AreBothPassed, both_passed, not_refused}
-use Rattle.pf_ticket.specs.{Tickets.Open, Mentions.{after as moved_by, switches}}
+use Rattle.pf_ticket.specs.{Tickets.PlainTickets, Mentions.{after as moved_by, switches}}
 use Rattle.pf_core.specs.declared.{command.Command.Command, reply.Refusal.Refusal, reply.Refusal.TheVariants.{Halted, BadCount, NotGrouped, HistoryFull, Full, Fault, Memory}, reply.Reply.Reply, reply.Reply.TheVariants.{Answer as Answered, Applied, Stored, Refused}, step.Step.Step, step.Step.TheVariants.{Done, Wants, OfHistory}}
-use Rattle.pf_core.specs.{Commands.{bad_number, group_words, may_be_grouped}, Durable.Edits.{Kept, Edit, after, voided_by}, Pages.{Page, IsFolded, IsAt, LeadsGroup}, Wholes.Whole, Worlds.{Setting, Held, down, grouping, Upshot, upshot, flat, log_of, durable_of, is_halted, is_fault, step_in, reply_to, changes_of, room_for, grouped, amid, changes_with, changes_due, replies_due, group_start, group_check, replies_unless, due_group, group_all, kept_groups, shown_by, as_stored, GroupStandsIn, LegalReplies}}
+use Rattle.pf_core.specs.{Commands.{bad_number, group_words, may_be_grouped}, Durable.Changes.{PlainDurable, PlainChange, after, voided_by}, WorldBooks.{WorldBook, IsFolded, IsAt, LeadsGroup}, Cores.PlainCore, Worlds.{Setting, CurrentOpening, down, grouping, Upshot, upshot, flat, log_of, durable_of, is_halted, is_fault, step_in, reply_to, changes_of, room_for, grouped, amid, changes_with, changes_due, replies_due, group_start, group_check, replies_unless, due_group, group_all, kept_groups, shown_by, as_stored, GroupStandsIn, LegalReplies}}
 use Rattle.pf_core.proofs.{Courses.{durable-amid, length-with, log-amid, IsOfGroup, told, wanted, refused, step-amid, MayBeGrouped, IsTaken, taken-group, told_as, IsAccepted, accepted}, GroupLeads.{IsShownSo, shown-due, shown-stored, refused-group-leads, fault-group-leads, kept-group-leads}, Groups.rooms-found}
 use Rattle.pf_store.specs.Stores.{Holds, HoldsEither}
 use Rattle.pf_disk.specs.Disk.{EachMoment, IsImage}
 use Rattle.pf_disk.proofs.Moments.{weakened}
-use Rattle.pf_book.specs.{Books.{Ledger, page, HasRoom, HoldsFront, HoldsLeft, IsMore, IsPending, IsUnkept, AreMade, AreNumbered, Stays, StaysUnlessAnyKept, is_fault_result, replied, shows_all}, Courses.IsCalm}
-use Rattle.pf_book.proofs.{Calling.{durable-is, log-acked, front-left, still-left, own}, Parts.{grouped-some, flat-grouped}}
+use Rattle.pf_book.specs.{Books.{PlainBook, world_book, HasRoom, HoldsFront, HoldsLeft, IsMore, IsPending, IsUnkept, AreMade, AreNumbered, Stays, StaysUnlessAnyKept, is_fault_result, replied, shows_all}, Courses.IsCalm}
+use Rattle.pf_book.proofs.{Calling.{durable-is, log-acked, front-left, still-left, own}, HistoryGroups.{grouped-some, flat-grouped}}
 
 -- ---- a calm opening
 
 -- the opening that a page with nothing pending is
-pub calm : (h : Held) (b : Page) → IsAt h b → IsFolded b → b.pending ≡ [] → IsCalm h b.whole (length (flat b.acked))
+pub calm : (h : CurrentOpening) (b : WorldBook) → IsAt h b → IsFolded b → b.pending ≡ [] → IsCalm h b.whole (length (flat b.acked))
 calm h b at folded none = record {
   tickets = sym at.tickets;
   durable = sym (durable-is h b at folded);
-  number = ap (λ (gs : List (List Edit)). length (flat gs)) (sym at.acked);
+  number = ap (λ (gs : List (List PlainChange)). length (flat gs)) (sym at.acked);
   none = sym at.pending ∙ none;
 }
 
 -- ---- numbers
 
-number-step : (stored : Bool) (a : Held) (s : Result Step Refusal) (n m : ℕ) (rest : List Reply) → length (log_of a) ≡ n → AreNumbered rest (n + length (changes_of s)) m → AreNumbered (told_as stored (reply_to a s) ∷ rest) n m
+number-step : (stored : Bool) (a : CurrentOpening) (s : Result Step Refusal) (n m : ℕ) (rest : List Reply) → length (log_of a) ≡ n → AreNumbered rest (n + length (changes_of s)) m → AreNumbered (told_as stored (reply_to a s) ∷ rest) n m
 number-step true a (Ok (Done x)) n m rest is all = subst (λ (k : ℕ). AreNumbered rest k m) (omega arith) all
 number-step false a (Ok (Done x)) n m rest is all = subst (λ (k : ℕ). AreNumbered rest k m) (omega arith) all
 number-step true a (Ok (Wants e o)) n m rest is all = (ap (λ (k : ℕ). k + 1) is, all)
@@ -37,13 +37,13 @@ number-step true a (Err e) n m rest is all = subst (λ (k : ℕ). AreNumbered re
 number-step false a (Err e) n m rest is all = subst (λ (k : ℕ). AreNumbered rest k m) (omega arith) all
 
 -- the numbers of the replies that are due go on from what was acknowledged
-pub numbers : (h : Held) (changes : List Edit) (commands : List Command) (stored : Bool) → h.pending ≡ []
+pub numbers : (h : CurrentOpening) (changes : List PlainChange) (commands : List Command) (stored : Bool) → h.pending ≡ []
     → AreNumbered (map (told_as stored) (replies_due h changes commands)) (length (flat h.acked) + length changes) (length (flat h.acked) + length (changes_due h changes commands))
 numbers h changes [] stored none = refl
 numbers h changes (c ∷ cs) stored none =
-    let a : Held = amid h changes in
+    let a : CurrentOpening = amid h changes in
     let s : Result Step Refusal = step_in a c in
-    let more : List Edit = changes ++ changes_of s in
+    let more : List PlainChange = changes ++ changes_of s in
     let n : ℕ = length (flat h.acked) + length changes in
     let m : ℕ = length (flat h.acked) + length (changes_due h more cs) in
     let rest : List Reply = map (told_as stored) (replies_due h more cs) in
@@ -52,23 +52,23 @@ numbers h changes (c ∷ cs) stored none =
 
 -- ---- no changes
 
-grows : (h : Held) (changes : List Edit) (commands : List Command) → length changes ≤ length (changes_due h changes commands)
+grows : (h : CurrentOpening) (changes : List PlainChange) (commands : List Command) → length changes ≤ length (changes_due h changes commands)
 grows h changes [] = le_refl _
 grows h changes (c ∷ cs) = omega (arith, grows h (changes_with h changes c) cs, length-append changes (changes_of (step_in (amid h changes) c)))
 
-silent-step : (a : Held) (c : Command) (s : Result Step Refusal) (n : ℕ) → IsOfGroup c s → length (changes_of s) ≡ 0 → shown_by (reply_to a s) n ≡ n
+silent-step : (a : CurrentOpening) (c : Command) (s : Result Step Refusal) (n : ℕ) → IsOfGroup c s → length (changes_of s) ≡ 0 → shown_by (reply_to a s) n ≡ n
 silent-step a _ _ n (told c x unmentioned silent) nothing = silent.shown n
 silent-step a _ _ n (wanted c e o mentions) nothing = absurd (omega (arith, nothing))
 silent-step a _ _ n (refused c e) nothing = refl
 
 -- replies without a change show nothing
-silent-due : (h : Held) (changes : List Edit) (n : ℕ) (commands : List Command) → MayBeGrouped commands → length (changes_due h changes commands) ≡ length changes
+silent-due : (h : CurrentOpening) (changes : List PlainChange) (n : ℕ) (commands : List Command) → MayBeGrouped commands → length (changes_due h changes commands) ≡ length changes
     → fold (λ (m : ℕ) (r : Reply). shown_by r m) n (replies_due h changes commands) ≡ n
 silent-due h changes n [] may nothing = refl
 silent-due h changes n (c ∷ cs) may nothing =
-    let a : Held = amid h changes in
+    let a : CurrentOpening = amid h changes in
     let s : Result Step Refusal = step_in a c in
-    let more : List Edit = changes ++ changes_of s in
+    let more : List PlainChange = changes ++ changes_of s in
     let long : length more ≡ length changes + length (changes_of s) = length-append changes (changes_of s) in
     let low : length more ≤ length (changes_due h more cs) = grows h more cs in
     let same : length (changes_due h more cs) ≡ length changes = nothing in
@@ -77,42 +77,42 @@ silent-due h changes n (c ∷ cs) may nothing =
 
 -- ---- room
 
-past-limit : (h : Held) (es : List Edit) → 0 < length es → nat_lt h.setting.limit (length (log_of h) + length es) ≡ true → room_for h es ≡ Err HistoryFull
+past-limit : (h : CurrentOpening) (es : List PlainChange) → 0 < length es → nat_lt h.setting.limit (length (log_of h) + length es) ≡ true → room_for h es ≡ Err HistoryFull
 past-limit h [] some full = absurd (omega (arith, some))
 past-limit h (e ∷ es) some full = ap (λ (b : Bool). cond b (Err HistoryFull) (cond (h.setting.is_full h.base h.acked (e ∷ es)) (Err Full) (Ok tt))) full
 
-past-device : (h : Held) (es : List Edit) → 0 < length es → nat_lt h.setting.limit (length (log_of h) + length es) ≡ false → h.setting.is_full h.base h.acked es ≡ true → room_for h es ≡ Err Full
+past-device : (h : CurrentOpening) (es : List PlainChange) → 0 < length es → nat_lt h.setting.limit (length (log_of h) + length es) ≡ false → h.setting.is_full h.base h.acked es ≡ true → room_for h es ≡ Err Full
 past-device h [] some few full = absurd (omega (arith, some))
 past-device h (e ∷ es) some few full =
     ap (λ (b : Bool). cond b (Err HistoryFull) (cond (h.setting.is_full h.base h.acked (e ∷ es)) (Err Full) (Ok tt))) few ∙ ap (λ (b : Bool). cond b (Err Full) (Ok tt)) full
 
-take-grouped : (es : List Edit) → take 1 (grouped es) ≡ grouped es
+take-grouped : (es : List PlainChange) → take 1 (grouped es) ≡ grouped es
 take-grouped [] = refl
 take-grouped (e ∷ es) = refl
 
 -- ---- where it leads
 
 -- what refuses a group before its commands are looked at
-abbrev pub begins : Page → List Command → Result (Unit {0}) Refusal
+abbrev pub begins : WorldBook → List Command → Result (Unit {0}) Refusal
 begins b commands = and_then (unless (is_halted b.pending) Halted) (group_words commands)
 
-not-halted : (gs : List (List Edit)) → is_halted gs ≡ false → gs ≡ []
+not-halted : (gs : List (List PlainChange)) → is_halted gs ≡ false → gs ≡ []
 not-halted [] is = refl
 not-halted (g ∷ gs) is = absurd (cc (is))
 
-pub record IsBegun (b : Page) (commands : List Command) : Type 0 where
+pub record IsBegun (b : WorldBook) (commands : List Command) : Type 0 where
   pub none : b.pending ≡ []
   pub words : group_words commands ≡ Ok tt
 
-pub begun-by : (b : Page) (commands : List Command) → Ok tt ≡ begins b commands → IsBegun b commands
+pub begun-by : (b : WorldBook) (commands : List Command) → Ok tt ≡ begins b commands → IsBegun b commands
 begun-by b commands is =
     let both : AreBothPassed (unless (is_halted b.pending) Halted) (group_words commands) tt = both_passed (unless (is_halted b.pending) Halted) (group_words commands) tt (sym is) in
     record { none = not-halted b.pending (not_refused (is_halted b.pending) Halted both.first); words = both.second }
 
 -- such a refusal leads to nothing else
-pub begin-leads : (h : Held) (b : Page) (commands : List Command) (e : Refusal) → IsAt h b → Err e ≡ begins b commands → LeadsGroup h b commands (Err e) (upshot b.shown false)
+pub begin-leads : (h : CurrentOpening) (b : WorldBook) (commands : List Command) (e : Refusal) → IsAt h b → Err e ≡ begins b commands → LeadsGroup h b commands (Err e) (upshot b.shown false)
 begin-leads h b commands e at is =
-    let start : group_start h commands ≡ Err e = ap (λ (gs : List (List Edit)). and_then (unless (is_halted gs) Halted) (group_words commands)) (sym at.pending) ∙ sym is in
+    let start : group_start h commands ≡ Err e = ap (λ (gs : List (List PlainChange)). and_then (unless (is_halted gs) Halted) (group_words commands)) (sym at.pending) ∙ sym is in
     let due : due_group h commands ≡ Err e = ap (λ (r : Result (Unit {0}) Refusal). replies_unless (and_then r (room_for h (changes_due h [] commands))) (replies_due h [] commands)) start in
     refused-group-leads h b b commands e (inl (sym due)) refl at
 
@@ -126,27 +126,27 @@ begin-by false true rest e calm is = let same : e ≡ BadCount = cc (is) in ap i
 begin-by false false rest e calm is = calm is
 
 -- and is no fault
-pub begin-calm : (b : Page) (commands : List Command) (e : Refusal) → Err e ≡ begins b commands → is_fault e ≡ false
+pub begin-calm : (b : WorldBook) (commands : List Command) (e : Refusal) → Err e ≡ begins b commands → is_fault e ≡ false
 begin-calm b commands e is =
     let kinds : Option ℕ = position (λ (c : Command). not (may_be_grouped c)) commands in
     begin-by (is_halted b.pending) (bad_number (length commands)) (refused_at (λ i. NotGrouped i) kinds) e (kinds-calm kinds e) is
 
-module _ (h : Held) (b : Page) (commands : List Command) (at : IsAt h b) (none : b.pending ≡ []) where
+module _ (h : CurrentOpening) (b : WorldBook) (commands : List Command) (at : IsAt h b) (none : b.pending ≡ []) where
   pub calm-none : h.pending ≡ []
   calm-none = sym at.pending ∙ none
 
   start-is : group_start h commands ≡ group_words commands
-  start-is = ap (λ (gs : List (List Edit)). and_then (unless (is_halted gs) Halted) (group_words commands)) calm-none
+  start-is = ap (λ (gs : List (List PlainChange)). and_then (unless (is_halted gs) Halted) (group_words commands)) calm-none
 
   -- memory was refused behind these
   pub memory-refuses : group_words commands ≡ Ok tt → LeadsGroup h b commands (Err Memory) (upshot b.shown false)
   memory-refuses words = refused-group-leads h b b commands Memory (inr (start-is ∙ words)) refl at
 
-module _ (h : Held) (b : Page) (commands : List Command) (at : IsAt h b) (none : b.pending ≡ []) (words : group_words commands ≡ Ok tt) where
+module _ (h : CurrentOpening) (b : WorldBook) (commands : List Command) (at : IsAt h b) (none : b.pending ≡ []) (words : group_words commands ≡ Ok tt) where
   abbrev due : List Reply
   due = replies_due h [] commands
 
-  abbrev es : List Edit
+  abbrev es : List PlainChange
   es = changes_due h [] commands
 
   start : group_start h commands ≡ Ok tt
@@ -162,8 +162,8 @@ module _ (h : Held) (b : Page) (commands : List Command) (at : IsAt h b) (none :
   limit = ap (λ (s : Setting). s.limit) at.setting
 
   full-is : h.setting.is_full h.base h.acked es ≡ b.setting.is_full b.base b.acked es
-  full-is = ap (λ (s : Setting). s.is_full h.base h.acked es) (sym at.setting) ∙ ap (λ (k : Kept). b.setting.is_full k h.acked es) (sym at.base)
-      ∙ ap (λ (l : List (List Edit)). b.setting.is_full b.base l es) (sym at.acked)
+  full-is = ap (λ (s : Setting). s.is_full h.base h.acked es) (sym at.setting) ∙ ap (λ (k : PlainDurable). b.setting.is_full k h.acked es) (sym at.base)
+      ∙ ap (λ (l : List (List PlainChange)). b.setting.is_full b.base l es) (sym at.acked)
 
   found : HasRoom b es → group_check h commands ≡ Ok tt
   found room = checked ∙ rooms-found h es (omega (arith, room.few, log, limit)) (full-is ∙ room.device)
@@ -185,7 +185,7 @@ module _ (h : Held) (b : Page) (commands : List Command) (at : IsAt h b) (none :
       let still : fold (λ (m : ℕ) (r : Reply). shown_by r m) h.shown due ≡ h.shown = silent-due h [] h.shown commands t.may (ap length nothing) in
       let shown : b.shown ≡ fold (λ (m : ℕ) (r : Reply). shown_by r m) h.shown (map (told_as false) due) =
       at.shown ∙ sym still ∙ ap (fold (λ (m : ℕ) (r : Reply). shown_by r m) h.shown) (sym (map-id due)) in
-      let moved : b.whole.tickets ≡ (amid h es).tickets = at.tickets ∙ ap (λ (l : List Edit). (amid h l).tickets) (sym nothing) in
+      let moved : b.whole.tickets ≡ (amid h es).tickets = at.tickets ∙ ap (λ (l : List PlainChange). (amid h l).tickets) (sym nothing) in
       let all : LeadsGroup h (record b { whole = b.whole; acked = b.acked ++ grouped es; shown = b.shown; published = b.published }) commands (Ok (map (told_as false) due)) (upshot b.shown false) =
       kept-group-leads h b b.whole b.published b.shown false commands t (legal-due check) moved shown at in
       subst (λ (rs : List Reply). LeadsGroup h b commands (Ok rs) (upshot b.shown false)) (map-id due) (record {
@@ -193,7 +193,7 @@ module _ (h : Held) (b : Page) (commands : List Command) (at : IsAt h b) (none :
         at = record {
           base = all.at.base;
           tickets = all.at.tickets;
-          acked = sym (append-nil b.acked) ∙ ap (λ (l : List Edit). b.acked ++ grouped l) (sym nothing) ∙ all.at.acked;
+          acked = sym (append-nil b.acked) ∙ ap (λ (l : List PlainChange). b.acked ++ grouped l) (sym nothing) ∙ all.at.acked;
           pending = all.at.pending;
           shown = all.at.shown;
           setting = all.at.setting;
@@ -201,18 +201,18 @@ module _ (h : Held) (b : Page) (commands : List Command) (at : IsAt h b) (none :
       })
 
   -- they were kept
-  kept-leads : (new kept : Page) (stored : Bool) → (more : IsMore b kept es) → new.base ≡ kept.base → new.whole ≡ kept.whole → new.acked ≡ kept.acked → new.pending ≡ kept.pending → new.setting ≡ kept.setting
+  kept-leads : (new kept : WorldBook) (stored : Bool) → (more : IsMore b kept es) → new.base ≡ kept.base → new.whole ≡ kept.whole → new.acked ≡ kept.acked → new.pending ≡ kept.pending → new.setting ≡ kept.setting
       → LegalReplies h commands (Ok (map (told_as stored) due)) false → new.shown ≡ fold (λ (m : ℕ) (r : Reply). shown_by r m) h.shown (map (told_as stored) due)
       → LeadsGroup h new commands (Ok (map (told_as stored) due)) (upshot new.shown false)
   kept-leads new kept stored more base whole acked pending setting legal shown =
-      let moved : kept.whole.tickets ≡ (amid h es).tickets = more.tickets ∙ ap (λ (o : Open). moved_by o (switches (flat_map voided_by es))) at.tickets in
+      let moved : kept.whole.tickets ≡ (amid h es).tickets = more.tickets ∙ ap (λ (o : PlainTickets). moved_by o (switches (flat_map voided_by es))) at.tickets in
       let all : LeadsGroup h (record b { whole = kept.whole; acked = b.acked ++ grouped es; shown = new.shown; published = new.published }) commands (Ok (map (told_as stored) due)) (upshot new.shown false) =
       kept-group-leads h b kept.whole new.published new.shown stored commands (taken more.room) legal moved shown at in
       record {
         legal = all.legal;
         at = record {
           base = base ∙ more.base ∙ all.at.base;
-          tickets = ap (λ (w : Whole). w.tickets) whole ∙ all.at.tickets;
+          tickets = ap (λ (w : PlainCore). w.tickets) whole ∙ all.at.tickets;
           acked = acked ∙ more.acked ∙ all.at.acked;
           pending = pending ∙ more.pending ∙ all.at.pending;
           shown = all.at.shown;
@@ -221,10 +221,10 @@ module _ (h : Held) (b : Page) (commands : List Command) (at : IsAt h b) (none :
       }
 
   -- and all of them are shown
-  all-shown : (kept : Page) → 0 < length es → IsMore b kept es → length (flat kept.acked) ≡ fold (λ (m : ℕ) (r : Reply). shown_by r m) h.shown (map (told_as false) due)
+  all-shown : (kept : WorldBook) → 0 < length es → IsMore b kept es → length (flat kept.acked) ≡ fold (λ (m : ℕ) (r : Reply). shown_by r m) h.shown (map (told_as false) due)
   all-shown kept some more =
       let total : length (flat kept.acked) ≡ length (flat h.acked) + length es =
-      ap (λ (gs : List (List Edit)). length (flat gs)) (more.acked ∙ ap (λ (gs : List (List Edit)). gs ++ grouped es) at.acked) ∙ length-with h.acked es in
+      ap (λ (gs : List (List PlainChange)). length (flat gs)) (more.acked ∙ ap (λ (gs : List (List PlainChange)). gs ++ grouped es) at.acked) ∙ length-with h.acked es in
       total ∙ sym (by (shown-due h h.shown [] h.shown commands (calm-none h b commands at none) (taken more.room).may (inl (refl, refl)))) ∙ ap (fold (λ (m : ℕ) (r : Reply). shown_by r m) h.shown) (sym (map-id due))
     where
       by : IsShownSo h h.shown es (fold (λ (m : ℕ) (r : Reply). shown_by r m) h.shown due) → fold (λ (m : ℕ) (r : Reply). shown_by r m) h.shown due ≡ length (flat h.acked) + length es
@@ -232,23 +232,23 @@ module _ (h : Held) (b : Page) (commands : List Command) (at : IsAt h b) (none :
       by (inr is) = is
 
   -- the device failed: they are pending
-  faulted : (new : Page) → 0 < length es → IsPending b new es → LeadsGroup h new commands (Err Fault) (upshot new.shown true)
+  faulted : (new : WorldBook) → 0 < length es → IsPending b new es → LeadsGroup h new commands (Err Fault) (upshot new.shown true)
   faulted new some pending =
       let t : IsTaken h commands = taken pending.room in
       let kept : group_all h commands ≢ [] = λ nothing. let one : es ∷ [] ≡ [] = sym (grouped-some es some) ∙ sym t.group ∙ nothing in cc (one) in
       let stands : GroupStandsIn h commands true (due_group h commands) (Err Fault) =
       subst (λ (r : Result (List Reply) Refusal). GroupStandsIn h commands true r (Err Fault)) (sym (due-ok (found pending.room))) (refl, kept) in
       let left : record b { pending = b.pending ++ group_all h commands } ≡ new =
-      ap (λ (gs : List (List Edit)). record b { pending = gs }) (ap (λ (gs : List (List Edit)). gs ++ group_all h commands) none ∙ t.group) ∙ sym pending.same in
-      subst (λ (p : Page). LeadsGroup h p commands (Err Fault) (upshot p.shown true)) left (fault-group-leads h b commands (inr stands) at)
+      ap (λ (gs : List (List PlainChange)). record b { pending = gs }) (ap (λ (gs : List (List PlainChange)). gs ++ group_all h commands) none ∙ t.group) ∙ sym pending.same in
+      subst (λ (p : WorldBook). LeadsGroup h p commands (Err Fault) (upshot p.shown true)) left (fault-group-leads h b commands (inr stands) at)
 
-  unkept : (e : Refusal) (new : Page) → due_group h commands ≡ Err e → new ≡ b → LeadsGroup h new commands (Err e) (upshot new.shown false)
+  unkept : (e : Refusal) (new : WorldBook) → due_group h commands ≡ Err e → new ≡ b → LeadsGroup h new commands (Err e) (upshot new.shown false)
   unkept e new is same = refused-group-leads h b new commands e (inl (sym is)) same at
 
-  pub all-made-leads : (result : Result (List Reply) Refusal) (new : Page) (failed : Bool) → 0 < length es → AreMade result due es b new → failed ≡ is_fault_result result → LeadsGroup h new commands result (upshot new.shown failed)
+  pub all-made-leads : (result : Result (List Reply) Refusal) (new : WorldBook) (failed : Bool) → 0 < length es → AreMade result due es b new → failed ≡ is_fault_result result → LeadsGroup h new commands result (upshot new.shown failed)
   all-made-leads (Ok replies) new failed some (kept, more, inl (says, shown)) is =
       subst (λ (x : Bool). LeadsGroup h new commands (Ok replies) (upshot new.shown x)) (sym is)
-      (subst (λ (p : Page). LeadsGroup h p commands (Ok replies) (upshot p.shown false)) (sym shown)
+      (subst (λ (p : WorldBook). LeadsGroup h p commands (Ok replies) (upshot p.shown false)) (sym shown)
       (subst (λ (rs : List Reply). LeadsGroup h (shows_all kept) commands (Ok rs) (upshot (length (flat kept.acked)) false)) (map-id due ∙ sym says)
       (kept-leads (shows_all kept) kept false more refl refl refl refl refl (legal-due (found more.room)) (all-shown kept some more))))
   all-made-leads (Ok replies) new failed some (kept, more, inr (says, same)) is =
@@ -256,7 +256,7 @@ module _ (h : Held) (b : Page) (commands : List Command) (at : IsAt h b) (none :
       subst (λ (r : Result (List Reply) Refusal). GroupStandsIn h commands false r (Ok (map as_stored due))) (sym (due-ok (found more.room))) refl in
       let still : fold (λ (m : ℕ) (r : Reply). shown_by r m) h.shown (map as_stored due) ≡ h.shown = shown-stored h [] h.shown commands (taken more.room).may in
       subst (λ (x : Bool). LeadsGroup h new commands (Ok replies) (upshot new.shown x)) (sym is)
-      (subst (λ (p : Page). LeadsGroup h p commands (Ok replies) (upshot p.shown false)) (sym same)
+      (subst (λ (p : WorldBook). LeadsGroup h p commands (Ok replies) (upshot p.shown false)) (sym same)
       (subst (λ (rs : List Reply). LeadsGroup h kept commands (Ok rs) (upshot kept.shown false)) (sym says)
       (kept-leads kept kept true more refl refl refl refl refl (inr stands) (more.shown ∙ at.shown ∙ sym still))))
   all-made-leads (Err Memory) new failed some (same, room) is =
@@ -275,29 +275,29 @@ module _ (h : Held) (b : Page) (commands : List Command) (at : IsAt h b) (none :
   -- what an image holds while they are kept is what some crash leaves
   pub all-left : IsFolded b → HasRoom b es → (image : List ℕ) → HoldsEither b.whole.durable (after b.whole.durable es) image → HoldsLeft h (grouping commands) image
   all-left folded room image (inl holds) =
-      front-left h b (grouping commands) image at (0, subst (λ (k : Kept). Holds image k) (folded.durable ∙ ap (λ (l : List (List Edit)). after b.base (flat l)) (sym (append-nil b.acked))) holds)
+      front-left h b (grouping commands) image at (0, subst (λ (k : PlainDurable). Holds image k) (folded.durable ∙ ap (λ (l : List (List PlainChange)). after b.base (flat l)) (sym (append-nil b.acked))) holds)
   all-left folded room image (inr holds) =
       let kept : kept_groups h (grouping commands) 1 ≡ h.acked ++ grouped es =
-      ap (λ (l : List (List Edit)). h.acked ++ take 1 (l ++ group_all h commands)) (calm-none h b commands at none)
-      ∙ ap (λ (l : List (List Edit)). h.acked ++ take 1 l) (taken room).group ∙ ap (λ (l : List (List Edit)). h.acked ++ l) (take-grouped es) in (
+      ap (λ (l : List (List PlainChange)). h.acked ++ take 1 (l ++ group_all h commands)) (calm-none h b commands at none)
+      ∙ ap (λ (l : List (List PlainChange)). h.acked ++ take 1 l) (taken room).group ∙ ap (λ (l : List (List PlainChange)). h.acked ++ l) (take-grouped es) in (
         after b.whole.durable es,
         holds,
-        (1, ap (λ (k : Kept). down k) (ap (λ (l : List (List Edit)). after h.base (flat l)) kept ∙ durable-amid h es ∙ ap (λ (k : Kept). after k es) (sym (durable-is h b at folded)))),
+        (1, ap (λ (k : PlainDurable). down k) (ap (λ (l : List (List PlainChange)). after h.base (flat l)) kept ∙ durable-amid h es ∙ ap (λ (k : PlainDurable). after k es) (sym (durable-is h b at folded)))),
       )
 
 -- what a group that is refused leaves, and one that is kept
-pub all-made-stay : {D : Type 0} (now new : Ledger D) (result : Result (List Reply) Refusal) (due : List Reply) (es : List Edit) → 0 < length es → AreMade result due es (page now) (page new)
+pub all-made-stay : {D : Type 0} (now new : PlainBook D) (result : Result (List Reply) Refusal) (due : List Reply) (es : List PlainChange) → 0 < length es → AreMade result due es (world_book now) (world_book new)
     → ((why : Refusal) → result ≡ Err why → is_fault why ≡ false → new.disk ≡ now.disk) → StaysUnlessAnyKept result now new
 all-made-stay now new (Ok replies) due es some (kept, more, how) device = λ same. absurd (by how same) where
   longer : length (flat kept.acked) ≡ length (flat now.acked) + length es
-  longer = ap (λ (gs : List (List Edit)). length (flat gs)) more.acked ∙ length-with now.acked es
+  longer = ap (λ (gs : List (List PlainChange)). length (flat gs)) more.acked ∙ length-with now.acked es
 
-  by : ((replies ≡ due) × (page new ≡ shows_all kept)) ⊎ ((replies ≡ map as_stored due) × (page new ≡ kept)) → new.acked ≡ now.acked → ⊥
-  by (inl (says, shown)) same = let was : kept.acked ≡ now.acked = sym (ap (λ (p : Page). p.acked) shown) ∙ same in omega (arith, some, longer, ap (λ (gs : List (List Edit)). length (flat gs)) was)
-  by (inr (says, is)) same = let was : kept.acked ≡ now.acked = sym (ap (λ (p : Page). p.acked) is) ∙ same in omega (arith, some, longer, ap (λ (gs : List (List Edit)). length (flat gs)) was)
+  by : ((replies ≡ due) × (world_book new ≡ shows_all kept)) ⊎ ((replies ≡ map as_stored due) × (world_book new ≡ kept)) → new.acked ≡ now.acked → ⊥
+  by (inl (says, shown)) same = let was : kept.acked ≡ now.acked = sym (ap (λ (p : WorldBook). p.acked) shown) ∙ same in omega (arith, some, longer, ap (λ (gs : List (List PlainChange)). length (flat gs)) was)
+  by (inr (says, is)) same = let was : kept.acked ≡ now.acked = sym (ap (λ (p : WorldBook). p.acked) is) ∙ same in omega (arith, some, longer, ap (λ (gs : List (List PlainChange)). length (flat gs)) was)
 all-made-stay now new (Err Fault) due es some made device = record {
   same = λ is. absurd (cc (is));
-  pending = λ is. (es, made.same ∙ ap (λ (gs : List (List Edit)). record (page now) { pending = gs }) (grouped-some es some));
+  pending = λ is. (es, made.same ∙ ap (λ (gs : List (List PlainChange)). record (world_book now) { pending = gs }) (grouped-some es some));
 }
 all-made-stay now new (Err Memory) due es some made device = record { same = λ is. (made.0, device Memory refl refl); pending = λ is. absurd (cc (is)) }
 all-made-stay now new (Err HistoryFull) due es some made device = record { same = λ is. (made.0, device HistoryFull refl refl); pending = λ is. absurd (cc (is)) }
@@ -306,7 +306,7 @@ all-made-stay now new (Err why) due es some made device = absurd made.1
 
 module _ {D : Type 0} (seen : D → List ℕ) (unsynced : D → ℕ → Bool) (moment : D → ℕ) (left_since : D → ℕ → List ℕ → Type 0) where
   -- at each moment an image holds what some crash within the group leaves
-  pub all-made-moment : (h : Held) (b new : Page) (commands : List Command) → IsAt h b → b.pending ≡ [] → group_words commands ≡ Ok tt → IsFolded b → (old next : D)
+  pub all-made-moment : (h : CurrentOpening) (b new : WorldBook) (commands : List Command) → IsAt h b → b.pending ≡ [] → group_words commands ≡ Ok tt → IsFolded b → (old next : D)
       → ((c : List ℕ) → left_since old (moment old) c → IsImage (seen old) (unsynced old) c) → ((c : List ℕ) → IsImage (seen old) (unsynced old) c → HoldsFront b c)
       → EachMoment moment left_since old next (HoldsEither b.whole.durable (after b.whole.durable (changes_due h [] commands)))
       → (result : Result (List Reply) Refusal) → AreMade result (replies_due h [] commands) (changes_due h [] commands) b new
@@ -320,43 +320,43 @@ module _ {D : Type 0} (seen : D → List ℕ) (unsynced : D → ℕ → Bool) (m
 
 -- ---- with what the commands came to
 
-module _ (h : Held) (b b' : Page) (commands : List Command) (at : IsAt h b) (begun : IsBegun b commands) (replies : List Reply) (changes : List Edit) (same : b' ≡ b)
+module _ (h : CurrentOpening) (b b' : WorldBook) (commands : List Command) (at : IsAt h b) (begun : IsBegun b commands) (replies : List Reply) (changes : List PlainChange) (same : b' ≡ b)
     (told_is : replies ≡ replies_due h [] commands) (wants : changes ≡ changes_due h [] commands) where
-  as_due : (result : Result (List Reply) Refusal) (new : Page) → AreMade result replies changes b' new → AreMade result (replies_due h [] commands) (changes_due h [] commands) b new
+  as_due : (result : Result (List Reply) Refusal) (new : WorldBook) → AreMade result replies changes b' new → AreMade result (replies_due h [] commands) (changes_due h [] commands) b new
   as_due result new made = subst (λ (rs : List Reply). AreMade result rs (changes_due h [] commands) b new) told_is
-      (subst (λ (es : List Edit). AreMade result replies es b new) wants (subst (λ (p : Page). AreMade result replies changes p new) same made))
+      (subst (λ (es : List PlainChange). AreMade result replies es b new) wants (subst (λ (p : WorldBook). AreMade result replies changes p new) same made))
 
-  pub told-leads : (result : Result (List Reply) Refusal) (new : Page) (failed : Bool) → 0 < length changes → AreMade result replies changes b' new → failed ≡ is_fault_result result → LeadsGroup h new commands result (upshot new.shown failed)
-  told-leads result new failed some made is = all-made-leads h b commands at begun.none begun.words result new failed (subst (λ (es : List Edit). 0 < length es) wants some) (as_due result new made) is
+  pub told-leads : (result : Result (List Reply) Refusal) (new : WorldBook) (failed : Bool) → 0 < length changes → AreMade result replies changes b' new → failed ≡ is_fault_result result → LeadsGroup h new commands result (upshot new.shown failed)
+  told-leads result new failed some made is = all-made-leads h b commands at begun.none begun.words result new failed (subst (λ (es : List PlainChange). 0 < length es) wants some) (as_due result new made) is
 
   pub told-unchanged : changes ≡ [] → LeadsGroup h b commands (Ok replies) (upshot b.shown false)
   told-unchanged nothing = subst (λ (rs : List Reply). LeadsGroup h b commands (Ok rs) (upshot b.shown false)) (sym told_is) (unchanged-leads h b commands at begun.none begun.words (sym wants ∙ nothing))
 
-  pub told-moment : {D : Type 0} (seen : D → List ℕ) (unsynced : D → ℕ → Bool) (moment : D → ℕ) (left_since : D → ℕ → List ℕ → Type 0) (new : Page) → IsFolded b → (old next : D)
+  pub told-moment : {D : Type 0} (seen : D → List ℕ) (unsynced : D → ℕ → Bool) (moment : D → ℕ) (left_since : D → ℕ → List ℕ → Type 0) (new : WorldBook) → IsFolded b → (old next : D)
       → ((c : List ℕ) → left_since old (moment old) c → IsImage (seen old) (unsynced old) c) → ((c : List ℕ) → IsImage (seen old) (unsynced old) c → HoldsFront b c)
       → EachMoment moment left_since old next (HoldsEither b.whole.durable (after b.whole.durable changes))
       → (result : Result (List Reply) Refusal) → AreMade result replies changes b' new
       → ((why : Refusal) → result ≡ Err why → is_fault why ≡ false → next ≡ old) → EachMoment moment left_since old next (HoldsLeft h (grouping commands))
   told-moment seen unsynced moment left_since new folded old next only images moved result made still =
       all-made-moment seen unsynced moment left_since h b new commands at begun.none begun.words folded old next only images
-      (subst (λ (es : List Edit). EachMoment moment left_since old next (HoldsEither b.whole.durable (after b.whole.durable es))) wants moved) result (as_due result new made) still
+      (subst (λ (es : List PlainChange). EachMoment moment left_since old next (HoldsEither b.whole.durable (after b.whole.durable es))) wants moved) result (as_due result new made) still
 
 -- ---- what a group is told
 
 -- the device didn't fail
-pub calm-group : (h : Held) (new : Page) (commands : List Command) (result : Result (List Reply) Refusal) (shown : ℕ) (failed : Bool) → failed ≡ false → LeadsGroup h new commands result (upshot shown false) → LeadsGroup h new commands result (upshot shown failed)
+pub calm-group : (h : CurrentOpening) (new : WorldBook) (commands : List Command) (result : Result (List Reply) Refusal) (shown : ℕ) (failed : Bool) → failed ≡ false → LeadsGroup h new commands result (upshot shown false) → LeadsGroup h new commands result (upshot shown failed)
 calm-group h new commands result shown failed is leads = subst (λ (x : Bool). LeadsGroup h new commands result (upshot shown x)) (sym is) leads
 
 -- so its changes are numbered
-pub numbered-by : (b new : Page) (commands : List Command) (result : Result (List Reply) Refusal) (t : Upshot) → LeadsGroup (own b) new commands result t → IfOk result (λ replies. AreNumbered replies (length (flat b.acked)) (length (flat new.acked)))
+pub numbered-by : (b new : WorldBook) (commands : List Command) (result : Result (List Reply) Refusal) (t : Upshot) → LeadsGroup (own b) new commands result t → IfOk result (λ replies. AreNumbered replies (length (flat b.acked)) (length (flat new.acked)))
 numbered-by b new commands (Err e) t leads = tt
 numbered-by b new commands (Ok replies) t leads =
-    let h : Held = own b in
+    let h : CurrentOpening = own b in
     let k : IsAccepted h commands replies = accepted h commands replies t.failed leads.legal.reply in
-    let es : List Edit = changes_due h [] commands in
+    let es : List PlainChange = changes_due h [] commands in
     let first : length (flat b.acked) + 0 ≡ length (flat b.acked) = omega arith in
     let last : length (flat b.acked) + length es ≡ length (flat new.acked) =
-    sym (ap (λ (gs : List (List Edit)). length (flat gs)) (leads.at.acked ∙ ap (λ (gs : List (List Edit)). b.acked ++ gs) k.taken.group) ∙ length-with b.acked es) in
+    sym (ap (λ (gs : List (List PlainChange)). length (flat gs)) (leads.at.acked ∙ ap (λ (gs : List (List PlainChange)). b.acked ++ gs) k.taken.group) ∙ length-with b.acked es) in
     subst (λ (rs : List Reply). AreNumbered rs (length (flat b.acked)) (length (flat new.acked))) (sym k.told)
     (subst (λ (n : ℕ). AreNumbered (map (told_as k.stored) (replies_due h [] commands)) n (length (flat new.acked))) first
     (subst (λ (n : ℕ). AreNumbered (map (told_as k.stored) (replies_due h [] commands)) (length (flat b.acked) + 0) n) last (numbers h [] commands k.stored k.taken.none)))

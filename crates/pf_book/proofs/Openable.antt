@@ -2,12 +2,12 @@
 use Rattle.std.proofs.Common.{◌≡◌, ◌⊎◌, inl, inr, ℕ, ◌+◌, ◌^◌, ◌<◌, ◌≤◌, Bool, List, length, refl, sym, ap, ◌∙◌, subst, arith}
 use Rattle.pf_disk.specs.Disk.{EachMoment, IsImage}
 use Rattle.pf_disk.proofs.Moments.{started}
-use Rattle.pf_core.specs.{Durable.Edits.Kept, Worlds.last_epoch}
+use Rattle.pf_core.specs.{Durable.Changes.PlainDurable, Worlds.last_epoch}
 use Rattle.pf_store.specs.Banks.{bank_size}
 use Rattle.pf_store.specs.{Openings.{IsNoLaterThan, IsUnopened, LeavesRoom}, Stores.{Holds, IsRoomy}}
 use Rattle.pf_store.specs.declared.store.fault.{OpenFault.OpenFault, OpenFault.TheVariants.{BadSize, NoBank, Corrupt, Memory, Fault, EpochsExhausted, Full, Places}}
 use Rattle.pf_store.proofs.{Refusing.{held_is_found, roomy_is_not_full}, Sized.roomy_in}
-use Rattle.pf_book.specs.Books.{Ledger, StaysOpenable}
+use Rattle.pf_book.specs.Books.{PlainBook, StaysOpenable}
 
 pub later : (g h : ℕ) → g ≤ h → (c : List ℕ) → IsNoLaterThan g c → IsNoLaterThan h c
 later g h le c is d held = omega (arith, is d held, le)
@@ -17,15 +17,15 @@ pub itself : (seen : List ℕ) (unsynced : ℕ → Bool) → IsImage seen unsync
 itself seen unsynced = record { same_length = refl; agrees = λ i out. refl }
 
 -- each image of a device that holds what is kept, and as long as its read
-pub roomy_images : (seen : List ℕ) (unsynced : ℕ → Bool) (size : ℕ) (d : Kept) → size ≡ bank_size (length seen)
-    → ((c : List ℕ) → IsImage seen unsynced c → (e : Kept) → Holds c e → e ≡ d) → IsRoomy size d → (c : List ℕ) → IsImage seen unsynced c → LeavesRoom c
+pub roomy_images : (seen : List ℕ) (unsynced : ℕ → Bool) (size : ℕ) (d : PlainDurable) → size ≡ bank_size (length seen)
+    → ((c : List ℕ) → IsImage seen unsynced c → (e : PlainDurable) → Holds c e → e ≡ d) → IsRoomy size d → (c : List ℕ) → IsImage seen unsynced c → LeavesRoom c
 roomy_images seen unsynced size d is one roomy c image e holds =
     roomy_in _ holds.content.version (bank_size (length c)) e
-    (subst (λ (n : ℕ). IsRoomy n e) (is ∙ ap bank_size (sym image.same_length)) (subst (λ (k : Kept). IsRoomy size k) (sym (one c image e holds)) roomy))
+    (subst (λ (n : ℕ). IsRoomy n e) (is ∙ ap bank_size (sym image.same_length)) (subst (λ (k : PlainDurable). IsRoomy size k) (sym (one c image e holds)) roomy))
 
 -- what is held, early and with room, is refused by chance alone, or for its epoch
-pub left_by_chance : (image : List ℕ) (g : ℕ) (fault : OpenFault) (d : Kept) (held : Holds image d) → IsNoLaterThan g image → g < 2 ^ 63 → LeavesRoom image → IsUnopened fault image
-    → (fault ≡ Memory) ⊎ ((fault ≡ Fault) ⊎ ((fault ≡ EpochsExhausted) × (k : Kept) × Holds image k × (k.epoch ≡ last_epoch)))
+pub left_by_chance : (image : List ℕ) (g : ℕ) (fault : OpenFault) (d : PlainDurable) (held : Holds image d) → IsNoLaterThan g image → g < 2 ^ 63 → LeavesRoom image → IsUnopened fault image
+    → (fault ≡ Memory) ⊎ ((fault ≡ Fault) ⊎ ((fault ≡ EpochsExhausted) × (k : PlainDurable) × Holds image k × (k.epoch ≡ last_epoch)))
 left_by_chance image g BadSize d held is low room refused = absurd (held_is_found image BadSize d held (omega (arith, is d held, low)) refused tt)
 left_by_chance image g NoBank d held is low room refused = absurd (held_is_found image NoBank d held (omega (arith, is d held, low)) refused tt)
 left_by_chance image g (Corrupt at) d held is low room refused = absurd (held_is_found image (Corrupt at) d held (omega (arith, is d held, low)) refused tt)
@@ -38,15 +38,15 @@ left_by_chance image g Places d held is low room refused = absurd refused
 
 module _ {D : Type 0} (seen : D → List ℕ) (unsynced : D → ℕ → Bool) (moment : D → ℕ) (left_since : D → ℕ → List ℕ → Type 0) where
   -- a call by what a view tells of what was before
-  pub saved-openable : (view old new : Ledger D) → view ≡ old → view.generation ≤ new.generation → new.generation ≤ view.generation + 1 → new.size ≡ view.size
+  pub saved-openable : (view old new : PlainBook D) → view ≡ old → view.generation ≤ new.generation → new.generation ≤ view.generation + 1 → new.size ≡ view.size
       → EachMoment moment left_since view.disk new.disk (IsNoLaterThan (view.generation + 1))
       → (IsRoomy view.size view.base → EachMoment moment left_since view.disk new.disk LeavesRoom)
       → StaysOpenable moment left_since old new
   saved-openable view old new is stays one_more size early roomy =
-      subst (λ (l : Ledger D). StaysOpenable moment left_since l new) is (record { stays = stays; one_more = one_more; size = size; early = early; roomy = roomy })
+      subst (λ (l : PlainBook D). StaysOpenable moment left_since l new) is (record { stays = stays; one_more = one_more; size = size; early = early; roomy = roomy })
 
   -- no call of the device was made
-  pub still-openable : (view old new : Ledger D) → view ≡ old → new.disk ≡ view.disk → new.generation ≡ view.generation → new.size ≡ view.size
+  pub still-openable : (view old new : PlainBook D) → view ≡ old → new.disk ≡ view.disk → new.generation ≡ view.generation → new.size ≡ view.size
       → ((c : List ℕ) → left_since view.disk (moment view.disk) c → IsImage (seen view.disk) (unsynced view.disk) c)
       → ((c : List ℕ) → IsImage (seen view.disk) (unsynced view.disk) c → IsNoLaterThan (view.generation + 1) c)
       → (IsRoomy view.size view.base → (c : List ℕ) → IsImage (seen view.disk) (unsynced view.disk) c → LeavesRoom c)
@@ -57,16 +57,16 @@ module _ {D : Type 0} (seen : D → List ℕ) (unsynced : D → ℕ → Bool) (m
       (started moment left_since view.disk (IsNoLaterThan (view.generation + 1)) (λ c left. generations c (only c left))))
       (λ base. subst (λ (d : D). EachMoment moment left_since view.disk d LeavesRoom) (sym disk) (started moment left_since view.disk LeavesRoom (λ c left. roomy base c (only c left))))
 
-  pub same-openable : (view old : Ledger D) → view ≡ old
+  pub same-openable : (view old : PlainBook D) → view ≡ old
       → ((c : List ℕ) → left_since view.disk (moment view.disk) c → IsImage (seen view.disk) (unsynced view.disk) c)
       → ((c : List ℕ) → IsImage (seen view.disk) (unsynced view.disk) c → IsNoLaterThan (view.generation + 1) c)
       → (IsRoomy view.size view.base → (c : List ℕ) → IsImage (seen view.disk) (unsynced view.disk) c → LeavesRoom c)
       → StaysOpenable moment left_since old old
   same-openable view old is only generations roomy =
-      subst (λ (l : Ledger D). StaysOpenable moment left_since l l) is (still-openable view view view refl refl refl refl only generations roomy)
+      subst (λ (l : PlainBook D). StaysOpenable moment left_since l l) is (still-openable view view view refl refl refl refl only generations roomy)
 
   -- and none after another call
-  pub then-still : (old mid new : Ledger D) → StaysOpenable moment left_since old mid → new.disk ≡ mid.disk → new.generation ≡ mid.generation → new.size ≡ mid.size
+  pub then-still : (old mid new : PlainBook D) → StaysOpenable moment left_since old mid → new.disk ≡ mid.disk → new.generation ≡ mid.generation → new.size ≡ mid.size
       → StaysOpenable moment left_since old new
   then-still old mid new o disk generation size = record {
     stays = omega (arith, o.stays, generation);

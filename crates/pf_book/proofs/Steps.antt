@@ -4,12 +4,12 @@ use Rattle.std.specs.Prelude.{is_some}
 use Rattle.pf_rule.specs.Packets.{PlainPacket}
 use Rattle.pf_anchor.specs.declared.verdict.RuleVerdict.{RuleVerdict}
 use Rattle.pf_state.specs.{declared.{state.Bound.Bound, state.StateName.StateName}, States.held_at}
-use Rattle.pf_ticket.specs.{declared.refusal.TicketRefusal.TicketRefusal, Replies.commit_check, Tickets.{Open, content}}
+use Rattle.pf_ticket.specs.{declared.refusal.TicketRefusal.TicketRefusal, Replies.commit_check, Tickets.{PlainTickets, content}}
 use Rattle.pf_core.specs.declared.reply.Outcome.TheVariants as outcome
 use Rattle.pf_ticket.specs.declared.refusal.TicketRefusal.TheVariants as ticket
 use Rattle.pf_core.specs.declared.durable.refusal.ChangeRefusal.TheVariants as by_change
-use Rattle.pf_core.specs.declared.{command.Command.Command, command.Command.TheVariants.{Transact, Edit as Change, States as OfStates, Ask, History}, command.StateCommand.StateCommand, command.StateCommand.TheVariants.{Track, Peer, Kill as KillState}, command.TableEdit.TableEdit, command.TableEdit.TheVariants.{Add as AddTo, Delete, Set, Kill}, command.Transaction.Transaction, command.Transaction.TheVariants.{Begin, Add, Define, Commit, Rollback}, durable.refusal.ChangeRefusal.ChangeRefusal, durable.verdict.Verdict.Verdict, durable.verdict.Verdict.TheVariants.{State as Stateful, Rules as ByRules}, reply.Refusal.Refusal, reply.Refusal.TheVariants.Absent, step.Step.Step}
-use Rattle.pf_core.specs.{Commands.{unless_refused, unless_unfit, if_there, wanting, items, tracked, makes_state, track_step, transact_step, edit_step, states_step, step_by}, Durable.Edits.{Kept, commits, verdict}, Refusals.{refusal_of, change_refusal_of}, Worlds.is_fault}
+use Rattle.pf_core.specs.declared.{command.Command.Command, command.Command.TheVariants.{Transact, Edit, States as OfStates, Ask, History}, command.StateCommand.StateCommand, command.StateCommand.TheVariants.{Track, Peer, Kill as KillState}, command.TableEdit.TableEdit, command.TableEdit.TheVariants.{Add as AddTo, Delete, Set, Kill}, command.Transaction.Transaction, command.Transaction.TheVariants.{Begin, Add, Define, Commit, Rollback}, durable.refusal.ChangeRefusal.ChangeRefusal, durable.verdict.Verdict.Verdict, durable.verdict.Verdict.TheVariants.{State as Stateful, Rules as ByRules}, reply.Refusal.Refusal, reply.Refusal.TheVariants.Absent, step.Step.Step}
+use Rattle.pf_core.specs.{Commands.{unless_refused, unless_unfit, if_there, wanting, items, tracked, makes_state, track_step, transact_step, edit_step, states_step, step_by}, Durable.Changes.{PlainDurable, commits, verdict}, Refusals.{refusal_of, change_refusal_of}, Worlds.is_fault}
 
 abbrev NoFault : Result Step Refusal → Type 0
 NoFault s = (e : Refusal) → s ≡ Err e → is_fault e ≡ false
@@ -56,14 +56,14 @@ there-not : (b : Bool) (s : Result Step Refusal) → NoFault s → NoFault (if_t
 there-not true s not = not
 there-not false s not = λ e is. told Absent e refl is
 
-transact-not : (t : Open) (d : Kept) (x : Transaction) → NoFault (transact_step t d x)
+transact-not : (t : PlainTickets) (d : PlainDurable) (x : Transaction) → NoFault (transact_step t d x)
 transact-not t d (Begin names) = unless-not _ _ (λ range. ok-not _)
 transact-not t d (Add p u rule) = unless-not _ _ (λ _. ok-not _)
 transact-not t d (Define p u name xs) = unless-not _ _ (λ _. ok-not _)
 transact-not t d (Commit entries) = unless-not (commit_check t entries) (λ _. wanting d (commits (items (content t) entries)) outcome.Committed) (λ _. unfit-not _ _ (ok-not _))
 transact-not t d (Rollback entries) = unless-not _ _ (λ _. ok-not _)
 
-edit-not : (d : Kept) (x : TableEdit) → NoFault (edit_step d x)
+edit-not : (d : PlainDurable) (x : TableEdit) → NoFault (edit_step d x)
 edit-not d (AddTo p name xs) = unfit-not _ _ (ok-not _)
 edit-not d (Delete p name xs) = unfit-not _ _ (there-not _ _ (ok-not _))
 edit-not d (Set p name xs) = unfit-not _ _ (ok-not _)
@@ -73,22 +73,22 @@ make-not : (known : Bool) (s t : Result Step Refusal) → NoFault s → NoFault 
 make-not true s t one other = one
 make-not false s t one other = other
 
-tracked-not : (d : Kept) (name : StateName) (packet : PlainPacket) (by : RuleVerdict) (b : Option Bound) → NoFault (tracked d name packet by b)
+tracked-not : (d : PlainDurable) (name : StateName) (packet : PlainPacket) (by : RuleVerdict) (b : Option Bound) → NoFault (tracked d name packet by b)
 tracked-not d name packet by None = ok-not _
 tracked-not d name packet by (Some b) = make-not (is_some (held_at name d.states)) _ _ (ok-not _) (unfit-not _ _ (ok-not _))
 
-track-not : (d : Kept) (name : StateName) (packet : PlainPacket) (v : Verdict) → NoFault (track_step d name packet v)
+track-not : (d : PlainDurable) (name : StateName) (packet : PlainPacket) (v : Verdict) → NoFault (track_step d name packet v)
 track-not d name packet (Stateful s) = ok-not _
 track-not d name packet (ByRules by) = tracked-not d name packet by (makes_state d by)
 
-states-not : (d : Kept) (x : StateCommand) → NoFault (states_step d x)
+states-not : (d : PlainDurable) (x : StateCommand) → NoFault (states_step d x)
 states-not d (Track name packet) = track-not d name packet (verdict d packet)
 states-not d (Peer m) = unfit-not _ _ (ok-not _)
 states-not d (KillState name) = there-not _ _ (ok-not _)
 
-pub never-fault : (t : Open) (d : Kept) (c : Command) (e : Refusal) → step_by t d c ≡ Err e → is_fault e ≡ false
+pub never-fault : (t : PlainTickets) (d : PlainDurable) (c : Command) (e : Refusal) → step_by t d c ≡ Err e → is_fault e ≡ false
 never-fault t d (Transact y) e is = transact-not t d y e is
-never-fault t d (Change y) e is = edit-not d y e is
+never-fault t d (Edit y) e is = edit-not d y e is
 never-fault t d (OfStates y) e is = states-not d y e is
 never-fault t d (Ask q) e is = absurd (cc (is))
 never-fault t d (History y) e is = absurd (cc (is))

@@ -1,4 +1,4 @@
--- What contracts see of an opened device and of a Book, and what an image of its device holds. Own.
+-- What contracts see of an opened device and of a Book, and what an image of its device holds.
 use Rattle.std.specs.Prelude.{◌≡◌, ◌⊎◌, ℕ, zero, suc, ◌+◌, ◌<◌, ◌≤◌, ◌^◌, Bool, true, false, nat_lt, List, [], ◌∷◌, ◌++◌, length, slice_get, sum, take, drop, map, flat_map, Vec, ⊤, Option, None, Result, Ok, Err}
 use Rattle.std.specs.declared.alloc.Global.{Global}
 use mathlib.Core.List.{IsPrefix}
@@ -8,36 +8,36 @@ use Rattle.pf_rule.specs.Packets.{PlainPacket}
 use Rattle.pf_ticket.specs.{Laws.Tickets.IsWithin as AreTicketsWithin, Mentions.{after as moved_by, switches}}
 use Rattle.pf_core.specs.declared.{command.Command.Command, command.Command.TheVariants.{Ask}, command.HistoryCommand.HistoryCommand, command.HistoryCommand.TheVariants.{Log, Publish}, command.Question.TheVariants.Judge, durable.verdict.Verdict.Verdict, reply.Outcome.Outcome, reply.Refusal.Refusal, group.TheConstants.GROUP_LIMIT, reply.Refusal.TheVariants.{HistoryFull, Full, Fault, Memory}, reply.Reply.Reply, reply.Reply.TheVariants.{Answer, Applied, Stored, Refused}}
 use Rattle.pf_core.specs.declared.reply.Answer.TheVariants as answer
-use Rattle.pf_core.specs.{Calls.{Call, call}, Durable.Edits.{Kept, Edit, after, voided_by, verdict}, Laws.{Durable.IsWithin, Openings.Leaves}, Nexts.{Ready, ready}, Pages.{Page, IsFolded}, Wholes.Whole, Worlds.{Setting, Held, Doing, flat, grouped, as_stored, is_fault, last_epoch, raised}}
+use Rattle.pf_core.specs.{Calls.{Call, call}, Durable.Changes.{PlainDurable, PlainChange, after, voided_by, verdict}, Laws.{Durable.IsWithin, Openings.Leaves}, Nexts.{PlainNext, next_with}, WorldBooks.{WorldBook, IsFolded}, Cores.PlainCore, Worlds.{Setting, CurrentOpening, Doing, flat, grouped, as_stored, is_fault, last_epoch, raised}}
 use Rattle.pf_store.specs.declared.{store.fault.OpenFault.OpenFault, store.fault.OpenFault.TheVariants.Memory as OutOfMemory, store.fault.OpenFault.TheVariants.Places as Places}
-use Rattle.pf_store.specs.{Openings.{IsNoLaterThan, LeavesRoom}, Rooms.on_device, Stores.{Holds, IsRoomy}, StoreKept.{Stands, Storage}}
-use Rattle.pf_past.specs.Pasts.{Past, all_acked}
-use Rattle.pf_view.specs.Known.{Stage}
+use Rattle.pf_store.specs.{Openings.{IsNoLaterThan, LeavesRoom}, Rooms.on_device, Stores.{Holds, IsRoomy}, StoreKept.{Stands, PlainStore}}
+use Rattle.pf_past.specs.Pasts.{PlainFront, all_acked}
+use Rattle.pf_view.specs.Seers.{PlainShower}
 
 -- ---- an opened device
 
 -- the device; what it held, in the next epoch; how many bytes each of its banks has, and the generation of the one that counts; and which
 -- history is its own
-pub record Opened (D : Type 0) : Type 0 where
+pub record PlainOpening (D : Type 0) : Type 0 where
   pub disk : D
-  pub given : Kept
+  pub given : PlainDurable
   pub size : ℕ
   pub generation : ℕ
   pub history : Book
 
-abbrev pub opened_store : {D : Type 0} → Storage D → Kept → Book → Opened D
-opened_store store d history = record { disk = store.disk; given = d; size = store.size; generation = store.generation; history = history }
+abbrev pub opening_of : {D : Type 0} → PlainStore D → PlainDurable → Book → PlainOpening D
+opening_of store d history = record { disk = store.disk; given = d; size = store.size; generation = store.generation; history = history }
 
 -- what the opening keeps within, with so many changes as its history may have
-abbrev pub setting_of : {D : Type 0} → Opened D → ℕ → Setting
+abbrev pub setting_of : {D : Type 0} → PlainOpening D → ℕ → Setting
 setting_of o limit = on_device limit o.size
 
 -- what a Book over a store keeps within
-abbrev pub setting_in : {D : Type 0} → Storage D → ℕ → Setting
+abbrev pub setting_in : {D : Type 0} → PlainStore D → ℕ → Setting
 setting_in store limit = on_device limit store.size
 
 -- The opening, with so many changes as its history may have, is named by these: what it gave, its history, and what it keeps within.
-abbrev pub IsNamed : {D : Type 0} → Kept → Book → Setting → Opened D → ℕ → Type 0
+abbrev pub IsNamed : {D : Type 0} → PlainDurable → Book → Setting → PlainOpening D → ℕ → Type 0
 IsNamed base history setting o limit = (o.given ≡ base) × (o.history ≡ history) × (setting_of o limit ≡ setting)
 
 -- why no history was begun over an opened device: memory was refused, or a place for what is shown
@@ -45,13 +45,13 @@ abbrev pub IsUnshown : OpenFault → Type 0
 IsUnshown e = (e ≡ OutOfMemory) ⊎ (e ≡ Places)
 
 -- what is kept is what an epoch less was, in its next epoch
-pub record IsRaised (d : Kept) : Type 0 where
-  pub before : Kept
+pub record IsRaised (d : PlainDurable) : Type 0 where
+  pub before : PlainDurable
   pub raises : d ≡ raised before
   pub low : before.epoch < last_epoch
 
 -- what its type keeps
-pub record IsOpened {D : Type 0} (seen : D → List ℕ) (unsynced : D → ℕ → Bool) (store : Storage D) (d : Kept) : Type 0 where
+pub record IsOpened {D : Type 0} (seen : D → List ℕ) (unsynced : D → ℕ → Bool) (store : PlainStore D) (d : PlainDurable) : Type 0 where
   pub goes_on : store.halted ≡ false
   pub stands : Stands seen unsynced store d
   pub early : store.generation ≤ 2 ^ 63
@@ -64,14 +64,14 @@ pub record IsOpened {D : Type 0} (seen : D → List ℕ) (unsynced : D → ℕ �
 -- ---- a Book
 
 -- a list cut into groups of these sizes, one after the other
-abbrev pub cut : List ℕ → List Edit → List (List Edit)
+abbrev pub cut : List ℕ → List PlainChange → List (List PlainChange)
 cut [] es = []
 cut (n ∷ sizes) es = take n es ∷ cut sizes (drop n es)
 
 -- Of the changes since the opening the first so many were acknowledged, in groups of these sizes; what is behind them is one group, if there is
 -- anything. And these are shown.
-abbrev pub page_of : Kept → Whole → List Edit → List ℕ → ℕ → Setting → List Edit → Page
-page_of base whole log sizes acked setting shown = record {
+abbrev pub world_book_of : PlainDurable → PlainCore → List PlainChange → List ℕ → ℕ → Setting → List PlainChange → WorldBook
+world_book_of base whole log sizes acked setting shown = record {
   base = base;
   whole = whole;
   acked = cut sizes log;
@@ -84,20 +84,20 @@ page_of base whole log sizes acked setting shown = record {
 -- What contracts see of a Book: its device; what its opening gave; its core; the groups of changes that were acknowledged, and the one that
 -- wasn't; how many changes it may have, how many bytes each of its device's banks has, and the generation of the one that counts; how many
 -- changes are shown, and the copy that shows them.
-pub record Ledger (D : Type 0) : Type 0 where
+pub record PlainBook (D : Type 0) : Type 0 where
   pub disk : D
-  pub base : Kept
-  pub whole : Whole
-  pub acked : List (List Edit)
-  pub pending : List (List Edit)
+  pub base : PlainDurable
+  pub whole : PlainCore
+  pub acked : List (List PlainChange)
+  pub pending : List (List PlainChange)
   pub limit : ℕ
   pub size : ℕ
   pub generation : ℕ
   pub shown : ℕ
-  pub published : Kept
+  pub published : PlainDurable
 
-abbrev pub ledger : {D : Type 0} → D → Kept → Whole → List Edit → List ℕ → (acked limit size generation : ℕ) → List Edit → Ledger D
-ledger disk base whole log sizes acked limit size generation shown = record {
+abbrev pub book_with : {D : Type 0} → D → PlainDurable → PlainCore → List PlainChange → List ℕ → (acked limit size generation : ℕ) → List PlainChange → PlainBook D
+book_with disk base whole log sizes acked limit size generation shown = record {
   disk = disk;
   base = base;
   whole = whole;
@@ -111,8 +111,8 @@ ledger disk base whole log sizes acked limit size generation shown = record {
 }
 
 -- the page in it, whose opening keeps within that room
-abbrev pub page : {D : Type 0} → Ledger D → Page
-page b = record {
+abbrev pub world_book : {D : Type 0} → PlainBook D → WorldBook
+world_book b = record {
   base = b.base;
   whole = b.whole;
   acked = b.acked;
@@ -123,16 +123,16 @@ page b = record {
 }
 
 -- The image holds the fold of a front of the history, which has all that was acknowledged and cuts no group.
-abbrev pub HoldsFront : Page → List ℕ → Type 0
+abbrev pub HoldsFront : WorldBook → List ℕ → Type 0
 HoldsFront b image = (n : ℕ) × Holds image (after b.base (flat (b.acked ++ take n b.pending)))
 
 -- The image holds what some crash within this leaves of the opening.
-abbrev pub HoldsLeft : Held → Doing → List ℕ → Type 0
-HoldsLeft h doing image = (d : Kept) × Holds image d × Leaves h doing d
+abbrev pub HoldsLeft : CurrentOpening → Doing → List ℕ → Type 0
+HoldsLeft h doing image = (d : PlainDurable) × Holds image d × Leaves h doing d
 
 -- what a Book's type keeps
 pub record IsBook {D : Type 0} (seen : D → List ℕ) (unsynced : D → ℕ → Bool)
-    (store : Storage D) (b : Page) (d : Kept) (log : List Edit) (sizes : List ℕ) (acked offered : ℕ) (stage : Stage) (past front : Past) : Type 0 where
+    (store : PlainStore D) (b : WorldBook) (d : PlainDurable) (log : List PlainChange) (sizes : List ℕ) (acked offered : ℕ) (stage : PlainShower) (past front : PlainFront) : Type 0 where
   pub folded : IsFolded b
   -- so whatever a command wants has bytes, where the device has room for them
   pub tickets : AreTicketsWithin b.whole.tickets
@@ -162,11 +162,11 @@ pub record IsBook {D : Type 0} (seen : D → List ℕ) (unsynced : D → ℕ →
 -- ---- what a call leaves
 
 -- the changes since the opening
-abbrev pub log_in : Page → List Edit
+abbrev pub log_in : WorldBook → List PlainChange
 log_in b = flat (b.acked ++ b.pending)
 
 -- the one of this number, from 1 on
-abbrev pub change_in : List Edit → ℕ → Option Edit
+abbrev pub change_in : List PlainChange → ℕ → Option PlainChange
 change_in log zero = None
 change_in log (suc n) = slice_get log n
 
@@ -181,22 +181,22 @@ replied (Ok told) = Ok told.0.items
 replied (Err e) = Err e
 
 -- what changes leave of what is kept, one after the other, and the tickets that all of them void
-abbrev pub left_together : Kept → List Edit → Ready
-left_together d es = ready (after d es) (flat_map voided_by es)
+abbrev pub left_together : PlainDurable → List PlainChange → PlainNext
+left_together d es = next_with (after d es) (flat_map voided_by es)
 
 -- it has room for these changes together: the history hasn't too many then, and the device isn't full
-pub record HasRoom (b : Page) (es : List Edit) : Type 0 where
+pub record HasRoom (b : WorldBook) (es : List PlainChange) : Type 0 where
   pub few : length (flat b.acked) + length es ≤ b.setting.limit
   pub device : b.setting.is_full b.base b.acked es ≡ false
 
 -- why it has none: the history would have too many, or else the device is full
-abbrev pub HasNoRoom : Refusal → Page → List Edit → Type 0
+abbrev pub HasNoRoom : Refusal → WorldBook → List PlainChange → Type 0
 HasNoRoom HistoryFull b es = b.setting.limit < length (flat b.acked) + length es
 HasNoRoom Full b es = (length (flat b.acked) + length es ≤ b.setting.limit) × (b.setting.is_full b.base b.acked es ≡ true)
 HasNoRoom why b es = ⊥
 
 -- these changes were kept as one group
-pub record IsMore (old new : Page) (es : List Edit) : Type 0 where
+pub record IsMore (old new : WorldBook) (es : List PlainChange) : Type 0 where
   pub room : HasRoom old es
   pub base : new.base ≡ old.base
   pub tickets : new.whole.tickets ≡ moved_by old.whole.tickets (switches (flat_map voided_by es))
@@ -206,18 +206,18 @@ pub record IsMore (old new : Page) (es : List Edit) : Type 0 where
   pub shown : new.shown ≡ old.shown
 
 -- the device failed while they were kept
-pub record IsPending (old new : Page) (es : List Edit) : Type 0 where
+pub record IsPending (old new : WorldBook) (es : List PlainChange) : Type 0 where
   pub room : HasRoom old es
   pub same : new ≡ record old { pending = grouped es }
 
 -- why changes that fit weren't kept, and what that leaves
-abbrev pub IsUnkept : Refusal → Page → Page → List Edit → Type 0
+abbrev pub IsUnkept : Refusal → WorldBook → WorldBook → List PlainChange → Type 0
 IsUnkept Memory old new es = (new ≡ old) × HasRoom old es
 IsUnkept Fault old new es = IsPending old new es
 IsUnkept why old new es = (new ≡ old) × HasNoRoom why old es
 
 -- all that was acknowledged is shown
-abbrev pub shows_all : Page → Page
+abbrev pub shows_all : WorldBook → WorldBook
 shows_all b = record b { shown = length (flat b.acked); published = after b.base (flat b.acked) }
 
 -- a device failed in the call that was told this
@@ -232,7 +232,7 @@ is_fault_result (Ok x) = false
 is_fault_result (Err e) = is_fault e
 
 -- a change's number is how many changes were acknowledged by then
-abbrev pub IsNumbered : Reply → Page → Type 0
+abbrev pub IsNumbered : Reply → WorldBook → Type 0
 IsNumbered (Answer a) new = ⊤
 IsNumbered (Applied seq outcome) new = seq ≡ length (flat new.acked)
 IsNumbered (Stored seq outcome) new = seq ≡ length (flat new.acked)
@@ -247,7 +247,7 @@ AreNumbered (Stored seq outcome ∷ replies) n m = (seq ≡ n + 1) × AreNumbere
 AreNumbered (Refused e ∷ replies) n m = AreNumbered replies n m
 
 -- a packet is always judged, and by what is kept
-abbrev pub IsJudged : Kept → Command → Reply → Type 0
+abbrev pub IsJudged : PlainDurable → Command → Reply → Type 0
 IsJudged d (Ask (Judge packet)) r = r ≡ Answer (answer.Judged (verdict d packet))
 IsJudged d c r = ⊤
 
@@ -256,13 +256,13 @@ abbrev pub judging : PlainPacket → Verdict → Call
 judging packet v = call (Ask (Judge packet)) (Answer (answer.Judged v))
 
 -- Where a command is refused nothing changes, unless the device failed: then a group is pending, and nothing else has changed.
-pub record Stays {D : Type 0} (e : Refusal) (old new : Ledger D) : Type 0 where
-  pub same : is_fault e ≡ false → (page new ≡ page old) × (new.disk ≡ old.disk)
-  pub pending : is_fault e ≡ true → (group : List Edit) × (page new ≡ record (page old) { pending = group ∷ [] })
+pub record Stays {D : Type 0} (e : Refusal) (old new : PlainBook D) : Type 0 where
+  pub same : is_fault e ≡ false → (world_book new ≡ world_book old) × (new.disk ≡ old.disk)
+  pub pending : is_fault e ≡ true → (group : List PlainChange) × (world_book new ≡ record (world_book old) { pending = group ∷ [] })
 
 -- What an opening will need: the bank's generation stays or is one greater, and banks have as many bytes; each image at each moment holds what
 -- it holds by the next generation at the latest, and leaves an opening room, where what the last one gave does.
-pub record StaysOpenable {D : Type 0} (moment : D → ℕ) (left_since : D → ℕ → List ℕ → Type 0) (old new : Ledger D) : Type 0 where
+pub record StaysOpenable {D : Type 0} (moment : D → ℕ) (left_since : D → ℕ → List ℕ → Type 0) (old new : PlainBook D) : Type 0 where
   pub stays : old.generation ≤ new.generation
   pub one_more : new.generation ≤ old.generation + 1
   pub size : new.size ≡ old.size
@@ -270,44 +270,44 @@ pub record StaysOpenable {D : Type 0} (moment : D → ℕ) (left_since : D → �
   pub roomy : IsRoomy old.size old.base → EachMoment moment left_since old.disk new.disk LeavesRoom
 
 -- What the device's images hold, they hold by the next generation at most, and leave room for an opening where what the last one gave does.
-pub record IsOpenable {D : Type 0} (seen : D → List ℕ) (unsynced : D → ℕ → Bool) (b : Ledger D) : Type 0 where
+pub record IsOpenable {D : Type 0} (seen : D → List ℕ) (unsynced : D → ℕ → Bool) (b : PlainBook D) : Type 0 where
   pub generations : (c : List ℕ) → IsImage (seen b.disk) (unsynced b.disk) c → IsNoLaterThan (b.generation + 1) c
   pub roomy : IsRoomy b.size b.base → (c : List ℕ) → IsImage (seen b.disk) (unsynced b.disk) c → LeavesRoom c
 
 -- No call of the device is made for what is answered without a change, nor where a command is refused but for a fault.
-abbrev pub StaysUnlessKept : {D : Type 0} → Reply → Ledger D → Ledger D → Type 0
+abbrev pub StaysUnlessKept : {D : Type 0} → Reply → PlainBook D → PlainBook D → Type 0
 StaysUnlessKept (Answer a) old new = new.disk ≡ old.disk
 StaysUnlessKept (Applied seq outcome) old new = ⊤
 StaysUnlessKept (Stored seq outcome) old new = ⊤
 StaysUnlessKept (Refused e) old new = Stays e old new
 
 -- The same of a group: where none of its commands wants a change all is as before, and no call of the device is made.
-abbrev pub StaysUnlessAnyKept : {D : Type 0} → Result (List Reply) Refusal → Ledger D → Ledger D → Type 0
-StaysUnlessAnyKept (Ok replies) old new = new.acked ≡ old.acked → (page new ≡ page old) × (new.disk ≡ old.disk)
+abbrev pub StaysUnlessAnyKept : {D : Type 0} → Result (List Reply) Refusal → PlainBook D → PlainBook D → Type 0
+StaysUnlessAnyKept (Ok replies) old new = new.acked ≡ old.acked → (world_book new ≡ world_book old) × (new.disk ≡ old.disk)
 StaysUnlessAnyKept (Err e) old new = Stays e old new
 
 -- ---- what a change comes to, and what the history is asked
 
 -- the change was kept by itself, with this number
-pub record IsKept (old new : Page) (e : Edit) (n : ℕ) : Type 0 where
+pub record IsKept (old new : WorldBook) (e : PlainChange) (n : ℕ) : Type 0 where
   pub more : IsMore old new (e ∷ [])
   pub number : n ≡ length (flat new.acked)
 
 -- the reply to a change that is wanted, with this outcome
-abbrev pub IsMade : Reply → Outcome → Edit → Page → Page → Type 0
+abbrev pub IsMade : Reply → Outcome → PlainChange → WorldBook → WorldBook → Type 0
 IsMade (Answer a) o e old new = ⊥
-IsMade (Applied n p) o e old new = (p ≡ o) × (kept : Page) × IsKept old kept e n × (new ≡ shows_all kept)
+IsMade (Applied n p) o e old new = (p ≡ o) × (kept : WorldBook) × IsKept old kept e n × (new ≡ shows_all kept)
 IsMade (Stored n p) o e old new = (p ≡ o) × IsKept old new e n
 IsMade (Refused why) o e old new = IsUnkept why old new (e ∷ [])
 
 -- Of a group's changes, with the replies that are due: they were kept, and are shown or not; or why they weren't.
-abbrev pub AreMade : Result (List Reply) Refusal → List Reply → List Edit → Page → Page → Type 0
-AreMade (Ok replies) due es old new = (kept : Page) × IsMore old kept es
+abbrev pub AreMade : Result (List Reply) Refusal → List Reply → List PlainChange → WorldBook → WorldBook → Type 0
+AreMade (Ok replies) due es old new = (kept : WorldBook) × IsMore old kept es
     × (((replies ≡ due) × (new ≡ shows_all kept)) ⊎ ((replies ≡ map as_stored due) × (new ≡ kept)))
 AreMade (Err why) due es old new = IsUnkept why old new es
 
 -- how much there is, is acknowledged and is shown; or all that was acknowledged is shown, unless memory was refused
-abbrev pub IsTold : HistoryCommand → Reply → Page → Page → Type 0
+abbrev pub IsTold : HistoryCommand → Reply → WorldBook → WorldBook → Type 0
 IsTold Log r old new = (new ≡ old) × (r ≡ Answer (answer.Logged (length (log_in old)) (length (flat old.acked)) old.shown))
 IsTold Publish r old new =
     ((r ≡ Answer (answer.Shown (length (flat old.acked)))) × (new ≡ shows_all old)) ⊎ ((r ≡ Refused Memory) × (new ≡ old))

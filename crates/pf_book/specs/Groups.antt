@@ -1,13 +1,13 @@
--- What the receipts of a group say, and what a group is answered under the lock. Own.
+-- What the receipts of a group say, and what a group is answered under the lock.
 use Rattle.std.specs.Prelude.{◌≡◌, ℕ, ◌+◌, List, [], ◌∷◌, ◌++◌, length, slice_get, take, drop, map, Vec, Bool, true, false, if◌then◌else◌, ⊤, Option, None, Result, Ok, Err}
 use Rattle.std.specs.declared.alloc.Global.{Global}
 use Rattle.pf_core.specs.declared.{command.Command.Command, reply.Refusal.Refusal, reply.Reply.Reply, reply.Reply.TheVariants.{Answer, Applied, Stored, Refused}}
-use Rattle.pf_core.specs.{Durable.Edits.{Kept, Edit}, Worlds.{Setting, Held, Upshot, Event, up, down, called_group, flat, log_of, amid, changes_of, changes_with, step_in, heard_group, state_after, IsWorld}}
-use Rattle.pf_book.specs.Receipts.{Slip, token_of, Follows}
+use Rattle.pf_core.specs.{Durable.Changes.{PlainDurable, PlainChange}, Worlds.{Setting, CurrentOpening, Upshot, Event, up, down, called_group, flat, log_of, amid, changes_of, changes_with, step_in, heard_group, state_after, IsWorld}}
+use Rattle.pf_book.specs.Receipts.{PlainReceipt, token_of, Follows}
 
 -- a reply with its receipt
 abbrev pub Answered : Type 0
-Answered = Reply × Slip
+Answered = Reply × PlainReceipt
 
 -- the replies alone, or the refusal of the whole
 abbrev pub replies_of : Result (List Answered) Refusal → Result (List Reply) Refusal
@@ -16,21 +16,21 @@ replies_of (Err e) = Err e
 
 -- The receipt of a command in the course of a group, which is shown with all before it behind the group: its front has the changes of the
 -- group up to and with the command's own, and all of them are acknowledged.
-pub record IsAnsweredAmid (h : Held) (c : Command) (shown : List Edit) (r : Reply) (slip : Slip) : Type 0 where
+pub record IsAnsweredAmid (h : CurrentOpening) (c : Command) (shown : List PlainChange) (r : Reply) (slip : PlainReceipt) : Type 0 where
   pub front : slip.front ≡ log_of h ++ changes_of (step_in h c)
   pub acked : slip.acked ≡ length slip.front
   pub change : slip.change ≡ slice_get (changes_of (step_in h c)) 0
   pub token : slip.token ≡ token_of r shown
 
 -- each command's in turn, behind the changes that the group wants so far
-abbrev pub AreAnswered : Held → List Edit → List Edit → List Command → List Answered → Type 0
+abbrev pub AreAnswered : CurrentOpening → List PlainChange → List PlainChange → List Command → List Answered → Type 0
 AreAnswered h shown changes [] answers = answers ≡ []
 AreAnswered h shown changes (c ∷ cs) [] = ⊥
 AreAnswered h shown changes (c ∷ cs) (a ∷ answers) =
     IsAnsweredAmid (amid h changes) c shown a.0 a.1 × AreAnswered h shown (changes_with h changes c) cs answers
 
 -- a group that is refused whole has no receipt
-abbrev pub HasReceipts : Held → List Edit → List Command → Result (List Answered) Refusal → Type 0
+abbrev pub HasReceipts : CurrentOpening → List PlainChange → List Command → Result (List Answered) Refusal → Type 0
 HasReceipts h shown commands (Ok answers) = AreAnswered h shown [] commands answers
 HasReceipts h shown commands (Err e) = ⊤
 
@@ -41,11 +41,11 @@ told (Err e) = Err e
 
 -- What a group under the lock is answered, each command with its receipt, or refused whole, where the caller may have handed in a receipt:
 -- there is a world whose last event is this group.
-pub record IsGroupAnswered (base : Kept) (setting : Setting) (commands : List Command) (result : Result (List Answered) Refusal) (last : Option Slip) : Type 0 where
-  pub first : Kept
+pub record IsGroupAnswered (base : PlainDurable) (setting : Setting) (commands : List Command) (result : Result (List Answered) Refusal) (last : Option PlainReceipt) : Type 0 where
+  pub first : PlainDurable
   pub world : List Event
   -- the opening, as it had come when the group began
-  pub before : Held
+  pub before : CurrentOpening
   pub came : Upshot
   pub comes : state_after (down first) world ≡ up before
   pub base_is : before.base ≡ base
@@ -73,17 +73,17 @@ abbrev pub behind : Reply → ℕ → ℕ
 behind r n = n + (if is_kept r then 1 else 0)
 
 -- of changes that are given to replies in turn, the one that a reply gets, and what is left to those behind it
-abbrev pub given_to : Reply → List Edit → Option Edit
+abbrev pub given_to : Reply → List PlainChange → Option PlainChange
 given_to r given = if is_kept r then slice_get given 0 else None
 
-abbrev pub left_behind : Reply → List Edit → List Edit
+abbrev pub left_behind : Reply → List PlainChange → List PlainChange
 left_behind r given = if is_kept r then drop 1 given else given
 
 -- the receipt of a reply behind which the history has so many changes, all of them acknowledged
-abbrev pub slip_at : List Edit → ℕ → Option Edit → Reply → Slip
+abbrev pub slip_at : List PlainChange → ℕ → Option PlainChange → Reply → PlainReceipt
 slip_at log n change r = record { front = take n log; acked = n; change = change; token = token_of r log }
 
 -- Replies with their receipts, of which the first is behind so many changes: each that kept a change is given the next of these.
-abbrev pub paired : List Edit → ℕ → List Reply → List Edit → List Answered
+abbrev pub paired : List PlainChange → ℕ → List Reply → List PlainChange → List Answered
 paired log n [] given = []
 paired log n (r ∷ replies) given = (r, slip_at log (behind r n) (given_to r given) r) ∷ paired log (behind r n) replies (left_behind r given)

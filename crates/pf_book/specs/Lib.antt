@@ -5,11 +5,11 @@ pub mod Receipts
 -- what public clauses cite of the crates below
 pub use Rattle.pf_disk.specs.Disk
 pub use Rattle.pf_core.specs.Calls
-pub use Rattle.pf_core.specs.Durable.Edits
-pub use Rattle.pf_core.specs.Pages
+pub use Rattle.pf_core.specs.Durable.Changes
+pub use Rattle.pf_core.specs.WorldBooks
 pub use Rattle.pf_core.specs.Worlds
 pub use Rattle.pf_past.specs.Pasts
 pub use Rattle.pf_store.specs.Openings
 pub use Rattle.pf_store.specs.Rooms
 pub use Rattle.pf_store.specs.Stores
-pub use Rattle.pf_view.specs.Known
+pub use Rattle.pf_view.specs.Seers

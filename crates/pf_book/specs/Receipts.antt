@@ -1,60 +1,60 @@
--- What the receipt of a reply says, and what a call is answered under the lock. Own.
+-- What the receipt of a reply says, and what a call is answered under the lock.
 use Rattle.std.specs.{Prelude.{◌≡◌, ℕ, ◌≤◌, List, [], ◌∷◌, ◌++◌, length, take, ⊤, Option, None, Some, IfSome}, Option.ForSome}
 use mathlib.Core.List.{IsPrefix}
 use Rattle.pf_core.specs.declared.{command.Command.Command, reply.Reply.Reply, reply.Reply.TheVariants.{Answer, Applied, Stored, Refused}}
-use Rattle.pf_core.specs.{Calls.call, Durable.Edits.{Kept, Edit}, Pages.{Page, StandsFor}, Worlds.{Setting, Held, Upshot, Event, up, down, called, flat, log_of, group_in, heard, state_after, IsWorld}}
-use Rattle.pf_past.specs.Pasts.{Past}
-use Rattle.pf_view.specs.Known.{Known, learns}
+use Rattle.pf_core.specs.{Calls.call, Durable.Changes.{PlainDurable, PlainChange}, WorldBooks.{WorldBook, StandsFor}, Worlds.{Setting, CurrentOpening, Upshot, Event, up, down, called, flat, log_of, group_in, heard, state_after, IsWorld}}
+use Rattle.pf_past.specs.Pasts.{PlainFront}
+use Rattle.pf_view.specs.Seers.{PlainSeer, learns}
 use Rattle.pf_book.specs.Books.{change_in}
 
 -- ---- receipts
 
 -- A receipt: the changes that the history had at the reply, with those before it, and how many of them were acknowledged; the change that
 -- the call made, if it was kept; and after `Applied` the changes that were shown then.
-pub record Slip : Type 0 where
-  pub front : List Edit
+pub record PlainReceipt : Type 0 where
+  pub front : List PlainChange
   pub acked : ℕ
-  pub change : Option Edit
-  pub token : Option (List Edit)
+  pub change : Option PlainChange
+  pub token : Option (List PlainChange)
 
 -- the change is the last of the front
-abbrev pub EndsIn : List Edit → Edit → Type 0
-EndsIn front e = (rest : List Edit) × (front ≡ rest ++ e ∷ [])
+abbrev pub EndsIn : List PlainChange → PlainChange → Type 0
+EndsIn front e = (rest : List PlainChange) × (front ≡ rest ++ e ∷ [])
 
 -- what a receipt's type keeps, whose front is the first so many of these
-pub record IsReceipt (past : Past) (seq : ℕ) (change : Option Edit) : Type 0 where
+pub record IsReceipt (past : PlainFront) (seq : ℕ) (change : Option PlainChange) : Type 0 where
   pub within : seq ≤ length past.front
   pub last : ForSome change (λ e. EndsIn (take seq past.front) e)
   pub acked : ForSome change (λ e. seq ≤ past.acked)
 
 -- The history has as many changes as the receipt says, and the receipt's change, where it has one, under its number.
-abbrev pub Confirms : List Edit → Slip → Type 0
+abbrev pub Confirms : List PlainChange → PlainReceipt → Type 0
 Confirms log slip = (length slip.front ≤ length log) × IfSome slip.change (λ e. change_in log (length slip.front) ≡ Some e)
 
 -- ---- replies with receipts
 
 -- after `Applied` a token of the whole history at the reply
-abbrev pub token_of : Reply → List Edit → Option (List Edit)
+abbrev pub token_of : Reply → List PlainChange → Option (List PlainChange)
 token_of (Answer a) log = None
 token_of (Applied seq outcome) log = Some log
 token_of (Stored seq outcome) log = None
 token_of (Refused e) log = None
 
 -- what a seer knows that has learnt a token, if there is one
-abbrev pub learns_from : Option (List Edit) → Known → Known
+abbrev pub learns_from : Option (List PlainChange) → PlainSeer → PlainSeer
 learns_from None known = known
 learns_from (Some token) known = learns token known
 
 -- the change was kept and acknowledged behind all others
-pub record IsAdded (change : Option Edit) (old new : Page) : Type 0 where
-  pub edit : Edit
-  pub is : change ≡ Some edit
-  pub acked : new.acked ≡ old.acked ++ (edit ∷ []) ∷ []
+pub record IsAdded (change : Option PlainChange) (old new : WorldBook) : Type 0 where
+  pub made : PlainChange
+  pub is : change ≡ Some made
+  pub acked : new.acked ≡ old.acked ++ (made ∷ []) ∷ []
   pub none_before : old.pending ≡ []
   pub none_after : new.pending ≡ []
 
 -- the change that a call gives for its receipt
-abbrev pub IsGiven : Reply → Option Edit → Page → Page → Type 0
+abbrev pub IsGiven : Reply → Option PlainChange → WorldBook → WorldBook → Type 0
 IsGiven (Answer a) change old new = change ≡ None
 IsGiven (Applied seq outcome) change old new = IsAdded change old new
 IsGiven (Stored seq outcome) change old new = IsAdded change old new
@@ -69,28 +69,28 @@ ShownFits (Refused e) shown all = ⊤
 
 -- The front of a receipt that is handed in begins the history, and what was acknowledged at its reply is, as is the receipt's change, where
 -- it has one.
-abbrev pub Follows : Option Slip → List Edit → ℕ → Type 0
+abbrev pub Follows : Option PlainReceipt → List PlainChange → ℕ → Type 0
 Follows last log acked = ForSome last (λ l. IsPrefix l.front log × (l.acked ≤ acked) × ForSome l.change (λ e. length l.front ≤ acked))
 
 -- ---- under the lock
 
 -- some world is stood for, in an opening that gave this and keeps within that
-pub record IsReached (base : Kept) (setting : Setting) (b : Page) : Type 0 where
+pub record IsReached (base : PlainDurable) (setting : Setting) (b : WorldBook) : Type 0 where
   pub base_is : b.base ≡ base
   pub setting_is : b.setting ≡ setting
-  pub first : Kept
+  pub first : PlainDurable
   pub world : List Event
   pub stands : StandsFor first b world
 
 -- The receipt's change is the one that the command was due, by what was acknowledged before, and the last of its front.
-pub record IsLast (h : Held) (c : Command) (slip : Slip) : Type 0 where
-  pub edit : Edit
-  pub is : slip.change ≡ Some edit
-  pub due : group_in h c ≡ (edit ∷ []) ∷ []
-  pub last : slip.front ≡ log_of h ++ edit ∷ []
+pub record IsLast (h : CurrentOpening) (c : Command) (slip : PlainReceipt) : Type 0 where
+  pub made : PlainChange
+  pub is : slip.change ≡ Some made
+  pub due : group_in h c ≡ (made ∷ []) ∷ []
+  pub last : slip.front ≡ log_of h ++ made ∷ []
 
 -- after `Applied` and `Stored` a receipt has a change, and else none
-abbrev pub IsChangeOf : Reply → Held → Command → Slip → Type 0
+abbrev pub IsChangeOf : Reply → CurrentOpening → Command → PlainReceipt → Type 0
 IsChangeOf (Answer a) h c slip = slip.change ≡ None
 IsChangeOf (Applied seq outcome) h c slip = IsLast h c slip
 IsChangeOf (Stored seq outcome) h c slip = IsLast h c slip
@@ -98,11 +98,11 @@ IsChangeOf (Refused e) h c slip = slip.change ≡ None
 
 -- What a call under the lock is answered, with its receipt, where the caller may have handed in a receipt: there is a world whose last event is
 -- this call.
-pub record IsAnswered (base : Kept) (setting : Setting) (c : Command) (r : Reply) (slip : Slip) (last : Option Slip) : Type 0 where
-  pub first : Kept
+pub record IsAnswered (base : PlainDurable) (setting : Setting) (c : Command) (r : Reply) (slip : PlainReceipt) (last : Option PlainReceipt) : Type 0 where
+  pub first : PlainDurable
   pub world : List Event
   -- the opening, as it had come when the call began
-  pub before : Held
+  pub before : CurrentOpening
   pub came : Upshot
   pub comes : state_after (down first) world ≡ up before
   pub base_is : before.base ≡ base

@@ -3,11 +3,11 @@ ghost use Rattle.std.specs.Prelude.{◌≡◌, ℕ, ◌+◌, ◌<◌, ◌≤◌,
 ghost use Rattle.std.specs.{Arc.arc_value, List.list_all, Option.option_map};
 ghost use Rattle.pf_disk.specs.Disk.{EachMoment, IsImage};
 ghost use Rattle.pf_core.specs.declared.reply.Refusal.TheVariants as told;
-ghost use Rattle.pf_core.specs.{Calls.call, Commands.may_change, Durable.Edits.{Kept, applied, after, fits, verdict}, Pages.{IsAt, IsFolded, StandsFor, Leads}, Wholes.left_by, Worlds.{Held, idle, calling, begun, upshot, Event, called, opened, is_fault, flat, raised, last_epoch, down, state_after, IsWorld, LegalReply, shown_by}};
+ghost use Rattle.pf_core.specs.{Calls.call, Commands.may_change, Durable.Changes.{PlainDurable, applied, after, fits, verdict}, WorldBooks.{IsAt, IsFolded, StandsFor, Leads}, Cores.left_by, Worlds.{CurrentOpening, idle, calling, begun, upshot, Event, called, opened, is_fault, flat, raised, last_epoch, down, state_after, IsWorld, LegalReply, shown_by}};
 ghost use Rattle.pf_store.specs.{Groups.{can_be_wanted, is_group, made_all}, Stores.{FindsRoom, FollowInTurn, HoldsEither}};
-ghost use Rattle.pf_view.specs.Known.{IsNewSeer};
+ghost use Rattle.pf_view.specs.Seers.{IsNewSeer};
 ghost use Rattle.pf_book.specs.Receipts.{IsGiven, IsReached};
-ghost use Rattle.pf_book.specs.Books.{page, HoldsLeft, HasRoom, HasNoRoom, left_together, IsMore, IsUnkept, IsUnshown, IsMade, IsTold, Stays, IsOpenable, StaysOpenable, StaysUnlessKept, shows_all, change_in, log_in, is_fault_reply, is_fault_result, IsNumbered, IsJudged, IsNamed, setting_of, judging};
+ghost use Rattle.pf_book.specs.Books.{world_book, HoldsLeft, HasRoom, HasNoRoom, left_together, IsMore, IsUnkept, IsUnshown, IsMade, IsTold, Stays, IsOpenable, StaysOpenable, StaysUnlessKept, shows_all, change_in, log_in, is_fault_reply, is_fault_result, IsNumbered, IsJudged, IsNamed, setting_of, judging};
 
 mod groups;
 mod receipts;
@@ -31,7 +31,7 @@ use std::slice::from_ref;
 use std::sync::{Arc, Wait};
 
 /// What an opening gave, and each change since: saved on the device before it is answered, and shown to the packet workers. It keeps the
-/// handle `R`, by which it waits for workers that are judging. Contracts see it as a `Ledger`. Own.
+/// handle `R`, by which it waits for workers that are judging. Contracts see it as a `PlainBook`.
 #[derive(Drop)]
 pub struct Book<D: Disk + Drop, J: Chapter, R: Wait + Drop> {
     alloc: Global,
@@ -54,14 +54,14 @@ pub struct Book<D: Disk + Drop, J: Chapter, R: Wait + Drop> {
 impl<D: Disk + Drop, J: Chapter, R: Wait + Drop> Model for Book<D, J, R> {
     ghost use Rattle.std.specs.Prelude.{map};
     ghost use Rattle.std.specs.Arc.{arc_value};
-    ghost use Rattle.pf_book.specs.Books.{Ledger, ledger, page_of, IsBook, setting_in};
+    ghost use Rattle.pf_book.specs.Books.{PlainBook, book_with, world_book_of, IsBook, setting_in};
 
-    ghost Value = { Ledger D };
+    ghost Value = { PlainBook D };
 
-    ghost view = { λ b. ledger b.store.disk J.base b.core (map arc_value b.log.items) b.sizes.items b.acked b.limit b.store.size b.store.generation b.shower.shown };
+    ghost view = { λ b. book_with b.store.disk J.base b.core (map arc_value b.log.items) b.sizes.items b.acked b.limit b.store.size b.store.generation b.shower.shown };
 
     ghost invariant = { λ b. IsBook D.seen D.unsynced b.store
-        (page_of J.base b.core (map arc_value b.log.items) b.sizes.items b.acked (setting_in b.store b.limit) b.shower.shown)
+        (world_book_of J.base b.core (map arc_value b.log.items) b.sizes.items b.acked (setting_in b.store b.limit) b.shower.shown)
         (arc_value b.durable) (map arc_value b.log.items) b.sizes.items b.acked b.offered b.shower b.tip b.front };
 }
 
@@ -90,7 +90,7 @@ impl<D: Disk + Drop, J: Chapter, R: Wait + Drop> Book<D, J, R> {
     /// `J` names the opening.
     ///
     /// `Err` hands the device back: `Memory` was refused, or a worker's place, or the history's first one, wasn't given (`Places`), which
-    /// no run is known to meet. It is no other fault, and the device holds what the opening gave. Own.
+    /// no run is known to meet. It is no other fault, and the device holds what the opening gave.
     pub fn of(
         rt: R,
         alloc: Global,
@@ -102,7 +102,7 @@ impl<D: Disk + Drop, J: Chapter, R: Wait + Drop> Book<D, J, R> {
         requires low { 1 ≤ history_limit }
         requires high { history_limit ≤ 1_048_576 }
         requires seers { (0 < seers) × (seers ≤ 64) }
-        ensures at { IfOk result (λ r. IsAt (begun (setting_of opening history_limit) opening.given) (page r.0)) }
+        ensures at { IfOk result (λ r. IsAt (begun (setting_of opening history_limit) opening.given) (world_book r.0)) }
         ensures device { IfOk result (λ r. r.0.disk ≡ opening.disk) }
         ensures size { IfOk result (λ r. r.0.size ≡ opening.size) }
         ensures generation { IfOk result (λ r. r.0.generation ≡ opening.generation) }
@@ -111,11 +111,11 @@ impl<D: Disk + Drop, J: Chapter, R: Wait + Drop> Book<D, J, R> {
         ensures seers { IfOk result (λ r. (length r.1.items ≡ seers) × All IsNewSeer r.1.items) }
 
         // Of whatever world the device held this after, but for the epoch, it stands for that with an opening at its end.
-        ensures worlds { IfOk result (λ r. (first d : Kept) (world : List Event) → IsWorld first world → state_after (down first) world ≡ down d
+        ensures worlds { IfOk result (λ r. (first d : PlainDurable) (world : List Event) → IsWorld first world → state_after (down first) world ≡ down d
             → d.epoch < last_epoch → opening.given ≡ raised d
-            → StandsFor first (page r.0) (world ++ opened (setting_of opening history_limit) ∷ [])) }
-        ensures reached { IfOk result (λ r. IsReached J.base J.setting (page r.0)) }
-        ensures folded { IfOk result (λ r. IsFolded (page r.0)) }
+            → StandsFor first (world_book r.0) (world ++ opened (setting_of opening history_limit) ∷ [])) }
+        ensures reached { IfOk result (λ r. IsReached J.base J.setting (world_book r.0)) }
+        ensures folded { IfOk result (λ r. IsFolded (world_book r.0)) }
     {
         let Opening {
             durable,
@@ -157,9 +157,9 @@ impl<D: Disk + Drop, J: Chapter, R: Wait + Drop> Book<D, J, R> {
         requires group { is_group changes.now ≡ true }
         requires wanted { list_all can_be_wanted changes.now ≡ true }
         requires free { self.now.pending ≡ [] }
-        ensures ok { OnOk result (HasRoom (page self.now) changes.now) }
+        ensures ok { OnOk result (HasRoom (world_book self.now) changes.now) }
         ensures found { OnOk result (FindsRoom self.now.size self.now.whole.durable next.now.durable changes.now) }
-        ensures err { IfErr result (λ e. HasNoRoom e (page self.now) changes.now) }
+        ensures err { IfErr result (λ e. HasNoRoom e (world_book self.now) changes.now) }
         ensures still { EachMoment D.moment D.left_since self.now.disk self.now.disk
             (HoldsEither self.now.whole.durable (after self.now.whole.durable changes.now)) }
         ensures openable { StaysOpenable D.moment D.left_since self.now self.now }
@@ -182,9 +182,9 @@ impl<D: Disk + Drop, J: Chapter, R: Wait + Drop> Book<D, J, R> {
         requires fits { fits self.old.whole.durable change ≡ Ok tt }
         requires wanted { can_be_wanted change ≡ true }
         requires free { self.old.pending ≡ [] }
-        ensures ok { OnOk result (IsMore (page self.old) (page self.new) (change ∷ [])) }
+        ensures ok { OnOk result (IsMore (world_book self.old) (world_book self.new) (change ∷ [])) }
         ensures given { IfOk result (λ given. arc_value given ≡ change) }
-        ensures err { IfErr result (λ e. IsUnkept e (page self.old) (page self.new) (change ∷ [])) }
+        ensures err { IfErr result (λ e. IsUnkept e (world_book self.old) (world_book self.new) (change ∷ [])) }
         ensures any_moment { EachMoment D.moment D.left_since self.old.disk self.new.disk
             (HoldsEither self.old.whole.durable (applied self.old.whole.durable change)) }
         ensures still { IfErr result (λ e. is_fault e ≡ false → self.new.disk ≡ self.old.disk) }
@@ -203,11 +203,11 @@ impl<D: Disk + Drop, J: Chapter, R: Wait + Drop> Book<D, J, R> {
     fn save(&mut self, changes: &[Arc<Change>], next: Next) -> Result<(), Refusal>
         requires made { next ≡ left_together self.old.whole.durable (map arc_value changes.now) }
         requires fit { FollowInTurn self.old.whole.durable (made_all (map arc_value changes.now)) }
-        requires room { HasRoom (page self.old) (map arc_value changes.now) }
+        requires room { HasRoom (world_book self.old) (map arc_value changes.now) }
         requires found { FindsRoom self.old.size self.old.whole.durable next.durable (map arc_value changes.now) }
         requires free { self.old.pending ≡ [] }
-        ensures ok { OnOk result (IsMore (page self.old) (page self.new) (map arc_value changes.now)) }
-        ensures err { IfErr result (λ e. IsUnkept e (page self.old) (page self.new) (map arc_value changes.now)) }
+        ensures ok { OnOk result (IsMore (world_book self.old) (world_book self.new) (map arc_value changes.now)) }
+        ensures err { IfErr result (λ e. IsUnkept e (world_book self.old) (world_book self.new) (map arc_value changes.now)) }
         ensures any_moment { EachMoment D.moment D.left_since self.old.disk self.new.disk
             (HoldsEither self.old.whole.durable (after self.old.whole.durable (map arc_value changes.now))) }
         ensures still { IfErr result (λ e. is_fault e ≡ false → self.new.disk ≡ self.old.disk) }
@@ -251,7 +251,7 @@ impl<D: Disk + Drop, J: Chapter, R: Wait + Drop> Book<D, J, R> {
         ensures device { self.new.disk ≡ self.old.disk }
         ensures size { self.new.size ≡ self.old.size }
         ensures generation { self.new.generation ≡ self.old.generation }
-        ensures page { MatchBool result ((page self.new) ≡ shows_all (page self.old)) ((page self.new) ≡ (page self.old)) }
+        ensures world_book { MatchBool result ((world_book self.new) ≡ shows_all (world_book self.old)) ((world_book self.new) ≡ (world_book self.old)) }
     {
         if !offer_rest(
             &mut self.shower,
@@ -277,8 +277,8 @@ impl<D: Disk + Drop, J: Chapter, R: Wait + Drop> Book<D, J, R> {
         requires fits { fits self.old.whole.durable change ≡ Ok tt }
         requires wanted { can_be_wanted change ≡ true }
         requires free { self.old.pending ≡ [] }
-        ensures made { IsMade result.0 outcome change (page self.old) (page self.new) }
-        ensures given { IsGiven result.0 (option_map arc_value result.1) (page self.old) (page self.new) }
+        ensures made { IsMade result.0 outcome change (world_book self.old) (world_book self.new) }
+        ensures given { IsGiven result.0 (option_map arc_value result.1) (world_book self.old) (world_book self.new) }
         ensures any_moment { EachMoment D.moment D.left_since self.old.disk self.new.disk
             (HoldsEither self.old.whole.durable (applied self.old.whole.durable change)) }
         ensures still { (e : Refusal) → result.0 ≡ Reply.Refused e → is_fault e ≡ false → self.new.disk ≡ self.old.disk }
@@ -305,7 +305,7 @@ impl<D: Disk + Drop, J: Chapter, R: Wait + Drop> Book<D, J, R> {
         ensures device { self.new.disk ≡ self.old.disk }
         ensures size { self.new.size ≡ self.old.size }
         ensures generation { self.new.generation ≡ self.old.generation }
-        ensures told { IsTold command result (page self.old) (page self.new) }
+        ensures told { IsTold command result (world_book self.old) (world_book self.new) }
     {
         let acked = self.acked as u64;
         match command {
@@ -326,18 +326,18 @@ impl<D: Disk + Drop, J: Chapter, R: Wait + Drop> Book<D, J, R> {
 
     // One call, wherever the opening has come to, with the change that it made, if it was kept.
     fn call(&mut self, command: &Command) -> (Reply, Option<Arc<Change>>)
-        ensures leads { (h : Held) → IsAt h (page self.old) → Leads h (page self.new) (call command.now result.0)
+        ensures leads { (h : CurrentOpening) → IsAt h (world_book self.old) → Leads h (world_book self.new) (call command.now result.0)
             (upshot self.new.shown (nat_lt (D.fault_count self.old.disk) (D.fault_count self.new.disk))) }
-        ensures any_moment { (h : Held) → IsAt h (page self.old) → EachMoment D.moment D.left_since self.old.disk self.new.disk (HoldsLeft h (calling command.now)) }
-        ensures given { IsGiven result.0 (option_map arc_value result.1) (page self.old) (page self.new) }
-        ensures numbered { IsNumbered result.0 (page self.new) }
+        ensures any_moment { (h : CurrentOpening) → IsAt h (world_book self.old) → EachMoment D.moment D.left_since self.old.disk self.new.disk (HoldsLeft h (calling command.now)) }
+        ensures given { IsGiven result.0 (option_map arc_value result.1) (world_book self.old) (world_book self.new) }
+        ensures numbered { IsNumbered result.0 (world_book self.new) }
         ensures judged { IsJudged self.old.whole.durable command.now result.0 }
         ensures openable { StaysOpenable D.moment D.left_since self.old self.new }
         ensures moments { D.moment self.new.disk ≤ D.moment self.old.disk + 10 }
         ensures same_size { length (D.seen self.new.disk) ≡ length (D.seen self.old.disk) }
         ensures faults { D.fault_count self.new.disk ≡ D.fault_count self.old.disk + (if is_fault_reply result.0 then 1 else 0) }
         ensures base { self.new.base ≡ self.old.base }
-        ensures setting { (page self.new).setting ≡ (page self.old).setting }
+        ensures setting { (world_book self.new).setting ≡ (world_book self.old).setting }
         ensures stays { StaysUnlessKept result.0 self.old self.new }
     {
         if self.acked < self.log.len() && may_change(command) {
@@ -362,30 +362,30 @@ impl<D: Disk + Drop, J: Chapter, R: Wait + Drop> Book<D, J, R> {
     /// come before the device is written.
     ///
     /// For an answer no call of the device is made. After every refusal but `Fault` all is as before. After `Fault` the change stands in the
-    /// history, not acknowledged, all else is as before, and each later command that may change something is `Halted`. Own.
+    /// history, not acknowledged, all else is as before, and each later command that may change something is `Halted`.
     pub fn run(&mut self, command: Command) -> Reply
         // The reply is legal in each world that the Book stood for, and it stands for that with this call at its end.
-        ensures worlds { (first : Kept) (world : List Event) → StandsFor first (page self.old) world →
-            StandsFor first (page self.new) (world ++ called (call command result)
+        ensures worlds { (first : PlainDurable) (world : List Event) → StandsFor first (world_book self.old) world →
+            StandsFor first (world_book self.new) (world ++ called (call command result)
             (upshot self.new.shown (nat_lt (D.fault_count self.old.disk) (D.fault_count self.new.disk))) ∷ []) }
-        ensures legal { (h : Held) → IsAt h (page self.old)
+        ensures legal { (h : CurrentOpening) → IsAt h (world_book self.old)
             → LegalReply h command result (nat_lt (D.fault_count self.old.disk) (D.fault_count self.new.disk)) }
 
         // At each moment of the call an image holds what some crash within it leaves of the opening, and after it what one then leaves.
-        ensures any_moment { (h : Held) → IsAt h (page self.old)
+        ensures any_moment { (h : CurrentOpening) → IsAt h (world_book self.old)
             → EachMoment D.moment D.left_since self.old.disk self.new.disk (HoldsLeft h (calling command)) }
-        ensures images { (h : Held) → IsAt h (page self.new) → (c : List ℕ)
+        ensures images { (h : CurrentOpening) → IsAt h (world_book self.new) → (c : List ℕ)
             → IsImage (D.seen self.new.disk) (D.unsynced self.new.disk) c → HoldsLeft h idle c }
 
         // What is kept is the fold of all that was acknowledged, and what is shown is the fold of as many changes as are shown.
         ensures fold { self.new.whole.durable ≡ after self.new.base (flat self.new.acked) }
         ensures published { self.new.published ≡ after self.new.base (take self.new.shown (flat self.new.acked)) }
         ensures shown { self.new.shown ≡ shown_by result self.old.shown }
-        ensures numbered { IsNumbered result (page self.new) }
+        ensures numbered { IsNumbered result (world_book self.new) }
         ensures judged { IsJudged self.old.whole.durable command result }
         ensures stays { StaysUnlessKept result self.old self.new }
         ensures base { self.new.base ≡ self.old.base }
-        ensures setting { (page self.new).setting ≡ (page self.old).setting }
+        ensures setting { (world_book self.new).setting ≡ (world_book self.old).setting }
 
         // What an opening needs of each image at each moment of the call.
         ensures openable { StaysOpenable D.moment D.left_since self.old self.new }
@@ -402,35 +402,35 @@ impl<D: Disk + Drop, J: Chapter, R: Wait + Drop> Book<D, J, R> {
 
     // Between two calls each image holds what a crash then leaves of the opening.
     pub(crate) fn rests(&self)
-        ensures images { (h : Held) → IsAt h (page self.now) → (c : List ℕ)
+        ensures images { (h : CurrentOpening) → IsAt h (world_book self.now) → (c : List ℕ)
             → IsImage (D.seen self.now.disk) (D.unsynced self.now.disk) c → HoldsLeft h idle c }
         ensures openable { IsOpenable D.seen D.unsynced self.now }
-        ensures folded { IsFolded (page self.now) }
+        ensures folded { IsFolded (world_book self.now) }
     {
         // looked at, so that what a Book keeps is known here
         let _ = &self.core;
     }
 
     /// What happens to a packet, by what is kept: the call that asks for it, made without its command and its reply, which are long to
-    /// move. It changes nothing, and memory is never refused for it. Own.
+    /// move. It changes nothing, and memory is never refused for it.
     pub fn judge(&self, packet: &Packet) -> Verdict
-        ensures worlds { (first : Kept) (world : List Event) → StandsFor first (page self.now) world →
-            StandsFor first (page self.now) (world ++ called (judging packet.now result) (upshot self.now.shown false) ∷ []) }
+        ensures worlds { (first : PlainDurable) (world : List Event) → StandsFor first (world_book self.now) world →
+            StandsFor first (world_book self.now) (world ++ called (judging packet.now result) (upshot self.now.shown false) ∷ []) }
         ensures verdict { result ≡ verdict self.now.whole.durable packet.now }
     {
         self.core.durable().verdict(packet)
     }
 
-    /// How many changes the history has. Own.
+    /// How many changes the history has.
     pub fn log_len(&self) -> usize
-        ensures { result ≡ length (log_in (page self.now)) }
+        ensures { result ≡ length (log_in (world_book self.now)) }
     {
         self.log.len()
     }
 
-    /// The change of this number, from 1 on; none has a greater one than the history has changes. Own.
+    /// The change of this number, from 1 on; none has a greater one than the history has changes.
     pub fn change_at(&self, number: usize) -> Option<&Change>
-        ensures { option_map (λ change. change.now) result ≡ change_in (log_in (page self.now)) number }
+        ensures { option_map (λ change. change.now) result ≡ change_in (log_in (world_book self.now)) number }
     {
         if number == 0 {
             return None;
@@ -441,35 +441,35 @@ impl<D: Disk + Drop, J: Chapter, R: Wait + Drop> Book<D, J, R> {
         }
     }
 
-    /// How many of them were acknowledged: all, or all but those of one call. Own.
+    /// How many of them were acknowledged: all, or all but those of one call.
     pub fn acked(&self) -> usize
         ensures { result ≡ length (flat self.now.acked) }
     {
         self.acked
     }
 
-    /// How many of them are shown to packet workers. Own.
+    /// How many of them are shown to packet workers.
     pub fn shown(&self) -> usize
         ensures { result ≡ self.now.shown }
     {
         self.shower.len()
     }
 
-    /// What is kept: what the opening gave, with all that was acknowledged since. Own.
+    /// What is kept: what the opening gave, with all that was acknowledged since.
     pub fn durable(&self) -> &Durable
         ensures { result.now ≡ self.now.whole.durable }
     {
         self.core.durable()
     }
 
-    /// The device. Own.
+    /// The device.
     pub fn disk(&self) -> &D
         ensures { result.now ≡ self.now.disk }
     {
         self.store.disk()
     }
 
-    /// The device as it stands. Workers see nothing any more. Own.
+    /// The device as it stands. Workers see nothing any more.
     pub fn into_disk(self) -> D
         ensures { result ≡ self.disk }
     {

@@ -2,42 +2,42 @@
 ghost use Rattle.std.specs.Prelude.{◌≡◌, ◌⊎◌, ◌^◌, ◌<◌, ◌≤◌, ◌++◌, ◌∷◌, [], ℕ, List, length, Option, Some};
 ghost use mathlib.Core.List.{IsPrefix};
 ghost use Rattle.pf_core.specs.declared.{command.Command.Command, reply.Outcome.Outcome, reply.Reply.Reply, reply.Reply.TheVariants.{Applied, Stored}};
-ghost use Rattle.pf_core.specs.{Durable.Edits.{Kept, Edit}, Pages.{Page, IsAt, IsFolded, StandsFor}, Worlds.{Setting, Held, Doing, Event, crashed, opened, begun, raised, last_epoch, up, down, state_after, IsWorld}};
+ghost use Rattle.pf_core.specs.{Durable.Changes.{PlainDurable, PlainChange}, WorldBooks.{WorldBook, IsAt, IsFolded, StandsFor}, Worlds.{Setting, CurrentOpening, Doing, Event, crashed, opened, begun, raised, last_epoch, up, down, state_after, IsWorld}};
 ghost use Rattle.pf_store.specs.declared.store.fault.{OpenFault.OpenFault, OpenFault.TheVariants.{Memory, Fault, EpochsExhausted}};
 ghost use Rattle.pf_store.specs.{Openings.{IsNoLaterThan, IsUnopened, LeavesRoom}, Stores.{Holds, IsRoomy}};
-ghost use Rattle.pf_book.specs.{Books.HoldsLeft, Receipts.{Slip, IsAnswered}};
+ghost use Rattle.pf_book.specs.{Books.HoldsLeft, Receipts.{PlainReceipt, IsAnswered}};
 
 /// The receipt that a caller hands in and the one that it is given: the front of the first begins that of the second, and has fewer changes
 /// where the call made one; as many changes as were acknowledged at the first one's reply are at the second's. A reply's number is that of
 /// its receipt, and so many changes are acknowledged then: they stay so at each later call, where each hands in the receipt of the one
-/// before. Own.
+/// before.
 pub fn receipts()
-    ensures begins { (base : Kept) (setting : Setting) (c : Command) (r : Reply) (slip last : Slip)
+    ensures begins { (base : PlainDurable) (setting : Setting) (c : Command) (r : Reply) (slip last : PlainReceipt)
         → IsAnswered base setting c r slip (Some last) → IsPrefix last.front slip.front }
-    ensures acked { (base : Kept) (setting : Setting) (c : Command) (r : Reply) (slip last : Slip)
+    ensures acked { (base : PlainDurable) (setting : Setting) (c : Command) (r : Reply) (slip last : PlainReceipt)
         → IsAnswered base setting c r slip (Some last) → last.acked ≤ slip.acked }
-    ensures fewer { (base : Kept) (setting : Setting) (c : Command) (r : Reply) (slip last : Slip) (e : Edit)
+    ensures fewer { (base : PlainDurable) (setting : Setting) (c : Command) (r : Reply) (slip last : PlainReceipt) (e : PlainChange)
         → IsAnswered base setting c r slip (Some last) → slip.change ≡ Some e → length last.front < length slip.front }
-    ensures applied { (base : Kept) (setting : Setting) (c : Command) (seq : ℕ) (o : Outcome) (slip : Slip) (last : Option Slip)
+    ensures applied { (base : PlainDurable) (setting : Setting) (c : Command) (seq : ℕ) (o : Outcome) (slip : PlainReceipt) (last : Option PlainReceipt)
         → IsAnswered base setting c (Applied seq o) slip last → (seq ≡ length slip.front) × (seq ≡ slip.acked) }
-    ensures stored { (base : Kept) (setting : Setting) (c : Command) (seq : ℕ) (o : Outcome) (slip : Slip) (last : Option Slip)
+    ensures stored { (base : PlainDurable) (setting : Setting) (c : Command) (seq : ℕ) (o : Outcome) (slip : PlainReceipt) (last : Option PlainReceipt)
         → IsAnswered base setting c (Stored seq o) slip last → (seq ≡ length slip.front) × (seq ≡ slip.acked) }
 {}
 
 /// Whatever image a crash leaves of an opening, within a call or between two: what an opening of that image gives stands for the world with
-/// the crash and the new opening at its end. Own.
+/// the crash and the new opening at its end.
 pub fn crashes_are_opened()
-    ensures { (first : Kept) (world : List Event) (h : Held) (doing : Doing) (image : List ℕ) (d : Kept) (setting : Setting) (b : Page)
+    ensures { (first : PlainDurable) (world : List Event) (h : CurrentOpening) (doing : Doing) (image : List ℕ) (d : PlainDurable) (setting : Setting) (b : WorldBook)
         → IsWorld first world → state_after (down first) world ≡ up h → HoldsLeft h doing image → Holds image d → d.epoch < last_epoch
         → IsAt (begun setting (raised d)) b → IsFolded b → (n : ℕ) × StandsFor first b ((world ++ crashed doing n ∷ []) ++ opened setting ∷ []) }
 {}
 
 /// Whatever image a crash leaves of an opening, where it holds what it holds by a generation below 2^63 and leaves an opening room: only want of
 /// memory or a fault of the device keeps it from being opened, or that its epoch is the last one. An opening leaves as much room as it found,
-/// and what `Book::run` says of each image makes it so. Own.
+/// and what `Book::run` says of each image makes it so.
 pub fn left_images_are_refused_by_chance_alone()
-    ensures chance { (h : Held) (doing : Doing) (image : List ℕ) (generation : ℕ) (fault : OpenFault) → HoldsLeft h doing image
+    ensures chance { (h : CurrentOpening) (doing : Doing) (image : List ℕ) (generation : ℕ) (fault : OpenFault) → HoldsLeft h doing image
         → IsNoLaterThan generation image → generation < 2 ^ 63 → LeavesRoom image → IsUnopened fault image
-        → (fault ≡ Memory) ⊎ ((fault ≡ Fault) ⊎ ((fault ≡ EpochsExhausted) × (d : Kept) × Holds image d × (d.epoch ≡ last_epoch))) }
-    ensures room { (size : ℕ) (d : Kept) → IsRoomy size d → IsRoomy size (raised d) }
+        → (fault ≡ Memory) ⊎ ((fault ≡ Fault) ⊎ ((fault ≡ EpochsExhausted) × (d : PlainDurable) × Holds image d × (d.epoch ≡ last_epoch))) }
+    ensures room { (size : ℕ) (d : PlainDurable) → IsRoomy size d → IsRoomy size (raised d) }
 {}

@@ -1,7 +1,7 @@
 //! A device that was opened.
 ghost use Rattle.std.specs.Prelude.{◌≡◌, ◌+◌, ◌^◌, ◌<◌, ◌≤◌, false, ℕ, List, length, IfOk, IfErr, if◌then◌else◌};
 ghost use Rattle.pf_disk.specs.Disk.{EachMoment, IsImage};
-ghost use Rattle.pf_core.specs.{Durable.Edits.Kept, Laws.Durable.IsWithin, Worlds.{last_epoch, raised}};
+ghost use Rattle.pf_core.specs.{Durable.Changes.PlainDurable, Laws.Durable.IsWithin, Worlds.{last_epoch, raised}};
 ghost use Rattle.pf_store.specs.declared.store.fault.OpenFault.TheVariants.{BadSize, Memory};
 ghost use Rattle.pf_store.specs.{Banks.bank_size, Stores.{Holds}, StoreFaults.is_fault, Openings.{IsFull, IsNoLaterThan, IsOfOpening, IsUnopened, generation_of}};
 
@@ -14,7 +14,7 @@ use std::marker::Model;
 use std::sync::Arc;
 
 /// A device that was opened, and what it held, in the next epoch, with a new history. A `Book` is made of it; until then it takes no
-/// change. Contracts see it as an `Opened`. Own.
+/// change. Contracts see it as an `PlainOpening`.
 #[derive(Drop)]
 pub struct Opening<D: Disk> {
     pub(crate) durable: Arc<Durable>,
@@ -24,11 +24,11 @@ pub struct Opening<D: Disk> {
 
 impl<D: Disk> Model for Opening<D> {
     ghost use Rattle.std.specs.Arc.{arc_value};
-    ghost use Rattle.pf_book.specs.Books.{Opened, opened_store, IsOpened};
+    ghost use Rattle.pf_book.specs.Books.{PlainOpening, opening_of, IsOpened};
 
-    ghost Value = { Opened D };
+    ghost Value = { PlainOpening D };
 
-    ghost view = { λ o. opened_store o.store (arc_value o.durable) o.history };
+    ghost view = { λ o. opening_of o.store (arc_value o.durable) o.history };
 
     ghost invariant = { λ o. IsOpened D.seen D.unsynced o.store (arc_value o.durable) };
 }
@@ -38,22 +38,22 @@ impl<D: Disk> Opening<D> {
     /// which is on the device before this returns, so that no ticket of an earlier opening is ever valid again.
     ///
     /// `Err` hands the device back with the cause, as [`OpenFault`] tells them. It reads as before, and each image is one from before, but
-    /// for `Fault` and `Memory`, after which an image may hold what was read with the next epoch. Own.
+    /// for `Fault` and `Memory`, after which an image may hold what was read with the next epoch.
     pub fn open(alloc: Global, disk: D) -> Result<Opening<D>, (OpenFault, D)>
         requires few { D.fault_count disk < 2 ^ 63 }
 
         // What the device held, in the next epoch. Each image holds that then.
-        ensures opened { IfOk result (λ o. (d : Kept) × Holds (D.seen disk) d × (o.given ≡ raised d) × (d.epoch < last_epoch)) }
+        ensures opened { IfOk result (λ o. (d : PlainDurable) × Holds (D.seen disk) d × (o.given ≡ raised d) × (d.epoch < last_epoch)) }
         ensures images { IfOk result (λ o. (c : List ℕ) → IsImage (D.seen o.disk) (D.unsynced o.disk) c → Holds c o.given) }
         ensures within { IfOk result (λ o. IsWithin o.given) }
 
         // By the generation that was found, which is below 2^63, or the next one.
-        ensures generation { IfOk result (λ o. (d : Kept) × (held : Holds (D.seen disk) d)
+        ensures generation { IfOk result (λ o. (d : PlainDurable) × (held : Holds (D.seen disk) d)
             × (o.generation ≤ generation_of (D.seen disk) d held + 1) × (generation_of (D.seen disk) d held < 2 ^ 63)) }
         ensures generations { IfOk result (λ o. (c : List ℕ) → IsImage (D.seen o.disk) (D.unsynced o.disk) c → IsNoLaterThan o.generation c) }
 
         ensures size { IfOk result (λ o. o.size ≡ bank_size (length (D.seen o.disk))) }
-        ensures room { IfOk result (λ o. (d : Kept) → ¬ IsFull (D.seen disk) d) }
+        ensures room { IfOk result (λ o. (d : PlainDurable) → ¬ IsFull (D.seen disk) d) }
 
         // At each moment an image is one from the start, or holds what was read, its epoch perhaps one greater: by the generation that was
         // found or the next one, and with room for another opening where there was room.
@@ -81,14 +81,14 @@ impl<D: Disk> Opening<D> {
         }
     }
 
-    /// What the device holds. Own.
+    /// What the device holds.
     pub fn durable(&self) -> &Durable
         ensures { result.now ≡ self.now.given }
     {
         &self.durable
     }
 
-    /// The device as it stands. Own.
+    /// The device as it stands.
     pub fn into_disk(self) -> D
         ensures { result ≡ self.disk }
     {

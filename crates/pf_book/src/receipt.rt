@@ -11,7 +11,7 @@ use std::marker::Model;
 use std::sync::Arc;
 
 /// Stands for the history as it was at a reply, in a group with its changes so far: each later history of the opening begins with it.
-/// Contracts see it as a `Slip`. Own.
+/// Contracts see it as a `PlainReceipt`.
 #[derive(Drop)]
 pub struct Receipt<J: Chapter> {
     // the history behind the call, of which the first so many changes are the receipt's
@@ -23,9 +23,9 @@ pub struct Receipt<J: Chapter> {
 
 impl<J: Chapter> Model for Receipt<J> {
     ghost use Rattle.std.specs.{Arc.arc_value, Option.option_map, Prelude.{min, take}};
-    ghost use Rattle.pf_book.specs.Receipts.{Slip, IsReceipt};
+    ghost use Rattle.pf_book.specs.Receipts.{PlainReceipt, IsReceipt};
 
-    ghost Value = { Slip };
+    ghost Value = { PlainReceipt };
 
     ghost view = { λ r. record { front = take r.seq r.front.front; acked = min r.seq r.front.acked; change = option_map arc_value r.change; token = r.token } };
 
@@ -34,7 +34,7 @@ impl<J: Chapter> Model for Receipt<J> {
 
 impl<J: Chapter> Receipt<J> {
     /// The number of the reply's change, from 1 on; where the reply has none, how many changes the history had at the reply. One that wasn't
-    /// acknowledged, since the device failed, counts. Own.
+    /// acknowledged, since the device failed, counts.
     pub fn seq(&self) -> usize
         ensures seq { result ≡ length self.now.front }
         ensures last { ForSome self.now.change (λ e. EndsIn self.now.front e) }
@@ -42,7 +42,7 @@ impl<J: Chapter> Receipt<J> {
         self.seq
     }
 
-    /// The change that the call made: there is one exactly after `Applied` and `Stored`. Own.
+    /// The change that the call made: there is one exactly after `Applied` and `Stored`.
     pub fn change(&self) -> Option<&Change>
         ensures { option_map (λ change. change.now) result ≡ self.now.change }
     {
@@ -53,7 +53,7 @@ impl<J: Chapter> Receipt<J> {
     }
 
     /// What a worker may learn, so that it judges by the whole history at the reply, whose last change is the reply's: there is one exactly
-    /// after `Applied`. Own.
+    /// after `Applied`.
     pub fn token(&self) -> Option<&Token<J>>
         ensures { option_copied result ≡ self.now.token }
     {

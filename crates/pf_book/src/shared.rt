@@ -1,8 +1,8 @@
 //! A Book that threads share.
 ghost use Rattle.std.specs.{Option.option_copied, Prelude.{ℕ, List, nat_lt}};
 ghost use Rattle.pf_disk.specs.Disk.{EachMoment, IsImage};
-ghost use Rattle.pf_core.specs.{Calls.call, Pages.{IsAt, Leads, LeadsGroup}, Worlds.{Held, idle, calling, grouping, upshot}};
-ghost use Rattle.pf_book.specs.{Books.{HoldsLeft, IsOpenable, StaysOpenable, StaysUnlessAnyKept, StaysUnlessKept, page}, Groups.{IsGroupAnswered, replies_of, told}, Receipts.{IsReached, IsAnswered}};
+ghost use Rattle.pf_core.specs.{Calls.call, WorldBooks.{IsAt, Leads, LeadsGroup}, Worlds.{CurrentOpening, idle, calling, grouping, upshot}};
+ghost use Rattle.pf_book.specs.{Books.{HoldsLeft, IsOpenable, StaysOpenable, StaysUnlessAnyKept, StaysUnlessKept, world_book}, Groups.{IsGroupAnswered, replies_of, told}, Receipts.{IsReached, IsAnswered}};
 
 use crate::book::Book;
 use crate::chapter::Chapter;
@@ -14,27 +14,27 @@ use std::sync::{Mutex, Wait};
 
 // What lies under the lock: a Book that stands for some world of this opening.
 #[derive(Drop)]
-struct Desk<D: Disk + Drop, J: Chapter, R: Wait + Drop> {
+struct Locked<D: Disk + Drop, J: Chapter, R: Wait + Drop> {
     book: Book<D, J, R>,
 }
 
-impl<D: Disk + Drop, J: Chapter, R: Wait + Drop> Model for Desk<D, J, R> {
-    ghost use Rattle.pf_book.specs.{Books.{Ledger, page}, Receipts.IsReached};
+impl<D: Disk + Drop, J: Chapter, R: Wait + Drop> Model for Locked<D, J, R> {
+    ghost use Rattle.pf_book.specs.{Books.{PlainBook, world_book}, Receipts.IsReached};
 
-    ghost Value = { Ledger D };
+    ghost Value = { PlainBook D };
 
     ghost view = { λ d. d.book };
 
-    ghost invariant = { λ d. IsReached J.base J.setting (page d.book) };
+    ghost invariant = { λ d. IsReached J.base J.setting (world_book d.book) };
 }
 
-impl<D: Disk + Drop, J: Chapter, R: Wait + Drop> Desk<D, J, R> {
+impl<D: Disk + Drop, J: Chapter, R: Wait + Drop> Locked<D, J, R> {
     // One call, and no other. At each moment of it an image of the device holds what some crash within it leaves of the opening.
     fn run(&mut self, command: &Command, last: Option<&Receipt<J>>) -> (Reply, Receipt<J>)
         ensures answered { IsAnswered J.base J.setting command.now result.0 result.1 (option_copied last.entry) }
-        ensures leads { (h : Held) → IsAt h (page self.old) → Leads h (page self.new) (call command.now result.0)
+        ensures leads { (h : CurrentOpening) → IsAt h (world_book self.old) → Leads h (world_book self.new) (call command.now result.0)
             (upshot self.new.shown (nat_lt (D.fault_count self.old.disk) (D.fault_count self.new.disk))) }
-        ensures any_moment { (h : Held) → IsAt h (page self.old)
+        ensures any_moment { (h : CurrentOpening) → IsAt h (world_book self.old)
             → EachMoment D.moment D.left_since self.old.disk self.new.disk (HoldsLeft h (calling command.now)) }
         ensures openable { StaysOpenable D.moment D.left_since self.old self.new }
         ensures stays { StaysUnlessKept result.0 self.old self.new }
@@ -51,9 +51,9 @@ impl<D: Disk + Drop, J: Chapter, R: Wait + Drop> Desk<D, J, R> {
         last: Option<&Receipt<J>>,
     ) -> Result<Vec<(Reply, Receipt<J>)>, Refusal>
         ensures answered { IsGroupAnswered J.base J.setting commands.now (told result) (option_copied last.entry) }
-        ensures leads { (h : Held) → IsAt h (page self.old) → LeadsGroup h (page self.new) commands.now (replies_of (told result))
+        ensures leads { (h : CurrentOpening) → IsAt h (world_book self.old) → LeadsGroup h (world_book self.new) commands.now (replies_of (told result))
             (upshot self.new.shown (nat_lt (D.fault_count self.old.disk) (D.fault_count self.new.disk))) }
-        ensures any_moment { (h : Held) → IsAt h (page self.old)
+        ensures any_moment { (h : CurrentOpening) → IsAt h (world_book self.old)
             → EachMoment D.moment D.left_since self.old.disk self.new.disk (HoldsLeft h (grouping commands.now)) }
         ensures openable { StaysOpenable D.moment D.left_since self.old self.new }
         ensures stays { StaysUnlessAnyKept (replies_of (told result)) self.old self.new }
@@ -64,19 +64,19 @@ impl<D: Disk + Drop, J: Chapter, R: Wait + Drop> Desk<D, J, R> {
     }
 }
 
-/// A Book under a lock, which any thread may call. Own.
+/// A Book under a lock, which any thread may call.
 #[derive(Drop)]
 pub struct Shared<D: Disk + Drop, J: Chapter, R: Wait + Drop> {
-    desk: Mutex<Desk<D, J, R>>,
+    locked: Mutex<Locked<D, J, R>>,
 }
 
 impl<D: Disk + Drop, J: Chapter, R: Wait + Drop> Shared<D, J, R> {
-    /// Shares a Book that stands for some world of its opening, as a new one does. It takes no memory. Own.
+    /// Shares a Book that stands for some world of its opening, as a new one does. It takes no memory.
     pub fn new(book: Book<D, J, R>) -> Shared<D, J, R>
-        requires { IsReached J.base J.setting (page book) }
+        requires { IsReached J.base J.setting (world_book book) }
     {
         Shared {
-            desk: Mutex::new(Desk { book }),
+            locked: Mutex::new(Locked { book }),
         }
     }
 
@@ -84,7 +84,7 @@ impl<D: Disk + Drop, J: Chapter, R: Wait + Drop> Shared<D, J, R> {
     ///
     /// The reply is legal in a world of this opening whose last event is this call. The receipt's front is the history after it, and begins
     /// with that of a receipt that is handed in; that receipt's change, where it has one, is acknowledged there. Each reply has a receipt,
-    /// also `Memory`: what a receipt needs was made before the device was written, or takes no memory. Own.
+    /// also `Memory`: what a receipt needs was made before the device was written, or takes no memory.
     pub fn run<W: Wait>(
         &self,
         rt: &W,
@@ -93,7 +93,7 @@ impl<D: Disk + Drop, J: Chapter, R: Wait + Drop> Shared<D, J, R> {
     ) -> (Reply, Receipt<J>)
         ensures { IsAnswered J.base J.setting command result.0 result.1 (option_copied last.entry) }
     {
-        self.desk.lock(rt).run(&command, last)
+        self.locked.lock(rt).run(&command, last)
     }
 
     /// A group of commands, as `Book::group` runs it, with a receipt for each reply. It waits for the lock, and under it for workers that are
@@ -103,7 +103,7 @@ impl<D: Disk + Drop, J: Chapter, R: Wait + Drop> Shared<D, J, R> {
     /// changes of the group's commands so far; its change is the one that its command wanted, if it was kept; and after `Applied` its token is
     /// of all that the group's history shows. The history before the group begins with the front of a receipt that is handed in, and that
     /// receipt's change, where it has one, is acknowledged there. `Err` refuses the group whole, as `Book::group` says, and is legal in such a
-    /// world too. The places for the answers are made before the device is written. Own.
+    /// world too. The places for the answers are made before the device is written.
     pub fn group<W: Wait>(
         &self,
         rt: &W,
@@ -112,20 +112,20 @@ impl<D: Disk + Drop, J: Chapter, R: Wait + Drop> Shared<D, J, R> {
     ) -> Result<Vec<(Reply, Receipt<J>)>, Refusal>
         ensures { IsGroupAnswered J.base J.setting commands.now (told result) (option_copied last.entry) }
     {
-        self.desk.lock(rt).group(commands, last)
+        self.locked.lock(rt).group(commands, last)
     }
 
     /// The Book, once all callers have ended. It confirms each receipt of this opening, and each image of its device holds what a crash
     /// leaves of the opening, as behind each call of `Book::run`, by the next generation at most and with room for an opening where what
-    /// the last one gave leaves it. Own.
+    /// the last one gave leaves it.
     pub fn close(self) -> Book<D, J, R>
-        ensures reached { IsReached J.base J.setting (page result) }
-        ensures images { (h : Held) → IsAt h (page result) → (c : List ℕ)
+        ensures reached { IsReached J.base J.setting (world_book result) }
+        ensures images { (h : CurrentOpening) → IsAt h (world_book result) → (c : List ℕ)
             → IsImage (D.seen result.disk) (D.unsynced result.disk) c → HoldsLeft h idle c }
         ensures openable { IsOpenable D.seen D.unsynced result }
     {
-        let Shared { desk } = self;
-        let Desk { book } = desk.into_inner();
+        let Shared { locked } = self;
+        let Locked { book } = locked.into_inner();
         book.rests();
         book
     }

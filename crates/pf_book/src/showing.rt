@@ -1,7 +1,7 @@
 //! What is shown of a history.
 ghost use Rattle.std.specs.Prelude.{◌≡◌, ◌≤◌, length, map, take, IfOk, MatchBool};
 ghost use Rattle.std.specs.Arc.{arc_value};
-ghost use Rattle.pf_core.specs.Durable.Edits.{after};
+ghost use Rattle.pf_core.specs.Durable.Changes.{after};
 ghost use Rattle.pf_past.specs.Pasts.{all_acked};
 
 use pf_core::{Change, Durable};

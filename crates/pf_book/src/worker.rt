@@ -1,7 +1,7 @@
 //! What a worker does with the receipt of a reply.
 ghost use Rattle.std.specs.{Prelude.{◌≡◌, IfOk, OnErr}, Option.ForSome};
 ghost use mathlib.Core.List.{IsPrefix};
-ghost use Rattle.pf_core.specs.Durable.Edits.{after, verdict};
+ghost use Rattle.pf_core.specs.Durable.Changes.{after, verdict};
 ghost use Rattle.pf_book.specs.Receipts.{learns_from};
 
 use crate::chapter::Chapter;
@@ -10,7 +10,7 @@ use pf_core::Verdict;
 use pf_rule::Packet;
 use pf_view::{Gone, Seer};
 
-/// Learns what a receipt tells: from now on each verdict is by a front that begins with the receipt's, where this is of an `Applied`. Own.
+/// Learns what a receipt tells: from now on each verdict is by a front that begins with the receipt's, where this is of an `Applied`.
 pub fn learn_from<J: Chapter>(seer: &mut Seer<J>, receipt: &Receipt<J>)
     ensures learnt { seer.new ≡ learns_from receipt.now.token seer.old }
     ensures told { ForSome receipt.now.token (λ t. IsPrefix t seer.new.learnt) }
@@ -26,7 +26,7 @@ pub fn learn_from<J: Chapter>(seer: &mut Seer<J>, receipt: &Receipt<J>)
 
 /// Learns what a receipt tells, and judges. The verdict is by a front of the history that begins with all that this seer saw and learnt
 /// before, and after `Applied` with the whole history at that reply, whose last change is the reply's. `Gone`: it judged nothing and saw
-/// nothing new, but has learnt what the receipt tells. Own.
+/// nothing new, but has learnt what the receipt tells.
 pub fn judge_after<J: Chapter>(
     seer: &mut Seer<J>,
     receipt: &Receipt<J>,

@@ -6,16 +6,16 @@ use Rattle.pf_table.proofs.TableLaws.{table_decides}
 use Rattle.pf_anchor.specs.Evaluation.{judged}
 use Rattle.pf_anchor.proofs.{PlainRules.tells_what_decides, Leading.leads_to_these_alone}
 use Rattle.pf_state.proofs.Tables.{one_state_a_flow}
-use Rattle.pf_state.specs.{Flows.flow_of, Laws.States.{IsStateOf, FindsTheState}, States.{Stated, state_of}}
-use Rattle.pf_core.specs.{declared.{command.Command.Command, command.Command.TheVariants.Ask, command.Question.Question, command.Question.TheVariants.Judge, command.Question.TheVariants.Test, durable.verdict.Verdict.TheVariants.State as Stateful, durable.verdict.Verdict.TheVariants.Rules as ByRules, reply.Answer.Answer, reply.Refusal.TheVariants.Memory, reply.Reply.Reply, reply.Reply.TheVariants.Answer as Answered, reply.Reply.TheVariants.Refused}, Commands.{answer_of, asks_for_memory, takes_memory}, Durable.Edits.{Kept, entries_at, verdict}, Laws.Durable.IsWithin, Laws.Worlds.{IsDecided, TestsTellTheEntry, JudgesTellTheVerdict}, Worlds.{Held, durable_of, StandsIn, LegalReply}}
+use Rattle.pf_state.specs.{Flows.flow_of, Laws.States.{IsStateOf, FindsTheState}, States.{PlainState, state_of}}
+use Rattle.pf_core.specs.{declared.{command.Command.Command, command.Command.TheVariants.Ask, command.Question.Question, command.Question.TheVariants.Judge, command.Question.TheVariants.Test, durable.verdict.Verdict.TheVariants.State as Stateful, durable.verdict.Verdict.TheVariants.Rules as ByRules, reply.Answer.Answer, reply.Refusal.TheVariants.Memory, reply.Reply.Reply, reply.Reply.TheVariants.Answer as Answered, reply.Reply.TheVariants.Refused}, Commands.{answer_of, asks_for_memory, takes_memory}, Durable.Changes.{PlainDurable, entries_at, verdict}, Laws.Durable.IsWithin, Laws.Worlds.{IsDecided, TestsTellTheEntry, JudgesTellTheVerdict}, Worlds.{CurrentOpening, durable_of, StandsIn, LegalReply}}
 use Rattle.pf_core.proofs.Limits.{keeps_the_limits}
 
-none-stands-in : (h : Held) (c : Command) (failed : Bool) (a : Answer) (r : Reply) → takes_memory (durable_of h) c ≡ false → StandsIn h c failed (Answered a) r → ⊥
+none-stands-in : (h : CurrentOpening) (c : Command) (failed : Bool) (a : Answer) (r : Reply) → takes_memory (durable_of h) c ≡ false → StandsIn h c failed (Answered a) r → ⊥
 none-stands-in h c failed a (Refused Memory) none stands = cc (none, stands)
 none-stands-in h c failed a r none stands = stands
 
 -- to a question that takes no memory the one reply is legal that is due
-only-due : (h : Held) (q : Question) (r : Reply) (failed : Bool) → asks_for_memory q ≡ false → LegalReply h (Ask q) r failed → r ≡ Answered (answer_of (durable_of h) q)
+only-due : (h : CurrentOpening) (q : Question) (r : Reply) (failed : Bool) → asks_for_memory q ≡ false → LegalReply h (Ask q) r failed → r ≡ Answered (answer_of (durable_of h) q)
 only-due h q r failed none (inl is) = is
 only-due h q r failed none (inr stands) = absurd (none-stands-in h (Ask q) failed (answer_of (durable_of h) q) r none stands)
 
@@ -25,15 +25,15 @@ tests_tell_the_entry first world h within legal comes p name a = record {
   decides = table_decides (entries_at (durable_of h) p name) a (((keeps_the_limits first world h within legal comes).kept.entries p name).sorted);
 }
 
-unheld : (d : Kept) (packet : PlainPacket) → FindsTheState d.states (flow_of packet) → ((s : Stated) → IsStateOf d.states (flow_of packet) s → ⊥) → (o : Option Stated) → state_of (flow_of packet) d.states ≡ o → verdict d packet ≡ ByRules (judged d.config packet)
-unheld d packet finds none None is = ap (λ (o : Option Stated). option_map_or (λ s. Stateful s.0) o (ByRules (judged d.config packet))) is
+unheld : (d : PlainDurable) (packet : PlainPacket) → FindsTheState d.states (flow_of packet) → ((s : PlainState) → IsStateOf d.states (flow_of packet) s → ⊥) → (o : Option PlainState) → state_of (flow_of packet) d.states ≡ o → verdict d packet ≡ ByRules (judged d.config packet)
+unheld d packet finds none None is = ap (λ (o : Option PlainState). option_map_or (λ s. Stateful s.0) o (ByRules (judged d.config packet))) is
 unheld d packet finds none (Some s) is = absurd (none s ((finds.found s).0 is))
 
-decided : (d : Kept) (packet : PlainPacket) → IsWithin d → IsDecided d packet
+decided : (d : PlainDurable) (packet : PlainPacket) → IsWithin d → IsDecided d packet
 decided d packet w =
     let finds : FindsTheState d.states (flow_of packet) = one_state_a_flow d.states (flow_of packet) w.states.names in
     record {
-      by_state = λ s is. ap (λ (o : Option Stated). option_map_or (λ t. Stateful t.0) o (ByRules (judged d.config packet))) ((finds.found s).1 is);
+      by_state = λ s is. ap (λ (o : Option PlainState). option_map_or (λ t. Stateful t.0) o (ByRules (judged d.config packet))) ((finds.found s).1 is);
       one = finds.one;
       by_rules = λ none. unheld d packet finds none (state_of (flow_of packet) d.states) refl;
       last = tells_what_decides d.config packet;

@@ -3,7 +3,7 @@ use Rattle.std.proofs.{Common.{◌≡◌, ℕ, not, Bool, true, false, List, [],
 use Rattle.std.specs.{Prelude.{map, nat_lt}, List.{list_all, position, prefix_len}, Option.option_or}
 use Rattle.pf_addr.specs.Refusing.{refused_at}
 use Rattle.pf_ticket.specs.Replies.{twice_behind}
-use Rattle.pf_core.specs.{declared.{durable.change.Item.Item, durable.refusal.ChangeRefusal.TheVariants.Twice}, Durable.Edits.{name_of, is_in_order, named_again}}
+use Rattle.pf_core.specs.{declared.{durable.change.Item.Item, durable.refusal.ChangeRefusal.TheVariants.Twice}, Durable.Changes.{name_of, is_in_order, named_again}}
 
 -- where all pass none fails
 all-pass : (is : List Item) → list_all is_in_order is ≡ true → prefix_len (λ (i : Item). not (not (is_in_order i))) is ≡ length is

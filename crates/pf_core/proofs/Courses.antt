@@ -2,36 +2,36 @@
 use Rattle.std.proofs.{Common.{◌≡◌, ℕ, ◌+◌, ◌≤◌, ◌&&◌, Bool, true, false, cond, ◌⊎◌, inl, inr, List, [], ◌∷◌, ◌++◌, length, refl, sym, ap, ◌∙◌, subst, append-nil, Option, Some, None, Result, Ok, Err, arith, le_refl}, lemmas.{Grind.flat_map-append, Iterator.Adapters.position_from-zero, List.{length-append, map-append, map-id}, List.Sums.{fold-append, fold_push}}}
 use Rattle.std.specs.{Prelude.{map, flat_map, fold, not, position}, List.{AllByRecursion, position_from}}
 use Rattle.pf_addr.specs.Refusing.{unless, refused_at, AreBothPassed, both_passed, not_refused}
-use Rattle.pf_ticket.specs.{declared.{name.RulesetName.RulesetName, ticket.Ticket.Ticket}, Laws.Tickets.IsWithin as AreTicketsWithin, Mentions.{Mention, switched, moved, switches, after as moved_by}, Replies.commit_check, Tickets.{Open, content}}
-use Rattle.pf_ticket.proofs.Keeping.{begins_give, keeps_the_limits as tickets_keep}
-use Rattle.pf_core.specs.{declared.{command.Command.Command, command.Command.TheVariants.Transact, command.Command.TheVariants.Edit as Change, command.Command.TheVariants.States as OfStates, command.Transaction.TheVariants.Commit, reply.Answer.Answer, reply.Outcome.Outcome, reply.Refusal.Refusal, reply.Refusal.TheVariants.Halted, reply.Refusal.TheVariants.BadCount, reply.Refusal.TheVariants.NotGrouped, reply.Refusal.TheVariants.Fault, reply.Refusal.TheVariants.Memory, reply.Reply.Reply, reply.Reply.TheVariants.Answer as Answered, reply.Reply.TheVariants.Refused, step.Step.Step, step.Step.TheVariants.Done, step.Step.TheVariants.Wants, step.Step.TheVariants.OfHistory}, Calls.{call, mentions_of, replies_in, calls_of, mentions_of_group}, Commands.{items, step_by, may_change, may_be_grouped, bad_number, group_words, mentioned}, Durable.Edits.{Kept, Edit, commits, applied, after, voided_by}, History.tickets_in, Nexts.ready, Wholes.left_behind, Laws.{Durable.IsWithin, Wanted.{never-committed, never-edited, wants_mentions, left_is}, Worlds.hides}, Worlds.{Held, flat, log_of, durable_of, is_halted, step_in, reply_to, changes_of, room_for, if_ok, grouped, amid, changes_with, changes_due, replies_due, group_start, group_check, replies_unless, due_group, group_all, is_fault, pending_by_group, shown_by_answer, shown_by, as_stored, GroupStandsIn, LegalReplies}}
+use Rattle.pf_ticket.specs.{declared.{name.RulesetName.RulesetName, ticket.Ticket.Ticket}, Laws.Tickets.IsWithin as AreTicketsWithin, Mentions.{Mention, switched, moved, switches, after as moved_by}, Replies.commit_check, Tickets.{PlainTickets, content}}
+use Rattle.pf_ticket.proofs.TicketLimits.{begins_give, keeps_the_limits as tickets_keep}
+use Rattle.pf_core.specs.{declared.{command.Command.Command, command.Command.TheVariants.Transact, command.Command.TheVariants.Edit, command.Command.TheVariants.States as OfStates, command.Transaction.TheVariants.Commit, reply.Answer.Answer, reply.Outcome.Outcome, reply.Refusal.Refusal, reply.Refusal.TheVariants.Halted, reply.Refusal.TheVariants.BadCount, reply.Refusal.TheVariants.NotGrouped, reply.Refusal.TheVariants.Fault, reply.Refusal.TheVariants.Memory, reply.Reply.Reply, reply.Reply.TheVariants.Answer as Answered, reply.Reply.TheVariants.Refused, step.Step.Step, step.Step.TheVariants.Done, step.Step.TheVariants.Wants, step.Step.TheVariants.OfHistory}, Calls.{call, mentions_of, replies_in, calls_of, mentions_of_group}, Commands.{items, step_by, may_change, may_be_grouped, bad_number, group_words, mentioned}, Durable.Changes.{PlainDurable, PlainChange, commits, applied, after, voided_by}, History.tickets_in, Nexts.next_with, Cores.left_behind, Laws.{Durable.IsWithin, Wanted.{never-committed, never-edited, wants_mentions, left_is}, Worlds.hides}, Worlds.{CurrentOpening, flat, log_of, durable_of, is_halted, step_in, reply_to, changes_of, room_for, if_ok, grouped, amid, changes_with, changes_due, replies_due, group_start, group_check, replies_unless, due_group, group_all, is_fault, pending_by_group, shown_by_answer, shown_by, as_stored, GroupStandsIn, LegalReplies}}
 use Rattle.pf_core.specs.declared.reply.Outcome.TheVariants as outcome
-use Rattle.pf_core.proofs.{Fronts.flat-append, LongerWorlds.none-of-none, Stepping.{AreTold, none-told, done-is-none, states-told, unhalted, change-within}}
+use Rattle.pf_core.proofs.{Prefixes.flat-append, LongerWorlds.none-of-none, Stepping.{AreTold, none-told, done-is-none, states-told, unhalted, change-within}}
 
 -- ---- the changes so far
 
-flat-grouped : (es : List Edit) → flat (grouped es) ≡ es
+flat-grouped : (es : List PlainChange) → flat (grouped es) ≡ es
 flat-grouped [] = refl
 flat-grouped (e ∷ es) = append-nil (e ∷ es)
 
 -- behind these groups one of these changes
-pub flat-with : (gs : List (List Edit)) (es : List Edit) → flat (gs ++ grouped es) ≡ flat gs ++ es
-flat-with gs es = flat-append gs (grouped es) ∙ ap (λ (l : List Edit). flat gs ++ l) (flat-grouped es)
+pub flat-with : (gs : List (List PlainChange)) (es : List PlainChange) → flat (gs ++ grouped es) ≡ flat gs ++ es
+flat-with gs es = flat-append gs (grouped es) ∙ ap (λ (l : List PlainChange). flat gs ++ l) (flat-grouped es)
 
-pub length-with : (gs : List (List Edit)) (es : List Edit) → length (flat (gs ++ grouped es)) ≡ length (flat gs) + length es
+pub length-with : (gs : List (List PlainChange)) (es : List PlainChange) → length (flat (gs ++ grouped es)) ≡ length (flat gs) + length es
 length-with gs es = ap length (flat-with gs es) ∙ length-append (flat gs) es
 
 -- what is kept in the course of a group
-pub durable-amid : (h : Held) (changes : List Edit) → durable_of (amid h changes) ≡ after (durable_of h) changes
+pub durable-amid : (h : CurrentOpening) (changes : List PlainChange) → durable_of (amid h changes) ≡ after (durable_of h) changes
 durable-amid h changes = ap (after h.base) (flat-with h.acked changes) ∙ fold-append applied h.base (flat h.acked) changes
 
 -- the log in its course, where nothing was left without an acknowledgement
-pub log-amid : (h : Held) (changes : List Edit) → h.pending ≡ [] → length (log_of (amid h changes)) ≡ length (flat h.acked) + length changes
+pub log-amid : (h : CurrentOpening) (changes : List PlainChange) → h.pending ≡ [] → length (log_of (amid h changes)) ≡ length (flat h.acked) + length changes
 log-amid h changes none =
-    ap (λ (gs : List (List Edit)). length (flat ((h.acked ++ grouped changes) ++ gs))) none ∙ ap (λ (gs : List (List Edit)). length (flat gs)) (append-nil (h.acked ++ grouped changes)) ∙ length-with h.acked changes
+    ap (λ (gs : List (List PlainChange)). length (flat ((h.acked ++ grouped changes) ++ gs))) none ∙ ap (λ (gs : List (List PlainChange)). length (flat gs)) (append-nil (h.acked ++ grouped changes)) ∙ length-with h.acked changes
 
 -- the tickets in its course, with more changes
-pub tickets-amid : (h : Held) (changes more : List Edit) → moved_by (amid h changes).tickets (switches (flat_map voided_by more)) ≡ (amid h (changes ++ more)).tickets
+pub tickets-amid : (h : CurrentOpening) (changes more : List PlainChange) → moved_by (amid h changes).tickets (switches (flat_map voided_by more)) ≡ (amid h (changes ++ more)).tickets
 tickets-amid h changes more =
     let before : List RulesetName = flat_map voided_by changes in
     let here : List RulesetName = flat_map voided_by more in
@@ -50,15 +50,15 @@ pub record IsSilent (a : Answer) : Type 0 where
 -- it voids; or the command is refused.
 pub data IsOfGroup : Command → Result Step Refusal → Type 0 where
   told : (c : Command) (a : Answer) → mentioned c ≡ [] → IsSilent a → IsOfGroup c (Ok (Done a))
-  wanted : (c : Command) (e : Edit) (o : Outcome) → mentioned c ≡ switches (voided_by e) → IsOfGroup c (Ok (Wants e o))
+  wanted : (c : Command) (e : PlainChange) (o : Outcome) → mentioned c ≡ switches (voided_by e) → IsOfGroup c (Ok (Wants e o))
   refused : (c : Command) (e : Refusal) → IsOfGroup c (Err e)
 
 never-asked : (c : Command) → may_be_grouped c ≡ true → may_be_grouped c ≡ false → ⊥
 never-asked c may never = cc (may, never)
 
-group-step : (t : Open) (d : Kept) (c : Command) (s : Result Step Refusal) → may_be_grouped c ≡ true → step_by t d c ≡ s → IsOfGroup c s
+group-step : (t : PlainTickets) (d : PlainDurable) (c : Command) (s : Result Step Refusal) → may_be_grouped c ≡ true → step_by t d c ≡ s → IsOfGroup c s
 group-step t d (Transact (Commit entries)) (Ok (Done a)) may is = absurd (never-committed (commit_check t entries) d (commits (items (content t) entries)) outcome.Committed (Done a) (done-is-none a) is)
-group-step t d (Change edit) (Ok (Done a)) may is = absurd (never-edited d edit (Done a) (done-is-none a) is)
+group-step t d (Edit edit) (Ok (Done a)) may is = absurd (never-edited d edit (Done a) (done-is-none a) is)
 group-step t d (OfStates c) (Ok (Done a)) may is = told (OfStates c) a refl (states-told IsSilent (record {
   judged = λ v. record { untold = refl; shown = λ n. refl; hidden = λ b. refl };
   stale = λ v. record { untold = refl; shown = λ n. refl; hidden = λ b. refl };
@@ -68,13 +68,13 @@ group-step t d c (Ok (Wants e o)) may is = wanted c e o (wants_mentions t d c e 
 group-step t d c (Ok (OfHistory x)) may is = absurd (never-asked c may (ap may_be_grouped (left_is t d c x is)))
 group-step t d c (Err e) may is = refused c e
 
-pub step-amid : (a : Held) (c : Command) → may_be_grouped c ≡ true → IsOfGroup c (step_in a c)
+pub step-amid : (a : CurrentOpening) (c : Command) → may_be_grouped c ≡ true → IsOfGroup c (step_in a c)
 step-amid a c may = by (may_change c && is_halted a.pending) where
   by : (halted : Bool) → IsOfGroup c (cond halted (Err Halted) (step_by a.tickets (durable_of a) c))
   by true = refused c Halted
   by false = group-step a.tickets (durable_of a) c (step_by a.tickets (durable_of a) c) may refl
 
-pub unhalted-in : (h : Held) (c : Command) → h.pending ≡ [] → step_in h c ≡ step_by h.tickets (durable_of h) c
+pub unhalted-in : (h : CurrentOpening) (c : Command) → h.pending ≡ [] → step_in h c ≡ step_by h.tickets (durable_of h) c
 unhalted-in h c none = by (may_change c) (is_halted h.pending) (ap is_halted none) where
   own : Result Step Refusal
   own = step_by h.tickets (durable_of h) c
@@ -85,15 +85,15 @@ unhalted-in h c none = by (may_change c) (is_halted h.pending) (ap is_halted non
   by false halted is = refl
 
 -- the step in the course of a group, by what is kept and by the tickets there
-pub step-there : (h : Held) (changes : List Edit) (c : Command) → h.pending ≡ [] → step_in (amid h changes) c ≡ step_by (amid h changes).tickets (after (durable_of h) changes) c
-step-there h changes c none = unhalted-in (amid h changes) c none ∙ ap (λ (d : Kept). step_by (amid h changes).tickets d c) (durable-amid h changes)
+pub step-there : (h : CurrentOpening) (changes : List PlainChange) (c : Command) → h.pending ≡ [] → step_in (amid h changes) c ≡ step_by (amid h changes).tickets (after (durable_of h) changes) c
+step-there h changes c none = unhalted-in (amid h changes) c none ∙ ap (λ (d : PlainDurable). step_by (amid h changes).tickets d c) (durable-amid h changes)
 
 -- what is prepared there, with one change more
-pub left-there : (d : Kept) (changes : List Edit) (e : Edit) → left_behind (ready (after d changes) (flat_map voided_by changes)) e ≡ ready (after d (changes ++ e ∷ [])) (flat_map voided_by (changes ++ e ∷ []))
+pub left-there : (d : PlainDurable) (changes : List PlainChange) (e : PlainChange) → left_behind (next_with (after d changes) (flat_map voided_by changes)) e ≡ next_with (after d (changes ++ e ∷ [])) (flat_map voided_by (changes ++ e ∷ []))
 left-there d changes e =
     let names : flat_map voided_by (changes ++ e ∷ []) ≡ flat_map voided_by changes ++ voided_by e =
     flat_map-append voided_by changes (e ∷ []) ∙ ap (λ (ns : List RulesetName). flat_map voided_by changes ++ ns) (append-nil (voided_by e)) in
-    ap (λ (k : Kept). ready k (flat_map voided_by changes ++ voided_by e)) (sym (fold_push applied d changes e)) ∙ ap (λ (ns : List RulesetName). ready (after d (changes ++ e ∷ [])) ns) (sym names)
+    ap (λ (k : PlainDurable). next_with k (flat_map voided_by changes ++ voided_by e)) (sym (fold_push applied d changes e)) ∙ ap (λ (ns : List RulesetName). next_with (after d (changes ++ e ∷ [])) ns) (sym names)
 
 -- ---- the reply to it
 
@@ -128,7 +128,7 @@ answer-more total c a unmentioned silent = record {
 refusal-more : (total : ℕ) (c : Command) (e : Refusal) → IsOneMore total c (Err e) (Refused e)
 refusal-more total c e = record { untold = refl; mentions = refl; shown = λ n hidden old. still total n hidden old }
 
-pub one-more : (a : Held) (stored : Bool) (c : Command) (s : Result Step Refusal) → IsOfGroup c s → IsOneMore (length (log_of a)) c s (told_as stored (reply_to a s))
+pub one-more : (a : CurrentOpening) (stored : Bool) (c : Command) (s : Result Step Refusal) → IsOfGroup c s → IsOneMore (length (log_of a)) c s (told_as stored (reply_to a s))
 one-more a true _ _ (told c x unmentioned silent) = answer-more (length (log_of a)) c x unmentioned silent
 one-more a false _ _ (told c x unmentioned silent) = answer-more (length (log_of a)) c x unmentioned silent
 one-more a true _ _ (wanted c e o mentions) = record {
@@ -151,19 +151,19 @@ abbrev pub MayBeGrouped : List Command → Type 0
 MayBeGrouped commands = AllByRecursion (λ c. may_be_grouped c ≡ true) commands
 
 -- what the replies come to: they give no ticket, void what the changes void, and show these
-pub record IsCourse (h : Held) (changes : List Edit) (commands : List Command) (replies : List Reply) : Type 0 where
+pub record IsCourse (h : CurrentOpening) (changes : List PlainChange) (commands : List Command) (replies : List Reply) : Type 0 where
   pub untold : flat_map tickets_in replies ≡ []
   pub mentions : moved_by (amid h changes).tickets (flat_map mentions_of (calls_of commands replies)) ≡ (amid h (changes_due h changes commands)).tickets
   pub shown : (n : ℕ) (hidden : Bool) → AreShown (length (flat h.acked) + length changes) n hidden
       → AreShown (length (flat h.acked) + length (changes_due h changes commands)) (fold (λ (m : ℕ) (r : Reply). shown_by r m) n replies) (fold hides hidden replies)
 
-pub course : (h : Held) (changes : List Edit) (commands : List Command) (stored : Bool) → h.pending ≡ [] → MayBeGrouped commands → IsCourse h changes commands (map (told_as stored) (replies_due h changes commands))
+pub course : (h : CurrentOpening) (changes : List PlainChange) (commands : List Command) (stored : Bool) → h.pending ≡ [] → MayBeGrouped commands → IsCourse h changes commands (map (told_as stored) (replies_due h changes commands))
 course h changes [] stored none may = record { untold = refl; mentions = refl; shown = λ n hidden old. old }
 course h changes (c ∷ cs) stored none may =
-    let a : Held = amid h changes in
+    let a : CurrentOpening = amid h changes in
     let s : Result Step Refusal = step_in a c in
     let r : Reply = told_as stored (reply_to a s) in
-    let more : List Edit = changes ++ changes_of s in
+    let more : List PlainChange = changes ++ changes_of s in
     let rs : List Reply = map (told_as stored) (replies_due h more cs) in
     let here : IsOneMore (length (log_of a)) c s r = one-more a stored c s (step-amid a c may.0) in
     let rest : IsCourse h more cs rs = course h more cs stored none may.1 in
@@ -173,43 +173,43 @@ course h changes (c ∷ cs) stored none may =
     record {
       untold = ap (λ (ts : List Ticket). ts ++ flat_map tickets_in rs) here.untold ∙ rest.untold;
       mentions = fold-append moved a.tickets (mentions_of (call c r)) (flat_map mentions_of (calls_of cs rs))
-          ∙ ap (λ (t : Open). moved_by t (flat_map mentions_of (calls_of cs rs))) (ap (λ (ms : List Mention). moved_by a.tickets ms) here.mentions ∙ tickets-amid h changes (changes_of s))
+          ∙ ap (λ (t : PlainTickets). moved_by t (flat_map mentions_of (calls_of cs rs))) (ap (λ (ms : List Mention). moved_by a.tickets ms) here.mentions ∙ tickets-amid h changes (changes_of s))
           ∙ rest.mentions;
       shown = λ n hidden old. rest.shown (shown_by r n) (hides hidden r)
           (subst (λ (k : ℕ). AreShown k (shown_by r n) (hides hidden r)) total (here.shown n hidden (subst (λ (k : ℕ). AreShown k n hidden) (sym log) old)));
     }
 
 -- what is kept stays within the limits
-step-within : (h : Held) (changes : List Edit) (c : Command) → AreTicketsWithin h.tickets → IsWithin (after (durable_of h) changes) → IsWithin (after (durable_of h) (changes_with h changes c))
+step-within : (h : CurrentOpening) (changes : List PlainChange) (c : Command) → AreTicketsWithin h.tickets → IsWithin (after (durable_of h) changes) → IsWithin (after (durable_of h) (changes_with h changes c))
 step-within h changes c tickets within = by (step_in (amid h changes) c) refl where
-  a : Held
+  a : CurrentOpening
   a = amid h changes
 
-  d : Kept
+  d : PlainDurable
   d = durable_of h
 
   by : (s : Result Step Refusal) → step_in a c ≡ s → IsWithin (after d (changes ++ changes_of s))
   by (Ok (Wants e o)) is =
       let own : step_by a.tickets (durable_of a) c ≡ Ok (Wants e o) = unhalted (may_change c && is_halted a.pending) (step_by a.tickets (durable_of a) c) (Wants e o) is in
       let kept : durable_of a ≡ after d changes = durable-amid h changes in
-      subst (λ (k : Kept). IsWithin k) (sym (fold_push applied d changes e)) (subst (λ (k : Kept). IsWithin (applied k e)) kept
-      (change-within a.tickets (durable_of a) c e o own (tickets_keep.commit h.tickets (flat_map voided_by changes) tickets) (subst (λ (k : Kept). IsWithin k) (sym kept) within)))
-  by s is = subst (λ (es : List Edit). IsWithin (after d es)) (sym (append-nil changes)) within
+      subst (λ (k : PlainDurable). IsWithin k) (sym (fold_push applied d changes e)) (subst (λ (k : PlainDurable). IsWithin (applied k e)) kept
+      (change-within a.tickets (durable_of a) c e o own (tickets_keep.commit h.tickets (flat_map voided_by changes) tickets) (subst (λ (k : PlainDurable). IsWithin k) (sym kept) within)))
+  by s is = subst (λ (es : List PlainChange). IsWithin (after d es)) (sym (append-nil changes)) within
 
-pub course-within : (h : Held) (changes : List Edit) (commands : List Command) → AreTicketsWithin h.tickets → IsWithin (after (durable_of h) changes) → IsWithin (after (durable_of h) (changes_due h changes commands))
+pub course-within : (h : CurrentOpening) (changes : List PlainChange) (commands : List Command) → AreTicketsWithin h.tickets → IsWithin (after (durable_of h) changes) → IsWithin (after (durable_of h) (changes_due h changes commands))
 course-within h changes [] tickets within = within
 course-within h changes (c ∷ cs) tickets within = course-within h (changes_with h changes c) cs tickets (step-within h changes c tickets within)
 
 -- ---- which groups are kept
 
 -- a group that isn't refused whole
-pub record IsTaken (h : Held) (commands : List Command) : Type 0 where
+pub record IsTaken (h : CurrentOpening) (commands : List Command) : Type 0 where
   pub none : h.pending ≡ []
   pub may : MayBeGrouped commands
   pub room : room_for h (changes_due h [] commands) ≡ Ok tt
   pub group : group_all h commands ≡ grouped (changes_due h [] commands)
 
-not-halted : (gs : List (List Edit)) → is_halted gs ≡ false → gs ≡ []
+not-halted : (gs : List (List PlainChange)) → is_halted gs ≡ false → gs ≡ []
 not-halted [] is = refl
 not-halted (g ∷ gs) is = absurd (cc (is))
 
@@ -227,7 +227,7 @@ none-unfit i (c ∷ cs) is = by (may_be_grouped c) refl is (none-unfit (i + 1) c
   by true may rest more = (may, more rest)
   by false never rest more = absurd (cc (rest))
 
-pub taken-group : (h : Held) (commands : List Command) → group_check h commands ≡ Ok tt → IsTaken h commands
+pub taken-group : (h : CurrentOpening) (commands : List Command) → group_check h commands ≡ Ok tt → IsTaken h commands
 taken-group h commands is =
     let kinds : Option ℕ = position (λ (c : Command). not (may_be_grouped c)) commands in
     let all : AreBothPassed (group_start h commands) (room_for h (changes_due h [] commands)) tt = both_passed (group_start h commands) (room_for h (changes_due h [] commands)) tt is in
@@ -240,7 +240,7 @@ taken-group h commands is =
       group = ap (λ (r : Result (Unit {0}) Refusal). if_ok r (grouped (changes_due h [] commands)) []) is;
     }
 
-pub taken-or-not : (h : Held) (commands : List Command) → IsTaken h commands ⊎ (group_all h commands ≡ [])
+pub taken-or-not : (h : CurrentOpening) (commands : List Command) → IsTaken h commands ⊎ (group_all h commands ≡ [])
 taken-or-not h commands = by (group_check h commands) refl where
   by : (check : Result (Unit {0}) Refusal) → group_check h commands ≡ check → IsTaken h commands ⊎ (group_all h commands ≡ [])
   by (Ok tt) is = inl (taken-group h commands is)
@@ -249,12 +249,12 @@ taken-or-not h commands = by (group_check h commands) refl where
 -- ---- by what a group is told
 
 -- it is accepted with the replies that are due, or with these stored
-pub record IsAccepted (h : Held) (commands : List Command) (replies : List Reply) : Type 0 where
+pub record IsAccepted (h : CurrentOpening) (commands : List Command) (replies : List Reply) : Type 0 where
   pub taken : IsTaken h commands
   pub stored : Bool
   pub told : replies ≡ map (told_as stored) (replies_due h [] commands)
 
-pub accepted : (h : Held) (commands : List Command) (replies : List Reply) (failed : Bool) → LegalReplies h commands (Ok replies) failed → IsAccepted h commands replies
+pub accepted : (h : CurrentOpening) (commands : List Command) (replies : List Reply) (failed : Bool) → LegalReplies h commands (Ok replies) failed → IsAccepted h commands replies
 accepted h commands replies failed legal = by (group_check h commands) refl legal where
   due : List Reply
   due = replies_due h [] commands
@@ -265,30 +265,30 @@ accepted h commands replies failed legal = by (group_check h commands) refl lega
   by (Err e) is (inl same) = absurd (cc (same))
   by (Err e) is (inr none) = absurd none
 
-pub accepted-course : (h : Held) (commands : List Command) (replies : List Reply) → IsAccepted h commands replies → IsCourse h [] commands replies
+pub accepted-course : (h : CurrentOpening) (commands : List Command) (replies : List Reply) → IsAccepted h commands replies → IsCourse h [] commands replies
 accepted-course h commands replies a = subst (λ (rs : List Reply). IsCourse h [] commands rs) (sym a.told) (course h [] commands a.stored a.taken.none a.taken.may)
 
-pub group-told : (h : Held) (commands : List Command) (result : Result (List Reply) Refusal) (failed : Bool) → LegalReplies h commands result failed
+pub group-told : (h : CurrentOpening) (commands : List Command) (result : Result (List Reply) Refusal) (failed : Bool) → LegalReplies h commands result failed
     → AreTold h.tickets (moved_by h.tickets (mentions_of_group commands result)) (flat_map tickets_in (replies_in result))
 group-told h commands (Ok replies) failed legal =
     let k : IsCourse h [] commands replies = accepted-course h commands replies (accepted h commands replies failed legal) in
     let names : List RulesetName = flat_map voided_by (changes_due h [] commands) in
-    subst (λ (t : Open). AreTold h.tickets t (flat_map tickets_in replies)) (sym k.mentions) (subst (AreTold h.tickets (moved_by h.tickets (switches names))) (sym k.untold)
+    subst (λ (t : PlainTickets). AreTold h.tickets t (flat_map tickets_in replies)) (sym k.mentions) (subst (AreTold h.tickets (moved_by h.tickets (switches names))) (sym k.untold)
     (none-told h.tickets (moved_by h.tickets (switches names)) (tickets_keep.commit h.tickets names) (begins_give.commit h.tickets names)))
 group-told h commands (Err e) failed legal = none-told h.tickets h.tickets (λ w. w) (record { epoch = refl; next = omega arith })
 
 -- a group gives no ticket
-pub group-untold : (h : Held) (commands : List Command) (result : Result (List Reply) Refusal) (failed : Bool) → LegalReplies h commands result failed → flat_map tickets_in (replies_in result) ≡ []
+pub group-untold : (h : CurrentOpening) (commands : List Command) (result : Result (List Reply) Refusal) (failed : Bool) → LegalReplies h commands result failed → flat_map tickets_in (replies_in result) ≡ []
 group-untold h commands (Ok replies) failed legal = (accepted-course h commands replies (accepted h commands replies failed legal)).untold
 group-untold h commands (Err e) failed legal = refl
 
 -- where the device didn't fail a refusal of the whole leaves nothing
-none-kept : (h : Held) (commands : List Command) (due : Result (List Reply) Refusal) (e : Refusal) (gs : List (List Edit)) → GroupStandsIn h commands false due (Err e) → cond (is_fault e) gs [] ≡ []
+none-kept : (h : CurrentOpening) (commands : List Command) (due : Result (List Reply) Refusal) (e : Refusal) (gs : List (List PlainChange)) → GroupStandsIn h commands false due (Err e) → cond (is_fault e) gs [] ≡ []
 none-kept h commands due Memory gs stands = refl
 none-kept h commands (Ok replies) Fault gs stands = absurd (cc (stands.0))
 none-kept h commands due e gs stands = absurd stands
 
-pub unkept-group : (h : Held) (commands : List Command) (e : Refusal) → LegalReplies h commands (Err e) false → pending_by_group (Err e) (group_all h commands) ≡ []
+pub unkept-group : (h : CurrentOpening) (commands : List Command) (e : Refusal) → LegalReplies h commands (Err e) false → pending_by_group (Err e) (group_all h commands) ≡ []
 unkept-group h commands e (inr stands) = none-kept h commands (due_group h commands) e (group_all h commands) stands
 unkept-group h commands e (inl is) = none-of-none (is_fault e) (group_all h commands) (by (group_check h commands) refl is) where
   by : (check : Result (Unit {0}) Refusal) → group_check h commands ≡ check → Err e ≡ replies_unless check (replies_due h [] commands) → group_all h commands ≡ []

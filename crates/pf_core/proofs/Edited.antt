@@ -3,10 +3,10 @@ use Rattle.std.proofs.{Common.{◌≡◌, ◌≢◌, ◌⊎◌, inl, inr, ℕ, B
 use Rattle.std.specs.{declared.{cmp.Ordering.Ordering, cmp.Ordering.TheVariants.Less, cmp.Ordering.TheVariants.Equal, cmp.Ordering.TheVariants.Greater}, FinMap.{slice_cmp-IsAntisymmetric, nat_cmp-IsAntisymmetric}, Ordering.{is_eq, eq_by_cmp, ordering_then}}
 use Rattle.pf_addr.proofs.PathsRead.{same_path_is}
 use Rattle.pf_addr.specs.{Path.Names.name_order, Path.Paths.{path_order, same_path}}
-use Rattle.pf_table.specs.{Edits.{added, deleted, replaced}, Entries.Row}
-use Rattle.pf_anchor.specs.Tables.{tabled, table_order}
+use Rattle.pf_table.specs.{Edits.{added, deleted, replaced}, Entries.PlainEntry}
+use Rattle.pf_anchor.specs.Tables.{placed_table, table_order}
 use Rattle.pf_anchor.proofs.{RulesetMaps.{map_all, replaced_in_turn}, TableMaps.{table_order_total, tables_replaced, table_maps_stay}}
-use Rattle.pf_core.specs.{Durable.Edits.{Kept, rulesets_in, tables_in, entries_at, with_entries}, Laws.Durable.{ReplacesExactly, IsEdited, EditsExactly, DeletesNothing, StepsExactly}}
+use Rattle.pf_core.specs.{Durable.Changes.{PlainDurable, rulesets_in, tables_in, entries_at, with_entries}, Laws.Durable.{ReplacesExactly, IsEdited, EditsExactly, DeletesNothing, StepsExactly}}
 use Rattle.pf_core.proofs.TableCounts.{deleted-none}
 
 pub replaces_exactly : ReplacesExactly
@@ -45,15 +45,15 @@ keys-differ p q name other differ = same-keys p q name other ∙ by (same_path p
 
 -- ---- edits of tables
 
-edited : (d : Kept) (p name : List ℕ) (es : List Row) → IsEdited d p name es (with_entries d p name es)
+edited : (d : PlainDurable) (p name : List ℕ) (es : List PlainEntry) → IsEdited d p name es (with_entries d p name es)
 edited d p name es = record {
   epoch = refl;
   rulesets = refl;
   states = refl;
-  here = tables_replaced (tabled p name es ∷ []) d.config.tables p name ∙ ap (λ (b : Bool). cond b es (entries_at d p name)) ((eq_by_cmp_equiv table_order_total).refl (p, name));
+  here = tables_replaced (placed_table p name es ∷ []) d.config.tables p name ∙ ap (λ (b : Bool). cond b es (entries_at d p name)) ((eq_by_cmp_equiv table_order_total).refl (p, name));
   others = λ q other differ.
-      tables_replaced (tabled p name es ∷ []) d.config.tables q other ∙ ap (λ (b : Bool). cond b es (entries_at d q other)) (keys-differ p q name other differ);
-  map = λ is. table_maps_stay (tabled p name es ∷ []) d.config.tables is;
+      tables_replaced (placed_table p name es ∷ []) d.config.tables q other ∙ ap (λ (b : Bool). cond b es (entries_at d q other)) (keys-differ p q name other differ);
+  map = λ is. table_maps_stay (placed_table p name es ∷ []) d.config.tables is;
 }
 
 set-to-none : replaced [] ≡ []
@@ -65,11 +65,11 @@ edits_exactly = record {
   by_add = λ d p name xs. edited d p name (added (entries_at d p name) xs);
   by_delete = λ d p name xs. edited d p name (deleted (entries_at d p name) xs);
   by_set = λ d p name xs. edited d p name (replaced xs);
-  by_kill = λ d p name. subst (λ (es : List Row). IsEdited d p name es (with_entries d p name (replaced []))) set-to-none (edited d p name (replaced []));
+  by_kill = λ d p name. subst (λ (es : List PlainEntry). IsEdited d p name es (with_entries d p name (replaced []))) set-to-none (edited d p name (replaced []));
 }
 
 pub deletes_nothing : DeletesNothing
-deletes_nothing d p name xs none = (edited d p name (deleted (entries_at d p name) xs)).here ∙ ap (λ (es : List Row). deleted es xs) none ∙ deleted-none xs
+deletes_nothing d p name xs none = (edited d p name (deleted (entries_at d p name) xs)).here ∙ ap (λ (es : List PlainEntry). deleted es xs) none ∙ deleted-none xs
 
 pub steps_exactly : StepsExactly
 steps_exactly = record {

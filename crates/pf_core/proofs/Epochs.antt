@@ -1,9 +1,9 @@
 -- Epochs rise with each opening, and tickets have them.
 use Rattle.std.proofs.{Common.{◌≡◌, ℕ, ◌<◌, ◌≤◌, ◌==◌, ◌&&◌, Bool, true, false, List, [], ◌∷◌, ◌++◌, length, Option, Some, None, zero, suc, ◌+◌, refl, sym, ap, ◌∙◌, subst, arith, le_refl}, lemmas.Bool.eqb-true, lemmas.List.Sums.fold-append}
 use Rattle.std.specs.{List.AllByRecursion}
-use Rattle.pf_ticket.specs.{declared.{name.RulesetName.RulesetName, ticket.Ticket.Ticket}, Laws.Tickets.IsGivenLast, Mentions.{Mention, opened as left_by}, Names.{is_ticket, tickets_from}, Tickets.{Open, fresh, valid_ticket}}
+use Rattle.pf_ticket.specs.{declared.{name.RulesetName.RulesetName, ticket.Ticket.Ticket}, Laws.Tickets.IsGivenLast, Mentions.{Mention, opened as left_by}, Names.{is_ticket, tickets_from}, Tickets.{PlainTickets, fresh, valid_ticket}}
 use Rattle.pf_ticket.proofs.{Latest.valid_is_given_last, Moves.epoch-stays}
-use Rattle.pf_core.specs.{Durable.Edits.after, History.{base_of, tickets_in, tickets_by, tickets_given}, Laws.Openings.{AreVoid, VoidsTickets, RaisesTheEpoch}, Laws.Worlds.{mentions_by, mentions_since}, Worlds.{Setting, Held, State, up, down, Event, called, called_group, entered, learned, crashed, opened, refused_opening, flat, kept_groups, next, IsLegal, state_after, IsLegalFrom}}
+use Rattle.pf_core.specs.{Durable.Changes.after, History.{base_of, tickets_in, tickets_by, tickets_given}, Laws.Openings.{AreVoid, VoidsTickets, RaisesTheEpoch}, Laws.Worlds.{mentions_by, mentions_since}, Worlds.{Setting, CurrentOpening, State, up, down, Event, called, called_group, entered, learned, crashed, opened, refused_opening, flat, kept_groups, next, IsLegal, state_after, IsLegalFrom}}
 use Rattle.pf_core.proofs.{Courses.group-untold, Folds.after-epoch, Limits.legal-told, LongerWorlds.{AgreesIn, agrees-next, agrees-from, AreLegal, in-two}}
 
 -- ---- epochs
@@ -37,8 +37,8 @@ opened-higher (up h) setting legal = absurd legal
 opened-higher (down d) setting legal = omega arith
 
 -- the transactions have the opening's epoch
-own-epoch : (h : Held) (ms : List Mention) → h.tickets ≡ left_by h.base.epoch ms → h.tickets.epoch ≡ h.base.epoch
-own-epoch h ms is = ap (λ (t : Open). t.epoch) is ∙ epoch-stays (fresh h.base.epoch) ms
+own-epoch : (h : CurrentOpening) (ms : List Mention) → h.tickets ≡ left_by h.base.epoch ms → h.tickets.epoch ≡ h.base.epoch
+own-epoch h ms is = ap (λ (t : PlainTickets). t.epoch) is ∙ epoch-stays (fresh h.base.epoch) ms
 
 -- ---- tickets that were given
 
@@ -72,9 +72,9 @@ given-up st ms (ev ∷ evs) legal agrees =
 -- ---- are valid no more
 
 -- a valid ticket has the opening's epoch
-valid-epoch : (h : Held) (ms : List Mention) (name : RulesetName) (t : Ticket) → h.tickets ≡ left_by h.base.epoch ms → valid_ticket h.tickets name ≡ Some t → t.epoch ≡ h.base.epoch
+valid-epoch : (h : CurrentOpening) (ms : List Mention) (name : RulesetName) (t : Ticket) → h.tickets ≡ left_by h.base.epoch ms → valid_ticket h.tickets name ≡ Some t → t.epoch ≡ h.base.epoch
 valid-epoch h ms name t is found =
-    let given : IsGivenLast (fresh h.base.epoch) ms name t = valid_is_given_last h.base.epoch ms name t (ap (λ (o : Open). valid_ticket o name) (sym is) ∙ found) in
+    let given : IsGivenLast (fresh h.base.epoch) ms name t = valid_is_given_last h.base.epoch ms name t (ap (λ (o : PlainTickets). valid_ticket o name) (sym is) ∙ found) in
     ap (λ (u : Ticket). u.epoch) given.ticket ∙ epoch-stays (fresh h.base.epoch) given.before
 
 not-this : (v : Option Ticket) (e : ℕ) (u : Ticket) → ((t : Ticket) → v ≡ Some t → t.epoch ≡ e) → u.epoch < e → is_ticket v u ≡ false

@@ -4,7 +4,7 @@ pub mod Checks
 pub mod Edited
 pub mod Within
 pub mod Switching
-pub mod Fronts
+pub mod Prefixes
 pub mod Folds
 pub mod Groups
 pub mod LongerWorlds

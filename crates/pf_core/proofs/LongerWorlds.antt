@@ -1,12 +1,12 @@
 -- Longer worlds, one event at a time.
 use Rattle.std.proofs.{Common.{Result, ◌≡◌, ℕ, ◌<◌, ◌≤◌, Bool, true, false, cond, inl, inr, List, [], ◌∷◌, ◌++◌, refl, sym, ap, ◌∙◌, subst, append-nil}, lemmas.List.Sums.{fold-append, fold_push}}
 use Rattle.std.specs.Prelude.{fold, ⊤}
-use Rattle.pf_core.specs.{declared.{command.Command.Command, reply.Refusal.Refusal, reply.Refusal.TheVariants.Fault, reply.Refusal.TheVariants.Memory, reply.Reply.Reply, reply.Reply.TheVariants.Applied, reply.Reply.TheVariants.Refused}, Calls.{Call, call, mentions_of, mentions_of_group}, Durable.Edits.{Kept, Edit}, Pages.{Page, IsAt, IsFolded, StandsFor, Leads, LeadsGroup}, Wholes.Whole, Laws.{Openings.CrashesAreEvents, Worlds.{mentions_by, mentions_since, TicketsAreOfTheCalls}}, Worlds.{Setting, Held, State, up, down, begun, raised, flat, step_in, due, group_in, Upshot, upshot, Event, called, called_group, entered, learned, crashed, opened, refused_opening, acked_by, is_fault, pending_by, shown_by, heard, heard_group, sighted, SawNoMore, next, StandsIn, LegalReply, last_epoch, IsLegal, state_after, IsLegalFrom, IsWorld}}
-use Rattle.pf_ticket.specs.{Tickets.{Open, fresh}, Mentions.{Mention, moved, after, opened as left_by}}
-use Rattle.pf_core.proofs.{Fronts.flat-append, Groups.refused-group}
+use Rattle.pf_core.specs.{declared.{command.Command.Command, reply.Refusal.Refusal, reply.Refusal.TheVariants.Fault, reply.Refusal.TheVariants.Memory, reply.Reply.Reply, reply.Reply.TheVariants.Applied, reply.Reply.TheVariants.Refused}, Calls.{Call, call, mentions_of, mentions_of_group}, Durable.Changes.{PlainDurable, PlainChange}, WorldBooks.{WorldBook, IsAt, IsFolded, StandsFor, Leads, LeadsGroup}, Cores.PlainCore, Laws.{Openings.CrashesAreEvents, Worlds.{mentions_by, mentions_since, TicketsAreOfTheCalls}}, Worlds.{Setting, CurrentOpening, State, up, down, begun, raised, flat, step_in, due, group_in, Upshot, upshot, Event, called, called_group, entered, learned, crashed, opened, refused_opening, acked_by, is_fault, pending_by, shown_by, heard, heard_group, sighted, SawNoMore, next, StandsIn, LegalReply, last_epoch, IsLegal, state_after, IsLegalFrom, IsWorld}}
+use Rattle.pf_ticket.specs.{Tickets.{PlainTickets, fresh}, Mentions.{Mention, moved, after, opened as left_by}}
+use Rattle.pf_core.proofs.{Prefixes.flat-append, Groups.refused-group}
 
 -- a group of one change more
-pub flat-push : (gs : List (List Edit)) (e : Edit) → flat (gs ++ (e ∷ []) ∷ []) ≡ flat gs ++ e ∷ []
+pub flat-push : (gs : List (List PlainChange)) (e : PlainChange) → flat (gs ++ (e ∷ []) ∷ []) ≡ flat gs ++ e ∷ []
 flat-push gs e = flat-append gs ((e ∷ []) ∷ [])
 
 -- ---- one event more
@@ -16,7 +16,7 @@ legal-push st [] e all now = (now, tt)
 legal-push st (x ∷ xs) e all now = (all.0, legal-push (next st x) xs e all.1 now)
 
 -- a legal event leads to a longer world
-pub stands-by : (first : Kept) (new : Page) (world : List Event) (e : Event) (st : State) (h : Held) →
+pub stands-by : (first : PlainDurable) (new : WorldBook) (world : List Event) (e : Event) (st : State) (h : CurrentOpening) →
     IsWorld first world → state_after (down first) world ≡ st → IsLegal st e → next st e ≡ up h → IsAt h new → IsFolded new → StandsFor first new (world ++ e ∷ [])
 stands-by first new world e st h legal comes now is at folded = record {
   legal = legal-push (down first) world e legal (subst (λ (x : State). IsLegal x e) (sym comes) now);
@@ -27,68 +27,68 @@ stands-by first new world e st h legal comes now is at folded = record {
 }
 
 -- what is seen changes nothing else
-sighted-at : (h : Held) (b : Page) (worker n : ℕ) → IsAt h b → IsAt (sighted h worker n) b
+sighted-at : (h : CurrentOpening) (b : WorldBook) (worker n : ℕ) → IsAt h b → IsAt (sighted h worker n) b
 sighted-at h b worker n at = record { base = at.base; tickets = at.tickets; acked = at.acked; pending = at.pending; shown = at.shown; setting = at.setting }
 
-pub stands-on : (first : Kept) (old new : Page) (world : List Event) (c : Call) (t : Upshot) → (stands : StandsFor first old world) → Leads stands.held new c t → IsFolded new → StandsFor first new (world ++ called c t ∷ [])
+pub stands-on : (first : PlainDurable) (old new : WorldBook) (world : List Event) (c : Call) (t : Upshot) → (stands : StandsFor first old world) → Leads stands.held new c t → IsFolded new → StandsFor first new (world ++ called c t ∷ [])
 stands-on first old new world c t stands leads folded = stands-by first new world (called c t) (up stands.held) (heard stands.held c t) stands.legal stands.comes leads.legal refl leads.at folded
 
-pub stands-on-group : (first : Kept) (old new : Page) (world : List Event) (commands : List Command) (result : Result (List Reply) Refusal) (t : Upshot) → (stands : StandsFor first old world) → LeadsGroup stands.held new commands result t → IsFolded new
+pub stands-on-group : (first : PlainDurable) (old new : WorldBook) (world : List Event) (commands : List Command) (result : Result (List Reply) Refusal) (t : Upshot) → (stands : StandsFor first old world) → LeadsGroup stands.held new commands result t → IsFolded new
     → StandsFor first new (world ++ called_group commands result t ∷ [])
 stands-on-group first old new world commands result t stands leads folded =
     stands-by first new world (called_group commands result t) (up stands.held) (heard_group stands.held commands result t) stands.legal stands.comes leads.legal refl leads.at folded
 
 -- a worker may judge by what is shown, where it saw and learnt of no more
-pub stands-entered : (first : Kept) (b : Page) (world : List Event) (worker n : ℕ) → (stands : StandsFor first b world) → SawNoMore stands.held.sights worker n → n ≤ b.shown → StandsFor first b (world ++ entered worker n ∷ [])
+pub stands-entered : (first : PlainDurable) (b : WorldBook) (world : List Event) (worker n : ℕ) → (stands : StandsFor first b world) → SawNoMore stands.held.sights worker n → n ≤ b.shown → StandsFor first b (world ++ entered worker n ∷ [])
 stands-entered first b world worker n stands no_more low =
-    let h : Held = stands.held in
+    let h : CurrentOpening = stands.held in
     let shown : n ≤ h.shown = subst (λ (m : ℕ). n ≤ m) stands.at.shown low in
     stands-by first b world (entered worker n) (up h) (sighted h worker n) stands.legal stands.comes (no_more, shown) refl (sighted-at h b worker n stands.at) stands.folded
 
 -- or learn of it
-pub stands-learned : (first : Kept) (b : Page) (world : List Event) (worker n : ℕ) → (stands : StandsFor first b world) → n ≤ b.shown → StandsFor first b (world ++ learned worker n ∷ [])
+pub stands-learned : (first : PlainDurable) (b : WorldBook) (world : List Event) (worker n : ℕ) → (stands : StandsFor first b world) → n ≤ b.shown → StandsFor first b (world ++ learned worker n ∷ [])
 stands-learned first b world worker n stands low =
-    let h : Held = stands.held in
+    let h : CurrentOpening = stands.held in
     let shown : n ≤ h.shown = subst (λ (m : ℕ). n ≤ m) stands.at.shown low in
     stands-by first b world (learned worker n) (up h) (sighted h worker n) stands.legal stands.comes shown refl (sighted-at h b worker n stands.at) stands.folded
 
 -- an opening has begun
-pub stands-opened : (first : Kept) (new : Page) (setting : Setting) → first.epoch < last_epoch → IsAt (begun setting (raised first)) new → IsFolded new → StandsFor first new (opened setting ∷ [])
+pub stands-opened : (first : PlainDurable) (new : WorldBook) (setting : Setting) → first.epoch < last_epoch → IsAt (begun setting (raised first)) new → IsFolded new → StandsFor first new (opened setting ∷ [])
 stands-opened first new setting low at folded = stands-by first new [] (opened setting) (down first) (begun setting (raised first)) tt refl low refl at folded
 
 -- a reply that keeps nothing leads to another core at most
-pub nothing-leads : (h : Held) (b : Page) (w : Whole) (c : Command) (r : Reply) → LegalReply h c r false → acked_by r (group_in h c) ≡ [] → pending_by r (group_in h c) ≡ [] → shown_by r h.shown ≡ h.shown →
+pub nothing-leads : (h : CurrentOpening) (b : WorldBook) (w : PlainCore) (c : Command) (r : Reply) → LegalReply h c r false → acked_by r (group_in h c) ≡ [] → pending_by r (group_in h c) ≡ [] → shown_by r h.shown ≡ h.shown →
     w.tickets ≡ after b.whole.tickets (mentions_of (call c r)) → IsAt h b → Leads h (record b { whole = w }) (call c r) (upshot b.shown false)
 nothing-leads h b w c r legal none unkept still moved at = record {
   legal = record { reply = legal; shown = at.shown ∙ sym still };
   at = record {
     base = at.base;
-    tickets = moved ∙ ap (λ (t : Open). after t (mentions_of (call c r))) at.tickets;
-    acked = at.acked ∙ sym (append-nil h.acked) ∙ ap (λ (gs : List (List Edit)). h.acked ++ gs) (sym none);
-    pending = at.pending ∙ sym (append-nil h.pending) ∙ ap (λ (gs : List (List Edit)). h.pending ++ gs) (sym unkept);
+    tickets = moved ∙ ap (λ (t : PlainTickets). after t (mentions_of (call c r))) at.tickets;
+    acked = at.acked ∙ sym (append-nil h.acked) ∙ ap (λ (gs : List (List PlainChange)). h.acked ++ gs) (sym none);
+    pending = at.pending ∙ sym (append-nil h.pending) ∙ ap (λ (gs : List (List PlainChange)). h.pending ++ gs) (sym unkept);
     shown = refl;
     setting = at.setting;
   };
 }
 
-pub none-of-none : (b : Bool) (gs : List (List Edit)) → gs ≡ [] → cond b gs [] ≡ []
+pub none-of-none : (b : Bool) (gs : List (List PlainChange)) → gs ≡ [] → cond b gs [] ≡ []
 none-of-none true gs is = is
 none-of-none false gs is = refl
 
-none-stands : (h : Held) (c : Command) (told : Reply) (e : Refusal) (gs : List (List Edit)) → StandsIn h c false told (Refused e) → cond (is_fault e) gs [] ≡ []
+none-stands : (h : CurrentOpening) (c : Command) (told : Reply) (e : Refusal) (gs : List (List PlainChange)) → StandsIn h c false told (Refused e) → cond (is_fault e) gs [] ≡ []
 none-stands h c told Memory gs stands = refl
 none-stands h c (Applied n o) Fault gs stands = absurd (cc (stands))
 none-stands h c told e gs stands = absurd stands
 
 -- where the device didn't fail a refusal leaves nothing
-pub refused-unkept : (h : Held) (c : Command) (e : Refusal) → LegalReply h c (Refused e) false → pending_by (Refused e) (group_in h c) ≡ []
+pub refused-unkept : (h : CurrentOpening) (c : Command) (e : Refusal) → LegalReply h c (Refused e) false → pending_by (Refused e) (group_in h c) ≡ []
 refused-unkept h c e (inl is) = none-of-none (is_fault e) (group_in h c) (refused-group h (step_in h c) e is)
 refused-unkept h c e (inr stands) = none-stands h c (due h c) e (group_in h c) stands
 
 -- such a refusal leads to nothing else
-pub refused-leads : (h : Held) (b new : Page) (c : Command) (e : Refusal) → LegalReply h c (Refused e) false → new ≡ b → IsAt h b → Leads h new (call c (Refused e)) (upshot new.shown false)
+pub refused-leads : (h : CurrentOpening) (b new : WorldBook) (c : Command) (e : Refusal) → LegalReply h c (Refused e) false → new ≡ b → IsAt h b → Leads h new (call c (Refused e)) (upshot new.shown false)
 refused-leads h b new c e legal same at =
-    subst (λ (p : Page). Leads h p (call c (Refused e)) (upshot p.shown false)) (sym same) (nothing-leads h b b.whole c (Refused e) legal refl (refused-unkept h c e legal) refl refl at)
+    subst (λ (p : WorldBook). Leads h p (call c (Refused e)) (upshot p.shown false)) (sym same) (nothing-leads h b b.whole c (Refused e) legal refl (refused-unkept h c e legal) refl refl at)
 
 -- a crash is an event of the world
 pub crashes_are_events : CrashesAreEvents
@@ -118,9 +118,9 @@ AgreesIn (up h) ms = h.tickets ≡ left_by h.base.epoch ms
 AgreesIn (down d) ms = ⊤
 
 pub agrees-next : (st : State) (ms : List Mention) (e : Event) → IsLegal st e → AgreesIn st ms → AgreesIn (next st e) (mentions_by ms e)
-agrees-next (up h) ms (called c t) legal is = ap (λ (o : Open). after o (mentions_of c)) is ∙ sym (fold-append moved (fresh h.base.epoch) ms (mentions_of c))
+agrees-next (up h) ms (called c t) legal is = ap (λ (o : PlainTickets). after o (mentions_of c)) is ∙ sym (fold-append moved (fresh h.base.epoch) ms (mentions_of c))
 agrees-next (up h) ms (called_group cs result t) legal is =
-    ap (λ (o : Open). after o (mentions_of_group cs result)) is ∙ sym (fold-append moved (fresh h.base.epoch) ms (mentions_of_group cs result))
+    ap (λ (o : PlainTickets). after o (mentions_of_group cs result)) is ∙ sym (fold-append moved (fresh h.base.epoch) ms (mentions_of_group cs result))
 agrees-next (up h) ms (entered w n) legal is = is
 agrees-next (up h) ms (learned w n) legal is = is
 agrees-next (up h) ms (crashed doing n) legal is = tt

@@ -1,9 +1,9 @@
 -- How long lists are that a change leaves: entries of a table, and tables of a map.
 use Rattle.std.proofs.{Common.{◌≡◌, ℕ, ◌+◌, ◌≤◌, ◌==◌, ◌&&◌, not, suc, Bool, true, false, cond, List, [], ◌∷◌, length, Option, Some, None, refl, sym, subst, arith}, lemmas.Bool.Decides.nat_tests, lemmas.List.Sums.{length-filter, count_by-le-length}}
 use Rattle.std.specs.{Prelude.{fold, is_some, filter}, declared.{cmp.Ordering.Ordering, cmp.Ordering.TheVariants.Less, cmp.Ordering.TheVariants.Equal, cmp.Ordering.TheVariants.Greater}, FinMap.{find, put}, FinMap.Entries.by_order, Ordering.eq_by_cmp}
-use Rattle.pf_table.specs.{Edits.deleted, Entries.Row}
+use Rattle.pf_table.specs.{Edits.deleted, Entries.PlainEntry}
 use Rattle.pf_map.specs.{Maps.without, ListMaps.{list_in, list_at, with_list}}
-use Rattle.pf_anchor.specs.Tables.{Tabled, tabled, table_order, table_at, with_table}
+use Rattle.pf_anchor.specs.Tables.{PlainPlacedTable, placed_table, table_order, table_at, with_table}
 
 fewer : {X : Type 0} (p : X → Bool) (xs : List X) → length (filter p xs) ≤ length xs
 fewer p xs = subst (λ (n : ℕ). n ≤ length xs) (sym (length-filter p xs)) (count_by-le-length p xs)
@@ -11,7 +11,7 @@ fewer p xs = subst (λ (n : ℕ). n ≤ length xs) (sym (length-filter p xs)) (c
 -- ---- entries of a table
 
 -- to delete entries where there are none leaves none
-pub deleted-none : (xs : List Row) → deleted [] xs ≡ []
+pub deleted-none : (xs : List PlainEntry) → deleted [] xs ≡ []
 unfolding deleted
 deleted-none [] = refl
 deleted-none (x ∷ xs) = deleted-none xs
@@ -59,5 +59,5 @@ module _ {K X : Type 0} (R : K → K → Ordering) where
       omega (arith, less, more)
 
 -- where a table isn't one more there are no more tables
-pub no-table-more : (ts : List Tabled) (p name : List ℕ) (new : List Row) → ((length (table_at p name ts) == 0) && not (length new == 0)) ≡ false → length (fold with_table ts (tabled p name new ∷ [])) ≤ length ts
+pub no-table-more : (ts : List PlainPlacedTable) (p name : List ℕ) (new : List PlainEntry) → ((length (table_at p name ts) == 0) && not (length new == 0)) ≡ false → length (fold with_table ts (placed_table p name new ∷ [])) ≤ length ts
 no-table-more ts p name new h = no-more table_order new (p, name) ts h

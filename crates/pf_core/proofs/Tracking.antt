@@ -4,8 +4,8 @@ use Rattle.std.specs.{Prelude.{not, is_some, if◌then◌else◌}, List.{find as
 use Rattle.pf_rule.specs.Packets.{PlainPacket}
 use Rattle.pf_anchor.specs.declared.verdict.RuleVerdict.{RuleVerdict}
 use Rattle.pf_anchor.specs.Evaluation.{judged}
-use Rattle.pf_state.specs.{declared.{state.Bound.Bound, state.Held.Held, state.StateName.StateName, step.Insertion.TheVariants.New, step.Step.TheVariants.Insert}, Flows.{flow_of, same_flow}, States.{Stated, name_order, held_at, state_of}, Steps.{is_clash, insertion}}
-use Rattle.pf_core.specs.{declared.{durable.verdict.Verdict.TheVariants.State, durable.verdict.Verdict.TheVariants.Rules, reply.Outcome.Outcome, step.Step.TheVariants.Done, step.Step.TheVariants.Wants}, Durable.Edits.{Kept, Edit, acts}, Commands.{wanting, makes_state, tracked, track_step}, Laws.Commands.{MakesOne, TrackMakesOne}, Laws.Wanted.{IsThis, wanted}}
+use Rattle.pf_state.specs.{declared.{state.Bound.Bound, state.Held.Held, state.StateName.StateName, step.Insertion.TheVariants.New, step.Step.TheVariants.Insert}, Flows.{flow_of, same_flow}, States.{PlainState, name_order, held_at, state_of}, Steps.{is_clash, insertion}}
+use Rattle.pf_core.specs.{declared.{durable.verdict.Verdict.TheVariants.State, durable.verdict.Verdict.TheVariants.Rules, reply.Outcome.Outcome, step.Step.TheVariants.Done, step.Step.TheVariants.Wants}, Durable.Changes.{PlainDurable, PlainChange, acts}, Commands.{wanting, makes_state, tracked, track_step}, Laws.Commands.{MakesOne, TrackMakesOne}, Laws.Wanted.{IsThis, wanted}}
 use Rattle.pf_core.specs.declared.reply.Answer.TheVariants as answer
 use Rattle.pf_core.specs.declared.reply.Outcome.TheVariants as outcome
 
@@ -19,28 +19,28 @@ none-of-both p q (x ∷ xs) h = by (p x) (q x) refl refl (none-of-both p q xs) w
   by false false is also rest = rw (is, also) (rest (cc (is, h)))
 
 -- a state of no state's flow, under a free name, is new
-new-state : (es : List Stated) (s : Stated) → state_of s.1.flow es ≡ None → held_at s.0 es ≡ None → insertion es s ≡ New
+new-state : (es : List PlainState) (s : PlainState) → state_of s.1.flow es ≡ None → held_at s.0 es ≡ None → insertion es s ≡ New
 new-state es s flow name =
-    let apart : is_clash es s ≡ false = none-of-both (λ (t : Stated). same_flow t.1.flow s.1.flow) (λ (t : Stated). not (eq_by_cmp name_order t.0 s.0)) es flow in
+    let apart : is_clash es s ≡ false = none-of-both (λ (t : PlainState). same_flow t.1.flow s.1.flow) (λ (t : PlainState). not (eq_by_cmp name_order t.0 s.0)) es flow in
     rw (name, apart) refl
 
 not-held : (h : Option Held) → is_some h ≡ false → h ≡ None
 not-held None is = refl
 not-held (Some x) is = absurd (cc (is))
 
-made : (d : Kept) (v : RuleVerdict) (s : Stated) (taken : Bool) (e : Edit) (o : Outcome) → is_some (held_at s.0 d.states) ≡ taken → state_of s.1.flow d.states ≡ None → (if taken then Ok (Done (answer.Stale v)) else wanting d (acts (Insert s ∷ [])) (outcome.Tracked v)) ≡ Ok (Wants e o) → MakesOne d e
+made : (d : PlainDurable) (v : RuleVerdict) (s : PlainState) (taken : Bool) (e : PlainChange) (o : Outcome) → is_some (held_at s.0 d.states) ≡ taken → state_of s.1.flow d.states ≡ None → (if taken then Ok (Done (answer.Stale v)) else wanting d (acts (Insert s ∷ [])) (outcome.Tracked v)) ≡ Ok (Wants e o) → MakesOne d e
 made d v s true e o is flow h = absurd (cc (h))
 made d v s false e o is flow h =
     let this : IsThis d (acts (Insert s ∷ [])) e = wanted d (acts (Insert s ∷ [])) e (outcome.Tracked v) o h in
     record { state = s; change = sym this.is; new = new-state d.states s flow (not-held (held_at s.0 d.states) is) }
 
-by-rules : (d : Kept) (name : StateName) (packet : PlainPacket) (v : RuleVerdict) (b : Option Bound) (e : Edit) (o : Outcome) → state_of (flow_of packet) d.states ≡ None → tracked d name packet v b ≡ Ok (Wants e o) → MakesOne d e
+by-rules : (d : PlainDurable) (name : StateName) (packet : PlainPacket) (v : RuleVerdict) (b : Option Bound) (e : PlainChange) (o : Outcome) → state_of (flow_of packet) d.states ≡ None → tracked d name packet v b ≡ Ok (Wants e o) → MakesOne d e
 by-rules d name packet v None e o flow h = absurd (cc (h))
 by-rules d name packet v (Some b) e o flow h =
-    let s : Stated = (name, record { generation = 0; flow = flow_of packet; bound = b }) in
+    let s : PlainState = (name, record { generation = 0; flow = flow_of packet; bound = b }) in
     made d v s (is_some (held_at name d.states)) e o refl flow h
 
-by-state : (d : Kept) (name : StateName) (packet : PlainPacket) (found : Option Stated) (e : Edit) (o : Outcome) → state_of (flow_of packet) d.states ≡ found → track_step d name packet (option_map_or (λ (s : Stated). State s.0) found (Rules (judged d.config packet))) ≡ Ok (Wants e o) → MakesOne d e
+by-state : (d : PlainDurable) (name : StateName) (packet : PlainPacket) (found : Option PlainState) (e : PlainChange) (o : Outcome) → state_of (flow_of packet) d.states ≡ found → track_step d name packet (option_map_or (λ (s : PlainState). State s.0) found (Rules (judged d.config packet))) ≡ Ok (Wants e o) → MakesOne d e
 by-state d name packet (Some s) e o is h = absurd (cc (h))
 by-state d name packet None e o is h = by-rules d name packet (judged d.config packet) (makes_state d (judged d.config packet)) e o is h
 

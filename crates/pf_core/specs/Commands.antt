@@ -3,18 +3,18 @@
 -- tell are own.
 use Rattle.std.specs.Prelude.{ℕ, ◌==◌, ◌||◌, Bool, true, false, not, if◌then◌else◌, is_some, List, [], ◌∷◌, length, map, filter, Option, Some, None, Result, Ok, Err, nat_lt, position}
 use Rattle.pf_addr.specs.Refusing.{and_then, unless, refused_at}
-use Rattle.pf_table.specs.{declared.{answer.Addition.Addition, answer.Deletion.Deletion}, Edits.{additions, deletions}, Entries.Row, Tables.deciding}
+use Rattle.pf_table.specs.{declared.{answer.Addition.Addition, answer.Deletion.Deletion}, Edits.{additions, deletions}, Entries.PlainEntry, Tables.deciding}
 use Rattle.pf_table.specs.declared.answer.Addition.TheVariants as addition
 use Rattle.pf_table.specs.declared.answer.Deletion.TheVariants as deletion
 use Rattle.pf_anchor.specs.{Rulesets.{ruled, rules_at}, Tables.tables_at, declared.{verdict.RuleVerdict.RuleVerdict, verdict.RuleVerdict.TheVariants.Rule as Deciding, verdict.RuleVerdict.TheVariants.Default as NoRule}}
 use Rattle.pf_rule.specs.declared.rule.Action.TheVariants.{Pass, Block}
 use Rattle.pf_rule.specs.Packets.{PlainPacket}
-use Rattle.pf_state.specs.{declared.{state.Bound.Bound, state.StateName.StateName, step.Step.Step as StateStep, peer.message.Message.Message}, Flows.flow_of, States.{Stated, held_at}, Steps.counts, Peer.Written.message_bytes, Failover.Incoming.steps_of, Failover.Outgoing.exported_messages}
+use Rattle.pf_state.specs.{declared.{state.Bound.Bound, state.StateName.StateName, step.Step.Step as StateStep, peer.message.Message.Message}, Flows.flow_of, States.{PlainState, held_at}, Steps.counts, Peer.Written.message_bytes, Failover.Incoming.steps_of, Failover.Outgoing.exported_messages}
 use Rattle.pf_state.specs.declared.state.Bound.TheVariants as bound
 use Rattle.pf_state.specs.declared.step.Step.TheVariants as step
-use Rattle.pf_ticket.specs.{declared.{entry.Entry.Entry, name.RulesetName.RulesetName, offered.Offered.Offered, refusal.TicketRefusal.TicketRefusal}, Names.{filter_at, table_ruleset_at, names_of}, Mentions.{Mention, added, defined, gives, switches, drops}, Tickets.{Open, content}, Replies.{begin_reply, add_reply, define_reply, list_check, commit_check}}
+use Rattle.pf_ticket.specs.{declared.{entry.RulesetTicket.RulesetTicket, name.RulesetName.RulesetName, offered.Offered.Offered, refusal.TicketRefusal.TicketRefusal}, Names.{filter_at, table_ruleset_at, names_of}, Mentions.{Mention, added, defined, gives, switches, drops}, Tickets.{PlainTickets, content}, Replies.{begin_reply, add_reply, define_reply, list_check, commit_check}}
 use Rattle.pf_ticket.specs.declared.offered.Offered.TheVariants as offered
-use Rattle.pf_core.specs.{declared.{durable.change.Item.Item, command.Command.Command, command.Command.TheVariants.Transact, command.Command.TheVariants.Edit as Change, command.Command.TheVariants.States as OfStates, command.Command.TheVariants.Ask, command.Command.TheVariants.History, command.HistoryCommand.TheVariants.Log, command.HistoryCommand.TheVariants.Publish, command.Question.Question, command.Question.TheVariants.Judge, command.Question.TheVariants.Test, command.Question.TheVariants.ShowRules, command.Question.TheVariants.ShowTables, command.Question.TheVariants.ShowStates, command.Question.TheVariants.Sum, command.Question.TheVariants.Export, command.StateCommand.StateCommand, command.StateCommand.TheVariants.Track, command.StateCommand.TheVariants.Peer, command.StateCommand.TheVariants.Kill as KillState, command.TableEdit.TableEdit, command.TableEdit.TheVariants.Add as AddTo, command.TableEdit.TheVariants.Delete, command.TableEdit.TheVariants.Set, command.TableEdit.TheVariants.Kill, command.Transaction.Transaction, command.Transaction.TheVariants.Begin, command.Transaction.TheVariants.Add, command.Transaction.TheVariants.Define, command.Transaction.TheVariants.Commit, command.Transaction.TheVariants.Rollback, reply.Answer.Answer, reply.Outcome.Outcome, reply.Refusal.Refusal, reply.Refusal.TheVariants.Absent, reply.Refusal.TheVariants.BadCount, reply.Refusal.TheVariants.NotGrouped, group.TheConstants.GROUP_LIMIT, reply.Reply.Reply, reply.Reply.TheVariants.Answer as Answered, reply.Reply.TheVariants.Applied, reply.Reply.TheVariants.Stored, reply.Reply.TheVariants.Refused, step.Step.Step, step.Step.TheVariants.Done, step.Step.TheVariants.Wants, step.Step.TheVariants.OfHistory, durable.refusal.ChangeRefusal.ChangeRefusal, durable.verdict.Verdict.Verdict, durable.verdict.Verdict.TheVariants.State as Stateful, durable.verdict.Verdict.TheVariants.Rules as ByRules}, Durable.Edits.{Kept, Edit, commits, adds, deletes, sets, acts, removes, entries_at, main_sum, no_conflict, fits, verdict}, Refusals.{refusal_of, change_refusal_of}}
+use Rattle.pf_core.specs.{declared.{durable.change.Item.Item, command.Command.Command, command.Command.TheVariants.Transact, command.Command.TheVariants.Edit, command.Command.TheVariants.States as OfStates, command.Command.TheVariants.Ask, command.Command.TheVariants.History, command.HistoryCommand.TheVariants.Log, command.HistoryCommand.TheVariants.Publish, command.Question.Question, command.Question.TheVariants.Judge, command.Question.TheVariants.Test, command.Question.TheVariants.ShowRules, command.Question.TheVariants.ShowTables, command.Question.TheVariants.ShowStates, command.Question.TheVariants.Sum, command.Question.TheVariants.Export, command.StateCommand.StateCommand, command.StateCommand.TheVariants.Track, command.StateCommand.TheVariants.Peer, command.StateCommand.TheVariants.Kill as KillState, command.TableEdit.TableEdit, command.TableEdit.TheVariants.Add as AddTo, command.TableEdit.TheVariants.Delete, command.TableEdit.TheVariants.Set, command.TableEdit.TheVariants.Kill, command.Transaction.Transaction, command.Transaction.TheVariants.Begin, command.Transaction.TheVariants.Add, command.Transaction.TheVariants.Define, command.Transaction.TheVariants.Commit, command.Transaction.TheVariants.Rollback, reply.Answer.Answer, reply.Outcome.Outcome, reply.Refusal.Refusal, reply.Refusal.TheVariants.Absent, reply.Refusal.TheVariants.BadCount, reply.Refusal.TheVariants.NotGrouped, group.TheConstants.GROUP_LIMIT, reply.Reply.Reply, reply.Reply.TheVariants.Answer as Answered, reply.Reply.TheVariants.Applied, reply.Reply.TheVariants.Stored, reply.Reply.TheVariants.Refused, step.Step.Step, step.Step.TheVariants.Done, step.Step.TheVariants.Wants, step.Step.TheVariants.OfHistory, durable.refusal.ChangeRefusal.ChangeRefusal, durable.verdict.Verdict.Verdict, durable.verdict.Verdict.TheVariants.State as Stateful, durable.verdict.Verdict.TheVariants.Rules as ByRules}, Durable.Changes.{PlainDurable, PlainChange, commits, adds, deletes, sets, acts, removes, entries_at, main_sum, no_conflict, fits, verdict}, Refusals.{refusal_of, change_refusal_of}}
 use Rattle.pf_core.specs.declared.durable.change.Item.TheVariants as item
 use Rattle.pf_core.specs.declared.reply.Answer.TheVariants as answer
 use Rattle.pf_core.specs.declared.reply.Outcome.TheVariants as outcome
@@ -32,7 +32,7 @@ item_of name (offered.Rules rules) = item.Rules (ruled name.path rules)
 item_of name (offered.Tables named) = item.Tables name.path named
 
 -- what a commit of these entries replaces: each ruleset by what is offered for it
-abbrev pub items : (RulesetName → Offered) → List Entry → List Item
+abbrev pub items : (RulesetName → Offered) → List RulesetTicket → List Item
 items content entries = map (λ e. item_of e.name (content e.name)) entries
 
 -- what doesn't fit is refused
@@ -41,17 +41,17 @@ unless_unfit (Ok u) next = next
 unless_unfit (Err e) next = Err (change_refusal_of e)
 
 -- a change is wanted, where it fits
-abbrev pub wanting : Kept → Edit → Outcome → Result Step Refusal
+abbrev pub wanting : PlainDurable → PlainChange → Outcome → Result Step Refusal
 wanting d e o = unless_unfit (fits d e) (Ok (Wants e o))
 
-abbrev pub commit_step : Open → Kept → List Entry → Result Step Refusal
+abbrev pub commit_step : PlainTickets → PlainDurable → List RulesetTicket → Result Step Refusal
 commit_step t d entries = unless_refused (commit_check t entries) (λ _. wanting d (commits (items (content t) entries)) outcome.Committed)
 
 -- a rollback is refused for its list alone
-abbrev pub rollback_step : List Entry → Result Step Refusal
+abbrev pub rollback_step : List RulesetTicket → Result Step Refusal
 rollback_step entries = unless_refused (list_check entries) (λ _. Ok (Done answer.Done))
 
-abbrev pub transact_step : Open → Kept → Transaction → Result Step Refusal
+abbrev pub transact_step : PlainTickets → PlainDurable → Transaction → Result Step Refusal
 transact_step t d (Begin names) = unless_refused (begin_reply t names) (λ range. Ok (Done (answer.Given range)))
 transact_step t d (Add p u rule) = unless_refused (add_reply t (filter_at p) u) (λ _. Ok (Done answer.Done))
 transact_step t d (Define p u name xs) = unless_refused (define_reply t (table_ruleset_at p) u name xs) (λ _. Ok (Done answer.Done))
@@ -87,11 +87,11 @@ if_there true next = next
 if_there false next = Err Absent
 
 -- a table that has entries is there
-abbrev pub is_table : List Row → Bool
+abbrev pub is_table : List PlainEntry → Bool
 is_table es = not (length es == 0)
 
 -- Each change that is accepted is wanted, also where it leaves all as it is. To kill a table is to set it to no entries.
-abbrev pub edit_step : Kept → TableEdit → Result Step Refusal
+abbrev pub edit_step : PlainDurable → TableEdit → Result Step Refusal
 edit_step d (AddTo p name xs) = wanting d (adds p name xs) (added_of (additions (entries_at d p name) xs))
 edit_step d (Delete p name xs) = unless_unfit (no_conflict xs)
     (if_there (is_table (entries_at d p name)) (Ok (Wants (deletes p name xs) (deleted_of (deletions (entries_at d p name) xs)))))
@@ -101,36 +101,36 @@ edit_step d (Kill p name) = if_there (is_table (entries_at d p name)) (Ok (Wants
 -- ---- changes of states
 
 -- which rule a state is bound to that a rule at this path, of this number, makes here: of an anchor's rules none is told
-abbrev pub bound_here : Kept → List ℕ → ℕ → Bound
+abbrev pub bound_here : PlainDurable → List ℕ → ℕ → Bound
 bound_here d [] number = bound.Rule number (main_sum d)
 bound_here d (b ∷ path) number = bound.Default
 
 -- a rule that passes a packet and keeps state makes one, bound so
-abbrev pub makes_state : Kept → RuleVerdict → Option Bound
+abbrev pub makes_state : PlainDurable → RuleVerdict → Option Bound
 makes_state d (Deciding path number (Pass true)) = Some (bound_here d path number)
 makes_state d (Deciding path number (Pass false)) = None
 makes_state d (Deciding path number Block) = None
 makes_state d NoRule = None
 
 -- it is made under a name that isn't taken
-abbrev pub make_step : Kept → RuleVerdict → Stated → Result Step Refusal
+abbrev pub make_step : PlainDurable → RuleVerdict → PlainState → Result Step Refusal
 make_step d by s = if is_some (held_at s.0 d.states) then Ok (Done (answer.Stale by))
     else wanting d (acts (step.Insert s ∷ [])) (outcome.Tracked by)
 
-abbrev pub tracked : Kept → StateName → PlainPacket → RuleVerdict → Option Bound → Result Step Refusal
+abbrev pub tracked : PlainDurable → StateName → PlainPacket → RuleVerdict → Option Bound → Result Step Refusal
 tracked d name packet by None = Ok (Done (answer.Judged (ByRules by)))
 tracked d name packet by (Some b) = make_step d by (name, record { generation = 0; flow = flow_of packet; bound = b })
 
-abbrev pub track_step : Kept → StateName → PlainPacket → Verdict → Result Step Refusal
+abbrev pub track_step : PlainDurable → StateName → PlainPacket → Verdict → Result Step Refusal
 track_step d name packet (Stateful s) = Ok (Done (answer.Judged (Stateful s)))
 track_step d name packet (ByRules by) = tracked d name packet by (makes_state d by)
 
 -- what a peer's message does to the states here
-abbrev pub steps_here : Kept → Message → List StateStep
+abbrev pub steps_here : PlainDurable → Message → List StateStep
 steps_here d m = steps_of m (main_sum d) (length (rules_at [] d.config.rulesets))
 
 -- A message that is accepted is a change, also where it leaves all as it is.
-abbrev pub states_step : Kept → StateCommand → Result Step Refusal
+abbrev pub states_step : PlainDurable → StateCommand → Result Step Refusal
 states_step d (Track name packet) = track_step d name packet (verdict d packet)
 states_step d (Peer m) = wanting d (acts (steps_here d m)) (outcome.Peered (counts d.states (steps_here d m)))
 states_step d (KillState name) = if_there (is_some (held_at name d.states)) (Ok (Wants (removes name) outcome.Killed))
@@ -138,7 +138,7 @@ states_step d (KillState name) = if_there (is_some (held_at name d.states)) (Ok 
 -- ---- questions
 
 -- What a question is answered, of what is kept. A test asks the table at the path that it names, and no other.
-abbrev pub answer_of : Kept → Question → Answer
+abbrev pub answer_of : PlainDurable → Question → Answer
 answer_of d (Judge packet) = answer.Judged (verdict d packet)
 answer_of d (Test p name a) = answer.Tested (deciding (entries_at d p name) a)
 answer_of d (ShowRules p) = answer.Rules (rules_at p d.config.rulesets)
@@ -149,9 +149,9 @@ answer_of d Export = answer.Exported (map message_bytes (exported_messages (main
 
 -- By the open transactions, and what is kept. A question is never refused, and changes nothing; and what the history is asked is left to
 -- whoever keeps it.
-abbrev pub step_by : Open → Kept → Command → Result Step Refusal
+abbrev pub step_by : PlainTickets → PlainDurable → Command → Result Step Refusal
 step_by t d (Transact transaction) = transact_step t d transaction
-step_by t d (Change edit) = edit_step d edit
+step_by t d (Edit edit) = edit_step d edit
 step_by t d (OfStates c) = states_step d c
 step_by t d (Ask q) = Ok (Done (answer_of d q))
 step_by t d (History c) = Ok (OfHistory c)
@@ -159,7 +159,7 @@ step_by t d (History c) = Ok (OfHistory c)
 -- a command that may change something
 abbrev pub may_change : Command → Bool
 may_change (Transact transaction) = true
-may_change (Change edit) = true
+may_change (Edit edit) = true
 may_change (OfStates c) = true
 may_change (Ask q) = false
 may_change (History c) = false
@@ -174,7 +174,7 @@ may_be_grouped (Transact (Add p t rule)) = false
 may_be_grouped (Transact (Define p t name xs)) = false
 may_be_grouped (Transact (Commit entries)) = true
 may_be_grouped (Transact (Rollback entries)) = false
-may_be_grouped (Change edit) = true
+may_be_grouped (Edit edit) = true
 may_be_grouped (OfStates c) = true
 may_be_grouped (Ask q) = false
 may_be_grouped (History c) = false
@@ -201,7 +201,7 @@ transacted (Rollback entries) = drops entries
 -- of all commands the steps of a transaction alone mention rulesets
 abbrev pub mentioned : Command → List Mention
 mentioned (Transact t) = transacted t
-mentioned (Change edit) = []
+mentioned (Edit edit) = []
 mentioned (OfStates c) = []
 mentioned (Ask q) = []
 mentioned (History c) = []
@@ -213,7 +213,7 @@ named_by (Transact (Add p t rule)) = filter_at p ∷ []
 named_by (Transact (Define p t name xs)) = table_ruleset_at p ∷ []
 named_by (Transact (Commit entries)) = names_of entries
 named_by (Transact (Rollback entries)) = names_of entries
-named_by (Change edit) = []
+named_by (Edit edit) = []
 named_by (OfStates c) = []
 named_by (Ask q) = []
 named_by (History c) = []
@@ -244,7 +244,7 @@ asks_for_memory Sum = false
 asks_for_memory Export = true
 
 -- a kill of what isn't there takes none
-abbrev pub edits_in_memory : Kept → TableEdit → Bool
+abbrev pub edits_in_memory : PlainDurable → TableEdit → Bool
 edits_in_memory d (AddTo p name xs) = true
 edits_in_memory d (Delete p name xs) = true
 edits_in_memory d (Set p name xs) = true
@@ -257,15 +257,15 @@ is_done (Ok (OfHistory c)) = false
 is_done (Err e) = false
 
 -- a packet that is tracked takes none where it is answered without a change
-abbrev pub changes_states_in_memory : Kept → StateCommand → Bool
+abbrev pub changes_states_in_memory : PlainDurable → StateCommand → Bool
 changes_states_in_memory d (Track name packet) = not (is_done (track_step d name packet (verdict d packet)))
 changes_states_in_memory d (Peer m) = true
 changes_states_in_memory d (KillState name) = is_some (held_at name d.states)
 
 -- whether a command may be refused because memory was, by what is kept
-abbrev pub takes_memory : Kept → Command → Bool
+abbrev pub takes_memory : PlainDurable → Command → Bool
 takes_memory d (Transact t) = transacts_in_memory t
-takes_memory d (Change edit) = edits_in_memory d edit
+takes_memory d (Edit edit) = edits_in_memory d edit
 takes_memory d (OfStates c) = changes_states_in_memory d c
 takes_memory d (Ask q) = asks_for_memory q
 takes_memory d (History Log) = false

@@ -1,4 +1,4 @@
 pub mod Refusals
-pub mod Edits
-pub mod EditViews
+pub mod Changes
+pub mod ChangeViews
 pub mod Forms

@@ -2,11 +2,11 @@ pub mod Durable
 pub mod Refusals
 pub mod Commands
 pub mod Calls
-pub mod Wholes
+pub mod Cores
 pub mod Worlds
 pub mod History
 pub mod Nexts
-pub mod Pages
+pub mod WorldBooks
 pub mod Laws
 -- what public clauses cite of the crates below
 pub use Rattle.pf_addr.specs.Path.Names

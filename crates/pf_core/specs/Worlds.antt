@@ -1,8 +1,8 @@
--- Worlds: lists of events over openings and crashes, which of them are legal, and what they leave. Own.
+-- Worlds: lists of events over openings and crashes, which of them are legal, and what they leave.
 use Rattle.std.specs.Prelude.{◌≡◌, ◌≢◌, ℕ, ◌+◌, ◌<◌, ◌≤◌, ◌&&◌, ◌⊎◌, Bool, true, false, if◌then◌else◌, List, [], ◌∷◌, ◌++◌, length, map, flat_map, take, fold, nat_lt, ⊤, Result, Ok, Err}
 use Rattle.pf_addr.specs.Refusing.{and_then, unless}
-use Rattle.pf_core.specs.{declared.{command.Command.Command, reply.Refusal.Refusal, reply.Refusal.TheVariants.Halted, reply.Refusal.TheVariants.HistoryFull, reply.Refusal.TheVariants.Full, reply.Refusal.TheVariants.Fault, reply.Refusal.TheVariants.Memory, reply.Reply.Reply, reply.Reply.TheVariants.Answer, command.HistoryCommand.HistoryCommand, command.HistoryCommand.TheVariants.Log, command.HistoryCommand.TheVariants.Publish, reply.Answer.Answer as Told, reply.Answer.TheVariants.Logged, reply.Answer.TheVariants.Shown, reply.Reply.TheVariants.Applied, reply.Reply.TheVariants.Stored, reply.Reply.TheVariants.Refused, step.Step.Step, step.Step.TheVariants.Done, step.Step.TheVariants.Wants, step.Step.TheVariants.OfHistory}, Calls.{Call, mentions_of, replies_in, mentions_of_group}, Commands.{step_by, may_change, takes_memory, group_words}, Durable.Edits.{Kept, Edit, in_epoch, after, voided_by}}
-use Rattle.pf_ticket.specs.{Tickets.{Open, fresh}, Mentions.{switches, after as moved_by}}
+use Rattle.pf_core.specs.{declared.{command.Command.Command, reply.Refusal.Refusal, reply.Refusal.TheVariants.Halted, reply.Refusal.TheVariants.HistoryFull, reply.Refusal.TheVariants.Full, reply.Refusal.TheVariants.Fault, reply.Refusal.TheVariants.Memory, reply.Reply.Reply, reply.Reply.TheVariants.Answer, command.HistoryCommand.HistoryCommand, command.HistoryCommand.TheVariants.Log, command.HistoryCommand.TheVariants.Publish, reply.Answer.Answer as Told, reply.Answer.TheVariants.Logged, reply.Answer.TheVariants.Shown, reply.Reply.TheVariants.Applied, reply.Reply.TheVariants.Stored, reply.Reply.TheVariants.Refused, step.Step.Step, step.Step.TheVariants.Done, step.Step.TheVariants.Wants, step.Step.TheVariants.OfHistory}, Calls.{Call, mentions_of, replies_in, mentions_of_group}, Commands.{step_by, may_change, takes_memory, group_words}, Durable.Changes.{PlainDurable, PlainChange, in_epoch, after, voided_by}}
+use Rattle.pf_ticket.specs.{Tickets.{PlainTickets, fresh}, Mentions.{switches, after as moved_by}}
 
 -- ---- states
 
@@ -10,7 +10,7 @@ use Rattle.pf_ticket.specs.{Tickets.{Open, fresh}, Mentions.{switches, after as 
 -- opening gave and the groups that were kept since
 pub record Setting : Type 0 where
   pub limit : ℕ
-  pub is_full : Kept → List (List Edit) → List Edit → Bool
+  pub is_full : PlainDurable → List (List PlainChange) → List PlainChange → Bool
 
 -- in memory no device is full
 abbrev pub in_memory : ℕ → Setting
@@ -22,16 +22,16 @@ pub record Sight : Type 0 where
   pub front : ℕ
 
 -- an opening, while it lasts
-pub record Held : Type 0 where
+pub record CurrentOpening : Type 0 where
   pub setting : Setting
   -- what the opening gave
-  pub base : Kept
+  pub base : PlainDurable
   -- the transactions, as the calls since have left them
-  pub tickets : Open
+  pub tickets : PlainTickets
   -- the groups of changes that were acknowledged
-  pub acked : List (List Edit)
+  pub acked : List (List PlainChange)
   -- the group that was not acknowledged, if there is one: the device failed while it was kept
-  pub pending : List (List Edit)
+  pub pending : List (List PlainChange)
   -- how many changes are shown
   pub shown : ℕ
   -- what workers saw or learnt
@@ -39,62 +39,62 @@ pub record Held : Type 0 where
 
 -- an opening that lasts, or what is held between two of them
 pub data State : Type 0 where
-  up : Held → State
-  down : Kept → State
+  up : CurrentOpening → State
+  down : PlainDurable → State
 
 -- an opening has begun: no tickets, no changes, and nobody has seen any
-abbrev pub begun : Setting → Kept → Held
+abbrev pub begun : Setting → PlainDurable → CurrentOpening
 begun setting base = record { setting = setting; base = base; tickets = fresh base.epoch; acked = []; pending = []; shown = 0; sights = [] }
 
 -- one epoch later, as an opening leaves it
-abbrev pub raised : Kept → Kept
+abbrev pub raised : PlainDurable → PlainDurable
 raised d = in_epoch (d.epoch + 1) d
 
 -- the changes of these groups, in order
-abbrev pub flat : List (List Edit) → List Edit
+abbrev pub flat : List (List PlainChange) → List PlainChange
 flat [] = []
 flat (g ∷ gs) = g ++ flat gs
 
 -- the changes since the opening
-abbrev pub log_of : Held → List Edit
+abbrev pub log_of : CurrentOpening → List PlainChange
 log_of h = flat (h.acked ++ h.pending)
 
 -- what replies are judged by: the base after all that was acknowledged
-abbrev pub durable_of : Held → Kept
+abbrev pub durable_of : CurrentOpening → PlainDurable
 durable_of h = after h.base (flat h.acked)
 
 -- ---- what a command is due
 
 -- with a group that was not acknowledged nothing more is changed
-abbrev pub is_halted : List (List Edit) → Bool
+abbrev pub is_halted : List (List PlainChange) → Bool
 is_halted [] = false
 is_halted (g ∷ gs) = true
 
 -- the one step that a command may get
-abbrev pub step_in : Held → Command → Result Step Refusal
+abbrev pub step_in : CurrentOpening → Command → Result Step Refusal
 step_in h c = if may_change c && is_halted h.pending then Err Halted else step_by h.tickets (durable_of h) c
 
 -- what the history is asked: how many changes there are, are acknowledged, are shown; a publish shows all that were acknowledged
-abbrev pub told_of_history : Held → HistoryCommand → Told
+abbrev pub told_of_history : CurrentOpening → HistoryCommand → Told
 told_of_history h Log = Logged (length (log_of h)) (length (flat h.acked)) h.shown
 told_of_history h Publish = Shown (length (flat h.acked))
 
 -- the reply to a step, where there is room
-abbrev pub reply_to : Held → Result Step Refusal → Reply
+abbrev pub reply_to : CurrentOpening → Result Step Refusal → Reply
 reply_to h (Ok (Done a)) = Answer a
 reply_to h (Ok (Wants e o)) = Applied (length (log_of h) + 1) o
 reply_to h (Ok (OfHistory c)) = Answer (told_of_history h c)
 reply_to h (Err e) = Refused e
 
 -- the change that it wants
-abbrev pub changes_of : Result Step Refusal → List Edit
+abbrev pub changes_of : Result Step Refusal → List PlainChange
 changes_of (Ok (Done a)) = []
 changes_of (Ok (Wants e o)) = e ∷ []
 changes_of (Ok (OfHistory c)) = []
 changes_of (Err e) = []
 
 -- whether changes that are kept together find room, and else why not
-abbrev pub room_for : Held → List Edit → Result (Unit {0}) Refusal
+abbrev pub room_for : CurrentOpening → List PlainChange → Result (Unit {0}) Refusal
 room_for h [] = Ok tt
 room_for h (e ∷ es) = if nat_lt h.setting.limit (length (log_of h) + length (e ∷ es)) then Err HistoryFull else
     (if h.setting.is_full h.base h.acked (e ∷ es) then Err Full else Ok tt)
@@ -107,50 +107,50 @@ abbrev pub or_refused : Result (Unit {0}) Refusal → Reply → Reply
 or_refused (Ok u) r = r
 or_refused (Err e) r = Refused e
 
-abbrev pub due_at : Held → Result Step Refusal → Reply
+abbrev pub due_at : CurrentOpening → Result Step Refusal → Reply
 due_at h step = or_refused (room_for h (changes_of step)) (reply_to h step)
 
 -- changes that are kept together are one group, and no changes are none
-abbrev pub grouped : List Edit → List (List Edit)
+abbrev pub grouped : List PlainChange → List (List PlainChange)
 grouped [] = []
 grouped (e ∷ es) = (e ∷ es) ∷ []
 
-abbrev pub group_at : Held → Result Step Refusal → List (List Edit)
+abbrev pub group_at : CurrentOpening → Result Step Refusal → List (List PlainChange)
 group_at h step = if_ok (room_for h (changes_of step)) (grouped (changes_of step)) []
 
 -- the reply that is due, and the group that is kept with it
-abbrev pub due : Held → Command → Reply
+abbrev pub due : CurrentOpening → Command → Reply
 due h c = due_at h (step_in h c)
 
-abbrev pub group_in : Held → Command → List (List Edit)
+abbrev pub group_in : CurrentOpening → Command → List (List PlainChange)
 group_in h c = group_at h (step_in h c)
 
 -- ---- what a group of commands is due
 
 -- the opening in the course of a group that wants these changes so far: they would be kept, and have voided their tickets
-abbrev pub amid : Held → List Edit → Held
+abbrev pub amid : CurrentOpening → List PlainChange → CurrentOpening
 amid h changes = record h { tickets = moved_by h.tickets (switches (flat_map voided_by changes)); acked = h.acked ++ grouped changes }
 
 -- the changes with the one that a command wants behind them
-abbrev pub changes_with : Held → List Edit → Command → List Edit
+abbrev pub changes_with : CurrentOpening → List PlainChange → Command → List PlainChange
 changes_with h changes c = changes ++ changes_of (step_in (amid h changes) c)
 
 -- all that the commands want, one after the other
-abbrev pub changes_due : Held → List Edit → List Command → List Edit
+abbrev pub changes_due : CurrentOpening → List PlainChange → List Command → List PlainChange
 changes_due h changes commands = fold (changes_with h) changes commands
 
 -- and the reply to each of them
-abbrev pub replies_due : Held → List Edit → List Command → List Reply
+abbrev pub replies_due : CurrentOpening → List PlainChange → List Command → List Reply
 replies_due h changes [] = []
 replies_due h changes (c ∷ commands) =
     reply_to (amid h changes) (step_in (amid h changes) c) ∷ replies_due h (changes_with h changes c) commands
 
 -- what refuses a group before any of its commands is looked at
-abbrev pub group_start : Held → List Command → Result (Unit {0}) Refusal
+abbrev pub group_start : CurrentOpening → List Command → Result (Unit {0}) Refusal
 group_start h commands = and_then (unless (is_halted h.pending) Halted) (group_words commands)
 
 -- what refuses it whole: that, or that all its changes together find no room. What refuses one of its commands is that command's reply
-abbrev pub group_check : Held → List Command → Result (Unit {0}) Refusal
+abbrev pub group_check : CurrentOpening → List Command → Result (Unit {0}) Refusal
 group_check h commands = and_then (group_start h commands) (room_for h (changes_due h [] commands))
 
 abbrev pub replies_unless : Result (Unit {0}) Refusal → List Reply → Result (List Reply) Refusal
@@ -158,10 +158,10 @@ replies_unless (Ok u) replies = Ok replies
 replies_unless (Err e) replies = Err e
 
 -- the replies that are due, or the refusal of the whole, and the one group of all its changes that is kept with them
-abbrev pub due_group : Held → List Command → Result (List Reply) Refusal
+abbrev pub due_group : CurrentOpening → List Command → Result (List Reply) Refusal
 due_group h commands = replies_unless (group_check h commands) (replies_due h [] commands)
 
-abbrev pub group_all : Held → List Command → List (List Edit)
+abbrev pub group_all : CurrentOpening → List Command → List (List PlainChange)
 group_all h commands = if_ok (group_check h commands) (grouped (changes_due h [] commands)) []
 
 -- ---- events
@@ -195,19 +195,19 @@ pub data Event : Type 0 where
   refused_opening : Bool → Event
 
 -- the group that a crash may leave besides those of the log
-abbrev pub group_of : Held → Doing → List (List Edit)
+abbrev pub group_of : CurrentOpening → Doing → List (List PlainChange)
 group_of h idle = []
 group_of h (calling c) = group_in h c
 group_of h (grouping commands) = group_all h commands
 
 -- the groups that a crash keeps: all that were acknowledged, and some front of the others; it cuts no group
-abbrev pub kept_groups : Held → Doing → ℕ → List (List Edit)
+abbrev pub kept_groups : CurrentOpening → Doing → ℕ → List (List PlainChange)
 kept_groups h doing n = h.acked ++ take n (h.pending ++ group_of h doing)
 
 -- ---- what an event leaves
 
 -- what a reply acknowledges of the group that is kept with it
-abbrev pub acked_by : Reply → List (List Edit) → List (List Edit)
+abbrev pub acked_by : Reply → List (List PlainChange) → List (List PlainChange)
 acked_by (Answer a) g = []
 acked_by (Applied n o) g = g
 acked_by (Stored n o) g = g
@@ -218,13 +218,13 @@ is_fault Fault = true
 is_fault e = false
 
 -- and what it leaves of it without an acknowledgement
-abbrev pub pending_by : Reply → List (List Edit) → List (List Edit)
+abbrev pub pending_by : Reply → List (List PlainChange) → List (List PlainChange)
 pending_by (Answer a) g = []
 pending_by (Applied n o) g = []
 pending_by (Stored n o) g = []
 pending_by (Refused e) g = if is_fault e then g else []
 
-abbrev pub heard : Held → Call → Upshot → Held
+abbrev pub heard : CurrentOpening → Call → Upshot → CurrentOpening
 heard h c t = record h {
   tickets = moved_by h.tickets (mentions_of c);
   acked = h.acked ++ acked_by c.reply (group_in h c.command);
@@ -233,15 +233,15 @@ heard h c t = record h {
 }
 
 -- the same of a group
-abbrev pub acked_by_group : Result (List Reply) Refusal → List (List Edit) → List (List Edit)
+abbrev pub acked_by_group : Result (List Reply) Refusal → List (List PlainChange) → List (List PlainChange)
 acked_by_group (Ok replies) g = g
 acked_by_group (Err e) g = []
 
-abbrev pub pending_by_group : Result (List Reply) Refusal → List (List Edit) → List (List Edit)
+abbrev pub pending_by_group : Result (List Reply) Refusal → List (List PlainChange) → List (List PlainChange)
 pending_by_group (Ok replies) g = []
 pending_by_group (Err e) g = if is_fault e then g else []
 
-abbrev pub heard_group : Held → List Command → Result (List Reply) Refusal → Upshot → Held
+abbrev pub heard_group : CurrentOpening → List Command → Result (List Reply) Refusal → Upshot → CurrentOpening
 heard_group h commands result t = record h {
   tickets = moved_by h.tickets (mentions_of_group commands result);
   acked = h.acked ++ acked_by_group result (group_all h commands);
@@ -249,7 +249,7 @@ heard_group h commands result t = record h {
   shown = t.shown;
 }
 
-abbrev pub sighted : Held → ℕ → ℕ → Held
+abbrev pub sighted : CurrentOpening → ℕ → ℕ → CurrentOpening
 sighted h worker n = record h { sights = h.sights ++ (record { worker = worker; front = n }) ∷ [] }
 
 abbrev pub next : State → Event → State
@@ -266,13 +266,13 @@ next st e = st
 
 -- what may stand in place of the reply that is due: memory was refused, where the command takes any; or, of a change, the device failed,
 -- or it is kept and not shown
-abbrev pub StandsIn : Held → Command → Bool → Reply → Reply → Type 0
+abbrev pub StandsIn : CurrentOpening → Command → Bool → Reply → Reply → Type 0
 StandsIn h c failed due (Refused Memory) = takes_memory (durable_of h) c ≡ true
 StandsIn h c failed (Applied n o) (Refused Fault) = failed ≡ true
 StandsIn h c failed (Applied n o) (Stored m p) = (m ≡ n) × (p ≡ o)
 StandsIn h c failed due r = ⊥
 
-abbrev pub LegalReply : Held → Command → Reply → Bool → Type 0
+abbrev pub LegalReply : CurrentOpening → Command → Reply → Bool → Type 0
 LegalReply h c r failed = (r ≡ due h c) ⊎ StandsIn h c failed (due h c) r
 
 abbrev pub shown_by_answer : Told → ℕ → ℕ
@@ -286,7 +286,7 @@ shown_by (Applied n o) shown = n
 shown_by (Stored n o) shown = shown
 shown_by (Refused e) shown = shown
 
-pub record LegalCall (h : Held) (c : Call) (t : Upshot) : Type 0 where
+pub record LegalCall (h : CurrentOpening) (c : Call) (t : Upshot) : Type 0 where
   pub reply : LegalReply h c.command c.reply t.failed
   pub shown : t.shown ≡ shown_by c.reply h.shown
 
@@ -297,16 +297,16 @@ as_stored r = r
 
 -- The same of a group: memory was refused, where it isn't refused before it takes any; or the device failed, where there are changes to be
 -- kept; or these are kept, and none of them is shown.
-abbrev pub GroupStandsIn : Held → List Command → Bool → Result (List Reply) Refusal → Result (List Reply) Refusal → Type 0
+abbrev pub GroupStandsIn : CurrentOpening → List Command → Bool → Result (List Reply) Refusal → Result (List Reply) Refusal → Type 0
 GroupStandsIn h commands failed due (Err Memory) = group_start h commands ≡ Ok tt
 GroupStandsIn h commands failed (Ok replies) (Err Fault) = (failed ≡ true) × (group_all h commands ≢ [])
 GroupStandsIn h commands failed (Ok replies) (Ok stored) = stored ≡ map as_stored replies
 GroupStandsIn h commands failed due result = ⊥
 
-abbrev pub LegalReplies : Held → List Command → Result (List Reply) Refusal → Bool → Type 0
+abbrev pub LegalReplies : CurrentOpening → List Command → Result (List Reply) Refusal → Bool → Type 0
 LegalReplies h commands result failed = (result ≡ due_group h commands) ⊎ GroupStandsIn h commands failed (due_group h commands) result
 
-pub record LegalGroup (h : Held) (commands : List Command) (result : Result (List Reply) Refusal) (t : Upshot) : Type 0 where
+pub record LegalGroup (h : CurrentOpening) (commands : List Command) (result : Result (List Reply) Refusal) (t : Upshot) : Type 0 where
   pub reply : LegalReplies h commands result t.failed
   pub shown : t.shown ≡ fold (λ n r. shown_by r n) h.shown (replies_in result)
 
@@ -339,5 +339,5 @@ IsLegalFrom st [] = ⊤
 IsLegalFrom st (e ∷ es) = IsLegal st e × IsLegalFrom (next st e) es
 
 -- events that are legal in turn, where this was held first
-abbrev pub IsWorld : Kept → List Event → Type 0
+abbrev pub IsWorld : PlainDurable → List Event → Type 0
 IsWorld first world = IsLegalFrom (down first) world

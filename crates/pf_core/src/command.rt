@@ -101,7 +101,7 @@ pub enum Question {
     Export,
 }
 
-/// What is asked of whoever keeps the history of changes (pf_book, or pfd in memory). Own.
+/// What is asked of whoever keeps the history of changes (pf_book, or pfd in memory).
 #[derive(Clone, Copy)]
 pub enum HistoryCommand {
     /// Tells how many changes there are since the opening, how many of them are acknowledged, and how many are shown.

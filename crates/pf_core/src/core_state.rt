@@ -1,11 +1,11 @@
 //! One command after the other.
 ghost use Rattle.std.specs.{Prelude.{◌≡◌, List, IfOk, OnErr, true}, Arc.arc_value};
 ghost use Rattle.pf_rule.specs.Packets.{PlainPacket};
-ghost use Rattle.pf_ticket.specs.declared.entry.Entry.{Entry};
+ghost use Rattle.pf_ticket.specs.declared.entry.RulesetTicket.{RulesetTicket};
 ghost use Rattle.pf_ticket.specs.{Mentions.{after, switches}, Tickets.{fresh, content}};
 ghost use Rattle.pf_core.specs.declared.{command.Command.Command, command.Question.Question, command.Transaction.Transaction};
 ghost use Rattle.pf_core.specs.declared.reply.Answer.TheVariants as answer;
-ghost use Rattle.pf_core.specs.{Commands.{item_of, items, commit_step, rollback_step, transact_step, answer_of, step_by, transacts_in_memory, asks_for_memory, takes_memory, may_be_grouped}, Durable.Edits.verdict, Nexts.ready, Refusals.OrMemory, Wholes.{whole, prepared, prepared_from, answered, stepped, plain, IsMade, IsMadeFrom}};
+ghost use Rattle.pf_core.specs.{Commands.{item_of, items, commit_step, rollback_step, transact_step, answer_of, step_by, transacts_in_memory, asks_for_memory, takes_memory, may_be_grouped}, Durable.Changes.verdict, Nexts.next_with, Refusals.OrMemory, Cores.{core_with, prepared, prepared_from, answered, stepped, plain, IsMade, IsMadeFrom}};
 
 use crate::command::{Command, Question, Transaction};
 use crate::durable::{Change, Durable, Item};
@@ -16,12 +16,12 @@ use crate::step::{ReadyStep, Step, wants};
 use crate::table_edit::edit;
 use pf_anchor::Placed;
 use pf_state::failover::export;
-use pf_ticket::{Entry, Offered, RulesetName, Tickets};
+use pf_ticket::{Offered, RulesetName, RulesetTicket, Tickets};
 use std::alloc::{AllocError, Global};
 use std::marker::Model;
 use std::sync::Arc;
 
-/// What is kept, and the open transactions. Contracts see it as a `Whole`.
+/// What is kept, and the open transactions. Contracts see it as a `PlainCore`.
 #[derive(Drop)]
 pub struct Core {
     alloc: Global,
@@ -31,11 +31,11 @@ pub struct Core {
 
 impl Model for Core {
     ghost use Rattle.std.specs.Arc.{arc_value};
-    ghost use Rattle.pf_core.specs.Wholes.{Whole, whole};
+    ghost use Rattle.pf_core.specs.Cores.{PlainCore, core_with};
 
-    ghost Value = { Whole };
+    ghost Value = { PlainCore };
 
-    ghost view = { λ c. whole (arc_value c.durable) c.tickets };
+    ghost view = { λ c. core_with (arc_value c.durable) c.tickets };
 }
 
 // What replaces a ruleset: what is offered for it. No rule and no table is copied.
@@ -54,7 +54,7 @@ fn take_items(
     alloc: Global,
     tickets: &Tickets,
     before: &[RulesetName],
-    entries: &[Entry],
+    entries: &[RulesetTicket],
 ) -> Result<Vec<Item>, AllocError>
     ensures { IfOk result (λ v. v.items ≡ items (content (after tickets.now (switches before.now))) entries.now) }
 {
@@ -72,10 +72,10 @@ fn commit(
     durable: &Durable,
     tickets: &Tickets,
     before: &[RulesetName],
-    entries: &[Entry],
+    entries: &[RulesetTicket],
 ) -> Result<ReadyStep, Refusal>
     ensures reply { OrMemory true (plain result) (commit_step (after tickets.now (switches before.now)) durable.now entries.now) }
-    ensures made { IsMadeFrom (ready durable.now before.now) result }
+    ensures made { IsMadeFrom (next_with durable.now before.now) result }
 {
     tickets.check_behind(before, entries)?;
     let items = take_items(alloc, tickets, before, entries)?;
@@ -96,7 +96,7 @@ fn commit_of(
     requires { may_be_grouped (Command.Transact transaction.now) ≡ true }
     ensures reply { OrMemory (transacts_in_memory transaction.now) (plain result)
         (transact_step (after tickets.now (switches before.now)) durable.now transaction.now) }
-    ensures made { IsMadeFrom (ready durable.now before.now) result }
+    ensures made { IsMadeFrom (next_with durable.now before.now) result }
 {
     match transaction {
         Transaction::Commit(entries) => {
@@ -116,7 +116,7 @@ fn transact(
     ensures reply { OrMemory (transacts_in_memory transaction.now) (plain result) (transact_step tickets.old durable.now transaction.now) }
     ensures made { IsMade durable.now result }
     ensures tickets { tickets.new ≡ answered tickets.old (Command.Transact transaction.now) (plain result) }
-    ensures rolled_back { (entries : List Entry) → transaction.now ≡ Transaction.Rollback entries → plain result ≡ rollback_step entries }
+    ensures rolled_back { (entries : List RulesetTicket) → transaction.now ≡ Transaction.Rollback entries → plain result ≡ rollback_step entries }
 {
     match transaction {
         Transaction::Begin(names) => {
@@ -186,7 +186,7 @@ fn alone(step: Result<ReadyStep, Refusal>) -> Result<Step, Refusal>
 impl Core {
     /// What is kept, with no ticket given. It takes no memory.
     pub fn new(alloc: Global, durable: Arc<Durable>) -> Core
-        ensures { result ≡ whole (arc_value durable) (fresh (arc_value durable).epoch) }
+        ensures { result ≡ core_with (arc_value durable) (fresh (arc_value durable).epoch) }
     {
         let tickets = Tickets::new(alloc, durable.epoch());
         Core {
@@ -228,7 +228,7 @@ impl Core {
         ensures left { self.new ≡ stepped self.old command.now result }
         ensures judged { (packet : PlainPacket) → command.now ≡ Command.Ask (Question.Judge packet) →
             result ≡ Ok (Step.Done (answer.Judged (verdict self.old.durable packet))) }
-        ensures rolled_back { (entries : List Entry) → command.now ≡ Command.Transact (Transaction.Rollback entries) →
+        ensures rolled_back { (entries : List RulesetTicket) → command.now ≡ Command.Transact (Transaction.Rollback entries) →
             result ≡ rollback_step entries }
     {
         alone(self.step_ready(command))
@@ -242,7 +242,7 @@ impl Core {
         ensures left { self.new ≡ stepped self.old command.now (plain result) }
         ensures judged { (packet : PlainPacket) → command.now ≡ Command.Ask (Question.Judge packet) →
             plain result ≡ Ok (Step.Done (answer.Judged (verdict self.old.durable packet))) }
-        ensures rolled_back { (entries : List Entry) → command.now ≡ Command.Transact (Transaction.Rollback entries) →
+        ensures rolled_back { (entries : List RulesetTicket) → command.now ≡ Command.Transact (Transaction.Rollback entries) →
             plain result ≡ rollback_step entries }
     {
         match command {
@@ -315,7 +315,7 @@ impl Core {
 
     /// Puts in place what was prepared, which has to be of this core as it is. It takes no memory.
     pub fn accept(&mut self, next: Next)
-        ensures { self.new ≡ whole next.durable (after self.old.tickets (switches next.voided)) }
+        ensures { self.new ≡ core_with next.durable (after self.old.tickets (switches next.voided)) }
     {
         let Next { durable, voided } = next;
         self.durable = durable;

@@ -6,7 +6,7 @@
 //! A `Core` is what is kept, a `Durable`, and the open transactions. `Core::step` answers a command, refuses it, leaves it to whoever keeps
 //! the history, or says which `Change` it wants kept; `Core::prepare` makes what the change leaves, and `Core::accept` puts it in place.
 //! `Core::step_ready` is a step with what its change leaves, made once. `Core::step_from` and `Core::prepare_from` are the same for a later
-//! command of a group, whose changes are kept together. Read first specs/Durable/Edits.antt (what is kept, what a change does to it, which
+//! command of a group, whose changes are kept together. Read first specs/Durable/Changes.antt (what is kept, what a change does to it, which
 //! change fits) and specs/Commands.antt (the one step that a command is due), then specs/Worlds.antt: lists of calls, of groups of
 //! commands, of what workers see, of crashes and openings, and which of these are legal. What holds in every such world, as that no limit
 //! is passed, nothing stands twice and no ticket is given twice, says specs/Laws/Worlds.antt; specs/Laws/Openings.antt says what each
@@ -15,7 +15,7 @@
 //!
 //! `durable` is what is kept and its changes. It uses no other module, and knows of tickets only the names of rulesets and the lists of
 //! defined tables. `command` and `reply` are values over it; `group` says which commands may be kept together; `table_edit` and
-//! `state_command` are the steps of their commands, and `core_state` uses all. specs/Pages.antt is for the crate above.
+//! `state_command` are the steps of their commands, and `core_state` uses all. specs/WorldBooks.antt is for the crate above.
 #![tactic(auto)]
 
 mod command;

@@ -1,6 +1,6 @@
 //! What a change leaves, made before it is kept.
 ghost use Rattle.std.specs.{Prelude.{◌≡◌, ◌++◌, IfOk}, Arc.arc_value};
-ghost use Rattle.pf_core.specs.{Durable.Edits.voided_by, Nexts.ready};
+ghost use Rattle.pf_core.specs.{Durable.Changes.voided_by, Nexts.next_with};
 
 use crate::durable::{Change, Durable};
 use pf_ticket::RulesetName;
@@ -8,7 +8,7 @@ use std::alloc::{AllocError, Global};
 use std::marker::Model;
 use std::sync::Arc;
 
-/// What a change leaves, or several of a group in turn, with all its memory made. Contracts see it as a `Ready`.
+/// What a change leaves, or several of a group in turn, with all its memory made. Contracts see it as a `PlainNext`.
 #[derive(Drop)]
 pub struct Next {
     pub(crate) durable: Arc<Durable>,
@@ -17,11 +17,11 @@ pub struct Next {
 
 impl Model for Next {
     ghost use Rattle.std.specs.Arc.{arc_value};
-    ghost use Rattle.pf_core.specs.Nexts.{Ready, ready};
+    ghost use Rattle.pf_core.specs.Nexts.{PlainNext, next_with};
 
-    ghost Value = { Ready };
+    ghost Value = { PlainNext };
 
-    ghost view = { λ n. ready (arc_value n.durable) n.voided.items };
+    ghost view = { λ n. next_with (arc_value n.durable) n.voided.items };
 }
 
 // These rulesets behind those.
@@ -48,7 +48,7 @@ impl Next {
         change: &Change,
         left: Durable,
     ) -> Result<Next, AllocError>
-        ensures { IfOk result (λ n. n ≡ ready left (before.now ++ voided_by change.now)) }
+        ensures { IfOk result (λ n. n ≡ next_with left (before.now ++ voided_by change.now)) }
     {
         let voided = behind(alloc, before, change.voided(alloc)?)?;
         let Ok(durable) = Arc::new(alloc, left) else {

@@ -21,9 +21,9 @@ pub struct NamedTables {
 
 impl Model for NamedTables {
     ghost use Rattle.std.specs.Prelude.{List};
-    ghost use Rattle.pf_anchor.specs.Tables.{Tabled};
+    ghost use Rattle.pf_anchor.specs.Tables.{PlainPlacedTable};
 
-    ghost Value = { List Tabled };
+    ghost Value = { List PlainPlacedTable };
 
     ghost view = { λ n. n.tables.items };
 }
@@ -52,9 +52,9 @@ pub struct StateList {
 
 impl Model for StateList {
     ghost use Rattle.std.specs.Prelude.{List};
-    ghost use Rattle.pf_state.specs.States.{Stated};
+    ghost use Rattle.pf_state.specs.States.{PlainState};
 
-    ghost Value = { List Stated };
+    ghost Value = { List PlainState };
 
     ghost view = { λ l. l.states.items };
 }
@@ -155,7 +155,7 @@ pub enum Refusal {
     /// The bytes of a peer's message are several messages, or none. No command was read: all is as before.
     PeerCount,
     /// The device that changes are kept on failed in this opening, so nothing more is changed in it: this comes before all that a
-    /// command may be refused for that could change something. All is as before. Own.
+    /// command may be refused for that could change something. All is as before.
     Halted,
     /// The list of a begin, a commit or a rollback without entries, or with more than 64; or a group without commands, or with more than
     /// 64. All is as before.
@@ -190,11 +190,11 @@ pub enum Refusal {
     /// The history has as many changes as it may have, which whoever keeps it says. All is as before.
     HistoryFull,
     /// The device that changes are kept on has no room for this one, or for all of a group, which whoever keeps them says. All is as
-    /// before. Own.
+    /// before.
     Full,
     /// The device failed while the change, or a group's changes, were put there. They aren't acknowledged: the next opening may give them
     /// or not, of a group all or none. What is kept, the tickets and what is shown are as before, and until that opening all that may
-    /// change something is `Halted`. Own.
+    /// change something is `Halted`.
     Fault,
     /// A growth of memory was refused. All is as before, and the command may be asked again.
     Memory,

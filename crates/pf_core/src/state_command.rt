@@ -2,7 +2,7 @@
 ghost use Rattle.std.specs.Prelude.{◌≡◌, ◌∷◌, [], length, not, IfOk};
 ghost use Rattle.pf_anchor.specs.Rulesets.{rules_at};
 ghost use Rattle.pf_state.specs.declared.step.Step.TheVariants as step_kind;
-ghost use Rattle.pf_core.specs.{Durable.Edits.verdict, Commands.{bound_here, makes_state, make_step, track_step, steps_here, states_step, is_done, changes_states_in_memory}, Nexts.ready, Refusals.OrMemory, Wholes.{plain, IsMadeFrom}};
+ghost use Rattle.pf_core.specs.{Durable.Changes.verdict, Commands.{bound_here, makes_state, make_step, track_step, steps_here, states_step, is_done, changes_states_in_memory}, Nexts.next_with, Refusals.OrMemory, Cores.{plain, IsMadeFrom}};
 
 use crate::command::StateCommand;
 use crate::durable::{Change, Durable, Verdict};
@@ -63,7 +63,7 @@ fn make(
     held: Held,
 ) -> Result<ReadyStep, Refusal>
     ensures reply { let due = make_step durable.now by (name, held) in OrMemory (not (is_done due)) (plain result) due }
-    ensures made { IsMadeFrom (ready durable.now before.now) result }
+    ensures made { IsMadeFrom (next_with durable.now before.now) result }
 {
     if durable.states().held_at(name).is_some() {
         return Ok(ReadyStep::Done(Answer::Stale(by)));
@@ -84,7 +84,7 @@ fn track(
     packet: &Packet,
 ) -> Result<ReadyStep, Refusal>
     ensures reply { let due = track_step durable.now name packet.now (verdict durable.now packet.now) in OrMemory (not (is_done due)) (plain result) due }
-    ensures made { IsMadeFrom (ready durable.now before.now) result }
+    ensures made { IsMadeFrom (next_with durable.now before.now) result }
 {
     let by = match durable.verdict(packet) {
         Verdict::Rules(by) => by,
@@ -117,7 +117,7 @@ pub(crate) fn change_states(
     command: &StateCommand,
 ) -> Result<ReadyStep, Refusal>
     ensures reply { OrMemory (changes_states_in_memory durable.now command.now) (plain result) (states_step durable.now command.now) }
-    ensures made { IsMadeFrom (ready durable.now before.now) result }
+    ensures made { IsMadeFrom (next_with durable.now before.now) result }
 {
     match command {
         StateCommand::Track { name, packet } => track(alloc, durable, before, *name, packet),

@@ -1,6 +1,6 @@
 //! What one command comes to.
 ghost use Rattle.std.specs.Prelude.{◌≡◌, ◌++◌, IfOk};
-ghost use Rattle.pf_core.specs.{Durable.Edits.voided_by, Nexts.ready};
+ghost use Rattle.pf_core.specs.{Durable.Changes.voided_by, Nexts.next_with};
 ghost use Rattle.pf_core.specs.declared.step.ReadyStep.TheVariants as made;
 
 use crate::command::HistoryCommand;
@@ -40,7 +40,7 @@ pub(crate) fn wants(
     left: Durable,
     outcome: Outcome,
 ) -> Result<ReadyStep, AllocError>
-    ensures { IfOk result (λ s. s ≡ made.Wants change (ready left (before.now ++ voided_by change)) outcome) }
+    ensures { IfOk result (λ s. s ≡ made.Wants change (next_with left (before.now ++ voided_by change)) outcome) }
 {
     let next = Next::new(alloc, before, &change, left)?;
     Ok(ReadyStep::Wants(change, next, outcome))

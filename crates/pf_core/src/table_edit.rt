@@ -1,6 +1,6 @@
 //! Edits of tables: which change each one wants, and what it is told.
 ghost use Rattle.std.specs.Prelude.{◌≡◌, length, filter};
-ghost use Rattle.pf_core.specs.{Commands.{same_addition, added_of, same_deletion, deleted_of, edit_step, edits_in_memory}, Nexts.ready, Refusals.OrMemory, Wholes.{plain, IsMadeFrom}};
+ghost use Rattle.pf_core.specs.{Commands.{same_addition, added_of, same_deletion, deleted_of, edit_step, edits_in_memory}, Nexts.next_with, Refusals.OrMemory, Cores.{plain, IsMadeFrom}};
 
 use crate::command::TableEdit;
 use crate::durable::{Change, Durable, EntryList};
@@ -51,7 +51,7 @@ pub(crate) fn edit(
     edit: &TableEdit,
 ) -> Result<ReadyStep, Refusal>
     ensures reply { OrMemory (edits_in_memory durable.now edit.now) (plain result) (edit_step durable.now edit.now) }
-    ensures made { IsMadeFrom (ready durable.now before.now) result }
+    ensures made { IsMadeFrom (next_with durable.now before.now) result }
 {
     match edit {
         TableEdit::Add {

@@ -114,13 +114,13 @@ size-after s (writing at bytes) fits = (overwritten_elsewhere at s.seen bytes (l
 size-after s syncing fits = refl
 
 -- a call that is kept: what holds behind it
-pub record Goes (first old_bytes new_bytes : List ℕ) (size : ℕ) (old new : List Event) (event : Event) : Type 0 where
+pub record GoesOn (first old_bytes new_bytes : List ℕ) (size : ℕ) (old new : List Event) (event : Event) : Type 0 where
   pub keeps : Keeps first new_bytes size new
   pub unsynced : (i : ℕ) → (after (at_rest first) new).unsynced i ≡ (after_event (after (at_rest first) old) event).unsynced i
   pub time : Elapses (length old) (length new) (LeftSince first old) (LeftSince first new) new_bytes (after (at_rest first) new).unsynced
 
 pub goes : (first old_bytes new_bytes : List ℕ) (size : ℕ) (old new : List Event) (event : Event) → Keeps first old_bytes size old → fits_in size event ≡ true
-    → new ≡ old ++ event ∷ [] → new_bytes ≡ (after_event (at_rest old_bytes) event).seen → Goes first old_bytes new_bytes size old new event
+    → new ≡ old ++ event ∷ [] → new_bytes ≡ (after_event (at_rest old_bytes) event).seen → GoesOn first old_bytes new_bytes size old new event
 goes first old_bytes new_bytes size old new event keeps fits is now =
     let s = after (at_rest first) old in
     let state : after (at_rest first) new ≡ after_event s event = ap (after (at_rest first)) is ∙ after-push (at_rest first) old event in

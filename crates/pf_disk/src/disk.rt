@@ -2,7 +2,7 @@
 ghost use Rattle.std.specs.Prelude.{◌≡◌, ◌⊎◌, ◌+◌, ◌^◌, ◌<◌, ◌≤◌, ℕ, Bool, List, length, take, drop, OnOk, OnErr};
 ghost use Rattle.pf_disk.specs.Disk.{IsImage, IsSynced, AreIn, is_within, with_range, overwritten, Elapses, CountsFault};
 
-/// A call of the device failed. Own.
+/// A call of the device failed.
 #[derive(Clone, Copy, Debug)]
 pub struct DiskFault;
 
@@ -15,7 +15,7 @@ pub struct DiskFault;
 /// device where each of these is one moment, as it is on `MemDisk`.
 ///
 /// A call fails exactly where it raises the count of faults by one. A caller keeps ranges within the device and stops at 2^63
-/// faults. Own.
+/// faults.
 pub trait Disk {
     /// The bytes that a read gives.
     ghost seen: { Self → List ℕ };

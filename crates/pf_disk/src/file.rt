@@ -10,7 +10,7 @@ use std::alloc::{AllocError, Global};
 use std::fs::File;
 use std::os::unix::fs::FileExt;
 
-/// Why a file isn't taken as a device. Nothing was written to it. Own.
+/// Why a file isn't taken as a device. Nothing was written to it.
 #[derive(Clone, Copy, Debug)]
 pub enum FileFault {
     /// The file hasn't the length that it has to have.
@@ -36,7 +36,7 @@ impl From<AllocError> for FileFault {
 ///
 /// After a write that failed the file may hold any bytes in that range, and after a sync that failed the system may have dropped what was to
 /// be written, so that the next sync succeeds without it. Then the device is broken: each later call is a fault, and the file isn't touched
-/// any more. Only a new device over the file, which reads it again, goes on. Own.
+/// any more. Only a new device over the file, which reads it again, goes on.
 #[derive(Drop)]
 pub struct FileDisk {
     file: File,
@@ -53,7 +53,7 @@ pub struct FileDisk {
 
 impl FileDisk {
     /// The file as a device. It is read, and synced as by [`Disk::sync`], so that nothing of it is unsynced. It has to be open
-    /// for reading and writing, and to have `size` bytes; nobody else writes it. Own.
+    /// for reading and writing, and to have `size` bytes; nobody else writes it.
     pub fn of(alloc: Global, file: File, size: usize) -> Result<FileDisk, FileFault>
         ensures size { IfOk result (λ disk. length (⟦<FileDisk as Disk>⟧.seen disk) ≡ size) }
         ensures synced { IfOk result (λ disk. IsSynced (⟦<FileDisk as Disk>⟧.unsynced disk)) }

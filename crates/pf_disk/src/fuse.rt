@@ -13,7 +13,7 @@ enum Fuse {
 }
 
 /// Passes calls on to another device, and fails where its fuse says. A call that it fails isn't passed on and changes nothing
-/// but the count of faults. Own.
+/// but the count of faults.
 #[derive(Drop)]
 pub struct FuseDisk<D: Disk> {
     inner: D,
@@ -26,7 +26,7 @@ impl<D: Disk> FuseDisk<D> {
     ghost use Rattle.pf_disk.specs.declared.fuse.Fuse.TheVariants.{After, Once};
     ghost use Rattle.pf_disk.specs.Fuse.{inner_of, fuse_of, refused_of};
 
-    /// Passes `k` calls on, and then fails all. Own.
+    /// Passes `k` calls on, and then fails all.
     pub fn after(disk: D, k: u64) -> FuseDisk<D>
         requires { D.fault_count disk ≤ 2 ^ 63 }
         ensures inner { inner_of result ≡ disk }
@@ -40,7 +40,7 @@ impl<D: Disk> FuseDisk<D> {
         }
     }
 
-    /// Fails call number `k + 1` alone. Own.
+    /// Fails call number `k + 1` alone.
     pub fn once(disk: D, k: u64) -> FuseDisk<D>
         requires { D.fault_count disk ≤ 2 ^ 63 }
         ensures inner { inner_of result ≡ disk }
@@ -54,7 +54,7 @@ impl<D: Disk> FuseDisk<D> {
         }
     }
 
-    /// The device as it stands. Own.
+    /// The device as it stands.
     pub fn into_inner(self) -> D
         ensures { result ≡ inner_of self }
     {

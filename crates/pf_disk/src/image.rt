@@ -5,10 +5,10 @@ ghost use Rattle.pf_disk.specs.{Disk.{overwritten, is_within}, Calls.{State, at_
 use crate::memory::{Call, overwrite};
 use std::alloc::{AllocError, Global};
 
-/// The byte that opens a gate of the layers above. No other byte does. Own.
+/// The byte that opens a gate of the layers above. No other byte does.
 pub const OPEN_GATE: u8 = 0xA5;
 
-/// What a crash leaves at the unsynced places. Own.
+/// What a crash leaves at the unsynced places.
 #[derive(Clone, Copy)]
 pub enum Fill<'a> {
     /// The bytes of the last sync.

@@ -2,7 +2,7 @@
 ghost use Rattle.std.specs.Prelude.{◌≡◌};
 ghost use Rattle.pf_disk.specs.declared.image.TheConstants.{OPEN_GATE};
 
-/// An open gate is A5. Own.
+/// An open gate is A5.
 pub fn open_gate_is_a5()
     ensures { OPEN_GATE ≡ 165 }
 {}

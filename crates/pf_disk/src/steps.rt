@@ -5,7 +5,7 @@ ghost use Rattle.pf_disk.specs.Disk.{IsImage, IsSynced, is_within, overwritten, 
 use crate::{Disk, DiskFault};
 
 /// Writes these bytes from place `at` on and syncs, on a device with nothing unsynced, in two moments at most. At each of them
-/// an image is as the read before, but for the range. After an `Err` the range may read as any bytes, and may be unsynced. Own.
+/// an image is as the read before, but for the range. After an `Err` the range may read as any bytes, and may be unsynced.
 pub fn write_synced<D: Disk>(disk: &mut D, at: usize, bytes: &[u8]) -> Result<(), DiskFault>
     requires within { at + length bytes.now ≤ length (D.seen disk.old) }
     requires synced { IsSynced (D.unsynced disk.old) }

@@ -4,7 +4,7 @@ pub mod Kernels
 pub mod Pushing
 pub mod Naming
 pub mod Fields
-pub mod Fronts
+pub mod WordTests
 pub mod Matched
 pub mod Places
 pub mod LongestSoFar

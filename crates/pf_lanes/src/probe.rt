@@ -22,9 +22,9 @@ pub struct Probe<'a> {
 }
 
 impl<'a> Model for Probe<'a> {
-    ghost use Rattle.pf_lanes.specs.Probes.{Asking};
+    ghost use Rattle.pf_lanes.specs.Probes.{PlainProbe};
 
-    ghost Value = { Asking };
+    ghost Value = { PlainProbe };
 
     ghost use Rattle.pf_lanes.specs.KeptProbes.{asking, IsProbe};
 

@@ -1,7 +1,7 @@
 -- What words are read as where a choice stands first, by whether its word was taken.
 use Rattle.std.proofs.Common.{◌≡◌, Bool, true, false, List, [], ◌∷◌, Ok, Err, sym, ap}
 use Rattle.std.specs.{Prelude.if◌then◌else◌, Str.bytes_eq}
-use Rattle.pf_addr.specs.{Form.Words.Word, Form.Forms.{Form, or, Read, reads, ended, ◌>>=◌, read_all}, Form.Readers.if_there}
+use Rattle.pf_form.specs.{Form.Words.Word, Form.Forms.{Form, or, Read, reads, ended, ◌>>=◌, read_all}, Form.Readers.if_there}
 
 abbrev pub flag_of : Read Bool → Bool
 flag_of (Ok x) = x.0

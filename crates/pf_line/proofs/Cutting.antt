@@ -1,7 +1,7 @@
 -- The words of a line, cut one after another where they stand.
 use Rattle.std.proofs.{Common.{◌≡◌, ℕ, ◌+◌, ◌-◌, ◌<◌, ◌≤◌, Bool, true, false, List, [], ◌∷◌, ◌++◌, length, take, drop, get_or, refl, sym, ap, ◌∙◌, subst, append_assoc, append-nil, arith}, lemmas.Bool.Decides.nat_tests, lemmas.List.{drop_more, take_more, get_or-drop, length-drop, take_all}, lemmas.List.Elements.All-push, lemmas.List.Splits.{slice_split_none, slice_split_at}, lemmas.List.Folds.{drop_split, list_all_more}, lemmas.List.Sums.AllPass-from_list_all}
 use Rattle.std.specs.{Prelude.{nat_lt, filter, All}, List.{slice_split, slice_range, list_all}}
-use Rattle.pf_addr.specs.Form.Words.{Word, is_blank, words_of}
+use Rattle.pf_form.specs.Form.Words.{Word, is_blank, words_of}
 use Rattle.pf_line.specs.{Cutting.if_some, Lines.is_line_byte}
 
 abbrev pub Inked : List ℕ → Type 0

@@ -3,13 +3,14 @@ use Rattle.std.proofs.{Common.{◌≡◌, ◌<◌, ◌≤◌, ◌/◌, ◌%◌, 
 use Rattle.std.specs.{Prelude.{codes, nat_lt, slice_index, Option, Some, Result, Ok}, Int.{byte_at, bytes_high_first}, List.{list_all, slice_split, flat_map}}
 use Rattle.hex.specs.Hex.{IsBytes, encode_with, encode_lower, lower_digits}
 use Rattle.hex.proofs.HexLemmas.{length-encode_with}
-use Rattle.pf_addr.specs.{Address.family_of, Form.Words.{words_of, is_blank}, Laws.Form.Texts.only, Form.Forms.Spells}
+use Rattle.pf_addr.specs.Address.{family_of}
+use Rattle.pf_form.specs.{Form.{Words.{words_of, is_blank}, Forms.Spells}, Laws.Form.Texts.only}
 use Rattle.pf_addr.specs.declared.{addr.Addr.Addr, addr.Addr.TheVariants.{V4, V6}}
 use Rattle.pf_rule.specs.declared.{value.direction.Direction.Direction, value.direction.Direction.TheVariants.{In, Out}}
 use Rattle.pf_state.specs.declared.peer.message.Message.{Message}
 use Rattle.pf_rule.specs.Bytes.{addr_bytes, direction_byte, family_byte}
-use Rattle.pf_state.specs.{Peer.Records.{PlainInsert, insert_bytes}, Peer.Written.{Each, message_length, message_bytes, CanBeWritten}, States.Stated, Failover.Outgoing.{exported_insert, exported_message}, Laws.Failover.IsState}
-use Rattle.pf_state.proofs.{Cut.by_parts, Parts.told_long, ReadBack.are_inserts}
+use Rattle.pf_state.specs.{Peer.Records.{PlainInsert, insert_bytes}, Peer.Written.{Each, message_length, message_bytes, CanBeWritten}, States.PlainState, Failover.Outgoing.{exported_insert, exported_message}, Laws.Failover.IsState}
+use Rattle.pf_state.proofs.{Cut.by_parts, ExportParts.told_long, ReadBack.are_inserts}
 use Rattle.pf_core.specs.declared.{command.Command.TheVariants.States, command.StateCommand.TheVariants.Peer, reply.Refusal.Refusal}
 use Rattle.pf_line.specs.{Grammar.{decided, line as grammar, Spoken, Tells}, Lines.{is_line_byte, is_bad_line, line_at, Means, said}, Reply.StateTexts.message_line, Laws.Exports.{TellsOf, ExportsAreRead}}
 use Rattle.pf_line.proofs.SpelledStates.{message_spelled, message_meant}
@@ -68,11 +69,11 @@ insert_is_bytes i low =
     let kinds = one_more (way_low i.direction) (one_more (family_low i.source) (one_more low behind)) in
     joined (number 8 i.id) (joined (number 4 i.creator) (joined (number 4 i.generation) kinds))
 
-inserts_are_bytes : (current : List ℕ) (es : List Stated) → Each IsState es → AreBytes (flat_map insert_bytes (map (exported_insert current) es))
+inserts_are_bytes : (current : List ℕ) (es : List PlainState) → Each IsState es → AreBytes (flat_map insert_bytes (map (exported_insert current) es))
 inserts_are_bytes current [] each = none
 inserts_are_bytes current (s ∷ es) each = joined (insert_is_bytes (exported_insert current s) each.0.flow.protocol.1) (inserts_are_bytes current es each.1)
 
-message_is_bytes : (current : List ℕ) (es : List Stated) → IsBytes current → Each IsState es → AreBytes (message_bytes (exported_message current es))
+message_is_bytes : (current : List ℕ) (es : List PlainState) → IsBytes current → Each IsState es → AreBytes (message_bytes (exported_message current es))
 message_is_bytes current es are each =
     let counted = number 2 (length (map (exported_insert current) es)) in
     let group = one_more {b = 1} (omega arith) (one_more {b = 0} (omega arith) (joined counted (inserts_are_bytes current es each))) in
@@ -129,11 +130,11 @@ line_of_message m can are short =
 
 -- ---- an export
 
-halves : (P : Stated → Type 0) (xs ys : List Stated) → Each P (xs ++ ys) → Each P xs × Each P ys
+halves : (P : PlainState → Type 0) (xs ys : List PlainState) → Each P (xs ++ ys) → Each P xs × Each P ys
 halves P [] ys each = (tt, each)
 halves P (x ∷ xs) ys each = let both = halves P xs ys each.1 in ((each.0, both.0), both.1)
 
-part_is_read : (current : List ℕ) (es : List Stated) → length current ≡ 16 → IsBytes current → Each IsState es → length es ≤ 31 → let m = exported_message current es in TellsOf m (message_line (message_bytes m))
+part_is_read : (current : List ℕ) (es : List PlainState) → length current ≡ 16 → IsBytes current → Each IsState es → length es ≤ 31 → let m = exported_message current es in TellsOf m (message_line (message_bytes m))
 part_is_read current es long are each few =
     let m : Message = exported_message current es in
     let size = told_long current es in

@@ -2,7 +2,7 @@
 use Rattle.std.proofs.Common.{◌≡◌, ◌≤◌, ℕ, Bool, true, false, List, [], ◌∷◌, length, Option, Some, None, Result, Ok, Err, refl, sym, ap, ◌∙◌}
 use Rattle.std.specs.{Prelude.{codes, if◌then◌else◌, IfErr, IfSome}, Str.bytes_eq, List.list_all}
 use denote.Ref.{Bor}
-use Rattle.pf_addr.specs.{Form.Words.{Word, words_of, texts}, Form.Forms.{making, reads, read_all}, Form.Readers.if_there, Laws.Form.Decided.word_is}
+use Rattle.pf_form.specs.{Form.Words.{Word, words_of, texts}, Form.Forms.{making, reads, read_all}, Form.Readers.if_there, Laws.Form.Decided.word_is}
 use Rattle.pf_core.specs.declared.reply.Refusal.{Refusal}
 use Rattle.pf_rule.specs.Packets.{PlainPacket}
 use Rattle.pf_line.specs.Grammar as grammar

@@ -2,10 +2,10 @@
 use Rattle.std.proofs.{Common.{◌≡◌, ℕ, ◌-◌, ◌<◌, ◌≤◌, ◌==◌, Bool, true, false, cond, List, [], ◌∷◌, length, Option, Some, None, Result, Ok, Err, inl, inr, refl, sym, ap, ◌∙◌, subst, arith}, lemmas.List.length-map, lemmas.Bool.{lt-ltb, Decides.nat_tests}}
 use Rattle.std.specs.{Prelude.{◌||◌, IfOk, IfErr, IfSome, not, filter, nat_lt}, List.{slice_split, onto_first, find, list_all}}
 use denote.Ref.{Bor}
-use Rattle.pf_addr.specs.declared.{form.fault.Kind.Kind, form.fault.Stop.Stop}
-use Rattle.pf_addr.specs.declared.form.fault.Kind.TheVariants as kinds
-use Rattle.pf_addr.specs.{Form.Words.{Word, is_blank, words_of, texts}, Form.Forms.{Form, making, Spells, RefusedAt, empties, begins, Read, reads, ended, ◌>>=◌, read_all}, Laws.Form.Forms.lawful, Laws.Form.Texts.{found, only, refused}}
-use Rattle.pf_addr.specs.Form.Readers as Readers
+use Rattle.pf_form.specs.declared.{form.fault.Kind.Kind, form.fault.Stop.Stop}
+use Rattle.pf_form.specs.declared.form.fault.Kind.TheVariants as kinds
+use Rattle.pf_form.specs.{Form.Words.{Word, is_blank, words_of, texts}, Form.Forms.{Form, making, Spells, RefusedAt, empties, begins, Read, reads, ended, ◌>>=◌, read_all}, Laws.Form.Forms.lawful, Laws.Form.Texts.{found, only, refused}}
+use Rattle.pf_form.specs.Form.Readers as Readers
 use Rattle.pf_rule.specs.declared.fault.Mistake.TheVariants as mistakes
 use Rattle.pf_state.specs.declared.{peer.fault.OneFault.OneFault, peer.fault.OneFault.TheVariants.{Fault, Count}, peer.message.Message.Message}
 use Rattle.pf_state.specs.Peer.One.{IsOne}
@@ -80,23 +80,23 @@ one_meaning (Ok (Some (Says (Err mistake)))) r s h i = h ∙ sym i
 one_meaning (Ok (Some (Tells bytes))) r s (m, is, h) (n, js, i) = h ∙ ap peer_command (one_answer bytes m n is js) ∙ sym i
 one_meaning (Err e) r s h i = h ∙ sym i
 
-abbrev Found : List Word → Answer → Type 0
-Found ws r = IfOk r (λ o. IfSome o (λ c. SpellsLine c ws))
+abbrev IsSpelledBy : List Word → Answer → Type 0
+IsSpelledBy ws r = IfOk r (λ o. IfSome o (λ c. SpellsLine c ws))
 
-said_found : (ws : List Word) (q : Result Spoken (Kind × List Word)) (r : Answer) → read_all grammar.line ws ≡ q → Means (said (length ws) q) r → Found ws r
+said_found : (ws : List Word) (q : Result Spoken (Kind × List Word)) (r : Answer) → read_all grammar.line ws ≡ q → Means (said (length ws) q) r → IsSpelledBy ws r
 said_found ws (Ok (Says (Ok c))) r e h = rw h (Says (Ok c), found Spoken grammar.line decided ws (Says (Ok c)) e, refl)
 said_found ws (Ok (Says (Err mistake))) r e h = rw h tt
 said_found ws (Ok (Tells bytes)) r e (one, is, h) = rw h (by one is) where
-  by : (m : Result Message OneFault) → IsOne bytes m → Found ws (peer_command m)
+  by : (m : Result Message OneFault) → IsOne bytes m → IsSpelledBy ws (peer_command m)
   by (Ok m) is = (Tells bytes, found Spoken grammar.line decided ws (Tells bytes) e, (Ok m, is, refl))
   by (Err (Fault f)) is = tt
   by (Err Count) is = tt
 said_found ws (Err d) r e h = rw h tt
 
-pub is_found : (line : List ℕ) (r : Answer) → Answers line r → Found (words_of line) r
+pub is_found : (line : List ℕ) (r : Answer) → Answers line r → IsSpelledBy (words_of line) r
 unfolding line_at
 is_found line r (inl h) = by (is_bad_line line) (is_silent line) h where
-  by : (b s : Bool) → Means (cond b (Err refusals.BadLine) (cond s (Ok None) (said_by (words_of line)))) r → Found (words_of line) r
+  by : (b s : Bool) → Means (cond b (Err refusals.BadLine) (cond s (Ok None) (said_by (words_of line)))) r → IsSpelledBy (words_of line) r
   by true s h = rw h tt
   by false true h = rw h tt
   by false false h = said_found (words_of line) (read_all grammar.line (words_of line)) r refl h

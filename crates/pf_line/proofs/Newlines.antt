@@ -3,7 +3,7 @@ use Rattle.std.proofs.{Common.{◌≡◌, inl, inr, ℕ, suc, ◌+◌, ◌^◌, 
 use Rattle.std.specs.{Prelude.{nat_lt, All}, List.{AllByRecursion, list_all, join_with_byte}, Char.digit_value, Str.Parse.AllDigits}
 use Rattle.pf_addr.specs.{Path.Names.is_name_byte, Path.Paths.is_path, Path.PathGrammar.{IsComponent, IsNames}, Laws.Path.Paths.{ReadsWhatIsSpelled, ReadsWhatIsWritten}, Laws.Spelling.{IsNetWord, IsNetByte}}
 use Rattle.pf_rule.specs.{Rules.{PlainRule, IsRule}, RuleText.rule_text, Laws.RuleText.rule_text_bytes}
-use Rattle.pf_line.specs.Reply.Parts.{newlines}
+use Rattle.pf_line.specs.Reply.TextLines.{newlines}
 
 pub newlines-append : (a b : List ℕ) → newlines (a ++ b) ≡ newlines a + newlines b
 newlines-append [] b = omega arith

@@ -8,7 +8,7 @@ use Rattle.pf_state.specs.Peer.Written.{message_bytes, CanBeWritten}
 use Rattle.pf_state.proofs.{OneMessage.message_alone, RoundTrip.message_again}
 use Rattle.pf_core.specs.declared.{command.Command.TheVariants.States, command.StateCommand.TheVariants.Peer}
 use Rattle.pf_line.specs.{States.{as_word, bytes_of}, Grammar.{Tells, line as grammar}, Lines.{Means, SpellsLine}}
-use Rattle.pf_addr.specs.Form.Forms.{Spells}
+use Rattle.pf_form.specs.Form.Forms.{Spells}
 
 -- ---- bytes in hexadecimal
 

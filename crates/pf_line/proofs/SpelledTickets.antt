@@ -1,7 +1,8 @@
 -- A word is read as a ticket exactly where it spells it, and so what a ticket is written as is read again.
 use Rattle.std.proofs.{Common.{◌≡◌, ℕ, ◌+◌, ◌^◌, ◌<◌, List, [], ◌∷◌, ◌++◌, length, take, drop, decimal, Some, None, Option, refl, sym, ap, ◌∙◌, arith, append_assoc}, lemmas.Fmt.{decimal_is_IsNumeral, length-decimal-le}, lemmas.List.{take_at, drop_at, length-append}}
 use Rattle.std.specs.List.{position}
-use Rattle.pf_addr.specs.{Laws.Places.{digits_without, place_after, cut_there}, Form.Words.Word, Laws.Form.Numbers.{number_in_found, number_in_only}}
+use Rattle.pf_addr.specs.Laws.Places.{digits_without, place_after, cut_there}
+use Rattle.pf_form.specs.{Form.Words.Word, Laws.Form.Numbers.{number_in_found, number_in_only}}
 use Rattle.pf_ticket.specs.declared.ticket.Ticket.{Ticket}
 use Rattle.pf_line.specs.{Reply.Texts.ticket_text, Tickets.{is_dot, part_of, ticket_with, cut_at, ticket_of, IsPart, SpellsTicket}}
 

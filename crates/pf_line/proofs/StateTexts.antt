@@ -5,7 +5,7 @@ use Rattle.std.specs.declared.io.Error.{Error}
 use Rattle.hex.specs.Hex.{encode_with, encode_lower, lower_digits}
 use Rattle.pf_addr.specs.declared.{addr.Addr.Addr, addr.Addr.TheVariants.{V4, V6}}
 use Rattle.pf_addr.specs.{Address.network_of, Spelling.{addr_text, net_text}, Writing.Continues}
-use Rattle.pf_line.specs.Reply.Parts.{newlines, GoesOn, WroteLines}
+use Rattle.pf_line.specs.Reply.TextLines.{newlines, GoesOn, WroteLines}
 use Rattle.pf_line.proofs.Writers.{goes_on, one_more_line}
 
 -- ---- an address, as the network that has no other

@@ -3,10 +3,10 @@ use Rattle.std.proofs.{Common.{◌≡◌, ℕ, zero, suc, ◌+◌, ◌<◌, List
 use Rattle.std.specs.declared.io.Error.{Error}
 use Rattle.pf_addr.specs.Writing.{Wrote, Continues, Continues-then}
 use Rattle.pf_rule.specs.Rules.{PlainRule}
-use Rattle.pf_table.specs.Entries.{Row}
+use Rattle.pf_table.specs.Entries.{PlainEntry}
 use Rattle.pf_ticket.specs.Names.{ticket, tickets_from}
-use Rattle.pf_anchor.specs.Tables.{Tabled}
-use Rattle.pf_line.specs.{Reply.Texts.{ticket_text, tickets_text, entry_text, entries_text}, Reply.Parts.{newlines, lines_text, HasLines, GoesOn, WroteLines}, Reply.Replies.{rule_line, rule_lines, table_line, table_lines}}
+use Rattle.pf_anchor.specs.Tables.{PlainPlacedTable}
+use Rattle.pf_line.specs.{Reply.Texts.{ticket_text, tickets_text, entry_text, entries_text}, Reply.TextLines.{newlines, lines_text, HasLines, GoesOn, WroteLines}, Reply.Replies.{rule_line, rule_lines, table_line, table_lines}}
 use Rattle.pf_line.proofs.Newlines.{newlines-append}
 
 pub goes_on : {A B C : Type 0} {q : Result A Error} {r : Result B Error} {s : Result C Error} {old mid new : Option (List ℕ)} {a b : List ℕ} → GoesOn q old r mid a → GoesOn r mid s new b → GoesOn q old s new (a ++ b)
@@ -58,46 +58,46 @@ one_more_rule q s t old mid more new rs i r lt is p w e =
 
 -- ---- tables
 
-last_table : (ts : List Tabled) (t : Tabled) → table_lines (ts ++ t ∷ []) ≡ table_lines ts ++ table_line t ∷ []
+last_table : (ts : List PlainPlacedTable) (t : PlainPlacedTable) → table_lines (ts ++ t ∷ []) ≡ table_lines ts ++ table_line t ∷ []
 last_table [] t = refl
 last_table (u ∷ ts) t = ap (λ (ls : List (List ℕ)). table_line u ∷ ls) (last_table ts t)
 
-tables_before : (ts : List Tabled) (i : ℕ) (t : Tabled) → i < length ts → t ≡ get_or ts i t → table_lines (take (i + 1) ts) ≡ table_lines (take i ts) ++ table_line t ∷ []
+tables_before : (ts : List PlainPlacedTable) (i : ℕ) (t : PlainPlacedTable) → i < length ts → t ≡ get_or ts i t → table_lines (take (i + 1) ts) ≡ table_lines (take i ts) ++ table_line t ∷ []
 tables_before ts i t lt is =
-    let more : take (i + 1) ts ≡ take i ts ++ t ∷ [] = take_more ts i t lt ∙ ap (λ (x : Tabled). take i ts ++ x ∷ []) (sym is) in
+    let more : take (i + 1) ts ≡ take i ts ++ t ∷ [] = take_more ts i t lt ∙ ap (λ (x : PlainPlacedTable). take i ts ++ x ∷ []) (sym is) in
     ap table_lines more ∙ last_table (take i ts) t
 
-pub one_more_table : (q s r : Result (Unit {0}) Error) (old mid more new : Option (List ℕ)) (ts : List Tabled) (i : ℕ) (t : Tabled) → i < length ts → t ≡ get_or ts i t → WroteLines q old mid (table_lines (take i ts)) → GoesOn q mid s more (table_line t) → Continues s more r new (10 ∷ []) → WroteLines r old new (table_lines (take (i + 1) ts))
+pub one_more_table : (q s r : Result (Unit {0}) Error) (old mid more new : Option (List ℕ)) (ts : List PlainPlacedTable) (i : ℕ) (t : PlainPlacedTable) → i < length ts → t ≡ get_or ts i t → WroteLines q old mid (table_lines (take i ts)) → GoesOn q mid s more (table_line t) → Continues s more r new (10 ∷ []) → WroteLines r old new (table_lines (take (i + 1) ts))
 one_more_table q s r old mid more new ts i t lt is p w e =
     subst (WroteLines r old new) (sym (tables_before ts i t lt is)) (one_more_line q s r old mid more new (table_lines (take i ts)) (table_line t) p w e)
 
 -- ---- entries
 
-last_entry : (rows : List Row) (row : Row) → entries_text (rows ++ row ∷ []) ≡ entries_text rows ++ (32 ∷ entry_text row)
+last_entry : (rows : List PlainEntry) (row : PlainEntry) → entries_text (rows ++ row ∷ []) ≡ entries_text rows ++ (32 ∷ entry_text row)
 last_entry [] row = append-nil (32 ∷ entry_text row)
 last_entry (first ∷ rows) row = ap (λ (t : List ℕ). 32 ∷ entry_text first ++ t) (last_entry rows row) ∙ sym (append_assoc (32 ∷ entry_text first) (entries_text rows) (32 ∷ entry_text row))
 
 -- what was written so far: some of the entries, of which the others are left
 pub record WroteSome (p : Result (Unit {0}) Error) (old : Option (List ℕ)) (q : Result (Unit {0}) Error) (mid : Option (List ℕ))
-    (rows left : List Row) : Type 0 where
-  pub some : List Row
+    (rows left : List PlainEntry) : Type 0 where
+  pub some : List PlainEntry
   pub whole : some ++ left ≡ rows
   pub written : GoesOn p old q mid (entries_text some)
 
 -- a space, and one more entry
-pub one_more_entry : (p q s t : Result (Unit {0}) Error) (old mid more new : Option (List ℕ)) (rows left rest : List Row) (row : Row) →
+pub one_more_entry : (p q s t : Result (Unit {0}) Error) (old mid more new : Option (List ℕ)) (rows left rest : List PlainEntry) (row : PlainEntry) →
     left ≡ row ∷ rest → WroteSome p old q mid rows left → GoesOn q mid s more (32 ∷ []) → GoesOn s more t new (entry_text row) →
     WroteSome p old t new rows rest
 one_more_entry p q s t old mid more new rows left rest row is so_far b c = record {
   some = so_far.some ++ row ∷ [];
-  whole = append_assoc so_far.some (row ∷ []) rest ∙ ap (λ (l : List Row). so_far.some ++ l) (sym is) ∙ so_far.whole;
+  whole = append_assoc so_far.some (row ∷ []) rest ∙ ap (λ (l : List PlainEntry). so_far.some ++ l) (sym is) ∙ so_far.whole;
   written = subst (λ (text : List ℕ). GoesOn p old t new text) (sym (last_entry so_far.some row)) (goes_on so_far.written (goes_on b c));
 }
 
-pub all_entries : (p q : Result (Unit {0}) Error) (old new : Option (List ℕ)) (rows left : List Row) → left ≡ [] → WroteSome p old q new rows left → GoesOn p old q new (entries_text rows)
+pub all_entries : (p q : Result (Unit {0}) Error) (old new : Option (List ℕ)) (rows left : List PlainEntry) → left ≡ [] → WroteSome p old q new rows left → GoesOn p old q new (entries_text rows)
 all_entries p q old new rows left none so_far =
-    let whole : so_far.some ≡ rows = sym (append-nil so_far.some) ∙ ap (λ (l : List Row). so_far.some ++ l) (sym none) ∙ so_far.whole in
-    subst (λ (r : List Row). GoesOn p old q new (entries_text r)) whole so_far.written
+    let whole : so_far.some ≡ rows = sym (append-nil so_far.some) ∙ ap (λ (l : List PlainEntry). so_far.some ++ l) (sym none) ∙ so_far.whole in
+    subst (λ (r : List PlainEntry). GoesOn p old q new (entries_text r)) whole so_far.written
 
 -- ---- tickets
 

@@ -1,8 +1,8 @@
--- Cutting a line, with the test of its bytes at once. Own.
+-- Cutting a line, with the test of its bytes at once.
 use Rattle.std.specs.{Prelude.{◌≡◌, true, false, List, [], ◌∷◌, ℕ, Result, Ok, Err}, List.list_all}
-use Rattle.pf_addr.specs.Form.Words.{Word, words_of}
+use Rattle.pf_form.specs.Form.Words.{Word, words_of}
 use Rattle.pf_line.specs.Lines.{is_line_byte}
-use Rattle.pf_line.specs.declared.{cut.Uncut.Uncut, cut.Uncut.TheVariants.{BadByte, NoPlace}}
+use Rattle.pf_line.specs.declared.{cut.CutFault.CutFault, cut.CutFault.TheVariants.{BadByte, NoPlace}}
 
 -- the word alone, or none where it has no byte
 abbrev pub if_some : Word → List Word
@@ -10,7 +10,7 @@ if_some [] = []
 if_some (b ∷ bs) = (b ∷ bs) ∷ []
 
 -- these are the line's words, and it has no byte that no line may have; or else why it isn't cut
-abbrev pub CutTo : {A : Type 0} → List ℕ → Result A Uncut → (A → List Word) → Type 0
+abbrev pub CutTo : {A : Type 0} → List ℕ → Result A CutFault → (A → List Word) → Type 0
 CutTo line (Ok x) words = (words x ≡ words_of line) × (list_all is_line_byte line ≡ true)
 CutTo line (Err BadByte) words = list_all is_line_byte line ≡ false
 CutTo line (Err NoPlace) words = Unit {0}

@@ -1,15 +1,16 @@
--- The grammar of lines. Own, with pf(4)'s names of what a client may ask.
+-- The grammar of lines, with pf(4)'s names of what a client may ask.
 use Rattle.std.specs.Prelude.{◌≡◌, ℕ, true, false, List, [], ◌∷◌, codes, Option, Some, None, Result, Ok, Err}
 use Rattle.std.proofs.Common.{refl}
-use Rattle.pf_addr.specs.declared.{form.fault.Kind.Kind, form.fault.Kind.TheVariants.BadWord}
-use Rattle.pf_addr.specs.{Form.Words.Word, Form.Forms.{Form, nothing, word, key, or, pair, making, any_number, one_or_more, is_decided}, Address.network_of, Path.Names.table_name_of, Path.Paths.{path_of, main}}
+use Rattle.pf_form.specs.declared.{form.fault.Kind.Kind, form.fault.Kind.TheVariants.BadWord}
+use Rattle.pf_addr.specs.{Address.network_of, Path.{Names.table_name_of, Paths.{path_of, main}}}
+use Rattle.pf_form.specs.Form.{Words.Word, Forms.{Form, nothing, word, key, or, pair, making, any_number, one_or_more, is_decided}}
 use Rattle.pf_addr.specs.declared.addr.Addr.TheVariants as addr
 use Rattle.pf_rule.specs.declared.fault.Mistake.{Mistake}
 use Rattle.pf_rule.specs.{Rules.PlainRule, RuleGrammar.{rule, rule_decided}, Packets.PlainPacket, PacketGrammar.{packet, packet_decided}, Value.Values.an_address}
-use Rattle.pf_table.specs.Entries.{Row}
+use Rattle.pf_table.specs.Entries.{PlainEntry}
 use Rattle.pf_core.specs.declared.{command.Command.Command, command.Command.TheVariants.{Transact, Edit, States, Ask, History}, command.HistoryCommand.HistoryCommand, command.HistoryCommand.TheVariants.{Log, Publish}, command.StateCommand.TheVariants.{Track, Kill as KillState}, command.Transaction.TheVariants.{Begin, Add, Define, Commit, Rollback}, command.Question.TheVariants.{Judge, Test, ShowRules, ShowTables, ShowStates, Sum, Export}}
 use Rattle.pf_core.specs.declared.command.TableEdit.TheVariants as edits
-use Rattle.pf_ticket.specs.declared.{entry.Entry.Entry, name.RulesetKind.RulesetKind, name.RulesetKind.TheVariants.{Filter, Table}, name.RulesetName.RulesetName, ticket.Ticket.Ticket}
+use Rattle.pf_ticket.specs.declared.{entry.RulesetTicket.RulesetTicket, name.RulesetKind.RulesetKind, name.RulesetKind.TheVariants.{Filter, Table}, name.RulesetName.RulesetName, ticket.Ticket.Ticket}
 use Rattle.pf_ticket.specs.Names.{ticket}
 use Rattle.pf_state.specs.declared.state.StateName.{StateName}
 use Rattle.pf_line.specs.{Tickets.{part_of, ticket_of}, States.{id_of, bytes_of, a_byte}, Entries.{entry_of, entry_taken}}
@@ -44,7 +45,7 @@ abbrev pub table_name : Form (List ℕ)
 table_name = word (record { of = table_name_of; sample = codes "a"; value = codes "a"; takes = refl })
 
 -- ENTRY, of a table
-abbrev pub row : Form Row
+abbrev pub row : Form PlainEntry
 row = word (record { of = entry_of; sample = codes "0.0.0.0"; value = (network_of (addr.V4 0), false); takes = entry_taken })
 
 -- ID, of a state
@@ -66,7 +67,7 @@ abbrev pub name : Form RulesetName
 name = making (λ x. record { kind = x.0; path = x.1 }) (pair kind path)
 
 -- KIND PATH T
-abbrev pub entry : Form Entry
+abbrev pub entry : Form RulesetTicket
 entry = making (λ x. record { name = x.0; ticket = x.1 }) (pair name ticket_text)
 
 -- PATH NAME
@@ -99,20 +100,20 @@ add_of x = as_command (λ r. Transact (Add x.0 x.1.0 r)) x.1.1
 unfoldable pub added : Form (Result Command Mistake)
 added = making add_of (pair path (pair ticket_text rule))
 
-abbrev pub define_of : (List ℕ × Ticket × List ℕ) × List Row → Result Command Mistake
+abbrev pub define_of : (List ℕ × Ticket × List ℕ) × List PlainEntry → Result Command Mistake
 define_of x = Ok (Transact (Define x.0.0 x.0.1 x.0.2 x.1))
 
 -- PATH T NAME ENTRY .., or without an entry
 unfoldable pub defined : Form (Result Command Mistake)
 defined = making define_of (pair offered_table (any_number row))
 
-abbrev pub commit_of : List Entry → Result Command Mistake
+abbrev pub commit_of : List RulesetTicket → Result Command Mistake
 commit_of entries = Ok (Transact (Commit entries))
 
 unfoldable pub committed : Form (Result Command Mistake)
 committed = making commit_of (one_or_more entry)
 
-abbrev pub rollback_of : List Entry → Result Command Mistake
+abbrev pub rollback_of : List RulesetTicket → Result Command Mistake
 rollback_of entries = Ok (Transact (Rollback entries))
 
 unfoldable pub rolled_back : Form (Result Command Mistake)
@@ -120,21 +121,21 @@ rolled_back = making rollback_of (one_or_more entry)
 
 -- ---- changes of one table
 
-abbrev pub add_entries_of : (List ℕ × List ℕ) × List Row → Result Command Mistake
+abbrev pub add_entries_of : (List ℕ × List ℕ) × List PlainEntry → Result Command Mistake
 add_entries_of x = Ok (Edit (edits.Add x.0.0 x.0.1 x.1))
 
 -- PATH NAME ENTRY ..
 unfoldable pub entries_added : Form (Result Command Mistake)
 entries_added = making add_entries_of (pair table (one_or_more row))
 
-abbrev pub delete_entries_of : (List ℕ × List ℕ) × List Row → Result Command Mistake
+abbrev pub delete_entries_of : (List ℕ × List ℕ) × List PlainEntry → Result Command Mistake
 delete_entries_of x = Ok (Edit (edits.Delete x.0.0 x.0.1 x.1))
 
 -- PATH NAME ENTRY ..
 unfoldable pub entries_deleted : Form (Result Command Mistake)
 entries_deleted = making delete_entries_of (pair table (one_or_more row))
 
-abbrev pub set_entries_of : (List ℕ × List ℕ) × List Row → Result Command Mistake
+abbrev pub set_entries_of : (List ℕ × List ℕ) × List PlainEntry → Result Command Mistake
 set_entries_of x = Ok (Edit (edits.Set x.0.0 x.0.1 x.1))
 
 -- PATH NAME ENTRY .., or without an entry

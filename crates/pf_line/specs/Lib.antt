@@ -11,8 +11,8 @@ pub use Rattle.pf_state.specs.Peer
 pub use Rattle.pf_state.specs.Failover
 pub use Rattle.pf_state.specs.States as StateTables
 pub use Rattle.pf_state.specs.Steps
-pub use Rattle.pf_addr.specs.Form.Forms
-pub use Rattle.pf_addr.specs.Form.Words
+pub use Rattle.pf_form.specs.Form.Forms
+pub use Rattle.pf_form.specs.Form.Words
 pub use Rattle.pf_addr.specs.Laws.Spelling
 pub use Rattle.pf_addr.specs.Writing
 pub use Rattle.pf_state.specs.Peer.Written

@@ -1,10 +1,10 @@
--- Lines: which are bad, which are silent, and what any other says or why it is refused. Own.
+-- Lines: which are bad, which are silent, and what any other says or why it is refused.
 use Rattle.std.specs.{Prelude.{◌≡◌, ℕ, ◌-◌, ◌<◌, ◌==◌, ◌||◌, ◌&&◌, not, nat_lt, nat_le, Bool, true, false, List, [], ◌∷◌, length, Option, Some, None, Result, Ok, Err, if◌then◌else◌, ◌⊎◌}, List.list_all}
 use Rattle.std.proofs.{Common.refl, lemmas.Bool.lt-ltb}
-use Rattle.pf_addr.specs.declared.{form.fault.Kind.Kind, form.fault.Unread.Unread}
-use Rattle.pf_addr.specs.declared.form.fault.Kind.TheVariants as kinds
-use Rattle.pf_addr.specs.declared.form.fault.Unread.TheVariants as unread
-use Rattle.pf_addr.specs.{Form.Words.{Word, words_of}, Form.Forms.{Spells, RefusedAt, read_all}}
+use Rattle.pf_form.specs.declared.{form.fault.Kind.Kind, form.fault.Unread.Unread}
+use Rattle.pf_form.specs.declared.form.fault.Kind.TheVariants as kinds
+use Rattle.pf_form.specs.declared.form.fault.Unread.TheVariants as unread
+use Rattle.pf_form.specs.{Form.Words.{Word, words_of}, Form.Forms.{Spells, RefusedAt, read_all}}
 use Rattle.pf_rule.specs.Packets.{PlainPacket}
 use Rattle.pf_rule.specs.declared.fault.Mistake.{Mistake}
 use Rattle.pf_rule.specs.declared.fault.Mistake.TheVariants as mistakes

@@ -1,4 +1,4 @@
-pub mod Parts
+pub mod TextLines
 pub mod Texts
 pub mod StateTexts
 pub mod Replies

@@ -1,10 +1,10 @@
--- Words that stand for a state's number, and for bytes. Who made a state is spelled as a ticket's epoch. Own.
+-- Words that stand for a state's number, and for bytes. Who made a state is spelled as a ticket's epoch.
 use Rattle.std.specs.Prelude.{◌≡◌, ℕ, List, [], ◌∷◌, codes, Option, Result, Ok, Err}
 use Rattle.std.proofs.Common.{refl}
 use Rattle.hex.specs.declared.error.FromHexError.{FromHexError}
 use Rattle.hex.specs.Hex.{decode_of, decode_pairs}
-use Rattle.pf_addr.specs.declared.{form.fault.Kind.Kind, form.fault.Kind.TheVariants.BadWord}
-use Rattle.pf_addr.specs.{Form.Words.Word, Form.Numbers.{IsNumberIn, number_in}}
+use Rattle.pf_form.specs.declared.{form.fault.Kind.Kind, form.fault.Kind.TheVariants.BadWord}
+use Rattle.pf_form.specs.{Form.Words.Word, Form.Numbers.{IsNumberIn, number_in}}
 use Rattle.pf_line.specs.declared.state.TheConstants.{ID_DIGIT_LIMIT}
 
 -- a state's number: 1 to 20 digits of a number of 64 bits

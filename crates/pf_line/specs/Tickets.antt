@@ -1,6 +1,6 @@
 -- The text of a ticket: its epoch and its count in decimal digits, with a dot between them.
 use Rattle.std.specs.{Prelude.{◌≡◌, ℕ, ◌+◌, ◌==◌, Bool, List, ◌∷◌, ◌++◌, take, drop, Option, Some, None}, List.position}
-use Rattle.pf_addr.specs.{Form.Words.Word, Form.Numbers.{IsNumberIn, number_in}}
+use Rattle.pf_form.specs.{Form.Words.Word, Form.Numbers.{IsNumberIn, number_in}}
 use Rattle.pf_ticket.specs.declared.ticket.Ticket.{Ticket}
 use Rattle.pf_ticket.specs.Names.{ticket}
 use Rattle.pf_line.specs.declared.ticket.TheConstants.{DIGIT_LIMIT}

@@ -1,13 +1,13 @@
 //! Reading the words of a line.
-ghost use Rattle.pf_addr.specs.Form.Readers.{ReadsWhole, ReadsAll};
+ghost use Rattle.pf_form.specs.Form.Readers.{ReadsWhole, ReadsAll};
 ghost use Rattle.pf_line.specs.Grammar.{begun, added, defined, committed, rolled_back, entries_added, entries_deleted, entries_set, killed, judged, tested, tracked, state_killed, shown, overview, question, alone, history_or_question, state_or_question, edit_or_question, command};
 
 use crate::lists::{read_rows, read_some_rows};
 use crate::words::{
     path_word, read_entry, read_name, read_offered, read_state, read_table, ticket_word,
 };
-use pf_addr::form::{Stop, Unread, Words, each, end, expect, takes};
 use pf_core::{Command, HistoryCommand, Question, StateCommand, TableEdit, Transaction};
+use pf_form::form::{Stop, Unread, Words, each, end, expect, takes};
 use pf_rule::value::address_word;
 use pf_rule::{Mistake, Packet, Rule};
 use pf_ticket::{Entries, RulesetNames};

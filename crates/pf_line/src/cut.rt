@@ -1,14 +1,14 @@
 //! Cutting a line into its words, with the test of its bytes at once.
 ghost use Rattle.std.specs.{Prelude.{◌≡◌, ◌≤◌, ◌++◌, length, take, IfOk, IfSome}};
-ghost use Rattle.pf_addr.specs.Form.Words.{texts};
+ghost use Rattle.pf_form.specs.Form.Words.{texts};
 ghost use Rattle.pf_line.specs.{Lines.is_line_byte, Cutting.{if_some, CutTo}};
 
-use pf_addr::form::is_blank;
+use pf_form::form::is_blank;
 use std::alloc::Global;
 
 /// Why a line isn't cut.
 #[derive(Clone, Copy, Debug, PartialEq, Eq)]
-pub(crate) enum Uncut {
+pub(crate) enum CutFault {
     /// It has a byte that no line may have.
     BadByte,
     /// It has more words than there are places for them, or memory was refused.
@@ -23,7 +23,7 @@ pub(crate) fn line_byte(b: u8) -> bool
 }
 
 /// Cuts a line into words, which stand in the first places then, and gives how many there are. It takes no memory.
-pub(crate) fn cut<'a>(line: &'a [u8], places: &mut [&'a [u8]]) -> Result<usize, Uncut>
+pub(crate) fn cut<'a>(line: &'a [u8], places: &mut [&'a [u8]]) -> Result<usize, CutFault>
     ensures cut { CutTo line.now result (λ n. texts (take n places.new)) }
     ensures room { IfOk result (λ n. n ≤ length places.new) }
 {
@@ -33,17 +33,17 @@ pub(crate) fn cut<'a>(line: &'a [u8], places: &mut [&'a [u8]]) -> Result<usize, 
         let byte = line[at];
         if is_blank(byte) {
             let Some(next) = place(&line[start..at], places, count) else {
-                return Err(Uncut::NoPlace);
+                return Err(CutFault::NoPlace);
             };
             count = next;
             start = at + 1;
         } else if !line_byte(byte) {
-            return Err(Uncut::BadByte);
+            return Err(CutFault::BadByte);
         }
     }
     match place(&line[start..], places, count) {
         Some(count) => Ok(count),
-        None => Err(Uncut::NoPlace),
+        None => Err(CutFault::NoPlace),
     }
 }
 
@@ -64,28 +64,28 @@ fn place<'a>(word: &'a [u8], places: &mut [&'a [u8]], count: usize) -> Option<us
 }
 
 /// Cuts a line into words, however many there are.
-pub(crate) fn cut_list<'a>(alloc: Global, line: &'a [u8]) -> Result<Vec<&'a [u8]>, Uncut>
+pub(crate) fn cut_list<'a>(alloc: Global, line: &'a [u8]) -> Result<Vec<&'a [u8]>, CutFault>
     ensures { CutTo line.now result (λ v. texts v.items) }
 {
     // a word has a byte at least, and a blank before the next
     let Ok(mut words) = Vec::with_capacity(alloc, line.len() / 2 + 1) else {
-        return Err(Uncut::NoPlace);
+        return Err(CutFault::NoPlace);
     };
     let mut start = 0;
     for at in 0..line.len() {
         let byte = line[at];
         if is_blank(byte) {
             let Some(()) = push_some(&mut words, &line[start..at]) else {
-                return Err(Uncut::NoPlace);
+                return Err(CutFault::NoPlace);
             };
             start = at + 1;
         } else if !line_byte(byte) {
-            return Err(Uncut::BadByte);
+            return Err(CutFault::BadByte);
         }
     }
     match push_some(&mut words, &line[start..]) {
         Some(()) => Ok(words),
-        None => Err(Uncut::NoPlace),
+        None => Err(CutFault::NoPlace),
     }
 }
 

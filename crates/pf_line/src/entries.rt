@@ -4,7 +4,7 @@ ghost use Rattle.pf_addr.specs.Reading.{net_at};
 ghost use Rattle.pf_line.specs.Entries.{entry_of, signed};
 
 use pf_addr::Net;
-use pf_addr::form::Kind;
+use pf_form::form::Kind;
 use pf_table::Entry;
 
 /// The entry that a word spells: a network, with a `!` joined to it where it is negated. A lone `!`, or a second one, is a

@@ -1,12 +1,12 @@
 //! Lines that ask what happens to a packet.
 ghost use Rattle.std.specs.Prelude.{◌≡◌, false, IfErr, IfSome};
-ghost use Rattle.pf_addr.specs.{Form.Forms.{making, read_all}, Form.Readers.ReadsWhole, Form.Words.texts};
+ghost use Rattle.pf_form.specs.{Form.Forms.{making, read_all}, Form.Readers.ReadsWhole, Form.Words.texts};
 ghost use Rattle.pf_line.specs.{Grammar.{Says, asking, judged, line as the_grammar}, Lines.{may_judge, no_command, line_at, asked, said, Parses, Answers, Refused}};
 
-use crate::cut::{Uncut, cut};
+use crate::cut::{CutFault, cut};
 use crate::line::{LINE_LIMIT, refusal, refusal_for};
-use pf_addr::form::{Stop, Unread, Words, end, takes};
 use pf_core::Refusal;
+use pf_form::form::{Stop, Unread, Words, end, takes};
 use pf_rule::{Mistake, Packet};
 
 const KEY: &[u8] = b"judge";
@@ -31,11 +31,11 @@ pub fn parse_judge(line: &[u8]) -> Option<Result<Packet, Refusal>>
     ensures exact { IfSome result (λ r. Parses (asked r) (line_at line.now)) }
     ensures refused { IfSome result (λ r. IfErr r (λ e. Refused line.now e)) }
 {
-    tell_judge(line)
+    parse_judge_checked(line)
 }
 
 // Kept apart, so that the answer is proved once for each way out.
-fn tell_judge(line: &[u8]) -> Option<Result<Packet, Refusal>>
+fn parse_judge_checked(line: &[u8]) -> Option<Result<Packet, Refusal>>
     ensures { IfSome result (λ r. Answers line.now (asked r)) }
 {
     if LINE_LIMIT < line.len() {
@@ -43,20 +43,20 @@ fn tell_judge(line: &[u8]) -> Option<Result<Packet, Refusal>>
     }
     let mut places = [KEY; PLACES];
     match cut(line, &mut places) {
-        Ok(count) => say_judge(&places[..count], count),
-        Err(Uncut::BadByte) => Some(Err(Refusal::BadLine)),
-        Err(Uncut::NoPlace) => None,
+        Ok(count) => parse_judge_words(&places[..count], count),
+        Err(CutFault::BadByte) => Some(Err(Refusal::BadLine)),
+        Err(CutFault::NoPlace) => None,
     }
 }
 
 /// What so many words say, where the first is `judge`.
-fn say_judge<'a>(words: Words<'a>, count: usize) -> Option<Result<Packet, Refusal>>
+fn parse_judge_words<'a>(words: Words<'a>, count: usize) -> Option<Result<Packet, Refusal>>
     ensures loud { IfSome result (λ r. no_command (texts words.now) ≡ false) }
     ensures said { IfSome result (λ r. Parses (asked r) (said count (read_all the_grammar (texts words.now)))) }
 {
     let mut rest = words;
     if takes(&mut rest, KEY) {
-        Some(say_packet(rest, count))
+        Some(parse_packet_words(rest, count))
     } else {
         None
     }
@@ -64,7 +64,7 @@ fn say_judge<'a>(words: Words<'a>, count: usize) -> Option<Result<Packet, Refusa
 
 /// What the words behind the first of so many say of a packet.
 #[tactic(auto, using(crate::proofs::Lines::made_ok, crate::proofs::Lines::made_stopped))]
-fn say_packet<'a>(words: Words<'a>, count: usize) -> Result<Packet, Refusal>
+fn parse_packet_words<'a>(words: Words<'a>, count: usize) -> Result<Packet, Refusal>
     ensures { Parses (asked result) (said count (read_all (making Says judged) (texts words.now))) }
 {
     match read_packet(words) {

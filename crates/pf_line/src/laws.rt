@@ -1,15 +1,16 @@
 //! Laws of the texts. Each function does nothing; its contract is the law.
 ghost use Rattle.std.specs.Prelude.{◌≡◌, [], ◌∷◌, codes, ℕ, ◌^◌, ◌<◌, List, Option, Result, length, Some, Ok, Err};
-ghost use Rattle.pf_addr.specs.declared.form.fault.Kind.{Kind};
+ghost use Rattle.pf_form.specs.declared.form.fault.Kind.{Kind};
 ghost use Rattle.hex.specs.Hex.{IsBytes, encode_lower, encode_upper};
 ghost use Rattle.pf_state.specs.declared.peer.message.Message.{Message};
 ghost use Rattle.pf_state.specs.Peer.Written.{message_bytes, CanBeWritten};
 ghost use Rattle.pf_core.specs.declared.{command.Command.TheVariants.States, command.StateCommand.TheVariants.Peer, command.Command.Command, reply.Refusal.Refusal, reply.Refusal.TheVariants.BadLine};
-ghost use Rattle.pf_addr.specs.{Form.Words.Word, Form.Forms.RefusedAt, Laws.Spelling.IsNetwork};
+ghost use Rattle.pf_addr.specs.Laws.Spelling.{IsNetwork};
+ghost use Rattle.pf_form.specs.Form.{Words.Word, Forms.RefusedAt};
 ghost use Rattle.pf_ticket.specs.declared.ticket.Ticket.{Ticket};
 ghost use Rattle.pf_line.specs.declared.{line.TheConstants.LINE_LIMIT, ticket.TheConstants.DIGIT_LIMIT, state.TheConstants.ID_DIGIT_LIMIT};
 ghost use Rattle.pf_line.specs.{Grammar.{Spoken, line as the_grammar}, Lines.{line_at, Means, SpellsLine}, Reply.Texts.{ticket_text, entry_text}, Tickets.{part_of, ticket_of, IsPart, SpellsTicket}, States.{id_of, IsId, bytes_of}, Entries.{entry_of, SpellsEntry}, Laws.Exports.ExportsAreRead};
-ghost use Rattle.pf_table.specs.Entries.{Row};
+ghost use Rattle.pf_table.specs.Entries.{PlainEntry};
 
 /// A ticket is read from a word exactly where the word spells it.
 #[tactic(auto, using(crate::proofs::SpelledTickets::read_is_spelled))]
@@ -27,14 +28,14 @@ pub fn written_ticket_is_read_again()
 /// An entry of a table is read from a word exactly where the word spells it.
 #[tactic(auto, using(crate::proofs::SpelledEntries::read_is_spelled))]
 pub fn entries_are_read_as_spelled()
-    ensures read { (w : Word) (row : Row) → entry_of w ≡ Ok row → SpellsEntry w row }
-    ensures spelled { (w : Word) (row : Row) → SpellsEntry w row → entry_of w ≡ Ok row }
+    ensures read { (w : Word) (row : PlainEntry) → entry_of w ≡ Ok row → SpellsEntry w row }
+    ensures spelled { (w : Word) (row : PlainEntry) → SpellsEntry w row → entry_of w ≡ Ok row }
 {}
 
 /// The text that an entry is written as is read back as that entry.
 #[tactic(auto, using(crate::proofs::SpelledEntries::entry_again))]
 pub fn written_entry_is_read_again()
-    ensures { (row : Row) → IsNetwork row.0 → entry_of (entry_text row) ≡ Ok row }
+    ensures { (row : PlainEntry) → IsNetwork row.0 → entry_of (entry_text row) ≡ Ok row }
 {}
 
 /// A line means one thing: it is silent, a command, or a refusal.

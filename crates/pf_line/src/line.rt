@@ -1,14 +1,14 @@
 //! Lines.
 ghost use Rattle.std.specs.{Prelude.{◌≡◌, ◌-◌, ◌≤◌, ℕ, not, true, false, Some, None, Ok, Err, IfOk, IfErr, IfSome, length}, List.{list_all, find}};
-ghost use Rattle.pf_addr.specs.{Form.Forms.{making, read_all}, Form.Words.{is_blank, words_of, texts}};
+ghost use Rattle.pf_form.specs.{Form.Forms.{making, read_all}, Form.Words.{is_blank, words_of, texts}};
 ghost use Rattle.pf_core.specs.declared.{command.Command.Command, reply.Refusal.TheVariants.BadLine};
 ghost use Rattle.pf_line.specs.{Grammar.{Says, Tells, hex, command, line as the_grammar}, Lines.{is_line_byte, is_bad_line, is_silent, line_at, said_by, refusal_at, refusal_for, said, refusal_of, SpellsLine, IsCommand, Parses, Answers, Refused}};
 
 use crate::commands::command;
-use crate::cut::{Uncut, cut, cut_list, line_byte};
+use crate::cut::{CutFault, cut, cut_list, line_byte};
 use crate::state::read_bytes;
-use pf_addr::form::{Kind, Unread, Words, is_blank, takes};
 use pf_core::{Command, Refusal, StateCommand};
+use pf_form::form::{Kind, Unread, Words, is_blank, takes};
 use pf_rule::Mistake;
 use pf_state::peer::{OneFault, read_one};
 use std::alloc::Global;
@@ -99,12 +99,12 @@ pub fn parse_line(alloc: Global, line: &[u8]) -> Result<Option<Command>, Refusal
     ensures refused { IfErr result (λ e. Refused line.now e) }
     ensures exact { Parses result (line_at line.now) }
 {
-    tell(alloc, line)
+    parse_checked(alloc, line)
 }
 
 // Kept apart, so that the answer is proved once for each way out.
 #[tactic(auto, using(crate::proofs::Lines::bad_answered, crate::proofs::Lines::silence_answered))]
-fn tell(alloc: Global, line: &[u8]) -> Result<Option<Command>, Refusal>
+fn parse_checked(alloc: Global, line: &[u8]) -> Result<Option<Command>, Refusal>
     ensures { Answers line.now result }
 {
     if silent(line) {
@@ -116,46 +116,46 @@ fn tell(alloc: Global, line: &[u8]) -> Result<Option<Command>, Refusal>
     if LINE_LIMIT < line.len() {
         return Err(Refusal::BadLine);
     }
-    tell_loud(alloc, line)
+    parse_loud(alloc, line)
 }
 
 /// What a line is told that isn't silent and isn't too long.
-fn tell_loud(alloc: Global, line: &[u8]) -> Result<Option<Command>, Refusal>
+fn parse_loud(alloc: Global, line: &[u8]) -> Result<Option<Command>, Refusal>
     requires loud { is_silent line.now ≡ false }
     requires short { length line.now ≤ LINE_LIMIT }
     ensures { Answers line.now result }
 {
     if line.len() <= SHORT {
-        tell_short(alloc, line)
+        parse_short(alloc, line)
     } else {
-        tell_long(alloc, line)
+        parse_long(alloc, line)
     }
 }
 
 /// The same of a short line, whose words take no memory.
-fn tell_short(alloc: Global, line: &[u8]) -> Result<Option<Command>, Refusal>
+fn parse_short(alloc: Global, line: &[u8]) -> Result<Option<Command>, Refusal>
     requires loud { is_silent line.now ≡ false }
     requires short { length line.now ≤ LINE_LIMIT }
     ensures { Answers line.now result }
 {
     let mut places = [b"".as_slice(); PLACES];
     match cut(line, &mut places) {
-        Ok(count) => say(alloc, &places[..count], count),
-        Err(Uncut::BadByte) => Err(Refusal::BadLine),
-        Err(Uncut::NoPlace) => tell_long(alloc, line),
+        Ok(count) => parse_words(alloc, &places[..count], count),
+        Err(CutFault::BadByte) => Err(Refusal::BadLine),
+        Err(CutFault::NoPlace) => parse_long(alloc, line),
     }
 }
 
 /// The same of any line, whose words take memory.
-fn tell_long(alloc: Global, line: &[u8]) -> Result<Option<Command>, Refusal>
+fn parse_long(alloc: Global, line: &[u8]) -> Result<Option<Command>, Refusal>
     requires loud { is_silent line.now ≡ false }
     requires short { length line.now ≤ LINE_LIMIT }
     ensures { Answers line.now result }
 {
     match cut_list(alloc, line) {
-        Ok(words) => say(alloc, &words, words.len()),
-        Err(Uncut::BadByte) => Err(Refusal::BadLine),
-        Err(Uncut::NoPlace) => no_memory(line),
+        Ok(words) => parse_words(alloc, &words, words.len()),
+        Err(CutFault::BadByte) => Err(Refusal::BadLine),
+        Err(CutFault::NoPlace) => no_memory(line),
     }
 }
 
@@ -173,19 +173,23 @@ fn no_memory(line: &[u8]) -> Result<Option<Command>, Refusal>
 }
 
 /// What so many words say.
-fn say<'a>(alloc: Global, words: Words<'a>, count: usize) -> Result<Option<Command>, Refusal>
+fn parse_words<'a>(
+    alloc: Global,
+    words: Words<'a>,
+    count: usize,
+) -> Result<Option<Command>, Refusal>
     ensures { Parses result (said count (read_all the_grammar (texts words.now))) }
 {
     let mut rest = words;
     if takes(&mut rest, b"peer") {
-        return say_peer(alloc, rest, count);
+        return parse_peer(alloc, rest, count);
     }
-    say_command(alloc, rest, count)
+    parse_command(alloc, rest, count)
 }
 
 /// What the words behind the first of so many say of a peer's message.
 #[tactic(auto, using(crate::proofs::Lines::made_ok, crate::proofs::Lines::made_stopped))]
-fn say_peer<'a>(alloc: Global, words: Words<'a>, count: usize) -> Result<Option<Command>, Refusal>
+fn parse_peer<'a>(alloc: Global, words: Words<'a>, count: usize) -> Result<Option<Command>, Refusal>
     ensures { Parses result (said count (read_all (making Tells hex) (texts words.now))) }
 {
     match read_bytes(alloc, words) {
@@ -196,7 +200,7 @@ fn say_peer<'a>(alloc: Global, words: Words<'a>, count: usize) -> Result<Option<
 
 /// What words of so many say whole.
 #[tactic(auto, using(crate::proofs::Lines::made_ok, crate::proofs::Lines::made_stopped))]
-fn say_command<'a>(
+fn parse_command<'a>(
     alloc: Global,
     words: Words<'a>,
     count: usize,

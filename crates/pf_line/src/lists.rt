@@ -1,10 +1,10 @@
 //! Lists of a table's entries, which stand at a line's end.
-ghost use Rattle.pf_addr.specs.{Form.Forms.{one_or_more, any_number}, Form.Readers.ReadsAll};
+ghost use Rattle.pf_form.specs.{Form.Forms.{one_or_more, any_number}, Form.Readers.ReadsAll};
 ghost use Rattle.pf_line.specs.Grammar.{row};
 
 use crate::words::row_word;
-use pf_addr::form::{Unread, Words, each};
 use pf_core::EntryList;
+use pf_form::form::{Unread, Words, each};
 use std::alloc::Global;
 
 /// One entry or more, up to the last word.

@@ -1,11 +1,11 @@
 //! Words of a state's number, of who made it, and of bytes.
 ghost use Rattle.std.specs.Prelude.{◌≡◌};
-ghost use Rattle.pf_addr.specs.Form.Readers.{ReadsAll};
+ghost use Rattle.pf_form.specs.Form.Readers.{ReadsAll};
 ghost use Rattle.pf_line.specs.{Grammar.{or_bad, hex}, States.id_of, Tickets.part_of};
 
 use crate::ticket::part;
 use hex::{FromHexError, decode};
-use pf_addr::form::{Kind, Unread, Words, bad_word, end, read_number};
+use pf_form::form::{Kind, Unread, Words, bad_word, end, read_number};
 use std::alloc::Global;
 
 /// How many digits a state's number may have, leading zeros among them.

@@ -2,7 +2,7 @@
 ghost use Rattle.std.specs.{Prelude.{◌≡◌, ◌<◌, length, IfSome}, List.position};
 ghost use Rattle.pf_line.specs.{Grammar.ticket_word, Tickets.{is_dot, part_of, ticket_of}};
 
-use pf_addr::form::{Kind, read_number};
+use pf_form::form::{Kind, read_number};
 use pf_ticket::Ticket;
 
 /// How many digits an epoch or a count may have, leading zeros among them.

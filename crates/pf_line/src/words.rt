@@ -1,16 +1,16 @@
 //! Reading the words that stand for values, each from the front of those that are left.
-ghost use Rattle.pf_addr.specs.Form.Readers.{Moves};
+ghost use Rattle.pf_form.specs.Form.Readers.{Moves};
 ghost use Rattle.pf_line.specs.Grammar.{kind, path, ticket_text, table_name, row, name, entry, table, offered_table, id, creator, state};
 
 use crate::entries::entry_of;
 use crate::state::{read_creator, read_id};
 use crate::ticket::read_ticket;
-use pf_addr::form::{Stop, Words, expect, takes};
 use pf_addr::path::TableName;
 use pf_anchor::Path;
+use pf_form::form::{Stop, Words, expect, takes};
 use pf_rule::take_word;
 use pf_state::StateName;
-use pf_ticket::{Entry, RulesetKind, RulesetName, Ticket};
+use pf_ticket::{RulesetKind, RulesetName, RulesetTicket, Ticket};
 
 fn read_kind<'a>(words: &mut Words<'a>) -> Result<RulesetKind, Stop>
     ensures { Moves kind result words.old.now words.new.now }
@@ -69,12 +69,12 @@ pub(crate) fn read_name<'a>(words: &mut Words<'a>) -> Result<RulesetName, Stop>
 }
 
 /// A ruleset with a ticket for it.
-pub(crate) fn read_entry<'a>(words: &mut Words<'a>) -> Result<Entry, Stop>
+pub(crate) fn read_entry<'a>(words: &mut Words<'a>) -> Result<RulesetTicket, Stop>
     ensures { Moves entry result words.old.now words.new.now }
 {
     let name = read_name(words)?;
     let ticket = ticket_word(words)?;
-    Ok(Entry { name, ticket })
+    Ok(RulesetTicket { name, ticket })
 }
 
 /// A table, by its path and its name.

@@ -13,7 +13,7 @@ use Rattle.std.proofs.lemmas.Bool.{and_parts}
 use Rattle.std.proofs.lemmas.Cmp.{tied_itself}
 use Rattle.std.proofs.lemmas.List.Recursion.{is_sum_by}
 use Rattle.std.proofs.lemmas.List.Sorted.{IsPermutation-sym, Contains-permutation, sum_by-IsPermutation}
-use Rattle.pf_addr.specs.Bytes.Lists.{in_order}
+use Rattle.pf_map.specs.InOrder.{in_order}
 use Rattle.pf_map.specs.Indexes.{no_flow_twice, IsIndex}
 use Rattle.pf_map.proofs.Ordered.{sorted_of}
 use Rattle.pf_map.proofs.Tests.{first_of, second_of, less_of}

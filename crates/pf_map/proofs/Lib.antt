@@ -1,8 +1,7 @@
 pub mod Tests
 pub mod Maps
 pub mod Weights
-pub mod Parts
-pub mod Fronts
+pub mod MapParts
 pub mod ListMaps
 pub mod Indexes
 pub mod Ordered

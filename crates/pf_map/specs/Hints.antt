@@ -1,4 +1,4 @@
--- Hints: numbers that rise with the keys of a map, so that most comparisons are of numbers. Own.
+-- Hints: numbers that rise with the keys of a map, so that most comparisons are of numbers.
 use Rattle.std.specs.{Prelude.{◌≡◌, ℕ, ◌<◌, nat_lt, true, List, [], ◌∷◌, Option, Some, None}, Ordering.{ordering_then, nat_cmp}}
 use Rattle.std.specs.declared.{cmp.Ordering.Ordering, cmp.Ordering.TheVariants.Less}
 use Rattle.std.proofs.Common.{refl, ap, lt-ltb}

@@ -1,4 +1,4 @@
--- Values with two keys: the list of them in the order of names, and that of the same values under their flows. Own.
+-- Values with two keys: the list of them in the order of names, and that of the same values under their flows.
 use Rattle.std.specs.{Prelude.{◌≡◌, ◌&&◌, T, Bool, not, true, false, List, [], ◌∷◌, Option, Some, None}, FinMap.{find, is_sorted}, List.{list_any}, List.find as first_where, Option.option_map_or, Ordering.eq_by_cmp}
 use Rattle.std.specs.declared.{cmp.Ordering.Ordering, cmp.Ordering.TheVariants.Equal}
 use Rattle.pf_map.specs.Maps.{without}

@@ -1,12 +1,10 @@
 pub mod Maps
 pub mod Weights
 pub mod Pairs
+pub mod InOrder
 pub mod Hints
-pub mod Fronts
-pub mod Parts
+pub mod MapParts
 pub mod Pieces
 pub mod ListMaps
 pub mod Indexes
-pub mod Networks
-pub mod NetworkLaws
 pub mod Laws

@@ -1,4 +1,4 @@
--- Finite maps whose values are lists, where a key whose list is empty has no entry. Own.
+-- Finite maps whose values are lists, where a key whose list is empty has no entry.
 use Rattle.std.specs.{Prelude.{◌≡◌, ◌≢◌, T, cond, List, [], ◌∷◌, Option, Some, None, fold, is_some}, FinMap.{IsAntisymmetric, find, is_sorted}, Ordering.eq_by_cmp}
 use Rattle.std.proofs.Common.{sym, ap, subst}
 use Rattle.std.specs.declared.cmp.Ordering.{Ordering}

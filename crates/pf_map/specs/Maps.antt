@@ -1,4 +1,4 @@
--- Finite maps, as the list of their entries in the order of their keys. `put`, `where_key`, `find` and `is_sorted` are std's. Own.
+-- Finite maps, as the list of their entries in the order of their keys. `put`, `where_key`, `find` and `is_sorted` are std's.
 use Rattle.std.specs.{Prelude.{◌≡◌, T, not, cond, List, [], ◌∷◌, Bool, Option, Some, None}, FinMap.{find, put, is_sorted}, FinMap.Entries.where_key, Option.option_map, Ordering.{eq_by_cmp, is_lt}}
 use Rattle.std.specs.declared.cmp.Ordering.{Ordering}
 

@@ -1,4 +1,4 @@
--- Pairs in order: the first parts decide, and where these tie the second do. Own.
+-- Pairs in order: the first parts decide, and where these tie the second do.
 use Rattle.std.specs.{Prelude.{◌≡◌, T}, declared.{cmp.Ordering.Ordering, cmp.Ordering.TheVariants.Less, cmp.Ordering.TheVariants.Equal, cmp.Ordering.TheVariants.Greater}, FinMap.IsAntisymmetric, Ordering.{ordering_then, is_eq}}
 use Rattle.std.proofs.Common.{sym, subst}
 

@@ -1,4 +1,4 @@
--- What a part becomes: the entries of all that there is of it. Own.
+-- What a part becomes: the entries of all that there is of it.
 use Rattle.std.specs.Prelude.{List, [], ◌++◌}
 use Rattle.pf_map.specs.declared.pieces.Pieces.{Pieces}
 use Rattle.pf_map.specs.declared.pieces.Pieces.TheVariants.{Gone, One, Two}

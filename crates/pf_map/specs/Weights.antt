@@ -1,4 +1,4 @@
--- What the entries of a map weigh together, as how many bytes they take somewhere. Own.
+-- What the entries of a map weigh together, as how many bytes they take somewhere.
 use Rattle.std.specs.{Prelude.{◌≡◌, ◌<◌, ◌^◌, ℕ, List, Option}, List.{sum_by, AllByRecursion}, Option.{option_map_or}}
 
 -- of no entry nothing

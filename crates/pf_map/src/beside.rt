@@ -1,6 +1,6 @@
 //! Pages that keep beside their entries what follows from them.
 ghost use Rattle.std.specs.{Prelude.{◌≡◌, ◌<◌, List, length, map, Some, IfOk, IfSome}};
-ghost use Rattle.pf_map.specs.{Parts.{first_of, joined, FollowsFrom}, Pieces.all_of};
+ghost use Rattle.pf_map.specs.{MapParts.{first_of, joined, FollowsFrom}, Pieces.all_of};
 
 use crate::entry::Held;
 use crate::key::{Key, Probe};
@@ -52,7 +52,7 @@ impl<K: Key, V: Drop, E: Held<K, V>, B: Beside<E>> Drop for PageBeside<K, V, E, 
 impl<K: Key, V: Drop, E: Held<K, V>, B: Beside<E>> Model for PageBeside<K, V, E, B> {
     ghost use Rattle.std.specs.Prelude.{List, IfSome};
     ghost use Rattle.std.specs.Arc.{arc_value};
-    ghost use Rattle.pf_map.specs.Parts.{FollowsFrom};
+    ghost use Rattle.pf_map.specs.MapParts.{FollowsFrom};
 
     ghost Value = { List (K × V) };
 

@@ -1,8 +1,8 @@
 //! Entries under their second keys.
 ghost use Rattle.std.specs.{Prelude.{◌≡◌, IfOk}, List.Sorted.{IsPermutation, IsSortedBy}, Ordering.is_lt};
-ghost use Rattle.pf_addr.specs.Bytes.Lists.{in_order};
+ghost use Rattle.pf_map.specs.InOrder.{in_order};
 
-use crate::entry::{Entry, Held};
+use crate::entry::{Held, KeyValue};
 use crate::key::Key;
 use std::alloc::{AllocError, Global};
 use std::cmp::Ordering;
@@ -20,7 +20,7 @@ pub trait Flowed<F: Key>: Drop {
 
 /// An entry as the map of flows holds it: its value has the key. Contracts see it as the entry.
 pub struct ByFlow<N: Key, F: Key, V: Flowed<F>> {
-    entry: Entry<N, V>,
+    entry: KeyValue<N, V>,
     of: PhantomData<F>,
 }
 
@@ -38,7 +38,7 @@ impl<N: Key, F: Key, V: Flowed<F>> Model for ByFlow<N, F, V> {
 
 impl<N: Key, F: Key, V: Flowed<F>> ByFlow<N, F, V> {
     /// The same entry, with one owner more. `AllocError`: it can't have another.
-    pub(crate) fn new(entry: &Entry<N, V>) -> Result<ByFlow<N, F, V>, AllocError>
+    pub(crate) fn new(entry: &KeyValue<N, V>) -> Result<ByFlow<N, F, V>, AllocError>
         ensures { IfOk result (λ e. e ≡ entry.now) }
     {
         Ok(ByFlow {
@@ -48,14 +48,14 @@ impl<N: Key, F: Key, V: Flowed<F>> ByFlow<N, F, V> {
     }
 
     /// The entry.
-    pub(crate) fn entry(&self) -> &Entry<N, V>
+    pub(crate) fn entry(&self) -> &KeyValue<N, V>
         ensures { result.now ≡ self.now }
     {
         &self.entry
     }
 }
 
-impl<N: Key, F: Key, V: Flowed<F>> Held<F, Entry<N, V>> for ByFlow<N, F, V> {
+impl<N: Key, F: Key, V: Flowed<F>> Held<F, KeyValue<N, V>> for ByFlow<N, F, V> {
     ghost pair = { λ e. (V.flow e.1, e) };
 
     fn share(&self) -> Result<ByFlow<N, F, V>, AllocError> {
@@ -92,7 +92,7 @@ impl<N: Key, F: Key, V: Flowed<F>> Model for HintedFlow<N, F, V> {
 
 impl<N: Key, F: Key, V: Flowed<F>> HintedFlow<N, F, V> {
     // The same entry, with one owner more. `AllocError`: it can't have another.
-    fn new(entry: &Entry<N, V>) -> Result<HintedFlow<N, F, V>, AllocError>
+    fn new(entry: &KeyValue<N, V>) -> Result<HintedFlow<N, F, V>, AllocError>
         ensures { IfOk result (λ e. e ≡ entry.now) }
     {
         Ok(HintedFlow {
@@ -124,7 +124,7 @@ impl<N: Key, F: Key, V: Flowed<F>> HintedFlow<N, F, V> {
 // These values with the hints of their flows.
 fn each_hinted<N: Key, F: Key, V: Flowed<F>>(
     alloc: Global,
-    entries: &[Entry<N, V>],
+    entries: &[KeyValue<N, V>],
 ) -> Result<Vec<HintedFlow<N, F, V>>, AllocError>
     ensures { IfOk result (λ v. v.items ≡ entries.now) }
 {
@@ -138,7 +138,7 @@ fn each_hinted<N: Key, F: Key, V: Flowed<F>>(
 /// These values in the order of their flows. `AllocError`: nothing is made.
 pub(crate) fn in_order_of_flows<N: Key, F: Key, V: Flowed<F>>(
     alloc: Global,
-    entries: &[Entry<N, V>],
+    entries: &[KeyValue<N, V>],
 ) -> Result<Vec<HintedFlow<N, F, V>>, AllocError>
     ensures same { IfOk result (λ v. IsPermutation entries.now v.items) }
     ensures sorted { IfOk result (λ v. IsSortedBy (λ a b. is_lt (F.order (V.flow a.1) (V.flow b.1))) v.items) }

@@ -1,6 +1,6 @@
 //! Going over a map.
 ghost use Rattle.std.specs.{Prelude.{◌≡◌, ◌++◌, [], MatchOption}, Iterator.{item_count, YieldsFirstBy}};
-ghost use Rattle.pf_map.specs.Parts.{joined};
+ghost use Rattle.pf_map.specs.MapParts.{joined};
 
 use crate::entry::Held;
 use crate::key::Key;
@@ -28,7 +28,7 @@ impl<'a, K: Key, V: Drop, E: Held<K, V>, L: Page<K, V, E>> Drop for Entries<'a, 
 
 impl<'a, K: Key, V: Drop, E: Held<K, V>, L: Page<K, V, E>> Model for Entries<'a, K, V, E, L> {
     ghost use Rattle.std.specs.Prelude.{List, ◌++◌};
-    ghost use Rattle.pf_map.specs.Parts.{joined};
+    ghost use Rattle.pf_map.specs.MapParts.{joined};
 
     ghost Value = { List (K × V) };
 

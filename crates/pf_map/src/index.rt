@@ -4,7 +4,7 @@ ghost use Rattle.pf_map.specs.{Indexes.{of_flow, is_clash, unflowed, IsIndexOf},
 
 use crate::by_flow::{ByFlow, Flowed, HintedFlow, are_apart, each_by_flow, in_order_of_flows};
 use crate::entries::Entries;
-use crate::entry::Entry;
+use crate::entry::KeyValue;
 use crate::key::{Key, Probe};
 use crate::tree_map::TreeMap;
 use std::alloc::{AllocError, Global};
@@ -15,8 +15,8 @@ use std::marker::Model;
 /// Each value stands once, in an entry that the map by name and the map by flow share. Both maps are trees, so that a changed index
 /// shares nearly all with the old one.
 pub struct Index<N: Key, F: Key, V: Flowed<F>> {
-    names: TreeMap<N, V, Entry<N, V>>,
-    flows: TreeMap<F, Entry<N, V>, ByFlow<N, F, V>>,
+    names: TreeMap<N, V, KeyValue<N, V>>,
+    flows: TreeMap<F, KeyValue<N, V>, ByFlow<N, F, V>>,
 }
 
 impl<N: Key, F: Key, V: Flowed<F>> Drop for Index<N, F, V> {
@@ -39,9 +39,9 @@ impl<N: Key, F: Key, V: Flowed<F>> Model for Index<N, F, V> {
 // The flows without that of a value that is taken out, if there is one.
 fn without_flow<N: Key, F: Key, V: Flowed<F>>(
     alloc: Global,
-    flows: TreeMap<F, Entry<N, V>, ByFlow<N, F, V>>,
-    old: Option<&Entry<N, V>>,
-) -> Result<TreeMap<F, Entry<N, V>, ByFlow<N, F, V>>, AllocError>
+    flows: TreeMap<F, KeyValue<N, V>, ByFlow<N, F, V>>,
+    old: Option<&KeyValue<N, V>>,
+) -> Result<TreeMap<F, KeyValue<N, V>, ByFlow<N, F, V>>, AllocError>
     ensures { IfOk result (λ m. m ≡ unflowed F.order V.flow (option_map (λ e. e.now.1) old.entry) flows) }
 {
     match old {
@@ -53,7 +53,7 @@ fn without_flow<N: Key, F: Key, V: Flowed<F>>(
 // The index of these values, which stand in the order of their names and in that of their flows; none where two have one flow.
 fn of_both<N: Key, F: Key, V: Flowed<F>>(
     alloc: Global,
-    entries: &[Entry<N, V>],
+    entries: &[KeyValue<N, V>],
     flows: Vec<HintedFlow<N, F, V>>,
 ) -> Result<Option<Index<N, F, V>>, AllocError>
     requires named { T (is_sorted N.order entries.now) }
@@ -82,7 +82,10 @@ impl<N: Key, F: Key, V: Flowed<F>> Index<N, F, V> {
 
     /// The index of these values, which stand in the order of their names, no name twice; None where two of them have one flow.
     /// `AllocError`: nothing is made.
-    pub fn of(alloc: Global, entries: &[Entry<N, V>]) -> Result<Option<Index<N, F, V>>, AllocError>
+    pub fn of(
+        alloc: Global,
+        entries: &[KeyValue<N, V>],
+    ) -> Result<Option<Index<N, F, V>>, AllocError>
         requires { T (is_sorted N.order entries.now) }
         ensures { IfOk result (λ i. IsIndexOf F.order V.flow entries.now i) }
     {
@@ -98,14 +101,14 @@ impl<N: Key, F: Key, V: Flowed<F>> Index<N, F, V> {
     }
 
     /// The value of a name, if there is one.
-    pub fn get<Q: Probe<N>>(&self, name: &Q) -> Option<&Entry<N, V>>
+    pub fn get<Q: Probe<N>>(&self, name: &Q) -> Option<&KeyValue<N, V>>
         ensures { option_map (λ e. e.now) result ≡ entry_at N.order (Q.key name.now) self.now }
     {
         self.names.get(name)
     }
 
     /// The value of a flow, if there is one.
-    pub fn of_flow<Q: Probe<F>>(&self, flow: &Q) -> Option<&Entry<N, V>>
+    pub fn of_flow<Q: Probe<F>>(&self, flow: &Q) -> Option<&KeyValue<N, V>>
         ensures { option_map (λ e. e.now) result ≡ of_flow F.order V.flow (Q.key flow.now) self.now }
     {
         match self.flows.get(flow) {
@@ -115,7 +118,7 @@ impl<N: Key, F: Key, V: Flowed<F>> Index<N, F, V> {
     }
 
     /// Whether a value of another name has the flow of this one.
-    pub fn is_clash(&self, new: &Entry<N, V>) -> bool
+    pub fn is_clash(&self, new: &KeyValue<N, V>) -> bool
         ensures { result ≡ is_clash N.order F.order V.flow self.now new.now }
     {
         match self.of_flow(new.value().flow()) {
@@ -137,7 +140,7 @@ impl<N: Key, F: Key, V: Flowed<F>> Index<N, F, V> {
     /// The index with a value, in the place of the one of its name if there is one; its flow is that of no other name's value
     /// (`is_clash`). In each map pages on the way to it that others hold are copied, three at most, and all else is shared.
     /// `AllocError`: nothing is left of this index; what shares its pages stays.
-    pub fn with(self, alloc: Global, new: &Entry<N, V>) -> Result<Index<N, F, V>, AllocError>
+    pub fn with(self, alloc: Global, new: &KeyValue<N, V>) -> Result<Index<N, F, V>, AllocError>
         requires { is_clash N.order F.order V.flow self new.now ≡ false }
         ensures { IfOk result (λ i. i ≡ with_value N.order self new.now.0 (Some new.now.1)) }
     {
@@ -160,7 +163,7 @@ impl<N: Key, F: Key, V: Flowed<F>> Index<N, F, V> {
     }
 
     /// Its values, in the order of their names. It takes no memory.
-    pub fn entries(&self) -> Entries<'_, N, V, Entry<N, V>>
+    pub fn entries(&self) -> Entries<'_, N, V, KeyValue<N, V>>
         ensures { result ≡ self.now }
     {
         self.names.entries()

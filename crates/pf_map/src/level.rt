@@ -1,6 +1,6 @@
 //! A level of the tree: parts that follow one another, in one page.
 ghost use Rattle.std.specs.{Prelude.{◌≡◌, ◌<◌, ◌≤◌, T, [], ◌++◌, length, take, drop, IfOk, OnOk, IfSome, None, MatchOption}, FinMap.is_sorted, Option.{option_map, option_map_or}};
-ghost use Rattle.pf_map.specs.{Maps.{with_value, entry_at, at_or_before}, Parts.{joined, IsPlace, IsUpTo}, Pieces.all_of};
+ghost use Rattle.pf_map.specs.{Maps.{with_value, entry_at, at_or_before}, MapParts.{joined, IsPlace, IsUpTo}, Pieces.all_of};
 
 use crate::entry::Held;
 use crate::key::{Key, Probe};
@@ -30,7 +30,7 @@ impl<K: Key, V: Drop, E: Held<K, V>, P: Part<K, V, E>> Drop for Level<K, V, E, P
 impl<K: Key, V: Drop, E: Held<K, V>, P: Part<K, V, E>> Model for Level<K, V, E, P> {
     ghost use Rattle.std.specs.Prelude.{List, length, ◌<◌};
     ghost use Rattle.std.specs.Arc.{arc_value};
-    ghost use Rattle.pf_map.specs.Parts.{joined};
+    ghost use Rattle.pf_map.specs.MapParts.{joined};
 
     ghost Value = { List (K × V) };
 

@@ -3,7 +3,7 @@ ghost use Rattle.std.specs.{Prelude.{◌≡◌, ◌<◌, ◌^◌, T, [], length,
 ghost use Rattle.pf_map.specs.{Maps.{with_entry, entry_at, IsMap}, Weights.{weight_of, IsWeighed}};
 
 use crate::entries::Entries;
-use crate::entry::{Content, Entry};
+use crate::entry::{Content, KeyValue};
 use crate::key::{Key, Probe};
 use crate::tree_map::TreeMap;
 use crate::weight::Weigher;
@@ -16,7 +16,7 @@ use std::marker::{Model, PhantomData};
 /// The entries stand in pages, so that a changed map shares with the old one all pages but those in which an entry changed. What
 /// they weigh together is kept, and changes with each that is replaced.
 pub struct PagedMap<K: Key, V: Content, W: Weigher<K, V>> {
-    map: TreeMap<K, V, Entry<K, V>>,
+    map: TreeMap<K, V, KeyValue<K, V>>,
     weight: u128,
     of: PhantomData<W>,
 }
@@ -43,7 +43,10 @@ impl<K: Key, V: Content, W: Weigher<K, V>> Model for PagedMap<K, V, W> {
 }
 
 // What the entry at a key weighs; nothing where there is none.
-fn weight_at<K: Key, V: Content, W: Weigher<K, V>>(map: &TreeMap<K, V, Entry<K, V>>, key: &K) -> u32
+fn weight_at<K: Key, V: Content, W: Weigher<K, V>>(
+    map: &TreeMap<K, V, KeyValue<K, V>>,
+    key: &K,
+) -> u32
     ensures weight { result ≡ weight_of W.weight (entry_at K.order key.now map.now) }
     ensures sorted { T (is_sorted K.order map.now) }
 {
@@ -54,7 +57,7 @@ fn weight_at<K: Key, V: Content, W: Weigher<K, V>>(map: &TreeMap<K, V, Entry<K, 
 }
 
 // What an entry weighs where it is kept; nothing where its value stands for none.
-fn weight_kept<K: Key, V: Content, W: Weigher<K, V>>(entry: &Entry<K, V>) -> u32
+fn weight_kept<K: Key, V: Content, W: Weigher<K, V>>(entry: &KeyValue<K, V>) -> u32
     ensures { result ≡ weight_of W.weight (option_map (λ v. (entry.now.0, v)) (V.kept entry.now.1)) }
 {
     if entry.value().is_none() {
@@ -66,9 +69,9 @@ fn weight_kept<K: Key, V: Content, W: Weigher<K, V>>(entry: &Entry<K, V>) -> u32
 
 // What entries that weigh so much weigh once the value at one entry's key is replaced.
 fn reweighed<K: Key, V: Content, W: Weigher<K, V>>(
-    map: &TreeMap<K, V, Entry<K, V>>,
+    map: &TreeMap<K, V, KeyValue<K, V>>,
     weight: u128,
-    change: &Entry<K, V>,
+    change: &KeyValue<K, V>,
 ) -> u128
     requires { IsWeighed W.weight map.now weight }
     ensures { IsWeighed W.weight (with_entry K.order V.kept map.now change.now) result }
@@ -81,10 +84,10 @@ fn reweighed<K: Key, V: Content, W: Weigher<K, V>>(
 
 // The map with the value at one entry's key replaced, or taken out where the new one stands for none.
 fn with_change<K: Key, V: Content>(
-    map: TreeMap<K, V, Entry<K, V>>,
+    map: TreeMap<K, V, KeyValue<K, V>>,
     alloc: Global,
-    change: &Entry<K, V>,
-) -> Result<TreeMap<K, V, Entry<K, V>>, AllocError>
+    change: &KeyValue<K, V>,
+) -> Result<TreeMap<K, V, KeyValue<K, V>>, AllocError>
     ensures { IfOk result (λ m. m ≡ with_entry K.order V.kept map change.now) }
 {
     if change.value().is_none() {
@@ -95,7 +98,7 @@ fn with_change<K: Key, V: Content>(
 }
 
 // What entries weigh together.
-fn weight_of_all<K: Key, V: Content, W: Weigher<K, V>>(entries: &[Entry<K, V>]) -> u128
+fn weight_of_all<K: Key, V: Content, W: Weigher<K, V>>(entries: &[KeyValue<K, V>]) -> u128
     ensures { IsWeighed W.weight entries.now result }
 {
     // there are fewer than 2^64, so the sum fits
@@ -121,7 +124,7 @@ impl<K: Key, V: Content, W: Weigher<K, V>> PagedMap<K, V, W> {
 
     /// The map of these entries, which stand in the order of their keys, no key twice, and of which no value stands for none. Its pages
     /// are full but for the last ones. `AllocError`: nothing is made.
-    pub fn of(alloc: Global, entries: &[Entry<K, V>]) -> Result<PagedMap<K, V, W>, AllocError>
+    pub fn of(alloc: Global, entries: &[KeyValue<K, V>]) -> Result<PagedMap<K, V, W>, AllocError>
         requires { IsMap K.order V.kept entries.now }
         ensures { IfOk result (λ m. m ≡ entries.now) }
     {
@@ -145,7 +148,7 @@ impl<K: Key, V: Content, W: Weigher<K, V>> PagedMap<K, V, W> {
     fn with_change(
         self,
         alloc: Global,
-        change: &Entry<K, V>,
+        change: &KeyValue<K, V>,
     ) -> Result<PagedMap<K, V, W>, AllocError>
         ensures { IfOk result (λ m. m ≡ with_entry K.order V.kept self change.now) }
     {
@@ -159,7 +162,7 @@ impl<K: Key, V: Content, W: Weigher<K, V>> PagedMap<K, V, W> {
     }
 
     /// The entry at a key; None where it has no value.
-    pub fn get<Q: Probe<K>>(&self, sought: &Q) -> Option<&Entry<K, V>>
+    pub fn get<Q: Probe<K>>(&self, sought: &Q) -> Option<&KeyValue<K, V>>
         ensures entry { option_map (λ e. e.now) result ≡ entry_at K.order (Q.key sought.now) self.now }
         // what each map keeps
         ensures map { IsMap K.order V.kept self.now }
@@ -172,7 +175,7 @@ impl<K: Key, V: Content, W: Weigher<K, V>> PagedMap<K, V, W> {
     pub fn with(
         &self,
         alloc: Global,
-        changes: &[Entry<K, V>],
+        changes: &[KeyValue<K, V>],
     ) -> Result<PagedMap<K, V, W>, AllocError>
         ensures { IfOk result (λ m. m ≡ fold (with_entry K.order V.kept) self.now changes.now) }
     {
@@ -206,7 +209,7 @@ impl<K: Key, V: Content, W: Weigher<K, V>> PagedMap<K, V, W> {
     pub fn would_be_more_than(
         &self,
         alloc: Global,
-        changes: &[Entry<K, V>],
+        changes: &[KeyValue<K, V>],
         limit: usize,
     ) -> Result<bool, AllocError>
         ensures { IfOk result (λ b. b ≡ nat_lt limit (length (fold (with_entry K.order V.kept) self.now changes.now))) }
@@ -221,7 +224,7 @@ impl<K: Key, V: Content, W: Weigher<K, V>> PagedMap<K, V, W> {
     }
 
     /// Its entries, in order. It takes no memory.
-    pub fn entries(&self) -> Entries<'_, K, V, Entry<K, V>>
+    pub fn entries(&self) -> Entries<'_, K, V, KeyValue<K, V>>
         ensures { result ≡ self.now }
     {
         self.map.entries()

@@ -1,6 +1,6 @@
 //! Parts of maps.
 ghost use Rattle.std.specs.{Prelude.{◌≡◌, ◌<◌, T, length, map, List, [], ◌∷◌, Some, IfOk, IfSome}, FinMap.is_sorted, Option.option_map};
-ghost use Rattle.pf_map.specs.{Maps.{with_value, entry_at, at_or_before}, Parts.{first_of, joined}, Pieces.all_of};
+ghost use Rattle.pf_map.specs.{Maps.{with_value, entry_at, at_or_before}, MapParts.{first_of, joined}, Pieces.all_of};
 
 use crate::entry::Held;
 use crate::key::{Key, Probe};

@@ -1,6 +1,6 @@
 //! Pages over parts that are there already, from the leaves up.
 ghost use Rattle.std.specs.Prelude.{◌≡◌, ◌++◌, map, IfOk};
-ghost use Rattle.pf_map.specs.Parts.{joined};
+ghost use Rattle.pf_map.specs.MapParts.{joined};
 
 use crate::entry::Held;
 use crate::key::Key;

@@ -1,6 +1,6 @@
 //! Parts as a level holds them.
 ghost use Rattle.std.specs.Prelude.{◌≡◌, ◌<◌, length, IfOk};
-ghost use Rattle.pf_map.specs.Parts.{starts_behind};
+ghost use Rattle.pf_map.specs.MapParts.{starts_behind};
 
 use crate::entry::Held;
 use crate::key::{Key, Probe};

@@ -1,6 +1,6 @@
 //! Maps in trees.
 ghost use Rattle.std.specs.{Prelude.{◌≡◌, ◌+◌, ◌<◌, T, [], length, map, cond, true, Some, None, is_some, IfOk, IfSome, MatchOption, nat_lt}, Option.option_map, FinMap.{find, is_sorted}};
-ghost use Rattle.pf_map.specs.{Maps.{with_value, without, entry_at, at_or_before}, Parts.{joined, IsUpTo}};
+ghost use Rattle.pf_map.specs.{Maps.{with_value, without, entry_at, at_or_before}, MapParts.{joined, IsUpTo}};
 
 use crate::entries::Entries;
 use crate::entry::Held;

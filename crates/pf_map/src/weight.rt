@@ -1,7 +1,7 @@
 //! What the entries of a map weigh.
 ghost use Rattle.std.specs.Prelude.{◌≡◌, ℕ};
 
-use crate::entry::{Content, Entry};
+use crate::entry::{Content, KeyValue};
 use crate::key::Key;
 
 /// What each entry of a map weighs, as how many bytes it takes somewhere.
@@ -10,6 +10,6 @@ pub trait Weigher<K: Key, V: Content> {
     ghost weight: { K × V → ℕ };
 
     /// What the entry weighs.
-    fn weigh(entry: &Entry<K, V>) -> u32
+    fn weigh(entry: &KeyValue<K, V>) -> u32
         ensures { result ≡ weight entry.now };
 }

@@ -6,18 +6,18 @@ use Rattle.std.proofs.lemmas.Bool.Decides.{nat_tests}
 use mathlib.Core.List.{IsPrefix}
 use prog.Atomic.{either}
 use Rattle.logbook.specs.Pages.{Cell, cell, Nib, keeps, gives, adds, no_nib, step, may_write, Moves}
-use Rattle.pf_past.specs.declared.rule.Entry.{Entry}
+use Rattle.pf_past.specs.declared.rule.HistoryEntry.{HistoryEntry}
 use Rattle.std.specs.Prelude.{map, if◌then◌else◌, ◌≤◌}
 use Rattle.std.specs.List.{sum_by}
 use Rattle.std.proofs.lemmas.List.Sums.{sum_by-append}
 use Rattle.pf_past.specs.Pasts.{Begins, with_change}
 use Rattle.pf_past.specs.Rules.{lead, lead_of, IsSpent, IsChain, IsKept, Comes, Starts, Adds, Stays, after_first, past_of}
-use Rattle.pf_past.proofs.Fronts.{prefix_trans, prefix_shorter, prefix_whole, prefix_length}
+use Rattle.pf_past.proofs.Prefixes.{prefix_trans, prefix_shorter, prefix_whole, prefix_length}
 
-abbrev pub shown : List Entry → List Entry
+abbrev pub shown : List HistoryEntry → List HistoryEntry
 shown log = []
 
-abbrev pub moved : List Entry → List Entry → ℕ → Type 0
+abbrev pub moved : List HistoryEntry → List HistoryEntry → ℕ → Type 0
 moved xs ys n = Unit {0}
 
 off : false ≡ true → ⊥
@@ -66,46 +66,46 @@ pub same_set : (cs : List Cell) → (cell cs 0).1 ≡ true → slice_set cs 0 (e
 same_set [] h = refl
 same_set ((n, b) ∷ cs) h = λ i. (value_same n i, sym h i) ∷ cs
 
-pub spent_set : (cs cs' : List Cell) → ((j : ℕ) → (cell cs j).1 ≡ true → (cell cs' j).1 ≡ true) → (k : ℕ) (log : List Entry) → IsSpent cs k log → IsSpent cs' k log
+pub spent_set : (cs cs' : List Cell) → ((j : ℕ) → (cell cs j).1 ≡ true → (cell cs' j).1 ≡ true) → (k : ℕ) (log : List HistoryEntry) → IsSpent cs k log → IsSpent cs' k log
 spent_set cs cs' more k [] s = tt
 spent_set cs cs' more k (e ∷ es) s = (more k s.0, spent_set cs cs' more e.next es s.1)
 
-pub chain_set : (cs cs' : List Cell) → ((j : ℕ) → (cell cs j).1 ≡ true → (cell cs' j).1 ≡ true) → (log : List Entry) → IsChain cs log → IsChain cs' log
+pub chain_set : (cs cs' : List Cell) → ((j : ℕ) → (cell cs j).1 ≡ true → (cell cs' j).1 ≡ true) → (log : List HistoryEntry) → IsChain cs log → IsChain cs' log
 chain_set cs cs' more [] s = tt
 chain_set cs cs' more (e ∷ es) s = spent_set cs cs' more e.next es s
 
-pub spent_push : (cs : List Cell) (k : ℕ) (log : List Entry) (e : Entry) → IsSpent cs k log → (cell cs (lead k log)).1 ≡ true → IsSpent cs k (log ++ e ∷ [])
+pub spent_push : (cs : List Cell) (k : ℕ) (log : List HistoryEntry) (e : HistoryEntry) → IsSpent cs k log → (cell cs (lead k log)).1 ≡ true → IsSpent cs k (log ++ e ∷ [])
 spent_push cs k [] e s h = (h, tt)
 spent_push cs k (x ∷ xs) e s h = (s.0, spent_push cs x.next xs e s.1 h)
 
-pub lead-push : (k : ℕ) (log : List Entry) (e : Entry) → lead k (log ++ e ∷ []) ≡ e.next
+pub lead-push : (k : ℕ) (log : List HistoryEntry) (e : HistoryEntry) → lead k (log ++ e ∷ []) ≡ e.next
 lead-push k [] e = refl
 lead-push k (x ∷ xs) e = lead-push x.next xs e
 
-pub lead_of-push : (log : List Entry) (e : Entry) → lead_of (log ++ e ∷ []) ≡ e.next
+pub lead_of-push : (log : List HistoryEntry) (e : HistoryEntry) → lead_of (log ++ e ∷ []) ≡ e.next
 lead_of-push [] e = refl
 lead_of-push (x ∷ xs) e = lead-push x.next xs e
 
 -- who has the pen that may add has seen all
-spent_alone : (cs : List Cell) (k : ℕ) (v log : List Entry) → IsSpent cs k log → IsPrefix v log → (cell cs (lead k v)).1 ≡ false → v ≡ log
+spent_alone : (cs : List Cell) (k : ℕ) (v log : List HistoryEntry) → IsSpent cs k log → IsPrefix v log → (cell cs (lead k v)).1 ≡ false → v ≡ log
 spent_alone cs k [] [] s pre away = refl
 spent_alone cs k [] (y ∷ ys) s pre away = absurd (true≢false (sym s.0 ∙ away))
 spent_alone cs k (x ∷ xs) [] s pre away = absurd (cc (pre.1))
 spent_alone cs k (x ∷ xs) (y ∷ ys) s pre away =
     let heads : x ≡ y = cc (pre.1) in
-    let gone : (cell cs (lead y.next xs)).1 ≡ false = subst (λ (e : Entry). (cell cs (lead e.next xs)).1 ≡ false) heads away in
+    let gone : (cell cs (lead y.next xs)).1 ≡ false = subst (λ (e : HistoryEntry). (cell cs (lead e.next xs)).1 ≡ false) heads away in
     let rest = spent_alone cs y.next xs ys s.1 (pre.0, cc (pre.1)) gone in cc (heads, rest)
 
-pub alone : (cs : List Cell) (v log : List Entry) → IsKept cs log → IsPrefix v log → (cell cs (lead_of v)).1 ≡ false → v ≡ log
+pub alone : (cs : List Cell) (v log : List HistoryEntry) → IsKept cs log → IsPrefix v log → (cell cs (lead_of v)).1 ≡ false → v ≡ log
 alone cs [] log kept pre away = absurd (true≢false (sym kept.0 ∙ away))
 alone cs (x ∷ xs) [] kept pre away = absurd (cc (pre.1))
 alone cs (x ∷ xs) (y ∷ ys) kept pre away =
     let heads : x ≡ y = cc (pre.1) in
-    let gone : (cell cs (lead y.next xs)).1 ≡ false = subst (λ (e : Entry). (cell cs (lead e.next xs)).1 ≡ false) heads away in
+    let gone : (cell cs (lead y.next xs)).1 ≡ false = subst (λ (e : HistoryEntry). (cell cs (lead e.next xs)).1 ≡ false) heads away in
     let rest = spent_alone cs y.next xs ys kept.1 (pre.0, cc (pre.1)) gone in cc (heads, rest)
 
 -- a new pen may come at any time
-pub comes : (v : List Entry) (ask : Entry) → Moves IsKept shown moved 0 (v, (no_nib, None)) (λ n. either (n == 0) 0 n) (Comes (step 0 0 0 ask) (v, (no_nib, None)))
+pub comes : (v : List HistoryEntry) (ask : HistoryEntry) → Moves IsKept shown moved 0 (v, (no_nib, None)) (λ n. either (n == 0) 0 n) (Comes (step 0 0 0 ask) (v, (no_nib, None)))
 comes v ask cs log kept pre away =
     let cs' = cs ++ (0, false) ∷ [] in
     let kept' : IsKept cs' (log ++ []) = (
@@ -119,7 +119,7 @@ comes v ask cs log kept pre away =
     )
 
 -- the pen's holder looks
-pub stays : (v : List Entry) (p : Nib) (ask : Entry) → p.right ≡ may_write → Moves IsKept shown moved 0 (v, (p, None)) (λ n. either (n == 0) 0 n) (Stays (step 0 0 0 ask) (v, (p, None)))
+pub stays : (v : List HistoryEntry) (p : Nib) (ask : HistoryEntry) → p.right ≡ may_write → Moves IsKept shown moved 0 (v, (p, None)) (λ n. either (n == 0) 0 n) (Stays (step 0 0 0 ask) (v, (p, None)))
 stays v p ask right cs log kept pre away =
     let kept' : IsKept cs (log ++ []) = subst (IsKept cs) (sym (append-nil log)) kept in (
       some_there cs kept.0,
@@ -135,13 +135,13 @@ stays v p ask right cs log kept pre away =
           refl,
           λ u begins is.
               let whole : u ≡ log = alone cs u log kept (prefix_trans u v log begins pre) (subst (λ (k : ℕ). (cell cs k).1 ≡ false) (sym is) (away right).1) in
-              let back : IsPrefix v u = subst (λ (l : List Entry). IsPrefix v l) (sym whole) pre in prefix_whole u v begins (prefix_length v u back),
+              let back : IsPrefix v u = subst (λ (l : List HistoryEntry). IsPrefix v l) (sym whole) pre in prefix_whole u v begins (prefix_length v u back),
         ),
       ),
     )
 
 -- the pen's holder adds
-pub adds_one : (v : List Entry) (p : Nib) (ask : Entry) → p.right ≡ may_write → p.key ≡ lead_of v → Moves IsKept shown moved 0 (v, (p, None)) (λ n. either (n == 0) 0 n) (Adds (step 0 0 0 ask) (v, (p, None)))
+pub adds_one : (v : List HistoryEntry) (p : Nib) (ask : HistoryEntry) → p.right ≡ may_write → p.key ≡ lead_of v → Moves IsKept shown moved 0 (v, (p, None)) (λ n. either (n == 0) 0 n) (Adds (step 0 0 0 ask) (v, (p, None)))
 adds_one v p ask right key cs log kept pre away =
     let gone : (cell cs (lead_of v)).1 ≡ false = subst (λ (k : ℕ). (cell cs k).1 ≡ false) key (away right).1 in
     let whole : v ≡ log = alone cs v log kept pre gone in
@@ -154,57 +154,57 @@ adds_one v p ask right key cs log kept pre away =
     ) in (
       some_there cs kept.0,
       kept.0,
-      (gives, ask ∷ [], None, right, subst (λ (x : List Cell). IsKept (slice_set x p.key (p.value, true)) (log ++ ask ∷ [])) (sym (same_set cs kept.0)) kept', inl (refl, refl), ap (λ (l : List Entry). l ++ ask ∷ []) (sym whole)),
+      (gives, ask ∷ [], None, right, subst (λ (x : List Cell). IsKept (slice_set x p.key (p.value, true)) (log ++ ask ∷ [])) (sym (same_set cs kept.0)) kept', inl (refl, refl), ap (λ (l : List HistoryEntry). l ++ ask ∷ []) (sym whole)),
     )
   where
-    pushed : (cs : List Cell) (log : List Entry) (e : Entry) → IsChain cs log → (cell cs (lead_of log)).1 ≡ true → IsChain cs (log ++ e ∷ [])
+    pushed : (cs : List Cell) (log : List HistoryEntry) (e : HistoryEntry) → IsChain cs log → (cell cs (lead_of log)).1 ≡ true → IsChain cs (log ++ e ∷ [])
     pushed cs [] e s h = tt
     pushed cs (x ∷ xs) e s h = spent_push cs x.next xs e s h
 
-    nobody : (cs : List Cell) (v log : List Entry) → (cell cs 0).0 ≡ 0 → IsKept cs log → v ≡ log → (cell cs (lead_of v)).1 ≡ false → ⊥
+    nobody : (cs : List Cell) (v log : List HistoryEntry) → (cell cs 0).0 ≡ 0 → IsKept cs log → v ≡ log → (cell cs (lead_of v)).1 ≡ false → ⊥
     nobody cs [] log z kept whole gone = true≢false (sym kept.0 ∙ gone)
     nobody cs (x ∷ xs) log z kept whole gone = absurd (cc (whole, kept.2 z))
 
 -- the first entry
-pub starts : (v : List Entry) (p : Nib) (ask : Entry) → Moves IsKept shown moved 0 (v, (p, None)) (λ n. either (n == 0) 1 n) (Starts (step 0 0 1 ask) (v, (p, None)))
+pub starts : (v : List HistoryEntry) (p : Nib) (ask : HistoryEntry) → Moves IsKept shown moved 0 (v, (p, None)) (λ n. either (n == 0) 1 n) (Starts (step 0 0 1 ask) (v, (p, None)))
 starts v p ask [] log kept pre away = absurd (off kept.0)
 starts v p ask ((zero, b) ∷ cs) log kept pre away =
     let none : log ≡ [] = kept.2 refl in
-    let kept' : IsKept ((1, true) ∷ cs) (log ++ ask ∷ []) = subst (λ (l : List Entry). IsKept ((1, true) ∷ cs) (l ++ ask ∷ [])) (sym none) (refl, tt, λ z. absurd (omega arith)) in
-    (omega arith, kept.0, (keeps, ask ∷ [], None, tt, kept', inl (refl, refl), λ _. ap (λ (l : List Entry). l ++ ask ∷ []) none))
+    let kept' : IsKept ((1, true) ∷ cs) (log ++ ask ∷ []) = subst (λ (l : List HistoryEntry). IsKept ((1, true) ∷ cs) (l ++ ask ∷ [])) (sym none) (refl, tt, λ z. absurd (omega arith)) in
+    (omega arith, kept.0, (keeps, ask ∷ [], None, tt, kept', inl (refl, refl), λ _. ap (λ (l : List HistoryEntry). l ++ ask ∷ []) none))
 starts v p ask ((suc n, b) ∷ cs) log kept pre away =
     let set : ((either (suc n == 0) 1 (suc n), true) ∷ cs) ≡ ((suc n, b) ∷ cs) = λ i. (value_suc n i, sym kept.0 i) ∷ cs in
     let kept' : IsKept ((either (suc n == 0) 1 (suc n), true) ∷ cs) (log ++ []) = subst (λ (x : List Cell). IsKept x (log ++ [])) (sym set) (subst (IsKept ((suc n, b) ∷ cs)) (sym (append-nil log)) kept) in
     (omega arith, kept.0, (keeps, [], None, tt, kept', inl (refl, refl), λ z. absurd (omega arith)))
 
 -- what a longer log says of changes
-prefix_map : (xs ys : List Entry) → IsPrefix xs ys → IsPrefix (map (λ (e : Entry). e.change) xs) (map (λ (e : Entry). e.change) ys)
-prefix_map [] ys p = (map (λ (e : Entry). e.change) ys, refl)
+prefix_map : (xs ys : List HistoryEntry) → IsPrefix xs ys → IsPrefix (map (λ (e : HistoryEntry). e.change) xs) (map (λ (e : HistoryEntry). e.change) ys)
+prefix_map [] ys p = (map (λ (e : HistoryEntry). e.change) ys, refl)
 prefix_map (x ∷ xs) [] p = absurd (cc (p.1))
 prefix_map (x ∷ xs) (y ∷ ys) p = let heads : x ≡ y = cc (p.1) in let rest = prefix_map xs ys (p.0, cc (p.1)) in (rest.0, cc (heads, rest.1))
 
-prefix_sum : (xs ys : List Entry) → IsPrefix xs ys → sum_by (λ (e : Entry). if e.acked then 1 else 0) xs ≤ sum_by (λ (e : Entry). if e.acked then 1 else 0) ys
-prefix_sum xs ys p = omega (arith, sum_by-append (λ (e : Entry). if e.acked then 1 else 0) xs p.0, ap (sum_by (λ (e : Entry). if e.acked then 1 else 0)) p.1)
+prefix_sum : (xs ys : List HistoryEntry) → IsPrefix xs ys → sum_by (λ (e : HistoryEntry). if e.acked then 1 else 0) xs ≤ sum_by (λ (e : HistoryEntry). if e.acked then 1 else 0) ys
+prefix_sum xs ys p = omega (arith, sum_by-append (λ (e : HistoryEntry). if e.acked then 1 else 0) xs p.0, ap (sum_by (λ (e : HistoryEntry). if e.acked then 1 else 0)) p.1)
 
-prefix_rest : (xs ys : List Entry) → IsPrefix xs ys → IsPrefix (after_first xs) (after_first ys)
+prefix_rest : (xs ys : List HistoryEntry) → IsPrefix xs ys → IsPrefix (after_first xs) (after_first ys)
 prefix_rest [] ys p = (after_first ys, refl)
 prefix_rest (x ∷ xs) [] p = absurd (cc (p.1))
 prefix_rest (x ∷ xs) (y ∷ ys) p = (p.0, cc (p.1))
 
-pub past_begins : (xs ys : List Entry) → IsPrefix xs ys → Begins (past_of xs) (past_of ys)
+pub past_begins : (xs ys : List HistoryEntry) → IsPrefix xs ys → Begins (past_of xs) (past_of ys)
 past_begins xs ys p = let q = prefix_rest xs ys p in (prefix_map (after_first xs) (after_first ys) q, prefix_sum (after_first xs) (after_first ys) q)
 
 -- one more entry
-pub past_of-push : (log : List Entry) (e : Entry) → 0 < length log → past_of (log ++ e ∷ []) ≡ with_change (past_of log) e.change e.acked
+pub past_of-push : (log : List HistoryEntry) (e : HistoryEntry) → 0 < length log → past_of (log ++ e ∷ []) ≡ with_change (past_of log) e.change e.acked
 past_of-push [] e some = absurd (omega arith)
 past_of-push (x ∷ xs) e some = λ i. record {
-  front = map-append (λ (y : Entry). y.change) xs (e ∷ []) i;
+  front = map-append (λ (y : HistoryEntry). y.change) xs (e ∷ []) i;
   acked = sum i;
 }
   where
-    sum : sum_by (λ (y : Entry). if y.acked then 1 else 0) (xs ++ e ∷ []) ≡ sum_by (λ (y : Entry). if y.acked then 1 else 0) xs + (if e.acked then 1 else 0)
-    sum = omega (arith, sum_by-append (λ (y : Entry). if y.acked then 1 else 0) xs (e ∷ []))
+    sum : sum_by (λ (y : HistoryEntry). if y.acked then 1 else 0) (xs ++ e ∷ []) ≡ sum_by (λ (y : HistoryEntry). if y.acked then 1 else 0) xs + (if e.acked then 1 else 0)
+    sum = omega (arith, sum_by-append (λ (y : HistoryEntry). if y.acked then 1 else 0) xs (e ∷ []))
 
 -- of two fronts of one history the one with no more changes begins the other
-pub front_begins : (xs ys zs : List Entry) → IsPrefix xs zs → IsPrefix ys zs → length (past_of xs).front ≤ length (past_of ys).front → IsPrefix (past_of xs).front (past_of ys).front
+pub front_begins : (xs ys zs : List HistoryEntry) → IsPrefix xs zs → IsPrefix ys zs → length (past_of xs).front ≤ length (past_of ys).front → IsPrefix (past_of xs).front (past_of ys).front
 front_begins xs ys zs p q le = prefix_shorter (past_of xs).front (past_of ys).front (past_of zs).front (past_begins xs zs p).0 (past_begins ys zs q).0 le

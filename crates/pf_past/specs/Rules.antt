@@ -1,34 +1,34 @@
--- The rule of the history: one pen alone may add to it. Own.
+-- The rule of the history: one pen alone may add to it.
 use Rattle.std.specs.{Prelude.{◌≡◌, ℕ, ◌<◌, length, List, [], ◌∷◌, ◌++◌, true, map, if◌then◌else◌}, List.sum_by}
 use mathlib.Core.List.{IsPrefix}
 use Rattle.logbook.specs.Pages.{Cell, cell, Step, View, Book, Named, Nib, may_make, may_write}
-use Rattle.pf_core.specs.Durable.Edits.{Edit}
-use Rattle.pf_past.specs.declared.rule.Entry.{Entry}
-use Rattle.pf_past.specs.Pasts.{Past}
+use Rattle.pf_core.specs.Durable.Changes.{PlainChange}
+use Rattle.pf_past.specs.declared.rule.HistoryEntry.{HistoryEntry}
+use Rattle.pf_past.specs.Pasts.{PlainFront}
 
 -- ---- what holds of the words and the entries
 
 -- the key of the pen that may add the next entry, where k was the first
-abbrev pub lead : ℕ → List Entry → ℕ
+abbrev pub lead : ℕ → List HistoryEntry → ℕ
 lead k [] = k
 lead k (e ∷ es) = lead e.next es
 
 -- the first entry is no change: it names the first pen. Before it nobody may add
-abbrev pub lead_of : List Entry → ℕ
+abbrev pub lead_of : List HistoryEntry → ℕ
 lead_of [] = 0
 lead_of (e ∷ es) = lead e.next es
 
 -- the pens of these entries are spent: their words are at home
-abbrev pub IsSpent : List Cell → ℕ → List Entry → Type 0
+abbrev pub IsSpent : List Cell → ℕ → List HistoryEntry → Type 0
 IsSpent cells k [] = Unit {0}
 IsSpent cells k (e ∷ es) = ((cell cells k).1 ≡ true) × IsSpent cells e.next es
 
-abbrev pub IsChain : List Cell → List Entry → Type 0
+abbrev pub IsChain : List Cell → List HistoryEntry → Type 0
 IsChain cells [] = Unit {0}
 IsChain cells (e ∷ es) = IsSpent cells e.next es
 
 -- the first word is at home, and 0 until the first entry stands
-abbrev pub IsKept : List Cell → List Entry → Type 0
+abbrev pub IsKept : List Cell → List HistoryEntry → Type 0
 IsKept cells log = ((cell cells 0).1 ≡ true) × IsChain cells log × ((cell cells 0).0 ≡ 0 → log ≡ [])
 
 abbrev pub head_of : Book → Named
@@ -37,38 +37,38 @@ head_of b = record { tracked = true; key = 0; book = b }
 -- ---- what a step tells
 
 -- a new pen came
-abbrev pub Comes : Step Entry → View Entry ℕ → ℕ → View Entry ℕ → Type 0
+abbrev pub Comes : Step HistoryEntry → View HistoryEntry ℕ → ℕ → View HistoryEntry ℕ → Type 0
 Comes s v found w = w.1.0.right ≡ may_make
 
 -- where the word was 0, the first entry stands
-abbrev pub Starts : Step Entry → View Entry ℕ → ℕ → View Entry ℕ → Type 0
+abbrev pub Starts : Step HistoryEntry → View HistoryEntry ℕ → ℕ → View HistoryEntry ℕ → Type 0
 Starts s v found w = found ≡ 0 → w.0 ≡ s.ask ∷ []
 
 -- the entry was added to all that was seen
-abbrev pub Adds : Step Entry → View Entry ℕ → ℕ → View Entry ℕ → Type 0
+abbrev pub Adds : Step HistoryEntry → View HistoryEntry ℕ → ℕ → View HistoryEntry ℕ → Type 0
 Adds s v found w = w.0 ≡ v.0 ++ s.ask ∷ []
 
 -- the pen is as it was, and who has it has seen all that anyone saw
-abbrev pub Stays : Step Entry → View Entry ℕ → ℕ → View Entry ℕ → Type 0
-Stays s v found w = (w.1.0 ≡ v.1.0) × ((u : List Entry) → IsPrefix u v.0 → lead_of u ≡ v.1.0.key → u ≡ v.0)
+abbrev pub Stays : Step HistoryEntry → View HistoryEntry ℕ → ℕ → View HistoryEntry ℕ → Type 0
+Stays s v found w = (w.1.0 ≡ v.1.0) × ((u : List HistoryEntry) → IsPrefix u v.0 → lead_of u ≡ v.1.0.key → u ≡ v.0)
 
 -- ---- what the entries say of changes
 
-abbrev pub after_first : List Entry → List Entry
+abbrev pub after_first : List HistoryEntry → List HistoryEntry
 after_first [] = []
 after_first (e ∷ es) = es
 
-abbrev pub edits_of : List Entry → List Edit
-edits_of log = map (λ e. e.change) (after_first log)
+abbrev pub changes_in : List HistoryEntry → List PlainChange
+changes_in log = map (λ e. e.change) (after_first log)
 
-abbrev pub acked_of : List Entry → ℕ
+abbrev pub acked_of : List HistoryEntry → ℕ
 acked_of log = sum_by (λ e. if e.acked then 1 else 0) (after_first log)
 
-abbrev pub past_of : List Entry → Past
-past_of log = record { front = edits_of log; acked = acked_of log }
+abbrev pub past_of : List HistoryEntry → PlainFront
+past_of log = record { front = changes_in log; acked = acked_of log }
 
 -- the pen is the one that may add to the log
-pub record IsTip (name : Book) (head : Named) (seen_book pen_book : Book) (pen : Nib) (log : List Entry) : Type 0 where
+pub record IsTip (name : Book) (head : Named) (seen_book pen_book : Book) (pen : Nib) (log : List HistoryEntry) : Type 0 where
   pub head_is : head ≡ head_of name
   pub seen_is : seen_book ≡ name
   pub pen_is : pen_book ≡ name

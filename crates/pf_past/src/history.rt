@@ -2,10 +2,10 @@
 ghost use Rattle.std.specs.Prelude.{◌≡◌, ◌≤◌, length, IfSome};
 ghost use Rattle.std.specs.Arc.{arc_value};
 ghost use mathlib.Core.List.{IsPrefix};
-ghost use Rattle.pf_past.specs.Pasts.{no_past, with_change, Begins, mark};
+ghost use Rattle.pf_past.specs.Pasts.{no_changes, with_change, Begins, trace_with};
 
 use crate::naming::Naming;
-use crate::rule::{Adding, Asked, Head, Nothing, SeenEntries, Starting, Staying, Step, new_pen};
+use crate::rule::{Adding, Asked, Head, NoGain, SeenEntries, Starting, Staying, Step, new_pen};
 use logbook::{Pen, Seen, Start};
 use pf_core::Change;
 use std::marker::{Model, PhantomData};
@@ -23,13 +23,13 @@ pub struct NewHistory {
 impl Model for NewHistory {
     ghost use Rattle.std.specs.Prelude.{◌≡◌, IfSome};
     ghost use Rattle.logbook.specs.Pages.{Book};
-    ghost use Rattle.pf_past.specs.{Pasts.no_past, Rules.{past_of, IsTip}};
+    ghost use Rattle.pf_past.specs.{Pasts.no_changes, Rules.{past_of, IsTip}};
 
     ghost Value = { Book };
 
     ghost view = { λ h. h.seen.book };
 
-    ghost invariant = { λ h. IfSome h.pen (λ pen. IsTip h.seen.book h.head h.seen.book pen.book pen.nib h.seen.log × (past_of h.seen.log ≡ no_past)) };
+    ghost invariant = { λ h. IfSome h.pen (λ pen. IsTip h.seen.book h.head h.seen.book pen.book pen.nib h.seen.log × (past_of h.seen.log ≡ no_changes)) };
 }
 
 impl NewHistory {
@@ -38,9 +38,9 @@ impl NewHistory {
         let (mut seen, mut first, _second) = Seen::open(Start::alone(), 0, 0);
         let head = Head::tracked(0, &mut first);
         let pen = new_pen(&head, &seen);
-        let mut offer: Step = seen.plain::<Nothing, Pen, Starting>(&pen);
+        let mut offer: Step = seen.plain::<NoGain, Pen, Starting>(&pen);
         let mut none = seen.no_pen();
-        let found = head.compare_exchange::<Starting, Nothing>(
+        let found = head.compare_exchange::<Starting, NoGain>(
             0, 1, &mut seen, &mut offer, &mut none,
         );
         // a new word is 0
@@ -61,7 +61,7 @@ impl NewHistory {
     /// The history under its name. `None`: nobody may add to it; no run is known to meet this, and no contract says that none does.
     pub fn named<J: Naming>(self) -> Option<Tip<J>>
         requires { self ≡ J.history }
-        ensures { IfSome result (λ tip. tip ≡ no_past) }
+        ensures { IfSome result (λ tip. tip ≡ no_changes) }
     {
         let NewHistory { head, seen, pen } = self;
         let pen = pen?;
@@ -74,18 +74,18 @@ impl NewHistory {
     }
 }
 
-/// A front of some history: for a type that can't have the name of one. Contracts see of which history it is a front, and the front (`Mark`).
+/// A front of some history: for a type that can't have the name of one. Contracts see of which history it is a front, and the front (`PlainTrace`).
 #[derive(Drop)]
 pub struct Trace {
     seen: SeenEntries,
 }
 
 impl Model for Trace {
-    ghost use Rattle.pf_past.specs.{Pasts.{Mark, mark}, Rules.past_of};
+    ghost use Rattle.pf_past.specs.{Pasts.{PlainTrace, trace_with}, Rules.past_of};
 
-    ghost Value = { Mark };
+    ghost Value = { PlainTrace };
 
-    ghost view = { λ t. mark t.seen.book (past_of t.seen.log) };
+    ghost view = { λ t. trace_with t.seen.book (past_of t.seen.log) };
 }
 
 impl Trace {
@@ -111,7 +111,7 @@ impl Trace {
     }
 }
 
-/// A front of the history. Contracts see its changes, and how many of them were acknowledged (`Past`).
+/// A front of the history. Contracts see its changes, and how many of them were acknowledged (`PlainFront`).
 #[derive(Drop)]
 pub struct Front<J: Naming> {
     seen: SeenEntries,
@@ -120,9 +120,9 @@ pub struct Front<J: Naming> {
 
 impl<J: Naming> Model for Front<J> {
     ghost use Rattle.std.specs.Prelude.{◌≡◌};
-    ghost use Rattle.pf_past.specs.{Pasts.Past, Rules.past_of};
+    ghost use Rattle.pf_past.specs.{Pasts.PlainFront, Rules.past_of};
 
-    ghost Value = { Past };
+    ghost Value = { PlainFront };
 
     ghost view = { λ f. past_of f.seen.log };
 
@@ -142,7 +142,7 @@ impl<J: Naming> Front<J> {
 
     /// The same without the name of its history in its type.
     pub fn trace(&self) -> Trace
-        ensures { result ≡ mark J.history self.now }
+        ensures { result ≡ trace_with J.history self.now }
     {
         Trace {
             seen: self.seen.again(),
@@ -159,7 +159,7 @@ impl<J: Naming> Front<J> {
     }
 }
 
-/// The whole history, with the one right to add to it. Contracts see it as a `Past`.
+/// The whole history, with the one right to add to it. Contracts see it as a `PlainFront`.
 #[derive(Drop)]
 pub struct Tip<J: Naming> {
     head: Head,
@@ -169,9 +169,9 @@ pub struct Tip<J: Naming> {
 }
 
 impl<J: Naming> Model for Tip<J> {
-    ghost use Rattle.pf_past.specs.{Pasts.Past, Rules.{past_of, IsTip}};
+    ghost use Rattle.pf_past.specs.{Pasts.PlainFront, Rules.{past_of, IsTip}};
 
-    ghost Value = { Past };
+    ghost Value = { PlainFront };
 
     ghost view = { λ t. past_of t.seen.log };
 
@@ -198,9 +198,9 @@ impl<J: Naming> Tip<J> {
             acked,
             pen: new_pen(&self.head, &self.seen),
         };
-        let mut offer: Step = self.seen.plain::<Nothing, Asked, Adding>(&asked);
+        let mut offer: Step = self.seen.plain::<NoGain, Asked, Adding>(&asked);
         self.head
-            .compare_exchange::<Adding, Nothing>(0, 0, &mut self.seen, &mut offer, &mut self.pen);
+            .compare_exchange::<Adding, NoGain>(0, 0, &mut self.seen, &mut offer, &mut self.pen);
         let Asked {
             change: _change,
             acked: _,
@@ -216,8 +216,8 @@ impl<J: Naming> Tip<J> {
     {
         let mut both = self.seen.again();
         both.learn(&front.seen);
-        let mut offer: Step = both.plain::<Nothing, (), Staying>(&());
+        let mut offer: Step = both.plain::<NoGain, (), Staying>(&());
         self.head
-            .compare_exchange::<Staying, Nothing>(0, 0, &mut both, &mut offer, &mut self.pen);
+            .compare_exchange::<Staying, NoGain>(0, 0, &mut both, &mut offer, &mut self.pen);
     }
 }

@@ -5,17 +5,17 @@ use std::marker::Brand;
 /// opening gave.
 pub trait Naming {
     ghost use Rattle.logbook.specs.Pages.{Book};
-    ghost use Rattle.pf_core.specs.Durable.Edits.{Kept};
+    ghost use Rattle.pf_core.specs.Durable.Changes.{PlainDurable};
 
     /// What the opening gave.
-    ghost base: { Kept };
+    ghost base: { PlainDurable };
 
     /// Which history is its own.
     ghost history: { Book };
 }
 
 impl Naming for Brand {
-    ghost use Rattle.pf_core.specs.Durable.Edits.{kept_nothing};
+    ghost use Rattle.pf_core.specs.Durable.Changes.{kept_nothing};
 
     ghost base = { kept_nothing 0 };
 

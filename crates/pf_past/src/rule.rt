@@ -8,7 +8,7 @@ use pf_core::Change;
 use std::sync::Arc;
 
 /// A change, whether it was acknowledged, and the key of the pen that may add the next one. No value of it is made.
-pub struct Entry {
+pub struct HistoryEntry {
     pub change: Change,
     pub acked: bool,
     pub next: u64,
@@ -17,7 +17,7 @@ pub struct Entry {
 /// The rule: who has the pen that the last entry names has seen all entries, and alone may add one.
 pub struct OnePen;
 
-impl Rule<Entry, u64> for OnePen {
+impl Rule<HistoryEntry, u64> for OnePen {
     ghost use Rattle.std.specs.Prelude.{[]};
     ghost use base.Fml.{ftrue};
     ghost use Rattle.pf_past.specs.Rules.{IsKept};
@@ -36,19 +36,19 @@ impl Rule<Entry, u64> for OnePen {
 }
 
 /// Who takes a step trades nothing for it.
-pub struct Nothing;
+pub struct NoGain;
 
-impl Gain<Entry, u64> for Nothing {
+impl Gain<HistoryEntry, u64> for NoGain {
     ghost use base.Fml.{ftrue};
 
     ghost after = { λ names about answer. ftrue };
 }
 
-pub(crate) type Head = Word<Entry, u64, OnePen>;
+pub(crate) type Head = Word<HistoryEntry, u64, OnePen>;
 
-pub(crate) type SeenEntries = Seen<Entry, u64, OnePen>;
+pub(crate) type SeenEntries = Seen<HistoryEntry, u64, OnePen>;
 
-pub(crate) type Step = Offer<Entry, u64, OnePen, Nothing>;
+pub(crate) type Step = Offer<HistoryEntry, u64, OnePen, NoGain>;
 
 // What is added: a change, and the pen that may add the next one.
 pub(crate) struct Asked {
@@ -60,15 +60,15 @@ pub(crate) struct Asked {
 /// A new pen comes.
 pub struct Coming;
 
-impl Play<Entry, u64> for Coming {
+impl Play<HistoryEntry, u64> for Coming {
     ghost use Rattle.pf_past.specs.Rules.{Comes};
 
     ghost then = { Comes };
 }
 
-impl Plain<(), Entry, u64> for Coming {
+impl Plain<(), HistoryEntry, u64> for Coming {
     ghost use Rattle.std.specs.Prelude.{None, false, []};
-    ghost use Rattle.pf_core.specs.Durable.Edits.{commits};
+    ghost use Rattle.pf_core.specs.Durable.Changes.{commits};
 
     ghost ask = { λ a. record { change = commits []; acked = false; next = 0 } };
 
@@ -78,15 +78,15 @@ impl Plain<(), Entry, u64> for Coming {
 /// The first entry is put, which is no change.
 pub struct Starting;
 
-impl Play<Entry, u64> for Starting {
+impl Play<HistoryEntry, u64> for Starting {
     ghost use Rattle.pf_past.specs.Rules.{Starts};
 
     ghost then = { Starts };
 }
 
-impl Plain<Pen, Entry, u64> for Starting {
+impl Plain<Pen, HistoryEntry, u64> for Starting {
     ghost use Rattle.std.specs.Prelude.{None, false, []};
-    ghost use Rattle.pf_core.specs.Durable.Edits.{commits};
+    ghost use Rattle.pf_core.specs.Durable.Changes.{commits};
 
     ghost ask = { λ p. record { change = commits []; acked = false; next = p.nib.key } };
 
@@ -96,13 +96,13 @@ impl Plain<Pen, Entry, u64> for Starting {
 /// An entry is added.
 pub struct Adding;
 
-impl Play<Entry, u64> for Adding {
+impl Play<HistoryEntry, u64> for Adding {
     ghost use Rattle.pf_past.specs.Rules.{Adds};
 
     ghost then = { Adds };
 }
 
-impl Plain<Asked, Entry, u64> for Adding {
+impl Plain<Asked, HistoryEntry, u64> for Adding {
     ghost use Rattle.std.specs.Prelude.{None};
     ghost use Rattle.std.specs.Arc.{arc_value};
 
@@ -114,15 +114,15 @@ impl Plain<Asked, Entry, u64> for Adding {
 /// Who has the pen looks whether anyone saw more.
 pub struct Staying;
 
-impl Play<Entry, u64> for Staying {
+impl Play<HistoryEntry, u64> for Staying {
     ghost use Rattle.pf_past.specs.Rules.{Stays};
 
     ghost then = { Stays };
 }
 
-impl Plain<(), Entry, u64> for Staying {
+impl Plain<(), HistoryEntry, u64> for Staying {
     ghost use Rattle.std.specs.Prelude.{None, false, []};
-    ghost use Rattle.pf_core.specs.Durable.Edits.{commits};
+    ghost use Rattle.pf_core.specs.Durable.Changes.{commits};
 
     ghost ask = { λ a. record { change = commits []; acked = false; next = 0 } };
 
@@ -135,9 +135,9 @@ pub(crate) fn new_pen(head: &Head, seen: &SeenEntries) -> Pen
     ensures { (result.book ≡ seen.now.book) × (result.nib.right ≡ may_write) }
 {
     let mut seen = seen.again();
-    let mut offer: Step = seen.plain::<Nothing, (), Coming>(&());
+    let mut offer: Step = seen.plain::<NoGain, (), Coming>(&());
     let mut pen = seen.no_pen();
-    head.compare_exchange::<Coming, Nothing>(0, 0, &mut seen, &mut offer, &mut pen);
+    head.compare_exchange::<Coming, NoGain>(0, 0, &mut seen, &mut offer, &mut pen);
     drop(Head::tracked(0, &mut pen));
     pen
 }

@@ -2,7 +2,8 @@
 use Rattle.std.proofs.Common.{◌≡◌, [], ◌∷◌, Ok, refl}
 use Rattle.std.specs.Prelude.{codes, map}
 use Rattle.md5.specs.Md5.{md5, hash_after, digest_bytes, compress, rounds, block_words}
-use Rattle.pf_addr.specs.{Form.Words.words_of, Form.Forms.read_all, Reading.{part_at, pieces_at, v4_at, address_at}}
+use Rattle.pf_addr.specs.Reading.{part_at, pieces_at, v4_at, address_at}
+use Rattle.pf_form.specs.Form.{Words.words_of, Forms.read_all}
 use Rattle.pf_rule.specs.declared.host.host.Host.TheVariants.{Any}
 use Rattle.pf_rule.specs.{Value.Tests.{direction, interface, family, protocol}, Value.Ports.{port, port_test, order_or_range, compared, ranged, range_end, ports_fit}, Host.Hosts.{a_negated_host, a_host, host}, Host.Ends.{end, destination, ends}, RuleGrammar.{rule, opening, state}, Sum.Forms.{filled, host_form, rule_form, ruleset_sum}}
 use Rattle.pf_rule.specs.Laws.Sums as example

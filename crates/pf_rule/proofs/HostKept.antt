@@ -1,7 +1,8 @@
 -- What words spell is what a host and an end keep.
 use Rattle.std.proofs.Common.{◌≡◌, Bool, true, false, List, Ok, arith}
 use Rattle.std.specs.Prelude.{drop, codes, if◌then◌else◌}
-use Rattle.pf_addr.specs.{Form.Words.Word, Form.Forms.Spells, Laws.Spelling.IsNetwork-spelled}
+use Rattle.pf_addr.specs.Laws.Spelling.{IsNetwork-spelled}
+use Rattle.pf_form.specs.Form.{Words.Word, Forms.Spells}
 use Rattle.pf_rule.specs.{Value.Values.begins_with, Host.Hosts.{IsHost, SpellsUnmarked, marked, a_negated_host, host_of, a_host, host}, Laws.Host.Hosts.marked_found, Host.Ends.{End, IsEnd, end, destination, ends}}
 use Rattle.pf_rule.proofs.ValueKept.{port_is}
 use Rattle.pf_rule.specs.declared.{host.host.Host.Host, host.host.Host.TheVariants.{Any, Net, Table}}

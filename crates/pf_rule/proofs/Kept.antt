@@ -1,17 +1,18 @@
 -- What words spell is what a rule or a packet keeps.
 use Rattle.std.proofs.Common.{◌≡◌, ◌<◌, Bool, true, false, List, Option, Some, None, Result, Ok, refl, sym, subst, ap, ◌∙◌, arith}
 use Rattle.std.specs.Prelude.{IfSome, IfOk}
-use Rattle.pf_addr.specs.{Form.Words.Word, Form.Forms.{Spells, reads}, Laws.Form.Forms.lawful, Address.IsAddr, Path.References.{PlainReference, reference_of}, Path.ReferenceGrammar.IsReference}
+use Rattle.pf_addr.specs.{Address.IsAddr, Path.{References.{PlainReference, reference_of}, ReferenceGrammar.IsReference}}
+use Rattle.pf_form.specs.{Form.{Words.Word, Forms.{Spells, reads}}, Laws.Form.Forms.lawful}
 use Rattle.pf_addr.specs.declared.addr.Family.{Family}
 use Rattle.pf_addr.proofs.ReferencesRead.{read_is_spelled}
 use Rattle.pf_rule.specs.{Value.Values.{IsInterfaceName, IsProtocol, has_ports}, Value.Ports.ports_fit, Host.Hosts.IsHost, Host.Ends.IsEnd, Packets.{PlainPacket, IsPacket}, Rules.{PlainRule, IsEffect, IsRule, HostFits}, PacketGrammar.{packet_with, of_one_family, packet}, RuleGrammar.{opening, effect_of, rule_with, one_family, agreeing_with, agreeing, rule, rule_decided}}
 use Rattle.pf_rule.proofs.{ValueKept.{interface_kept, protocol_kept, address_kept, port_kept, interface_is, protocol_is}, HostKept.ends_are}
-use Rattle.pf_rule.specs.declared.{rule.Opening.Opening, host.host.Host.Host, fault.Mistake.Mistake}
-use Rattle.pf_rule.specs.declared.rule.Opening.TheVariants as openings
+use Rattle.pf_rule.specs.declared.{rule.RuleStart.RuleStart, host.host.Host.Host, fault.Mistake.Mistake}
+use Rattle.pf_rule.specs.declared.rule.RuleStart.TheVariants as openings
 
 -- ---- a rule
 
-abbrev OpeningIs : Opening → Type 0
+abbrev OpeningIs : RuleStart → Type 0
 OpeningIs openings.Pass = Unit {0}
 OpeningIs openings.Block = Unit {0}
 OpeningIs (openings.Anchor r) = IsReference r
@@ -19,11 +20,11 @@ OpeningIs (openings.Anchor r) = IsReference r
 reference_kept : (w : Word) (r : PlainReference) → reference_of w ≡ Ok r → IsReference r
 reference_kept w r e = (read_is_spelled w r e).0
 
-opening_is : (o : Opening) (ws : List Word) → Spells opening o ws → OpeningIs o
+opening_is : (o : RuleStart) (ws : List Word) → Spells opening o ws → OpeningIs o
 unfolding opening
 opening_is o ws h = grind (arith, reference_kept)
 
-effect_is : (o : Opening) (keeps : Bool) → OpeningIs o → IsEffect (effect_of o keeps)
+effect_is : (o : RuleStart) (keeps : Bool) → OpeningIs o → IsEffect (effect_of o keeps)
 effect_is openings.Pass keeps is = tt
 effect_is openings.Block keeps is = tt
 effect_is (openings.Anchor r) keeps is = is

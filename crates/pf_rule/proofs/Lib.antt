@@ -4,4 +4,4 @@ pub mod RuleBytes
 pub mod Computed
 pub mod Kept
 pub mod Untabled
-pub mod Answering
+pub mod TextAnswers

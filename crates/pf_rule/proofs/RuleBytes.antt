@@ -3,9 +3,11 @@ use Rattle.std.proofs.{Common.{◌≡◌, ◌-◌, ◌<◌, ◌≤◌, ◌==◌,
 use Rattle.std.specs.{Prelude.{unwrap_or, IfSome, not, if◌then◌else◌}, List.{AllByRecursion, list_all}}
 use Rattle.byteorder.specs.Endian.{big_bytes}
 use Rattle.pf_addr.specs.declared.{addr.Family.{Family, TheVariants.V4, TheVariants.V6}, path.limits.TheConstants.TABLE_NAME_LIMIT}
-use Rattle.pf_addr.specs.{Address.{Network}, Bytes.Parts.{Bytes, number_bytes, begins_otherwise, constant_at}, Bytes.Forms.{Shape, nat, both, Value, Form, Fits, Spells, number, front, pair, pair_by, writes, reads, onto, length_of}, Bytes.Codes.{below, flag, flag_byte}, Bytes.Names.padded, NetForms.{family, family_byte, address_in, first_number}, Path.Names.{is_name_byte, IsName}, Path.PathForms.{name_field, ReferenceShape, reference_form}, Spelling.first_addr, Laws.NetForms.{family_fits, length_fits, address_fits, network_is, network_again}, Laws.Bytes.{Codes.{flag_fits, flag_again}, Lengths.length_is, Onto.onto_is, Steps.leaves, Texts.one_value}}
-use Rattle.pf_addr.specs.Bytes.Names as fields
-use Rattle.pf_addr.proofs.{BytesRead.written_bytes, PathBytes.{name_fits, name_again, reference_fits, reference_again}}
+use Rattle.pf_addr.specs.{Address.PlainNet, NetForms.{family, family_byte, address_in, first_number}, Path.{Names.{is_name_byte, IsName}, PathForms.{name_field, ReferenceShape, reference_form}}, Spelling.first_addr, Laws.NetForms.{family_fits, length_fits, address_fits, network_is, network_again}}
+use Rattle.pf_form.specs.{Bytes.{BasicForms.{Bytes, number_bytes, begins_otherwise, constant_at}, Forms.{Shape, nat, both, Value, Form, Fits, Spells, number, front, pair, pair_by, writes, reads, onto, length_of}, Codes.{below, flag, flag_byte}, Names.padded}, Laws.Bytes.{Codes.{flag_fits, flag_again}, Lengths.length_is, Onto.onto_is, Steps.leaves, Texts.one_value}}
+use Rattle.pf_form.specs.Bytes.Names as fields
+use Rattle.pf_addr.proofs.PathBytes.{name_fits, name_again, reference_fits, reference_again}
+use Rattle.pf_form.proofs.BytesRead.{written_bytes}
 use Rattle.pf_rule.specs.Sum.Forms as forms
 use Rattle.pf_rule.specs.declared.{value.interface.TheConstants.INTERFACE_LIMIT, value.direction.Direction.{Direction, TheVariants.In, TheVariants.Out}, value.ports.{Comparison.TheVariants.{Equal, NotEqual, Less, AtMost, Greater, AtLeast}, PortRange.TheVariants.{Including, Excluding, Except}, PortTest.{PortTest, TheVariants.Compared, TheVariants.Ranged}}, host.host.Host.{Host, TheVariants.Any, TheVariants.Net, TheVariants.Table}, rule.{Effect.{Effect, TheVariants.Decide, TheVariants.Evaluate}, Action.TheVariants.{Pass, Block}}}
 use Rattle.pf_rule.specs.{Bytes.{addr_bytes, addr_bytes-length}, Value.Values.{IsInterfaceName, IsProtocol, has_ports}, Value.Ports.{IsPortTest, ports_fit}, Rules.{PlainRule, HostFits, IsEffect, IsRule}, Sum.Forms.{filled, test_byte, first_port, second_port, host_form, address_bytes, table_name, effect_byte, keeps_state, direction_byte, names, wildcard, rule_form}, Sum.Layouts.{port_test, plain_test, network_end, table_end, EndShape, end, plain_end, FamilyShape, some_family, plain_family, InterfaceShape, interface, plain_interface, named, plain_named, BodyShape, body, RuleShape, rule_layout, plain_rule}, Sum.Reading.{test_of, host_of, port_of, effect_of, direction_of, family_in, protocol_of_byte, interface_of, rule_of}}
@@ -82,7 +84,7 @@ test_again (Some (Ranged Except a b)) = refl
 
 -- ---- a host and the test of its port
 
-address_written : (n : Network) → writes (address_in (family_byte n.family)) (first_number n) ≡ addr_bytes (first_addr n)
+address_written : (n : PlainNet) → writes (address_in (family_byte n.family)) (first_number n) ≡ addr_bytes (first_addr n)
 unfolding number_bytes
 address_written n = by n.family n.len n.front where
   by : (f : Family) (len first : ℕ) → writes (address_in (family_byte f)) (first_number (record { family = f; len = len; front = first })) ≡ addr_bytes (first_addr (record { family = f; len = len; front = first }))

@@ -1,8 +1,10 @@
 -- What words spell is what a test of a value keeps.
 use Rattle.std.proofs.{Common.{◌≡◌, ℕ, ◌<◌, Bool, true, false, List, Option, Some, None, Result, Ok, Err, refl, subst, arith}, lemmas.Bool.Decides.nat_tests}
 use Rattle.std.specs.{Prelude.{◌+◌, take, drop, IfSome, IfOk}, List.position}
-use Rattle.pf_addr.specs.declared.{form.fault.Kind.Kind, addr.Addr.Addr}
-use Rattle.pf_addr.specs.{Form.Words.Word, Form.Forms.{Spells, ◌>>=◌}, Address.IsAddr, Laws.Spelling.IsAddr-spelled, Reading.addr_at, Laws.Reading.addr_found}
+use Rattle.pf_addr.specs.declared.addr.Addr.{Addr}
+use Rattle.pf_form.specs.declared.form.fault.Kind.{Kind}
+use Rattle.pf_addr.specs.{Address.IsAddr, Laws.{Spelling.IsAddr-spelled, Reading.addr_found}, Reading.addr_at}
+use Rattle.pf_form.specs.Form.{Words.Word, Forms.{Spells, ◌>>=◌}}
 use Rattle.pf_addr.proofs.NamesRead.{name_found}
 use Rattle.pf_rule.specs.declared.{value.interface.TheConstants.INTERFACE_LIMIT, value.ports.Comparison.Comparison, value.ports.PortRange.PortRange, value.ports.PortRange.TheVariants.Including, value.ports.PortTest.PortTest, value.ports.PortTest.TheVariants.{Compared, Ranged}, value.port_words.PortStart.PortStart, value.port_words.PortStart.TheVariants.{Test, Number}}
 use Rattle.pf_rule.specs.{Value.Values.{IsInterfaceName, IsProtocol, interface_of, protocol_of, address_of, port_of}, Value.Tests.{interface, protocol}, Value.Ports.{IsPortTest, is_colon, split_operator, joined, number_or, start_at, start_of, is_number, test_with, range_end, compared, ranged, order_or_range, port_test, port}}

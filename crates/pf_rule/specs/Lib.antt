@@ -12,7 +12,7 @@ pub mod InOrder
 pub mod Refusals
 pub mod Laws
 -- what public clauses cite of the crates below
-pub use Rattle.pf_addr.specs.Form.Forms
-pub use Rattle.pf_addr.specs.Form.Readers
-pub use Rattle.pf_addr.specs.Form.Words
+pub use Rattle.pf_form.specs.Form.Forms
+pub use Rattle.pf_form.specs.Form.Readers
+pub use Rattle.pf_form.specs.Form.Words
 pub use Rattle.pf_addr.specs.Writing

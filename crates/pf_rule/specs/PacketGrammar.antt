@@ -1,7 +1,8 @@
--- The grammar of a packet. Own.
+-- The grammar of a packet.
 use Rattle.std.specs.Prelude.{◌≡◌, ℕ, true, List, codes, Result, Ok, Err, if◌then◌else◌}
 use Rattle.std.proofs.Common.{refl}
-use Rattle.pf_addr.specs.{Form.Forms.{Form, nothing, key, or, pair, pair_by, making, is_decided}, Address.{family_of, same_family}}
+use Rattle.pf_addr.specs.Address.{family_of, same_family}
+use Rattle.pf_form.specs.Form.Forms.{Form, nothing, key, or, pair, pair_by, making, is_decided}
 use Rattle.pf_addr.specs.declared.addr.Addr.{Addr}
 use Rattle.pf_rule.specs.declared.{value.direction.Direction.Direction, value.direction.Direction.TheVariants.{In, Out}, fault.Mistake.Mistake, fault.Mistake.TheVariants.MixedFamily}
 use Rattle.pf_rule.specs.{Value.Values.{has_ports, an_interface, a_protocol, an_address, a_port}, Packets.PlainPacket}

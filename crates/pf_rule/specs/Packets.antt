@@ -1,4 +1,4 @@
--- What the filter sees of a packet. Own: a packet here is a value, and carries no flags.
+-- What the filter sees of a packet. A packet here is a value, and carries no flags.
 use Rattle.std.specs.Prelude.{◌≡◌, ◌<◌, false}
 use Rattle.pf_addr.specs.Address.{family_of, IsAddr}
 use Rattle.pf_rule.specs.declared.packet.PacketParts.{PacketParts}

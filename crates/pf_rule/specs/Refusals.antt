@@ -1,8 +1,8 @@
--- What reading a text answers: a value, or the one refusal. Own.
+-- What reading a text answers: a value, or the one refusal.
 use Rattle.std.specs.Prelude.{◌≡◌, ℕ, ◌-◌, List, length, Result, Ok, Err, IfOk, IfErr}
-use Rattle.pf_addr.specs.declared.form.fault.Kind.{Kind}
-use Rattle.pf_addr.specs.declared.form.fault.Kind.TheVariants as kinds
-use Rattle.pf_addr.specs.{Form.Words.Word, Form.Forms.{Form, Spells, RefusedAt, Reader, reads, ended, ◌>>=◌}}
+use Rattle.pf_form.specs.declared.form.fault.Kind.{Kind}
+use Rattle.pf_form.specs.declared.form.fault.Kind.TheVariants as kinds
+use Rattle.pf_form.specs.{Form.Words.Word, Form.Forms.{Form, Spells, RefusedAt, Reader, reads, ended, ◌>>=◌}}
 use Rattle.pf_rule.specs.declared.{fault.Mistake.Mistake, fault.TextFault.TextFault, fault.TextFault.TheVariants.{BadWord, NameTooLong, BadProto, MixedFamily, PortNeedsProto, Memory}}
 use Rattle.pf_rule.specs.declared.fault.Mistake.TheVariants as mistakes
 

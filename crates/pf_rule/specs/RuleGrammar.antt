@@ -1,10 +1,11 @@
 -- The grammar of a rule (pf.conf(5), GRAMMAR).
 use Rattle.std.specs.{Prelude.{◌≡◌, ℕ, Bool, true, false, List, codes, Option, Some, None, Result, Ok, Err, if◌then◌else◌}, Option.option_and_then}
 use Rattle.std.proofs.Common.{refl}
-use Rattle.pf_addr.specs.{Form.Readers.if_there, Path.References.{PlainReference, refers, reference_of}, Form.Forms.{Form, word, nothing, key, or, pair, pair_by, making, is_decided}, Address.same_family, Reading.{part_at, pieces_at, v4_at, address_at}}
+use Rattle.pf_addr.specs.{Path.References.{PlainReference, refers, reference_of}, Address.same_family, Reading.{part_at, pieces_at, v4_at, address_at}}
+use Rattle.pf_form.specs.Form.{Readers.if_there, Forms.{Form, word, nothing, key, or, pair, pair_by, making, is_decided}}
 use Rattle.pf_addr.specs.declared.addr.Family.{Family}
-use Rattle.pf_rule.specs.declared.{rule.Action.TheVariants.{Pass, Block}, rule.Effect.Effect, rule.Effect.TheVariants.{Decide, Evaluate}, rule.Opening.Opening, value.direction.Direction.Direction, host.host.Host.Host, fault.Mistake.Mistake, fault.Mistake.TheVariants.{MixedFamily, PortNeedsProto}}
-use Rattle.pf_rule.specs.declared.rule.Opening.TheVariants as openings
+use Rattle.pf_rule.specs.declared.{rule.Action.TheVariants.{Pass, Block}, rule.Effect.Effect, rule.Effect.TheVariants.{Decide, Evaluate}, rule.RuleStart.RuleStart, value.direction.Direction.Direction, host.host.Host.Host, fault.Mistake.Mistake, fault.Mistake.TheVariants.{MixedFamily, PortNeedsProto}}
+use Rattle.pf_rule.specs.declared.rule.RuleStart.TheVariants as openings
 use Rattle.pf_rule.specs.{Value.Tests.{direction, interface, family, protocol}, Value.Ports.{port, port_test, order_or_range, compared, ranged, range_end, ports_fit}, Host.Hosts.{a_negated_host, a_host, host, host_family}, Host.Ends.{End, end, destination, ends}, Rules.PlainRule}
 
 -- what an anchor rule names
@@ -12,13 +13,13 @@ abbrev pub a_reference : Form PlainReference
 a_reference = word (record { of = reference_of; sample = codes "a"; value = refers (codes "a") false; takes = refl })
 
 -- "pass" | "block" ["drop"] | "anchor" reference
-unfoldable pub opening : Form Opening
+unfoldable pub opening : Form RuleStart
 opening =
     or (codes "pass") (nothing openings.Pass)
     (or (codes "block") (or (codes "drop") (nothing openings.Block) (nothing openings.Block))
     (key (codes "anchor") (making openings.Anchor a_reference)))
 
-abbrev pub passes : Opening → Bool
+abbrev pub passes : RuleStart → Bool
 passes openings.Pass = true
 passes openings.Block = false
 passes (openings.Anchor r) = false
@@ -28,14 +29,14 @@ unfoldable pub state : Bool → Form Bool
 state true = or (codes "keep") (key (codes "state") (nothing true)) (or (codes "no") (key (codes "state") (nothing false)) (nothing true))
 state false = nothing false
 
-abbrev pub effect_of : Opening → Bool → Effect
+abbrev pub effect_of : RuleStart → Bool → Effect
 effect_of openings.Pass keeps = Decide (Pass keeps)
 effect_of openings.Block keeps = Decide Block
 effect_of (openings.Anchor r) keeps = Evaluate r
 
 -- with the family as it is written
 abbrev pub rule_with :
-    Opening × (Option Direction × (Bool × (Option (List ℕ) × (Option Family × (Option ℕ × ((End × End) × Bool)))))) → PlainRule
+    RuleStart × (Option Direction × (Bool × (Option (List ℕ) × (Option Family × (Option ℕ × ((End × End) × Bool)))))) → PlainRule
 rule_with (o, (d, (q, (i, (f, (p, ((s, t), keeps))))))) =
     record {
       effect = effect_of o keeps;

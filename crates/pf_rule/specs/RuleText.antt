@@ -1,7 +1,8 @@
 -- The one text that a rule is written as: its words, with one space between two. As pfctl(8) shows rules. Own are: a port that equals
 -- a number as `port = n`, a reference in quotes, IPv6 in eight groups, no `flags`, and the `!` apart from what it negates.
 use Rattle.std.specs.{Prelude.{ℕ, Bool, true, false, List, [], ◌∷◌, ◌++◌, codes}, List.join_with_byte}
-use Rattle.pf_addr.specs.{Path.References.{reference_text, quoted}, Form.Words.Word}
+use Rattle.pf_addr.specs.Path.References.{reference_text, quoted}
+use Rattle.pf_form.specs.Form.Words.{Word}
 use Rattle.pf_rule.specs.declared.{rule.Effect.Effect, rule.Effect.TheVariants.{Decide, Evaluate}, rule.Action.TheVariants.{Pass, Block}}
 use Rattle.pf_rule.specs.{Value.Tests.{direction_words, interface_words, family_words, protocol_words}, Host.Ends.ends_words, Rules.PlainRule}
 

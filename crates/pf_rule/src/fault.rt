@@ -1,11 +1,11 @@
 //! Why a text could not be read.
 ghost use Rattle.std.specs.Prelude.{◌≡◌, ◌-◌, List, Result};
 ghost use denote.Ref.{Bor};
-ghost use Rattle.pf_addr.specs.{Form.Forms.Reader, Form.Readers.MovesBy, Form.Words.{Word, texts}};
+ghost use Rattle.pf_form.specs.{Form.Forms.Reader, Form.Readers.MovesBy, Form.Words.{Word, texts}};
 ghost use Rattle.pf_rule.specs.Refusals.{fault_at, fault_for, told_by};
 ghost use Rattle.pf_rule.specs.declared.{fault.Mistake.Mistake, fault.TextFault.TheVariants.Memory};
 
-use pf_addr::form::{Kind, Stop, Words, end};
+use pf_form::form::{Kind, Stop, Words, end};
 use std::alloc::AllocError;
 use thiserror::Error;
 

@@ -1,7 +1,7 @@
 //! Laws of texts and of matches. Each function does nothing; its clauses are what is proved.
 ghost use Rattle.std.specs.Prelude.{◌≡◌, ◌↔◌, ℕ, List, Result, Ok};
-ghost use Rattle.pf_addr.specs.declared.form.fault.Kind.{Kind};
-ghost use Rattle.pf_addr.specs.{Form.Forms.{Spells, RefusedAt, read_all}, Form.Words.{Word, words_of}};
+ghost use Rattle.pf_form.specs.declared.form.fault.Kind.{Kind};
+ghost use Rattle.pf_form.specs.{Form.Forms.{Spells, RefusedAt, read_all}, Form.Words.{Word, words_of}};
 ghost use Rattle.pf_rule.specs.declared.fault.Mistake.{Mistake};
 ghost use Rattle.pf_rule.specs.{Rules.{PlainRule, IsRule}, Packets.{PlainPacket, IsPacket}, Laws.Matching.{HostAsksNoTable, RuleAsksNoTable}, RuleGrammar.rule, PacketGrammar.packet, RuleText.{canonical, rule_text}};
 

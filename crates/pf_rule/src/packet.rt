@@ -1,6 +1,6 @@
 //! Packets.
 ghost use Rattle.std.specs.Prelude.{◌≡◌};
-ghost use Rattle.pf_addr.specs.{Form.Readers.Moves, Form.Words.{words_of, texts}};
+ghost use Rattle.pf_form.specs.{Form.Readers.Moves, Form.Words.{words_of, texts}};
 ghost use Rattle.pf_rule.specs.{PacketGrammar.{packet, way}, Refusals.{IsAnswer, reading}, Packets.{PlainPacket, IsPacket}};
 
 use crate::fault::{Mistake, TextFault, tell};
@@ -8,7 +8,7 @@ use crate::value::{
     Direction, Interface, Protocol, address_word, interface_word, port_word, protocol_word,
 };
 use pf_addr::Addr;
-use pf_addr::form::{Stop, Words, expect, takes, words};
+use pf_form::form::{Stop, Words, expect, takes, words};
 use std::alloc::Global;
 use std::marker::Model;
 
@@ -86,7 +86,7 @@ impl Packet {
     /// [`TextFault::NameTooLong`] is for an interface of more than 15 bytes, [`TextFault::BadProto`] for a word that has to be a
     /// protocol, [`TextFault::BadWord`] for any other. [`TextFault::MixedFamily`] comes after the last word, and
     /// [`TextFault::Memory`] where memory for the list of words is refused.
-    #[tactic(auto, using(crate::proofs::Answering::is_answer_packet))]
+    #[tactic(auto, using(crate::proofs::TextAnswers::is_answer_packet))]
     pub fn parse(alloc: Global, text: &str) -> Result<Packet, TextFault>
         ensures { IsAnswer PlainPacket packet (words_of text.now) result }
     {

@@ -1,6 +1,6 @@
 //! Filter rules.
 ghost use Rattle.std.specs.Prelude.{◌≡◌};
-ghost use Rattle.pf_addr.specs.{Form.Readers.Moves, Form.Words.{words_of, texts}};
+ghost use Rattle.pf_form.specs.{Form.Readers.Moves, Form.Words.{words_of, texts}};
 ghost use Rattle.pf_rule.specs.{RuleGrammar.{rule, agreed, one_family, agreeing, passes, effect_of}, Refusals.{IsAnswer, reading}, Rules.{PlainRule, IsRule, ends_hold, matches}, Matching.{ports_hold, networks_hold, tables_hold}};
 
 use crate::fault::{Mistake, TextFault, tell};
@@ -12,8 +12,8 @@ use crate::value::{
     read_interface, read_protocol, takes_port,
 };
 use pf_addr::Family;
-use pf_addr::form::{Stop, Words, takes, words};
 use pf_addr::path::Reference;
+use pf_form::form::{Stop, Words, takes, words};
 use std::alloc::Global;
 use std::marker::Model;
 
@@ -37,7 +37,7 @@ pub enum Effect {
 
 /// How a rule's text begins.
 #[derive(Clone, Copy)]
-pub(crate) enum Opening {
+pub(crate) enum RuleStart {
     /// `pass`.
     Pass,
     /// `block`.
@@ -89,12 +89,12 @@ impl Model for Rule {
     ghost inverse = { λ r. record { 0 = r } };
 }
 
-impl Opening {
+impl RuleStart {
     /// Whether a rule that begins so passes; no other has a state option.
     fn passes(&self) -> bool
         ensures { result ≡ passes self.now }
     {
-        matches!(self, Opening::Pass)
+        matches!(self, RuleStart::Pass)
     }
 
     /// What a match with the rule gives, by whether it keeps state.
@@ -102,9 +102,9 @@ impl Opening {
         ensures { result ≡ effect_of self.now keeps_state }
     {
         match self {
-            Opening::Pass => Effect::Decide(Action::Pass { keeps_state }),
-            Opening::Block => Effect::Decide(Action::Block),
-            Opening::Anchor(reference) => Effect::Evaluate(*reference),
+            RuleStart::Pass => Effect::Decide(Action::Pass { keeps_state }),
+            RuleStart::Block => Effect::Decide(Action::Block),
+            RuleStart::Anchor(reference) => Effect::Evaluate(*reference),
         }
     }
 }
@@ -160,7 +160,7 @@ impl Rule {
     /// [`TextFault::BadProto`] for a word that has to be a protocol, [`TextFault::BadWord`] for any other.
     /// [`TextFault::MixedFamily`] and then [`TextFault::PortNeedsProto`] come after the last word, and [`TextFault::Memory`] where
     /// memory for the list of words is refused.
-    #[tactic(auto, using(crate::proofs::Answering::is_answer_rule))]
+    #[tactic(auto, using(crate::proofs::TextAnswers::is_answer_rule))]
     pub fn parse(alloc: Global, text: &str) -> Result<Rule, TextFault>
         ensures { IsAnswer PlainRule rule (words_of text.now) result }
     {

@@ -1,11 +1,11 @@
 //! Reading the parts of a rule, each from the front of the words that are left.
-ghost use Rattle.pf_addr.specs.Form.Readers.{Moves};
+ghost use Rattle.pf_form.specs.Form.Readers.{Moves};
 ghost use Rattle.pf_rule.specs.RuleGrammar.{a_reference, opening, state};
 
-use crate::rule::Opening;
+use crate::rule::RuleStart;
 use crate::take_word;
-use pf_addr::form::{Stop, Words, expect, takes};
 use pf_addr::path::Reference;
+use pf_form::form::{Stop, Words, expect, takes};
 
 fn reference_word<'a>(words: &mut Words<'a>) -> Result<Reference, Stop>
     ensures { Moves a_reference result words.old.now words.new.now }
@@ -15,18 +15,18 @@ fn reference_word<'a>(words: &mut Words<'a>) -> Result<Reference, Stop>
 
 /// How a rule begins.
 #[tactic(auto, unfolding(crate::specs::RuleGrammar::opening))]
-pub(crate) fn read_opening<'a>(words: &mut Words<'a>) -> Result<Opening, Stop>
+pub(crate) fn read_opening<'a>(words: &mut Words<'a>) -> Result<RuleStart, Stop>
     ensures { Moves opening result words.old.now words.new.now }
 {
     if takes(words, b"pass") {
-        return Ok(Opening::Pass);
+        return Ok(RuleStart::Pass);
     }
     if takes(words, b"block") {
         let _drops = takes(words, b"drop");
-        return Ok(Opening::Block);
+        return Ok(RuleStart::Block);
     }
     expect(words, b"anchor")?;
-    Ok(Opening::Anchor(reference_word(words)?))
+    Ok(RuleStart::Anchor(reference_word(words)?))
 }
 
 /// Whether a rule keeps state. Only a rule that passes has the option, and it keeps state where nothing is said.

@@ -4,11 +4,11 @@ use Rattle.std.specs.{Prelude.map, Option.ForSome}
 use mathlib.Core.List.{IsPrefix}
 use Rattle.pf_rule.specs.Packets.{PlainPacket}
 use Rattle.pf_core.specs.declared.{command.Command.Command, reply.Refusal.Refusal, reply.Reply.Reply}
-use Rattle.pf_core.specs.{Durable.Edits.{Kept, Edit}, Worlds.{Setting, Held, State, Event, LegalGroup, IsLegal, down, called_group, log_of, heard_group, step_in, changes_of, flat, grouped, amid, changes_with}}
+use Rattle.pf_core.specs.{Durable.Changes.{PlainDurable, PlainChange}, Worlds.{Setting, CurrentOpening, State, Event, LegalGroup, IsLegal, down, called_group, log_of, heard_group, step_in, changes_of, flat, grouped, amid, changes_with}}
 use Rattle.pf_core.proofs.{Courses.{accepted, flat-with}, LongerWorlds.in-two}
-use Rattle.pf_book.specs.{Groups.{Answered as Receipted, IsAnsweredAmid, AreAnswered, IsGroupAnswered, replies_of}, Receipts.{Slip, IsAnswered}}
-use Rattle.pf_past.proofs.Fronts.{prefix_self, prefix_trans}
-use Rattle.pf_book.proofs.Answering.{front-begins}
+use Rattle.pf_book.specs.{Groups.{Answered as Receipted, IsAnsweredAmid, AreAnswered, IsGroupAnswered, replies_of}, Receipts.{PlainReceipt, IsAnswered}}
+use Rattle.pf_past.proofs.Prefixes.{prefix_self, prefix_trans}
+use Rattle.pf_book.proofs.LockedCalls.{front-begins}
 use Rattle.pf_session.specs.declared.line_engine.fault.EngineFault.{EngineFault}
 use Rattle.pf_session.specs.declared.line_engine.fault.EngineFault.TheVariants as fault
 use Rattle.pf_session.specs.LineEngine.Sessions as sessions
@@ -18,41 +18,41 @@ use Rattle.pf_session.proofs.Sitting.{line-moves}
 
 -- ---- two receipts
 
-within-same : (a b : Option Slip) → b ≡ a → IsWithin a b
+within-same : (a b : Option PlainReceipt) → b ≡ a → IsWithin a b
 within-same a b same = λ slip is. (slip, same ∙ is, prefix_self slip.front)
 
-within-then : (a b c : Option Slip) → IsWithin a b → IsWithin b c → IsWithin a c
+within-then : (a b c : Option PlainReceipt) → IsWithin a b → IsWithin b c → IsWithin a c
 within-then a b c p q = λ slip is.
     let (mid, some, front) = p slip is in
     let (last, more, longer) = q mid some in (last, more, prefix_trans slip.front mid.front last.front front longer)
 
 -- what is handed in is within what is given
-within-answer : (base : Kept) (setting : Setting) (c : Command) (r : Reply) (slip : Slip) (a b : Option Slip) → IsAnswered base setting c r slip a → b ≡ Some slip → IsWithin a b
+within-answer : (base : PlainDurable) (setting : Setting) (c : Command) (r : Reply) (slip : PlainReceipt) (a b : Option PlainReceipt) → IsAnswered base setting c r slip a → b ≡ Some slip → IsWithin a b
 within-answer base setting c r slip a b answered is = λ last some. (slip, is, front-begins answered.before c r answered.came slip last.front answered.front answered.change (answered.follows last some).0)
 
 -- ---- along a chain
 
-module _ {S L : Type 0} (receipt : S → Option Slip) (Step : L → S → S → List ℕ → Type 0) (Within : Option Slip → L → S → S → List ℕ → Type 0)
+module _ {S L : Type 0} (receipt : S → Option PlainReceipt) (Step : L → S → S → List ℕ → Type 0) (Within : Option PlainReceipt → L → S → S → List ℕ → Type 0)
     (rises : (x : L) (a b : S) (text : List ℕ) → Step x a b text → IsWithin (receipt a) (receipt b))
-    (within : (last : Option Slip) (x : L) (a b : S) (text : List ℕ) → Step x a b text → IsWithin (receipt b) last → Within last x a b text) where
+    (within : (last : Option PlainReceipt) (x : L) (a b : S) (text : List ℕ) → Step x a b text → IsWithin (receipt b) last → Within last x a b text) where
   chain-rises : (a b : S) (xs : List L) (text : List ℕ) → Chain Step a b xs text → IsWithin (receipt a) (receipt b)
   chain-rises a b [] text (same, none) = within-same (receipt a) (receipt b) (ap receipt same)
   chain-rises a b (x ∷ xs) text (mid, first, rest, step, more, is) =
       within-then (receipt a) (receipt mid) (receipt b) (rises x a mid first step) (chain-rises mid b xs rest more)
 
-  chain-within : (last : Option Slip) (a b : S) (xs : List L) (text : List ℕ) → IsWithin (receipt b) last → Chain Step a b xs text → Chain (Within last) a b xs text
+  chain-within : (last : Option PlainReceipt) (a b : S) (xs : List L) (text : List ℕ) → IsWithin (receipt b) last → Chain Step a b xs text → Chain (Within last) a b xs text
   chain-within last a b [] text end (same, none) = (same, none)
   chain-within last a b (x ∷ xs) text end (mid, first, rest, step, more, is) =
       (mid, first, rest, within last x a mid first step (within-then (receipt mid) (receipt b) last (chain-rises mid b xs rest more) end), chain-within last mid b xs rest end more, is)
 
-  chain-both : (last : Option Slip) (a b : S) (xs : List L) (text : List ℕ) → IsWithin (receipt b) last → Chain Step a b xs text → IsWithin (receipt a) (receipt b) × Chain (Within last) a b xs text
+  chain-both : (last : Option PlainReceipt) (a b : S) (xs : List L) (text : List ℕ) → IsWithin (receipt b) last → Chain Step a b xs text → IsWithin (receipt a) (receipt b) × Chain (Within last) a b xs text
   chain-both last a b xs text end chain = (chain-rises a b xs text chain, chain-within last a b xs text end chain)
 
 -- ---- what was answered
 
-module _ {S L : Type 0} (receipt : S → Option Slip) (Serves : S → S → List L → List ℕ → Type 0) (Within : Option Slip → S → S → List L → List ℕ → Type 0)
-    (both : (last : Option Slip) (a b : S) (xs : List L) (text : List ℕ) → IsWithin (receipt b) last → Serves a b xs text → IsWithin (receipt a) (receipt b) × Within last a b xs text) where
-  answered-within : (last : Option Slip) {xs : List L} {a b : S} {h i : Option (List ℕ)} → IsWithin (receipt b) last → Answered Serves xs a b h i
+module _ {S L : Type 0} (receipt : S → Option PlainReceipt) (Serves : S → S → List L → List ℕ → Type 0) (Within : Option PlainReceipt → S → S → List L → List ℕ → Type 0)
+    (both : (last : Option PlainReceipt) (a b : S) (xs : List L) (text : List ℕ) → IsWithin (receipt b) last → Serves a b xs text → IsWithin (receipt a) (receipt b) × Within last a b xs text) where
+  answered-within : (last : Option PlainReceipt) {xs : List L} {a b : S} {h i : Option (List ℕ)} → IsWithin (receipt b) last → Answered Serves xs a b h i
       → IsWithin (receipt a) (receipt b) × Answered (Within last) xs a b h i
   answered-within last {xs} {a} {b} end all =
       let (rise, served) = both last a b xs all.text end all.served in
@@ -81,8 +81,8 @@ module _ {S L : Type 0} (receipt : S → Option Slip) (Serves : S → S → List
         },
       )
 
-module _ {S : Type 0} (receipt : S → Option Slip) (Serves : S → S → List (List ℕ) → List ℕ → Type 0) (Within : Option Slip → S → S → List (List ℕ) → List ℕ → Type 0)
-    (both : (last : Option Slip) (a b : S) (xs : List (List ℕ)) (text : List ℕ) → IsWithin (receipt b) last → Serves a b xs text → IsWithin (receipt a) (receipt b) × Within last a b xs text) where
+module _ {S : Type 0} (receipt : S → Option PlainReceipt) (Serves : S → S → List (List ℕ) → List ℕ → Type 0) (Within : Option PlainReceipt → S → S → List (List ℕ) → List ℕ → Type 0)
+    (both : (last : Option PlainReceipt) (a b : S) (xs : List (List ℕ)) (text : List ℕ) → IsWithin (receipt b) last → Serves a b xs text → IsWithin (receipt a) (receipt b) × Within last a b xs text) where
   session-within : (result : Result (Unit {0}) EngineFault) (input : List ℕ) (lines : List (List ℕ)) (rest : List ℕ) (unread : Option (List ℕ)) (a b : S) (h i : Option (List ℕ))
       → sessions.Ends Serves result input lines rest unread a b h i
       → IsWithin (receipt a) (receipt b) × sessions.Ends (Within (receipt b)) result input lines rest unread a b h i
@@ -92,8 +92,8 @@ module _ {S : Type 0} (receipt : S → Option Slip) (Serves : S → S → List (
   session-within (Err fault.Write) input lines rest unread a b h i (inr (cut, end)) = let (rise, within) = cut_off-within receipt Serves Within both cut in (rise, inr (within, end))
   session-within (Err fault.Memory) input lines rest unread a b h i (none, same, written) = (within-same (receipt a) (receipt b) (ap receipt same), (none, same, written))
 
-module _ {S : Type 0} (receipt : S → Option Slip) (Serves : S → S → List Part → List ℕ → Type 0) (Within : Option Slip → S → S → List Part → List ℕ → Type 0)
-    (both : (last : Option Slip) (a b : S) (xs : List Part) (text : List ℕ) → IsWithin (receipt b) last → Serves a b xs text → IsWithin (receipt a) (receipt b) × Within last a b xs text) where
+module _ {S : Type 0} (receipt : S → Option PlainReceipt) (Serves : S → S → List Part → List ℕ → Type 0) (Within : Option PlainReceipt → S → S → List Part → List ℕ → Type 0)
+    (both : (last : Option PlainReceipt) (a b : S) (xs : List Part) (text : List ℕ) → IsWithin (receipt b) last → Serves a b xs text → IsWithin (receipt a) (receipt b) × Within last a b xs text) where
   taken-within : {xs : List Item} {a b : S} {h i : Option (List ℕ)} → Taken Serves xs a b h i → IsWithin (receipt a) (receipt b) × Taken (Within (receipt b)) xs a b h i
   taken-within p =
       let (rise, answered) = all-within receipt Serves Within both p.answered in (rise, record { parts = p.parts; joined = p.joined; answered = answered })
@@ -114,19 +114,19 @@ module _ {S : Type 0} (receipt : S → Option Slip) (Serves : S → S → List P
 
 -- ---- a group
 
-module _ (h : Held) (none : h.pending ≡ []) where
+module _ (h : CurrentOpening) (none : h.pending ≡ []) where
   -- the history in the course of a group has what the group wants so far at its end
-  log-amid : (changes : List Edit) → log_of (amid h changes) ≡ log_of h ++ changes
+  log-amid : (changes : List PlainChange) → log_of (amid h changes) ≡ log_of h ++ changes
   log-amid changes =
-      let kept : log_of h ≡ flat h.acked = ap (λ (gs : List (List Edit)). flat (h.acked ++ gs)) none ∙ ap flat (append-nil h.acked) in
-      ap (λ (gs : List (List Edit)). flat ((h.acked ++ grouped changes) ++ gs)) none ∙ ap flat (append-nil (h.acked ++ grouped changes)) ∙ flat-with h.acked changes
-      ∙ ap (λ (l : List Edit). l ++ changes) (sym kept)
+      let kept : log_of h ≡ flat h.acked = ap (λ (gs : List (List PlainChange)). flat (h.acked ++ gs)) none ∙ ap flat (append-nil h.acked) in
+      ap (λ (gs : List (List PlainChange)). flat ((h.acked ++ grouped changes) ++ gs)) none ∙ ap flat (append-nil (h.acked ++ grouped changes)) ∙ flat-with h.acked changes
+      ∙ ap (λ (l : List PlainChange). l ++ changes) (sym kept)
 
-  front-amid : (changes shown : List Edit) (c : Command) (r : Reply) (slip : Slip) → IsAnsweredAmid (amid h changes) c shown r slip → slip.front ≡ log_of h ++ changes_with h changes c
+  front-amid : (changes shown : List PlainChange) (c : Command) (r : Reply) (slip : PlainReceipt) → IsAnsweredAmid (amid h changes) c shown r slip → slip.front ≡ log_of h ++ changes_with h changes c
   front-amid changes shown c r slip one =
-      one.front ∙ ap (λ (l : List Edit). l ++ changes_of (step_in (amid h changes) c)) (log-amid changes) ∙ append_assoc (log_of h) changes (changes_of (step_in (amid h changes) c))
+      one.front ∙ ap (λ (l : List PlainChange). l ++ changes_of (step_in (amid h changes) c)) (log-amid changes) ∙ append_assoc (log_of h) changes (changes_of (step_in (amid h changes) c))
 
-  answers-within : (shown changes : List Edit) (commands : List Command) (answers : List Receipted) (last : Option Slip)
+  answers-within : (shown changes : List PlainChange) (commands : List Command) (answers : List Receipted) (last : Option PlainReceipt)
       → ForSome last (λ l. IsPrefix l.front (log_of h ++ changes)) → AreAnswered h shown changes commands answers
       → IsWithin last (last_receipt last (Ok answers)) × AreWithin (Ok answers) (last_receipt last (Ok answers))
   answers-within shown changes [] answers last begins are =
@@ -134,21 +134,21 @@ module _ (h : Held) (none : h.pending ≡ []) where
       (within-same last last refl, All-nil (λ (a : Receipted). IsWithin (Some a.1) last))
   answers-within shown changes (c ∷ commands) [] last begins are = absurd are
   answers-within shown changes (c ∷ commands) (a ∷ answers) last begins (one, more) =
-      let grown : List Edit = changes_with h changes c in
+      let grown : List PlainChange = changes_with h changes c in
       let front : a.1.front ≡ log_of h ++ grown = front-amid changes shown c a.0 a.1 one in
-      let new : Option Slip = last_receipt (Some a.1) (Ok answers) in
+      let new : Option PlainReceipt = last_receipt (Some a.1) (Ok answers) in
       let own : ForSome (Some a.1) (λ l. IsPrefix l.front (log_of h ++ grown)) =
-      λ slip is. let same : slip ≡ a.1 = cc (is) in subst (λ (s : Slip). IsPrefix s.front (log_of h ++ grown)) (sym same) (subst (λ (l : List Edit). IsPrefix a.1.front l) front (prefix_self a.1.front)) in
+      λ slip is. let same : slip ≡ a.1 = cc (is) in subst (λ (s : PlainReceipt). IsPrefix s.front (log_of h ++ grown)) (sym same) (subst (λ (l : List PlainChange). IsPrefix a.1.front l) front (prefix_self a.1.front)) in
       let (rise, all) = answers-within shown grown commands answers (Some a.1) own more in
       let first : IsWithin last (Some a.1) = λ slip is. (
         a.1,
         refl,
-        subst (λ (l : List Edit). IsPrefix slip.front l) (append_assoc (log_of h) changes (changes_of (step_in (amid h changes) c)) ∙ sym front)
+        subst (λ (l : List PlainChange). IsPrefix slip.front l) (append_assoc (log_of h) changes (changes_of (step_in (amid h changes) c)) ∙ sym front)
             (prefix_trans slip.front (log_of h ++ changes) ((log_of h ++ changes) ++ changes_of (step_in (amid h changes) c)) (begins slip is) (changes_of (step_in (amid h changes) c), refl)),
       ) in
       (within-then last (Some a.1) new first rise, All-cons (λ (b : Receipted). IsWithin (Some b.1) new) a answers rise all)
 
-module _ (base : Kept) (setting : Setting) (commands : List Command) (old : Option Slip) where
+module _ (base : PlainDurable) (setting : Setting) (commands : List Command) (old : Option PlainReceipt) where
   -- nothing was pending where a group is answered
   none-pending : (answers : List Receipted) (answered : IsGroupAnswered base setting commands (Ok answers) old) → answered.before.pending ≡ []
   none-pending answers answered =
@@ -160,17 +160,17 @@ module _ (base : Kept) (setting : Setting) (commands : List Command) (old : Opti
   group-within : (result : Result (List Receipted) Refusal) → IsGroupAnswered base setting commands result old → IsWithin old (last_receipt old result) × AreWithin result (last_receipt old result)
   group-within (Ok answers) answered =
       answers-within answered.before (none-pending answers answered) (log_of (heard_group answered.before commands (replies_of (Ok answers)) answered.came)) [] commands answers old
-      (λ slip is. subst (λ (l : List Edit). IsPrefix slip.front l) (sym (append-nil (log_of answered.before))) (answered.follows slip is).0) answered.receipts
+      (λ slip is. subst (λ (l : List PlainChange). IsPrefix slip.front l) (sym (append-nil (log_of answered.before))) (answered.follows slip is).0) answered.receipts
   group-within (Err e) answered = (within-same old old refl, tt)
 
-are-within : (result : Result (List Receipted) Refusal) (mid last : Option Slip) → IsWithin mid last → AreWithin result mid → AreWithin result last
+are-within : (result : Result (List Receipted) Refusal) (mid last : Option PlainReceipt) → IsWithin mid last → AreWithin result mid → AreWithin result last
 are-within (Ok answers) mid last end all =
     All-weaker (λ (a : Receipted). IsWithin (Some a.1) mid) (λ (a : Receipted). IsWithin (Some a.1) last) (λ a one. within-then (Some a.1) mid last one end) answers all
 are-within (Err e) mid last end all = tt
 
 -- ---- a session, and a peer
 
-module _ (base : Kept) (setting : Setting) where
+module _ (base : PlainDurable) (setting : Setting) where
   runs-rise : (o : Option PlainPacket) (c : Command) (a b : Sitting) (text : List ℕ) → RunsBy o base setting c a b text → IsWithin a.last b.last
   runs-rise (Some packet) c a b text judged = within-same a.last b.last (ap (λ (s : Sitting). s.last) judged.same)
   runs-rise None c a b text run = within-answer base setting c run.reply run.slip a.last b.last run.answered (ap (λ (s : Sitting). s.last) run.kept)
@@ -181,31 +181,31 @@ module _ (base : Kept) (setting : Setting) where
   line-rises : (passed : ℕ → Type 0) (line : List ℕ) (a b : Sitting) (text : List ℕ) → TakesLine passed base setting line a b text → IsWithin a.last b.last
   line-rises passed line a b text takes = line-moves base setting (λ (s t : Sitting). IsWithin s.last t.last) still-rises runs-rise line (at_next_line a) b text takes.told
 
-  part-rises : (part : Part) (a b : Option Slip) (text : List ℕ) → TakesPart base setting part a b text → IsWithin a b
-  part-rises (Ok ms) a b text run = subst (λ (s : Option Slip). IsWithin a s) (sym run.kept) (group-within base setting (asked ms) a run.result run.answered).0
+  part-rises : (part : Part) (a b : Option PlainReceipt) (text : List ℕ) → TakesPart base setting part a b text → IsWithin a b
+  part-rises (Ok ms) a b text run = subst (λ (s : Option PlainReceipt). IsWithin a s) (sym run.kept) (group-within base setting (asked ms) a run.result run.answered).0
   part-rises (Err f) a b text (same, told) = within-same a b same
 
-  part-within : (last : Option Slip) (part : Part) (a b : Option Slip) (text : List ℕ) → TakesPart base setting part a b text → IsWithin b last → TakesPartWithin last base setting part a b text
+  part-within : (last : Option PlainReceipt) (part : Part) (a b : Option PlainReceipt) (text : List ℕ) → TakesPart base setting part a b text → IsWithin b last → TakesPartWithin last base setting part a b text
   part-within last (Ok ms) a b text run end =
-      let all : AreWithin run.result b = subst (λ (s : Option Slip). AreWithin run.result s) (sym run.kept) (group-within base setting (asked ms) a run.result run.answered).1 in
+      let all : AreWithin run.result b = subst (λ (s : Option PlainReceipt). AreWithin run.result s) (sym run.kept) (group-within base setting (asked ms) a run.result run.answered).1 in
       (run, are-within run.result b last end all, end)
   part-within last (Err f) a b text tells end = (tells, end)
 
-  parts-within : (last a b : Option Slip) (parts : List Part) (text : List ℕ) → IsWithin b last → Chain (TakesPart base setting) a b parts text → IsWithin a b × Chain (TakesPartWithin last base setting) a b parts text
-  parts-within = chain-both (λ (slip : Option Slip). slip) (TakesPart base setting) (λ (l : Option Slip). TakesPartWithin l base setting) part-rises part-within
+  parts-within : (last a b : Option PlainReceipt) (parts : List Part) (text : List ℕ) → IsWithin b last → Chain (TakesPart base setting) a b parts text → IsWithin a b × Chain (TakesPartWithin last base setting) a b parts text
+  parts-within = chain-both (λ (slip : Option PlainReceipt). slip) (TakesPart base setting) (λ (l : Option PlainReceipt). TakesPartWithin l base setting) part-rises part-within
 
-  lines-within : (passed : ℕ → Type 0) (last : Option Slip) (a b : Sitting) (lines : List (List ℕ)) (text : List ℕ) → IsWithin b.last last → Chain (TakesLine passed base setting) a b lines text
+  lines-within : (passed : ℕ → Type 0) (last : Option PlainReceipt) (a b : Sitting) (lines : List (List ℕ)) (text : List ℕ) → IsWithin b.last last → Chain (TakesLine passed base setting) a b lines text
       → IsWithin a.last b.last × ChainWithin last (λ (s : Sitting). s.last) (TakesLine passed base setting) a b lines text
   lines-within passed = chain-both (λ (s : Sitting). s.last) (TakesLine passed base setting) (λ l line a b told. TakesLine passed base setting line a b told × IsWithin b.last l) (line-rises passed) (λ l line a b told takes end. (takes, end))
 
 pub sits-within : (passed : ℕ → Type 0) → SitsWithin passed
-sits-within passed base setting result unread unread' old new held held' s =
-    let (rise, ends) = session-within (λ (t : Sitting). t.last) (Chain (TakesLine passed base setting)) (λ (l : Option Slip). ChainWithin l (λ (t : Sitting). t.last) (TakesLine passed base setting)) (lines-within base setting passed)
-    result s.input s.lines s.rest unread' old new held held' s.ends in
+sits-within passed base setting result unread still_unread old new held held' s =
+    let (rise, ends) = session-within (λ (t : Sitting). t.last) (Chain (TakesLine passed base setting)) (λ (l : Option PlainReceipt). ChainWithin l (λ (t : Sitting). t.last) (TakesLine passed base setting)) (lines-within base setting passed)
+    result s.input s.lines s.rest still_unread old new held held' s.ends in
     (rise, record { input = s.input; lines = s.lines; rest = s.rest; read = s.read; cut = s.cut; ends = ends })
 
 pub takes-within : TakesWithin
-takes-within base setting result unread unread' old new held held' s =
-    let (rise, ends) = stream-within (λ (slip : Option Slip). slip) (Chain (TakesPart base setting)) (λ (l : Option Slip). Chain (TakesPartWithin l base setting)) (parts-within base setting)
-    result s.input unread' old new held held' s.ends in
+takes-within base setting result unread still_unread old new held held' s =
+    let (rise, ends) = stream-within (λ (slip : Option PlainReceipt). slip) (Chain (TakesPart base setting)) (λ (l : Option PlainReceipt). Chain (TakesPartWithin l base setting)) (parts-within base setting)
+    result s.input still_unread old new held held' s.ends in
     (rise, record { input = s.input; read = s.read; ends = ends })

@@ -4,8 +4,8 @@ use Rattle.std.specs.{Prelude.flat_map, Io.KnownBytes.Appends}
 use Rattle.pf_addr.specs.Writing.{WritesFront}
 use Rattle.pf_state.specs.declared.peer.message.Message.{Message}
 use Rattle.pf_core.specs.declared.{command.Command.Command, command.Command.TheVariants.States, command.StateCommand.TheVariants.Peer, reply.Refusal.Refusal}
-use Rattle.pf_core.specs.{Durable.Edits.Kept, Worlds.Setting}
-use Rattle.pf_book.specs.{Groups.{Answered as Receipted, IsGroupAnswered}, Receipts.Slip}
+use Rattle.pf_core.specs.{Durable.Changes.PlainDurable, Worlds.Setting}
+use Rattle.pf_book.specs.{Groups.{Answered as Receipted, IsGroupAnswered}, Receipts.PlainReceipt}
 use Rattle.pf_session.specs.Server.Streams.{CutShort, Item, RunsGroup, Taken, Takes, asked, group_text, items, last_receipt}
 use Rattle.pf_session.proofs.Streaming.{items-then, none-taken, part-cut, part-taken, taken-then}
 
@@ -42,18 +42,18 @@ asked-each text [] = refl
 asked-each text (m ∷ ms) = ap (λ (l : List ℕ). text ++ l) (asked-each text ms)
 
 -- no answer leaves the receipt that there was
-pub none-kept : (last : Option Slip) (answers : List Receipted) → length answers ≡ 0 → last ≡ last_receipt last (Ok answers)
+pub none-kept : (last : Option PlainReceipt) (answers : List Receipted) → length answers ≡ 0 → last ≡ last_receipt last (Ok answers)
 none-kept last [] is = refl
 none-kept last (a ∷ answers) is = absurd (omega (arith, is))
 
-module _ (base : Kept) (setting : Setting) where
+module _ (base : PlainDurable) (setting : Setting) where
   -- ---- a group
 
   -- commands were run as a group, and of its text this was written
-  abbrev pub RunsAsked : (List ℕ → Type 0) → List Command → Option Slip → Option Slip → Type 0
+  abbrev pub RunsAsked : (List ℕ → Type 0) → List Command → Option PlainReceipt → Option PlainReceipt → Type 0
   RunsAsked Written commands old new = (ms : List Message) → commands ≡ asked ms → (text : List ℕ) × RunsGroup base setting ms old new text × Written text
 
-  pub group-run : (result : Result (List Receipted) Refusal) (commands : List Command) (old new : Option Slip) (ms : List Message) → commands ≡ asked ms → 0 < length commands → length commands ≤ 64
+  pub group-run : (result : Result (List Receipted) Refusal) (commands : List Command) (old new : Option PlainReceipt) (ms : List Message) → commands ≡ asked ms → 0 < length commands → length commands ≤ 64
       → IsGroupAnswered base setting commands result old → new ≡ last_receipt old result → RunsGroup base setting ms old new (group_text ms result)
   group-run result commands old new ms is some few answered kept =
       let long = asked-long commands ms is in
@@ -69,17 +69,17 @@ module _ (base : Kept) (setting : Setting) where
   -- ---- groups, one after the other
 
   -- some messages are run, and the commands that are left are those of the others
-  pub record IsUnderWay (ms : List Message) (left : List Command) (old new : Option Slip) (held held' : Option (List ℕ)) : Type 0 where
+  pub record IsUnderWay (ms : List Message) (left : List Command) (old new : Option PlainReceipt) (held held' : Option (List ℕ)) : Type 0 where
     pub done : List Message
     pub others : List Message
     pub split : ms ≡ done ++ others
     pub left_is : left ≡ asked others
     pub ran : Taken (Takes base setting) (items done) old new held held'
 
-  pub begun : (ms : List Message) (commands : List Command) (last : Option Slip) (held : Option (List ℕ)) → commands ≡ asked ms → IsUnderWay ms commands last last held held
+  pub begun : (ms : List Message) (commands : List Command) (last : Option PlainReceipt) (held : Option (List ℕ)) → commands ≡ asked ms → IsUnderWay ms commands last last held held
   begun ms commands last held is = record { done = []; others = ms; split = refl; left_is = is; ran = none-taken base setting last held }
 
-  pub one-more : (ms : List Message) (left group rest : List Command) (a b c : Option Slip) (h i j : Option (List ℕ)) → left ≡ group ++ rest → IsUnderWay ms left a b h i → RunsAsked (Appends i j) group b c → IsUnderWay ms rest a c h j
+  pub one-more : (ms : List Message) (left group rest : List Command) (a b c : Option PlainReceipt) (h i j : Option (List ℕ)) → left ≡ group ++ rest → IsUnderWay ms left a b h i → RunsAsked (Appends i j) group b c → IsUnderWay ms rest a c h j
   one-more ms left group rest a b c h i j cut so_far run =
       let parts : AreAsked group rest so_far.others = asked-split group rest so_far.others (sym cut ∙ so_far.left_is) in
       let (text, ran, written) = run parts.first parts.front_is in
@@ -91,7 +91,7 @@ module _ (base : Kept) (setting : Setting) where
         ran = rw (items-then so_far.done parts.first) (taken-then base setting so_far.ran (part-taken base setting (Ok parts.first) text ran written));
       }
 
-  pub one-cut : (ms : List Message) (left group rest : List Command) (a b c : Option Slip) (h i j : Option (List ℕ)) → left ≡ group ++ rest → IsUnderWay ms left a b h i → RunsAsked (WritesFront i j) group b c → CutShort (Takes base setting) (items ms) a c h j
+  pub one-cut : (ms : List Message) (left group rest : List Command) (a b c : Option PlainReceipt) (h i j : Option (List ℕ)) → left ≡ group ++ rest → IsUnderWay ms left a b h i → RunsAsked (WritesFront i j) group b c → CutShort (Takes base setting) (items ms) a c h j
   one-cut ms left group rest a b c h i j cut so_far run =
       let parts : AreAsked group rest so_far.others = asked-split group rest so_far.others (sym cut ∙ so_far.left_is) in
       let (text, ran, front) = run parts.first parts.front_is in

@@ -3,11 +3,11 @@ use Rattle.std.proofs.Common.{◌≡◌, ◌∙◌, ℕ, List, [], ◌∷◌, le
 use mathlib.Core.List.{IsPrefix}
 use Rattle.pf_rule.specs.Packets.{PlainPacket}
 use Rattle.pf_core.specs.declared.{command.Command.Command, reply.Reply.Reply, reply.Reply.TheVariants.Applied}
-use Rattle.pf_core.specs.{Durable.Edits.{Kept, Edit}, Worlds.Setting}
-use Rattle.pf_past.proofs.Fronts.{prefix_self, prefix_trans, prefix_length}
+use Rattle.pf_core.specs.{Durable.Changes.{PlainDurable, PlainChange}, Worlds.Setting}
+use Rattle.pf_past.proofs.Prefixes.{prefix_self, prefix_trans, prefix_length}
 use Rattle.pf_book.specs.Receipts.{IsAnswered, token_of}
-use Rattle.pf_book.proofs.Answering.{applied-is}
-use Rattle.pf_session.specs.{Server.Sittings.{RunsBy, Sits, Sitting, at_next_line}, Laws.Sittings.{LearnsApplied, LearnsNoLess}}
+use Rattle.pf_book.proofs.LockedCalls.{applied-is}
+use Rattle.pf_session.specs.{Server.Sittings.{RunsBy, TakesLines, Sitting, at_next_line}, Laws.Sittings.{LearnsApplied, LearnsNoLess}}
 use Rattle.pf_session.proofs.Sitting.{line-moves}
 
 abbrev learns-on : Sitting → Sitting → Type 0
@@ -16,12 +16,12 @@ learns-on a b = IsPrefix a.seer.learnt b.seer.learnt
 same-learnt : (a b : Sitting) → b ≡ a → learns-on a b
 same-learnt a b is = subst (λ (s : Sitting). learns-on a s) (sym is) (prefix_self a.seer.learnt)
 
-module _ (base : Kept) (setting : Setting) where
+module _ (base : PlainDurable) (setting : Setting) where
   runs-learn : (o : Option PlainPacket) (c : Command) (a b : Sitting) (text : List ℕ) → RunsBy o base setting c a b text → learns-on a b
-  runs-learn (Some packet) c a b text judged = subst (λ (l : List Edit). IsPrefix a.seer.learnt l) (sym judged.seer.learnt) (prefix_self a.seer.learnt)
+  runs-learn (Some packet) c a b text judged = subst (λ (l : List PlainChange). IsPrefix a.seer.learnt l) (sym judged.seer.learnt) (prefix_self a.seer.learnt)
   runs-learn None c a b text run = run.still
 
-  lines-learn : (passed : ℕ → Type 0) (a b : Sitting) (lines : List (List ℕ)) (text : List ℕ) → Sits passed base setting a b lines text → learns-on a b
+  lines-learn : (passed : ℕ → Type 0) (a b : Sitting) (lines : List (List ℕ)) (text : List ℕ) → TakesLines passed base setting a b lines text → learns-on a b
   lines-learn passed a b [] text (is, none) = same-learnt a b is
   lines-learn passed a b (line ∷ lines) text (mid, first, rest, takes, more, is) =
       prefix_trans a.seer.learnt mid.seer.learnt b.seer.learnt

@@ -1,7 +1,7 @@
 pub mod Cutting
-pub mod Answering
+pub mod AnsweredLines
 pub mod Moving
-pub mod Told
+pub mod LineReplies
 pub mod Sitting
 pub mod Replying
 pub mod Streaming

@@ -41,8 +41,8 @@ module _ {A B : Type 0} (f : A → B) (Stays : A → Type 0) (P : A → A → Li
   ends-as (Err fault.Write) input lines rest unread a b h i stays (inr (cut, end)) = let (seen, now) = cut_off-as f Stays P Q step stays cut in (inr (seen, end), now)
   ends-as (Err fault.Memory) input lines rest unread a b h i stays (none, same, written) = ((none, ap f same, written), subst Stays (sym same) stays)
 
-  pub session-as : {result : Result (Unit {0}) EngineFault} {unread unread' : Option (List ℕ)} {a b : A} {h i : Option (List ℕ)} → Stays a
-      → IsSession P result unread unread' a b h i → IsSession Q result unread unread' (f a) (f b) h i × Stays b
-  session-as {result} {unread} {unread'} {a} {b} {h} {i} stays s =
-      let (ends, now) = ends-as result s.input s.lines s.rest unread' a b h i stays s.ends in
+  pub session-as : {result : Result (Unit {0}) EngineFault} {unread still_unread : Option (List ℕ)} {a b : A} {h i : Option (List ℕ)} → Stays a
+      → IsSession P result unread still_unread a b h i → IsSession Q result unread still_unread (f a) (f b) h i × Stays b
+  session-as {result} {unread} {still_unread} {a} {b} {h} {i} stays s =
+      let (ends, now) = ends-as result s.input s.lines s.rest still_unread a b h i stays s.ends in
       (record { input = s.input; lines = s.lines; rest = s.rest; read = s.read; cut = s.cut; ends = ends }, now)

@@ -4,9 +4,9 @@ use Rattle.std.specs.{Prelude.{flat_map, map}, Io.KnownBytes.{Appends, IsAtEnd, 
 use Rattle.pf_addr.specs.Writing.{Appends-kept, WritesFront}
 use Rattle.pf_state.specs.declared.{peer.fault.PeerFault.PeerFault, peer.fault.PeerFault.TheVariants.Ended, peer.message.Message.Message}
 use Rattle.pf_state.specs.Peer.{Outcomes.{TakenAs, finished}, Streams.{Ending, Unfinished, Faulty, Reads}}
-use Rattle.pf_core.specs.{Durable.Edits.Kept, Worlds.Setting}
-use Rattle.pf_book.specs.Receipts.{Slip}
-use Rattle.pf_session.specs.declared.{line_engine.fault.EngineFault.EngineFault, server.stream.Goes.Goes, server.stream.Goes.TheVariants.{On, Over}}
+use Rattle.pf_core.specs.{Durable.Changes.PlainDurable, Worlds.Setting}
+use Rattle.pf_book.specs.Receipts.{PlainReceipt}
+use Rattle.pf_session.specs.declared.{line_engine.fault.EngineFault.EngineFault, server.stream.Progress.Progress, server.stream.Progress.TheVariants.{On, Over}}
 use Rattle.pf_session.specs.declared.line_engine.fault.EngineFault.TheVariants as fault
 use Rattle.pf_session.specs.{Laws.Server.{chain-one, chain-then}, LineEngine.Sessions.Answered, Server.Streams.{CutShort, Ends, Item, Part, RunsFed, SoFar, Taken, Takes, TakesPart, TakesPiece, TellsEnd, TellsFault, end_text, items, items_in, told, told_text, wrong}}
 
@@ -45,28 +45,28 @@ joined-then : (parts more : List Part) (xs ys : List Item) → flat_map items_in
 joined-then parts more xs ys p q =
     flat_map-append items_in parts more ∙ ap (λ (l : List Item). l ++ flat_map items_in more) p ∙ ap (λ (l : List Item). xs ++ l) q
 
-module _ (base : Kept) (setting : Setting) where
-  answered-then : {ps qs : List Part} {a b c : Option Slip} {h i j : Option (List ℕ)} → Answered (Takes base setting) ps a b h i → Answered (Takes base setting) qs b c i j → Answered (Takes base setting) (ps ++ qs) a c h j
+module _ (base : PlainDurable) (setting : Setting) where
+  answered-then : {ps qs : List Part} {a b c : Option PlainReceipt} {h i j : Option (List ℕ)} → Answered (Takes base setting) ps a b h i → Answered (Takes base setting) qs b c i j → Answered (Takes base setting) (ps ++ qs) a c h j
   answered-then {ps} {qs} {a} {b} {c} {h} {i} {j} p q = record {
     text = p.text ++ q.text;
     served = chain-then (TakesPart base setting) a b c ps qs p.text q.text p.served q.served;
     written = Appends-trans h i j p.text q.text p.written q.written;
   }
 
-  pub none-taken : (last : Option Slip) (held : Option (List ℕ)) → Taken (Takes base setting) [] last last held held
+  pub none-taken : (last : Option PlainReceipt) (held : Option (List ℕ)) → Taken (Takes base setting) [] last last held held
   none-taken last held = record { parts = []; joined = refl; answered = record { text = []; served = (refl, refl); written = Appends-nil held } }
 
-  pub taken-then : {xs ys : List Item} {a b c : Option Slip} {h i j : Option (List ℕ)} → Taken (Takes base setting) xs a b h i → Taken (Takes base setting) ys b c i j → Taken (Takes base setting) (xs ++ ys) a c h j
+  pub taken-then : {xs ys : List Item} {a b c : Option PlainReceipt} {h i j : Option (List ℕ)} → Taken (Takes base setting) xs a b h i → Taken (Takes base setting) ys b c i j → Taken (Takes base setting) (xs ++ ys) a c h j
   taken-then {xs} {ys} p q = record { parts = p.parts ++ q.parts; joined = joined-then p.parts q.parts xs ys p.joined q.joined; answered = answered-then p.answered q.answered }
 
-  pub part-taken : (part : Part) {a b : Option Slip} {h i : Option (List ℕ)} (text : List ℕ) → TakesPart base setting part a b text → Appends h i text → Taken (Takes base setting) (items_in part) a b h i
+  pub part-taken : (part : Part) {a b : Option PlainReceipt} {h i : Option (List ℕ)} (text : List ℕ) → TakesPart base setting part a b text → Appends h i text → Taken (Takes base setting) (items_in part) a b h i
   part-taken part {a} {b} text step written = record {
     parts = part ∷ [];
     joined = append-nil (items_in part);
     answered = record { text = text; served = chain-one (TakesPart base setting) a b part text step; written = written };
   }
 
-  pub taken-kept : {xs : List Item} {a b : Option Slip} {h i : Option (List ℕ)} (j : Option (List ℕ)) → Keeps i j → Taken (Takes base setting) xs a b h i → Taken (Takes base setting) xs a b h j
+  pub taken-kept : {xs : List Item} {a b : Option PlainReceipt} {h i : Option (List ℕ)} (j : Option (List ℕ)) → Keeps i j → Taken (Takes base setting) xs a b h i → Taken (Takes base setting) xs a b h j
   taken-kept {h = h} {i = i} j keeps p = record {
     parts = p.parts;
     joined = p.joined;
@@ -74,7 +74,7 @@ module _ (base : Kept) (setting : Setting) where
   }
 
   -- a write failed at a part, behind others
-  pub part-cut : {xs : List Item} (part : Part) (others : List Item) {a b : Option Slip} (c : Option Slip) {h i j : Option (List ℕ)} (text : List ℕ) → Taken (Takes base setting) xs a b h i → TakesPart base setting part b c text → WritesFront i j text
+  pub part-cut : {xs : List Item} (part : Part) (others : List Item) {a b : Option PlainReceipt} (c : Option PlainReceipt) {h i j : Option (List ℕ)} (text : List ℕ) → Taken (Takes base setting) xs a b h i → TakesPart base setting part b c text → WritesFront i j text
       → CutShort (Takes base setting) (xs ++ (items_in part ++ others)) a c h j
   part-cut {xs} part others {b = b} c {i = i} text p step front = record {
     parts = p.parts ++ (part ∷ map as_part others);
@@ -95,7 +95,7 @@ module _ (base : Kept) (setting : Setting) where
   }
 
   -- nothing but a flush failed
-  pub flush-cut : {xs : List Item} {a b : Option Slip} {h i : Option (List ℕ)} (j : Option (List ℕ)) → WritesFront i j [] → Taken (Takes base setting) xs a b h i → CutShort (Takes base setting) xs a b h j
+  pub flush-cut : {xs : List Item} {a b : Option PlainReceipt} {h i : Option (List ℕ)} (j : Option (List ℕ)) → WritesFront i j [] → Taken (Takes base setting) xs a b h i → CutShort (Takes base setting) xs a b h j
   flush-cut {b = b} {i = i} j front p = record {
     parts = p.parts;
     joined = p.joined;
@@ -114,7 +114,7 @@ module _ (base : Kept) (setting : Setting) where
     };
   }
 
-  pub cut-behind : {xs ys : List Item} {a b c : Option Slip} {h i j : Option (List ℕ)} → Taken (Takes base setting) xs a b h i → CutShort (Takes base setting) ys b c i j → CutShort (Takes base setting) (xs ++ ys) a c h j
+  pub cut-behind : {xs ys : List Item} {a b c : Option PlainReceipt} {h i j : Option (List ℕ)} → Taken (Takes base setting) xs a b h i → CutShort (Takes base setting) ys b c i j → CutShort (Takes base setting) (xs ++ ys) a c h j
   cut-behind {xs} {ys} p q = record {
     parts = p.parts ++ q.parts;
     joined = joined-then p.parts q.parts xs ys p.joined q.joined;
@@ -133,7 +133,7 @@ module _ (base : Kept) (setting : Setting) where
     };
   }
 
-  pub cut-longer : {xs : List Item} (ys : List Item) {a b : Option Slip} {h i : Option (List ℕ)} → CutShort (Takes base setting) xs a b h i → CutShort (Takes base setting) (xs ++ ys) a b h i
+  pub cut-longer : {xs : List Item} (ys : List Item) {a b : Option PlainReceipt} {h i : Option (List ℕ)} → CutShort (Takes base setting) xs a b h i → CutShort (Takes base setting) (xs ++ ys) a b h i
   cut-longer {xs} ys q = record {
     parts = q.parts ++ map as_part ys;
     joined = joined-then q.parts (map as_part ys) xs ys q.joined (as-parts ys);
@@ -154,7 +154,7 @@ module _ (base : Kept) (setting : Setting) where
   }
 
   -- a fault was told behind others, if there was one
-  pub fault-told : (f : Option PeerFault) {xs : List Item} {a b : Option Slip} {h i : Option (List ℕ)} (j : Option (List ℕ)) → Taken (Takes base setting) xs a b h i → Appends i j (told_text f) → Taken (Takes base setting) (xs ++ told f) a b h j
+  pub fault-told : (f : Option PeerFault) {xs : List Item} {a b : Option PlainReceipt} {h i : Option (List ℕ)} (j : Option (List ℕ)) → Taken (Takes base setting) xs a b h i → Appends i j (told_text f) → Taken (Takes base setting) (xs ++ told f) a b h j
   fault-told None {xs} {a} {b} {h} {i} j p written = rw (append-nil xs) (record {
     parts = p.parts;
     joined = p.joined;
@@ -162,12 +162,12 @@ module _ (base : Kept) (setting : Setting) where
   })
   fault-told (Some f) j p written = taken-then p (part-taken (Err f) (told_text (Some f)) (refl, refl) written)
 
-  pub fault-cut : (f : Option PeerFault) {xs : List Item} {a b : Option Slip} {h i : Option (List ℕ)} (j : Option (List ℕ)) → Taken (Takes base setting) xs a b h i → WritesFront i j (told_text f) → CutShort (Takes base setting) (xs ++ told f) a b h j
+  pub fault-cut : (f : Option PeerFault) {xs : List Item} {a b : Option PlainReceipt} {h i : Option (List ℕ)} (j : Option (List ℕ)) → Taken (Takes base setting) xs a b h i → WritesFront i j (told_text f) → CutShort (Takes base setting) (xs ++ told f) a b h j
   fault-cut None {xs} {a} {b} {h} {i} j p front = rw (append-nil xs) (flush-cut j front p)
   fault-cut (Some f) {b = b} j p front = part-cut (Err f) [] b (told_text (Some f)) p (refl, refl) front
 
   -- the messages of a piece were run, and its fault was told
-  pub fed-told : (r : Result Goes EngineFault) (ms : List Message) (f : Option PeerFault) {a b : Option Slip} {h i : Option (List ℕ)} (j : Option (List ℕ)) → Taken (Takes base setting) (items ms) a b h i → TellsFault r f i j → RunsFed (Takes base setting) r ms f a b h j
+  pub fed-told : (r : Result Progress EngineFault) (ms : List Message) (f : Option PeerFault) {a b : Option PlainReceipt} {h i : Option (List ℕ)} (j : Option (List ℕ)) → Taken (Takes base setting) (items ms) a b h i → TellsFault r f i j → RunsFed (Takes base setting) r ms f a b h j
   fed-told (Ok goes) ms f j all tells = (tells.0, fault-told f j all tells.1)
   fed-told (Err fault.Read) ms f j all tells = absurd tells
   fed-told (Err fault.Write) ms f j all tells = fault-cut f j all tells
@@ -175,20 +175,20 @@ module _ (base : Kept) (setting : Setting) where
 
   -- ---- a session so far
 
-  pub nothing-yet : (last : Option Slip) (held : Option (List ℕ)) (kept : Option (List ℕ)) → kept ≡ Some [] → SoFar (Takes base setting) [] kept last last held held
+  pub nothing-yet : (last : Option PlainReceipt) (held : Option (List ℕ)) (kept : Option (List ℕ)) → kept ≡ Some [] → SoFar (Takes base setting) [] kept last last held held
   nothing-yet last held kept is = record { messages = []; rest = []; reads = (refl, tt); kept_is = is; taken = none-taken last held }
 
-  pub still-so_far : {input : List ℕ} {kept : Option (List ℕ)} {a b : Option Slip} {h i : Option (List ℕ)} (j : Option (List ℕ)) → Keeps i j → SoFar (Takes base setting) input kept a b h i → SoFar (Takes base setting) input kept a b h j
+  pub still-so_far : {input : List ℕ} {kept : Option (List ℕ)} {a b : Option PlainReceipt} {h i : Option (List ℕ)} (j : Option (List ℕ)) → Keeps i j → SoFar (Takes base setting) input kept a b h i → SoFar (Takes base setting) input kept a b h j
   still-so_far j keeps s = record { messages = s.messages; rest = s.rest; reads = s.reads; kept_is = s.kept_is; taken = taken-kept j keeps s.taken }
 
-  pub flush-ends : {input : List ℕ} {kept : Option (List ℕ)} (unread : Option (List ℕ)) {a b : Option Slip} {h i : Option (List ℕ)} (j : Option (List ℕ)) → Keeps i j → SoFar (Takes base setting) input kept a b h i → Ends (Takes base setting) (Err fault.Write) input unread a b h j
+  pub flush-ends : {input : List ℕ} {kept : Option (List ℕ)} (unread : Option (List ℕ)) {a b : Option PlainReceipt} {h i : Option (List ℕ)} (j : Option (List ℕ)) → Keeps i j → SoFar (Takes base setting) input kept a b h i → Ends (Takes base setting) (Err fault.Write) input unread a b h j
   flush-ends unread {i = i} j keeps s = (s.messages, Unfinished s.rest, s.reads, inl (flush-cut j (kept-front i j keeps) s.taken))
 
-  pub read-ends : {input : List ℕ} {kept : Option (List ℕ)} (unread : Option (List ℕ)) {a b : Option Slip} {h i : Option (List ℕ)} → SoFar (Takes base setting) input kept a b h i → Ends (Takes base setting) (Err fault.Read) input unread a b h i
+  pub read-ends : {input : List ℕ} {kept : Option (List ℕ)} (unread : Option (List ℕ)) {a b : Option PlainReceipt} {h i : Option (List ℕ)} → SoFar (Takes base setting) input kept a b h i → Ends (Takes base setting) (Err fault.Read) input unread a b h i
   read-ends unread s = (s.messages, s.rest, s.reads, s.taken)
 
   -- a piece with which it goes on
-  pub on-so_far : {input : List ℕ} {kept : Option (List ℕ)} (piece : List ℕ) (kept' : Option (List ℕ)) {a b c : Option Slip} {h i j : Option (List ℕ)} → SoFar (Takes base setting) input kept a b h i → TakesPiece (Takes base setting) (Ok On) piece kept kept' b c i j → SoFar (Takes base setting) (input ++ piece) kept' a c h j
+  pub on-so_far : {input : List ℕ} {kept : Option (List ℕ)} (piece : List ℕ) (kept' : Option (List ℕ)) {a b c : Option PlainReceipt} {h i j : Option (List ℕ)} → SoFar (Takes base setting) input kept a b h i → TakesPiece (Takes base setting) (Ok On) piece kept kept' b c i j → SoFar (Takes base setting) (input ++ piece) kept' a c h j
   on-so_far {input} {kept} piece kept' {a} {b} {c} {h} {i} {j} s (inl (ms, f, taken, ran)) =
       let goes = ran.0 in
       let all : Taken (Takes base setting) (items ms ++ []) b c i j = subst (λ (x : Option PeerFault). Taken (Takes base setting) (items ms ++ told x) b c i j) goes ran.1 in
@@ -203,7 +203,7 @@ module _ (base : Kept) (setting : Setting) where
   on-so_far piece kept' s (inr (bad, waits)) = absurd (cc (bad))
 
   -- a piece with a fault
-  pub over-ends : {input : List ℕ} {kept : Option (List ℕ)} (piece : List ℕ) (kept' unread : Option (List ℕ)) {a b c : Option Slip} {h i j : Option (List ℕ)} → SoFar (Takes base setting) input kept a b h i → TakesPiece (Takes base setting) (Ok Over) piece kept kept' b c i j → Ends (Takes base setting) (Ok tt) (input ++ piece) unread a c h j
+  pub over-ends : {input : List ℕ} {kept : Option (List ℕ)} (piece : List ℕ) (kept' unread : Option (List ℕ)) {a b c : Option PlainReceipt} {h i j : Option (List ℕ)} → SoFar (Takes base setting) input kept a b h i → TakesPiece (Takes base setting) (Ok Over) piece kept kept' b c i j → Ends (Takes base setting) (Ok tt) (input ++ piece) unread a c h j
   over-ends {input} {kept} piece kept' unread {a} {b} {c} {h} {i} {j} s (inl (ms, f, taken, ran)) =
       let (why, goes) = ran.0 in
       let all : Taken (Takes base setting) (items ms ++ Err why ∷ []) b c i j = subst (λ (x : Option PeerFault). Taken (Takes base setting) (items ms ++ told x) b c i j) goes ran.1 in
@@ -217,7 +217,7 @@ module _ (base : Kept) (setting : Setting) where
   over-ends piece kept' unread s (inr (bad, waits)) = absurd (cc (bad))
 
   -- a piece at which it fails
-  pub err-ends : (why : EngineFault) {input : List ℕ} {kept : Option (List ℕ)} (piece : List ℕ) (kept' unread : Option (List ℕ)) {a b c : Option Slip} {h i j : Option (List ℕ)} → length piece ≤ 131072 → SoFar (Takes base setting) input kept a b h i → TakesPiece (Takes base setting) (Err why) piece kept kept' b c i j → Ends (Takes base setting) (Err why) (input ++ piece) unread a c h j
+  pub err-ends : (why : EngineFault) {input : List ℕ} {kept : Option (List ℕ)} (piece : List ℕ) (kept' unread : Option (List ℕ)) {a b c : Option PlainReceipt} {h i j : Option (List ℕ)} → length piece ≤ 131072 → SoFar (Takes base setting) input kept a b h i → TakesPiece (Takes base setting) (Err why) piece kept kept' b c i j → Ends (Takes base setting) (Err why) (input ++ piece) unread a c h j
   err-ends fault.Read piece kept' unread few s (inl (ms, f, taken, ran)) = absurd ran
   err-ends fault.Read piece kept' unread few s (inr (bad, waits)) = absurd (cc (bad))
   err-ends fault.Write {input} {kept} piece kept' unread few s (inl (ms, None, taken, cut)) =
@@ -245,20 +245,20 @@ module _ (base : Kept) (setting : Setting) where
     few,
     s.reads,
     subst (λ (x : Option (List ℕ)). Taken (Takes base setting) (items s.messages) a c h x) (sym waits.bytes)
-        (subst (λ (x : Option Slip). Taken (Takes base setting) (items s.messages) a x h i) (sym waits.state) s.taken),
+        (subst (λ (x : Option PlainReceipt). Taken (Takes base setting) (items s.messages) a x h i) (sym waits.state) s.taken),
   )
 
   -- ---- the end
 
-  end-told : (rest : List ℕ) (ms : List Message) {a b : Option Slip} {h i : Option (List ℕ)} (j : Option (List ℕ)) → Taken (Takes base setting) (items ms) a b h i → Appends i j (end_text (finished (Some rest))) → Taken (Takes base setting) (items ms ++ wrong (Unfinished rest)) a b h j
+  end-told : (rest : List ℕ) (ms : List Message) {a b : Option PlainReceipt} {h i : Option (List ℕ)} (j : Option (List ℕ)) → Taken (Takes base setting) (items ms) a b h i → Appends i j (end_text (finished (Some rest))) → Taken (Takes base setting) (items ms ++ wrong (Unfinished rest)) a b h j
   end-told [] ms j all written = fault-told None j all written
   end-told (x ∷ rest) ms j all written = fault-told (Some Ended) j all written
 
-  end-cut : (rest : List ℕ) (ms : List Message) {a b : Option Slip} {h i : Option (List ℕ)} (j : Option (List ℕ)) → Taken (Takes base setting) (items ms) a b h i → WritesFront i j (end_text (finished (Some rest))) → CutShort (Takes base setting) (items ms ++ wrong (Unfinished rest)) a b h j
+  end-cut : (rest : List ℕ) (ms : List Message) {a b : Option PlainReceipt} {h i : Option (List ℕ)} (j : Option (List ℕ)) → Taken (Takes base setting) (items ms) a b h i → WritesFront i j (end_text (finished (Some rest))) → CutShort (Takes base setting) (items ms ++ wrong (Unfinished rest)) a b h j
   end-cut [] ms j all front = fault-cut None j all front
   end-cut (x ∷ rest) ms j all front = fault-cut (Some Ended) j all front
 
-  pub end-ends : (r : Result (Unit {0}) EngineFault) {input : List ℕ} {kept : Option (List ℕ)} (unread : Option (List ℕ)) {a b : Option Slip} {h i : Option (List ℕ)} (j : Option (List ℕ)) → SoFar (Takes base setting) input kept a b h i → IsAtEnd unread → TellsEnd r (finished kept) i j → Ends (Takes base setting) r input unread a b h j
+  pub end-ends : (r : Result (Unit {0}) EngineFault) {input : List ℕ} {kept : Option (List ℕ)} (unread : Option (List ℕ)) {a b : Option PlainReceipt} {h i : Option (List ℕ)} (j : Option (List ℕ)) → SoFar (Takes base setting) input kept a b h i → IsAtEnd unread → TellsEnd r (finished kept) i j → Ends (Takes base setting) r input unread a b h j
   end-ends (Ok u) {kept = kept} unread {i = i} j s end tells =
       (s.messages, Unfinished s.rest, s.reads, end-told s.rest s.messages j s.taken (subst (λ (k : Option (List ℕ)). Appends i j (end_text (finished k))) s.kept_is tells), end)
   end-ends (Err fault.Read) unread j s end tells = absurd tells

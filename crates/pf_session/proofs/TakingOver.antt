@@ -2,13 +2,13 @@
 use Rattle.std.proofs.{Common.{◌≡◌, ◌⊎◌, ◌+◌, ◌<◌, ◌≤◌, ◌||◌, ℕ, Bool, true, false, cond, List, [], ◌∷◌, ◌++◌, length, length-append, append-nil, map, Option, Some, Result, Ok, Err, inl, inr, refl, sym, subst, ap, ◌∙◌, append_assoc, arith}, lemmas.Bool.Decides.nat_tests, lemmas.List.length-map, lemmas.List.Sums.{fold-append, fold_push}}
 use Rattle.std.specs.List.{flat_map}
 use Rattle.pf_core.specs.declared.{command.Command.Command, command.Command.TheVariants.States, command.StateCommand.TheVariants.Peer, reply.Outcome.Outcome, reply.Outcome.TheVariants.Peered, reply.Refusal.Refusal, reply.Refusal.TheVariants.{Halted, HistoryFull, Full, Fault, Memory}, reply.Reply.Reply, reply.Reply.TheVariants.{Applied, Stored, Refused}, step.Step.Step, step.Step.TheVariants.Wants, durable.refusal.ChangeRefusal.TheVariants.StatesFull}
-use Rattle.pf_core.specs.{Calls.call, Commands.{steps_here, states_step, unless_unfit}, Durable.Edits.{Kept, Edit, main_sum, kept_nothing, acts, applied, after}, Pages.{Page, IsAt, StandsFor}, Worlds.{Setting, Upshot, Held, State, up, down, flat, log_of, durable_of, is_halted, step_in, room_for, due, due_at, group_in, group_at, or_refused, if_ok, grouped, Event, called, acked_by, pending_by, opened, begun, raised, heard, next, StandsIn, LegalCall, state_after, IsLegalFrom}}
+use Rattle.pf_core.specs.{Calls.call, Commands.{steps_here, states_step, unless_unfit}, Durable.Changes.{PlainDurable, PlainChange, main_sum, kept_nothing, acts, applied, after}, WorldBooks.{WorldBook, IsAt, StandsFor}, Worlds.{Setting, Upshot, CurrentOpening, State, up, down, flat, log_of, durable_of, is_halted, step_in, room_for, due, due_at, group_in, group_at, or_refused, if_ok, grouped, Event, called, acked_by, pending_by, opened, begun, raised, heard, next, StandsIn, LegalCall, state_after, IsLegalFrom}}
 use Rattle.pf_addr.specs.Refusing.{unless}
 use Rattle.pf_core.proofs.{Groups.room-found, LongerWorlds.flat-push}
-use Rattle.pf_line.specs.{Laws.Exports.{Message, Step as StateStep, message_text, main_count, exported_lines, TellsOf, CanBeExported, states_there}, Failover.Outgoing.exported_messages, Lines.line_at, Peer.Written.Each, Reply.Replies.reply_text, StateTables.Stated, Steps.{after as stepped_on, stepped, is_over, passes_limit, counts}}
+use Rattle.pf_line.specs.{Laws.Exports.{Message, Step as StateStep, message_text, main_count, exported_lines, TellsOf, CanBeExported, states_there}, Failover.Outgoing.exported_messages, Lines.line_at, Peer.Written.Each, Reply.Replies.reply_text, StateTables.PlainState, Steps.{after as stepped_on, stepped, is_over, passes_limit, counts}}
 use Rattle.pf_line.proofs.{ExportedLines.exports_are_read, Lines.one_meaning, TakenOver.takes_over as states_taken}
 use Rattle.std.specs.Prelude.{nat_lt}
-use Rattle.pf_book.specs.Books.{Ledger, page}
+use Rattle.pf_book.specs.Books.{PlainBook, world_book}
 use Rattle.pf_session.specs.{Serving.{NoCall, CallsBook, IsTold, Served, Serves}, Telling.Says, Laws.Takeover.{held_in, IsReadyFor, IsWant, WasRefused, TakesOver, FreshTakesOver}}
 
 -- ---- steps in two parts
@@ -17,7 +17,7 @@ both-false : (a b : Bool) → (a || b) ≡ false → (a ≡ false) × (b ≡ fal
 both-false false b h = (refl, h)
 both-false true b h = absurd (cc (h))
 
-fit-apart : (es : List Stated) (xs ys : List StateStep) → passes_limit es (xs ++ ys) ≡ false → (passes_limit es xs ≡ false) × (passes_limit (stepped_on es xs) ys ≡ false)
+fit-apart : (es : List PlainState) (xs ys : List StateStep) → passes_limit es (xs ++ ys) ≡ false → (passes_limit es xs ≡ false) × (passes_limit (stepped_on es xs) ys ≡ false)
 unfolding passes_limit
 fit-apart es [] ys h = (refl, h)
 fit-apart es (x ∷ xs) ys h =
@@ -27,23 +27,23 @@ fit-apart es (x ∷ xs) ys h =
 
 -- ---- one message
 
-abbrev change : Kept → Message → Edit
+abbrev change : PlainDurable → Message → PlainChange
 change d m = acts (steps_here d m)
 
 -- it is due, and leaves what was changed by its steps
-record IsTaken (h : Held) (d : Kept) (m : Message) : Type 0 where
+record IsTaken (h : CurrentOpening) (d : PlainDurable) (m : Message) : Type 0 where
   number : ℕ
   outcome : Outcome
   reply : due h (States (Peer m)) ≡ Applied number outcome
   group : group_in h (States (Peer m)) ≡ (change d m ∷ []) ∷ []
 
 -- or the device has no room for it
-full-room : (h : Held) (e : Edit) → length (log_of h) < h.setting.limit → h.setting.is_full h.base h.acked (e ∷ []) ≡ true → room_for h (e ∷ []) ≡ Err Full
+full-room : (h : CurrentOpening) (e : PlainChange) → length (log_of h) < h.setting.limit → h.setting.is_full h.base h.acked (e ∷ []) ≡ true → room_for h (e ∷ []) ≡ Err Full
 full-room h e few full =
     let low : nat_lt h.setting.limit (length (log_of h) + 1) ≡ false = grind (arith, nat_tests, few) in
     ap (λ (b : Bool). cond b (Err HistoryFull) (cond (h.setting.is_full h.base h.acked (e ∷ [])) (Err Full) (Ok tt))) low ∙ ap (λ (b : Bool). cond b (Err Full) (Ok tt)) full
 
-taken : (h : Held) (d : Kept) (m : Message) → durable_of h ≡ d → h.pending ≡ [] → passes_limit d.states (steps_here d m) ≡ false → length (log_of h) < h.setting.limit → IsTaken h d m ⊎ (due h (States (Peer m)) ≡ Refused Full)
+taken : (h : CurrentOpening) (d : PlainDurable) (m : Message) → durable_of h ≡ d → h.pending ≡ [] → passes_limit d.states (steps_here d m) ≡ false → length (log_of h) < h.setting.limit → IsTaken h d m ⊎ (due h (States (Peer m)) ≡ Refused Full)
 taken h d m is none fits few = by (h.setting.is_full h.base h.acked (change d m ∷ [])) refl where
   told : Outcome
   told = Peered (counts d.states (steps_here d m))
@@ -53,8 +53,8 @@ taken h d m is none fits few = by (h.setting.is_full h.base h.acked (change d m 
 
   step : step_in h (States (Peer m)) ≡ one
   step =
-      ap (λ (gs : List (List Edit)). cond (is_halted gs) (Err Halted) (states_step (durable_of h) (Peer m))) none
-      ∙ ap (λ (k : Kept). states_step k (Peer m)) is ∙ ap (λ (b : Bool). unless_unfit (unless b StatesFull) one) fits
+      ap (λ (gs : List (List PlainChange)). cond (is_halted gs) (Err Halted) (states_step (durable_of h) (Peer m))) none
+      ∙ ap (λ (k : PlainDurable). states_step k (Peer m)) is ∙ ap (λ (b : Bool). unless_unfit (unless b StatesFull) one) fits
 
   by : (full : Bool) → h.setting.is_full h.base h.acked (change d m ∷ []) ≡ full → IsTaken h d m ⊎ (due h (States (Peer m)) ≡ Refused Full)
   by false free =
@@ -69,30 +69,30 @@ taken h d m is none fits few = by (h.setting.is_full h.base h.acked (change d m 
       inr (ap (due_at h) step ∙ ap (λ (r : Result (Unit {0}) Refusal). or_refused r (Applied (length (log_of h) + 1) told)) (full-room h (change d m) few full))
 
 -- the opening then
-abbrev then : Held → Message → Reply → Upshot → Held
+abbrev then : CurrentOpening → Message → Reply → Upshot → CurrentOpening
 then h m r t = heard h (call (States (Peer m)) r) t
 
-record IsThen (h : Held) (d : Kept) (m : Message) (new : Held) : Type 0 where
+record IsThen (h : CurrentOpening) (d : PlainDurable) (m : Message) (new : CurrentOpening) : Type 0 where
   held : durable_of new ≡ applied d (change d m)
   long : length (log_of new) ≡ length (log_of h) + 1
   none : new.pending ≡ []
 
 -- this reply acknowledges the group that is kept with it
-record Acknowledges (r : Reply) (g : List (List Edit)) : Type 0 where
+record Acknowledges (r : Reply) (g : List (List PlainChange)) : Type 0 where
   acked : acked_by r g ≡ g
   pending : pending_by r g ≡ []
 
-now : (h : Held) (d : Kept) (m : Message) (r : Reply) (t : Upshot) → durable_of h ≡ d → h.pending ≡ [] → (to : IsTaken h d m) → Acknowledges r (group_in h (States (Peer m))) → IsThen h d m (then h m r t)
+now : (h : CurrentOpening) (d : PlainDurable) (m : Message) (r : Reply) (t : Upshot) → durable_of h ≡ d → h.pending ≡ [] → (to : IsTaken h d m) → Acknowledges r (group_in h (States (Peer m))) → IsThen h d m (then h m r t)
 now h d m r t is free to keeps =
-    let group : List (List Edit) = group_in h (States (Peer m)) in
+    let group : List (List PlainChange) = group_in h (States (Peer m)) in
     let kept : acked_by r group ≡ (change d m ∷ []) ∷ [] = keeps.acked ∙ to.group in
-    let none : h.pending ++ pending_by r group ≡ [] = ap (λ (l : List (List Edit)). h.pending ++ l) keeps.pending ∙ append-nil h.pending ∙ free in
+    let none : h.pending ++ pending_by r group ≡ [] = ap (λ (l : List (List PlainChange)). h.pending ++ l) keeps.pending ∙ append-nil h.pending ∙ free in
     let more : flat (h.acked ++ (change d m ∷ []) ∷ []) ≡ flat h.acked ++ change d m ∷ [] = flat-push h.acked (change d m) in
     record {
-      held = ap (λ (g : List (List Edit)). after h.base (flat (h.acked ++ g))) kept ∙ ap (after h.base) more ∙ fold_push applied h.base (flat h.acked) (change d m) ∙ ap (λ (k : Kept). applied k (change d m)) is;
-      long = ap (λ (g : List (List Edit)). length (flat ((h.acked ++ g) ++ (h.pending ++ pending_by r group)))) kept ∙ ap (λ (l : List (List Edit)). length (flat ((h.acked ++ (change d m ∷ []) ∷ []) ++ l))) none
-          ∙ ap (λ (l : List (List Edit)). length (flat l)) (append-nil (h.acked ++ (change d m ∷ []) ∷ [])) ∙ ap length more ∙ length-append (flat h.acked) (change d m ∷ [])
-          ∙ ap (λ (l : List (List Edit)). length (flat l) + 1) (sym (ap (λ (l : List (List Edit)). h.acked ++ l) free ∙ append-nil h.acked));
+      held = ap (λ (g : List (List PlainChange)). after h.base (flat (h.acked ++ g))) kept ∙ ap (after h.base) more ∙ fold_push applied h.base (flat h.acked) (change d m) ∙ ap (λ (k : PlainDurable). applied k (change d m)) is;
+      long = ap (λ (g : List (List PlainChange)). length (flat ((h.acked ++ g) ++ (h.pending ++ pending_by r group)))) kept ∙ ap (λ (l : List (List PlainChange)). length (flat ((h.acked ++ (change d m ∷ []) ∷ []) ++ l))) none
+          ∙ ap (λ (l : List (List PlainChange)). length (flat l)) (append-nil (h.acked ++ (change d m ∷ []) ∷ [])) ∙ ap length more ∙ length-append (flat h.acked) (change d m ∷ [])
+          ∙ ap (λ (l : List (List PlainChange)). length (flat l) + 1) (sym (ap (λ (l : List (List PlainChange)). h.acked ++ l) free ∙ append-nil h.acked));
       none = none;
     }
 
@@ -101,7 +101,7 @@ abbrev IsHindered : Reply → Type 0
 IsHindered r = (why : Refusal) × IsWant why × (r ≡ Refused why)
 
 -- where a change is due it is acknowledged, or refused for want of memory or for a fault
-kept-or-refused : (h : Held) (c : Command) (failed : Bool) (n : ℕ) (o : Outcome) (r : Reply) (g : List (List Edit)) → (r ≡ Applied n o) ⊎ StandsIn h c failed (Applied n o) r → Acknowledges r g ⊎ IsHindered r
+kept-or-refused : (h : CurrentOpening) (c : Command) (failed : Bool) (n : ℕ) (o : Outcome) (r : Reply) (g : List (List PlainChange)) → (r ≡ Applied n o) ⊎ StandsIn h c failed (Applied n o) r → Acknowledges r g ⊎ IsHindered r
 kept-or-refused h c failed n o r g (inl is) = inl (subst (λ (x : Reply). Acknowledges x g) (sym is) (record { acked = refl; pending = refl }))
 kept-or-refused h c failed n o (Stored m p) g (inr stands) = inl (record { acked = refl; pending = refl })
 kept-or-refused h c failed n o (Refused Memory) g (inr stands) = inr (Memory, tt, refl)
@@ -109,7 +109,7 @@ kept-or-refused h c failed n o (Refused Fault) g (inr stands) = inr (Fault, tt, 
 kept-or-refused h c failed n o r g (inr stands) = absurd stands
 
 -- where there is no room it is refused
-refused-all : (h : Held) (c : Command) (failed : Bool) (r : Reply) → (r ≡ Refused Full) ⊎ StandsIn h c failed (Refused Full) r → IsHindered r
+refused-all : (h : CurrentOpening) (c : Command) (failed : Bool) (r : Reply) → (r ≡ Refused Full) ⊎ StandsIn h c failed (Refused Full) r → IsHindered r
 refused-all h c failed r (inl is) = (Full, tt, is)
 refused-all h c failed (Refused Memory) (inr stands) = (Memory, tt, refl)
 refused-all h c failed r (inr stands) = absurd stands
@@ -117,8 +117,8 @@ refused-all h c failed r (inr stands) = absurd stands
 -- ---- all of them
 
 -- the events lead to an opening with the states that the steps leave
-record Comes (h : Held) (d : Kept) (steps : List StateStep) (events : List Event) : Type 0 where
-  held : Held
+record Comes (h : CurrentOpening) (d : PlainDurable) (steps : List StateStep) (events : List Event) : Type 0 where
+  held : CurrentOpening
   comes : state_after (up h) events ≡ up held
   states : (durable_of held).states ≡ stepped_on d.states steps
 
@@ -134,11 +134,11 @@ refused-later reply replies text is was = record {
   text_is = is ∙ ap (λ (l : List ℕ). reply ++ l) was.text_is ∙ sym (append_assoc reply was.front (reply_text (Refused was.why) ++ was.behind));
 }
 
-abbrev Told : Held → Kept → List Message → List Event → List ℕ → Type 0
+abbrev Told : CurrentOpening → PlainDurable → List Message → List Event → List ℕ → Type 0
 Told h d ms events text = Comes h d (flat_map (steps_here d) ms) events ⊎ WasRefused text
 
 -- one line, where what follows it is told too
-one-line : (m : Message) (ms : List Message) (h : Held) (d : Kept) (events : List Event) (text : List ℕ) → durable_of h ≡ d → h.pending ≡ [] → TellsOf m (message_text m) → passes_limit d.states (flat_map (steps_here d) (m ∷ ms)) ≡ false →
+one-line : (m : Message) (ms : List Message) (h : CurrentOpening) (d : PlainDurable) (events : List Event) (text : List ℕ) → durable_of h ≡ d → h.pending ≡ [] → TellsOf m (message_text m) → passes_limit d.states (flat_map (steps_here d) (m ∷ ms)) ≡ false →
     length (log_of h) + length (m ∷ ms) ≤ h.setting.limit → Served (map message_text (m ∷ ms)) events text → IsLegalFrom (up h) events
     → ((r : Reply) (t : Upshot) (rest : List Event) (replies : List ℕ) → IsThen h d m (then h m r t) → passes_limit (applied d (change d m)).states (flat_map (steps_here d) ms) ≡ false
     → length (log_of (then h m r t)) + length ms ≤ h.setting.limit → Served (map message_text ms) rest replies → IsLegalFrom (up (then h m r t)) rest → Told (then h m r t) (applied d (change d m)) ms rest replies) → Told h d (m ∷ ms) events text
@@ -185,9 +185,9 @@ one-line m ms h d events text is free told fits room (first, rest, reply, replie
       by_reply r t first_is reply_is
   of (inr none) = inr (refused-first reply replies text Memory tt text_is none.told)
 
-given : (ms : List Message) (h : Held) (d : Kept) (events : List Event) (text : List ℕ) → durable_of h ≡ d → h.pending ≡ [] → Each (λ m. TellsOf m (message_text m)) ms
+given : (ms : List Message) (h : CurrentOpening) (d : PlainDurable) (events : List Event) (text : List ℕ) → durable_of h ≡ d → h.pending ≡ [] → Each (λ m. TellsOf m (message_text m)) ms
     → passes_limit d.states (flat_map (steps_here d) ms) ≡ false → length (log_of h) + length ms ≤ h.setting.limit → Served (map message_text ms) events text → IsLegalFrom (up h) events → Told h d ms events text
-given [] h d events text is free told fits room served legal = inl (record { held = h; comes = ap (state_after (up h)) served.0; states = ap (λ (k : Kept). k.states) is })
+given [] h d events text is free told fits room served legal = inl (record { held = h; comes = ap (state_after (up h)) served.0; states = ap (λ (k : PlainDurable). k.states) is })
 given (m ∷ ms) h d events text is free told fits room served legal =
     one-line m ms h d events text is free told.0 fits room served legal
     (λ r t rest replies next next_fits next_room more next_legal. given ms (then h m r t) (applied d (change d m)) rest replies next.held next.none told.1 next_fits next_room more next_legal)
@@ -198,25 +198,25 @@ legal-behind : (st : State) (xs ys : List Event) → IsLegalFrom st (xs ++ ys) �
 legal-behind st [] ys legal = legal
 legal-behind st (x ∷ xs) ys legal = legal-behind (next st x) xs ys legal.1
 
-up-is : (h k : Held) → up h ≡ up k → h ≡ k
+up-is : (h k : CurrentOpening) → up h ≡ up k → h ≡ k
 up-is h k e = cc (e)
 
-held-at : (h : Held) (b : Page) → IsAt h b → held_in b ≡ durable_of h
-held-at h b at = ap (λ (k : Kept). after k (flat b.acked)) at.base ∙ ap (λ (l : List (List Edit)). after h.base (flat l)) at.acked
+held-at : (h : CurrentOpening) (b : WorldBook) → IsAt h b → held_in b ≡ durable_of h
+held-at h b at = ap (λ (k : PlainDurable). after k (flat b.acked)) at.base ∙ ap (λ (l : List (List PlainChange)). after h.base (flat l)) at.acked
 
 -- what it comes to where it is ready for the lines
-arrived : {D : Type 0} (faults : D → ℕ) (ours : List ℕ) (es : List Stated) (first : Kept) (world : List Event) (old new : Ledger D) (text : List ℕ) (stands : StandsFor first (page old) world) → IsReadyFor (length (exported_lines ours es)) (page old) →
-    (served : Serves faults old new (exported_lines ours es) text) → CanBeExported ours es → Told stands.held (held_in (page old)) (exported_messages ours es) served.events text
+arrived : {D : Type 0} (faults : D → ℕ) (ours : List ℕ) (es : List PlainState) (first : PlainDurable) (world : List Event) (old new : PlainBook D) (text : List ℕ) (stands : StandsFor first (world_book old) world) → IsReadyFor (length (exported_lines ours es)) (world_book old) →
+    (served : Serves faults old new (exported_lines ours es) text) → CanBeExported ours es → Told stands.held (held_in (world_book old)) (exported_messages ours es) served.events text
 arrived faults ours es first world old new text stands ready served can =
     let ms = exported_messages ours es in
-    let b : Page = page old in
-    let all : StandsFor first (page new) (world ++ served.events) = served.book.worlds first world stands in
+    let b : WorldBook = world_book old in
+    let all : StandsFor first (world_book new) (world ++ served.events) = served.book.worlds first world stands in
     let at = stands.at in
     let left = states_taken ours (main_sum (held_in b)) (main_count (held_in b)) es can.table ready.rules in
     let fits : passes_limit (held_in b).states (flat_map (steps_here (held_in b)) ms) ≡ false =
-    ap (λ (ss : List Stated). passes_limit ss (flat_map (steps_here (held_in b)) ms)) ready.no_states ∙ left.fits in
+    ap (λ (ss : List PlainState). passes_limit ss (flat_map (steps_here (held_in b)) ms)) ready.no_states ∙ left.fits in
     let none : stands.held.pending ≡ [] = sym at.pending ∙ ready.none_pending in
-    let log : length (log_of stands.held) ≡ length (flat b.acked) = ap (λ (l : List (List Edit)). length (flat (stands.held.acked ++ l))) none ∙ ap (λ (l : List (List Edit)). length (flat l)) (append-nil stands.held.acked ∙ sym at.acked) in
+    let log : length (log_of stands.held) ≡ length (flat b.acked) = ap (λ (l : List (List PlainChange)). length (flat (stands.held.acked ++ l))) none ∙ ap (λ (l : List (List PlainChange)). length (flat l)) (append-nil stands.held.acked ∙ sym at.acked) in
     let limit : b.setting.limit ≡ stands.held.setting.limit = ap (λ (s : Setting). s.limit) at.setting in
     given ms stands.held (held_in b) served.events text (sym (held-at stands.held b at)) none (exports_are_read ours es can.sum can.bytes can.numbers) fits
     (omega (arith, log, ready.room, limit, length-map ms message_text)) served.served (subst (λ (st : State). IsLegalFrom st served.events) stands.comes (legal-behind (down first) world served.events all.legal))
@@ -226,36 +226,36 @@ takes_over faults ours es first world old new text can stands ready served = of 
   ms : List Message
   ms = exported_messages ours es
 
-  b : Page
-  b = page old
+  b : WorldBook
+  b = world_book old
 
-  all : StandsFor first (page new) (world ++ served.events)
+  all : StandsFor first (world_book new) (world ++ served.events)
   all = served.book.worlds first world stands
 
-  of : Told stands.held (held_in b) ms served.events text → ((held_in (page new)).states ≡ states_there (held_in b) ours es) ⊎ WasRefused text
+  of : Told stands.held (held_in b) ms served.events text → ((held_in (world_book new)).states ≡ states_there (held_in b) ours es) ⊎ WasRefused text
   of (inl come) =
       let same : all.held ≡ come.held =
       up-is all.held come.held (sym all.comes ∙ fold-append next (down first) world served.events ∙ ap (λ (st : State). state_after st served.events) stands.comes ∙ come.comes) in
       let left = states_taken ours (main_sum (held_in b)) (main_count (held_in b)) es can.table ready.rules in
-      inl (ap (λ (k : Kept). k.states) (held-at all.held (page new) all.at ∙ ap durable_of same) ∙ come.states
-      ∙ ap (λ (ss : List Stated). stepped_on ss (flat_map (steps_here (held_in b)) ms)) ready.no_states ∙ left.left)
+      inl (ap (λ (k : PlainDurable). k.states) (held-at all.held (world_book new) all.at ∙ ap durable_of same) ∙ come.states
+      ∙ ap (λ (ss : List PlainState). stepped_on ss (flat_map (steps_here (held_in b)) ms)) ready.no_states ∙ left.left)
   of (inr was) = inr was
 
-begun-held : (setting : Setting) (old : Page) (stands : StandsFor (kept_nothing 0) old (opened setting ∷ [])) → stands.held ≡ begun setting (raised (kept_nothing 0))
+begun-held : (setting : Setting) (old : WorldBook) (stands : StandsFor (kept_nothing 0) old (opened setting ∷ [])) → stands.held ≡ begun setting (raised (kept_nothing 0))
 begun-held setting old stands = up-is stands.held (begun setting (raised (kept_nothing 0))) (sym stands.comes)
 
 pub fresh_takes_over : {D : Type 0} (faults : D → ℕ) → FreshTakesOver faults
 fresh_takes_over faults ours es setting old new text can stands room served =
-    let b : Page = page old in
+    let b : WorldBook = world_book old in
     let is = begun-held setting b stands in
-    let at : IsAt (begun setting (raised (kept_nothing 0))) b = subst (λ (h : Held). IsAt h b) is stands.at in
+    let at : IsAt (begun setting (raised (kept_nothing 0))) b = subst (λ (h : CurrentOpening). IsAt h b) is stands.at in
     let held : held_in b ≡ kept_nothing 1 = held-at (begun setting (raised (kept_nothing 0))) b at in
-    let none : length (flat b.acked) ≡ 0 = ap (λ (l : List (List Edit)). length (flat l)) at.acked in
+    let none : length (flat b.acked) ≡ 0 = ap (λ (l : List (List PlainChange)). length (flat l)) at.acked in
     let limit_is : b.setting.limit ≡ setting.limit = ap (λ (s : Setting). s.limit) at.setting in
     let ready : IsReadyFor (length (exported_lines ours es)) b = record {
-      no_states = ap (λ (k : Kept). k.states) held;
+      no_states = ap (λ (k : PlainDurable). k.states) held;
       none_pending = at.pending;
       room = omega (arith, none, room, limit_is);
       rules = omega (arith, ap main_count held);
     } in
-    subst (λ (k : Kept). ((held_in (page new)).states ≡ states_there k ours es) ⊎ WasRefused text) held (takes_over faults ours es (kept_nothing 0) (opened setting ∷ []) old new text can stands ready served)
+    subst (λ (k : PlainDurable). ((held_in (world_book new)).states ≡ states_there k ours es) ⊎ WasRefused text) held (takes_over faults ours es (kept_nothing 0) (opened setting ∷ []) old new text can stands ready served)

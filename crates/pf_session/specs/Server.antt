@@ -1,4 +1,4 @@
 pub mod Chains
 pub mod Sittings
-pub mod Attending
+pub mod SessionRuns
 pub mod Streams

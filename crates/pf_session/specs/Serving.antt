@@ -1,8 +1,8 @@
 -- What serves lines: the calls that they come to, as events, and the replies.
 use Rattle.std.specs.Prelude.{◌≡◌, ℕ, ◌+◌, if◌then◌else◌, List, [], ◌∷◌, ◌++◌, Option, Some, None}
 use Rattle.pf_core.specs.declared.{command.Command.Command, reply.Reply.Reply}
-use Rattle.pf_core.specs.{Calls.call, Durable.Edits.Kept, Pages.StandsFor, Worlds.{Upshot, Event, called, called_group}}
-use Rattle.pf_book.specs.Books.{Ledger, page}
+use Rattle.pf_core.specs.{Calls.call, Durable.Changes.PlainDurable, WorldBooks.StandsFor, Worlds.{Upshot, Event, called, called_group}}
+use Rattle.pf_book.specs.Books.{PlainBook, world_book}
 use Rattle.pf_line.specs.Reply.Replies.{reply_text}
 use Rattle.pf_session.specs.Telling.{IsToldBy}
 
@@ -34,13 +34,13 @@ failures (e ∷ events) = failures events
 
 -- Of whatever world the Book stood for, it now stands for that with these events at its end; what its opening keeps within stays, and the
 -- device failed in just the calls that say so.
-pub record Continues {D : Type 0} (faults : D → ℕ) (old new : Ledger D) (events : List Event) : Type 0 where
-  pub worlds : (first : Kept) (world : List Event) → StandsFor first (page old) world → StandsFor first (page new) (world ++ events)
-  pub setting : (page new).setting ≡ (page old).setting
+pub record Continues {D : Type 0} (faults : D → ℕ) (old new : PlainBook D) (events : List Event) : Type 0 where
+  pub worlds : (first : PlainDurable) (world : List Event) → StandsFor first (world_book old) world → StandsFor first (world_book new) (world ++ events)
+  pub setting : (world_book new).setting ≡ (world_book old).setting
   pub failed : faults new.disk ≡ faults old.disk + failures events
 
--- These lines took the Book from the old ledger to the new one, and this is their text.
-pub record Serves {D : Type 0} (faults : D → ℕ) (old new : Ledger D) (lines : List (List ℕ)) (text : List ℕ) : Type 0 where
+-- These lines took the Book from the old one to the new one, and this is their text.
+pub record Serves {D : Type 0} (faults : D → ℕ) (old new : PlainBook D) (lines : List (List ℕ)) (text : List ℕ) : Type 0 where
   pub events : List Event
   pub served : Served lines events text
   pub book : Continues faults old new events
@@ -50,5 +50,5 @@ text_of None = []
 text_of (Some r) = reply_text r
 
 -- A line was told this, or nothing: the Book got the call that the line comes to, if any.
-abbrev pub Told : {D : Type 0} → (D → ℕ) → List ℕ → Option Reply → Ledger D → Ledger D → Type 0
+abbrev pub Told : {D : Type 0} → (D → ℕ) → List ℕ → Option Reply → PlainBook D → PlainBook D → Type 0
 Told faults line told old new = (events : List Event) × IsTold line events (text_of told) × Continues faults old new events

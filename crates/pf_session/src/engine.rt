@@ -1,7 +1,7 @@
 //! Lines that a Book answers.
 ghost use Rattle.std.specs.Prelude.{◌≡◌, ℕ, List, [], ◌∷◌};
 ghost use Rattle.pf_addr.specs.Writing.{Writes};
-ghost use Rattle.pf_book.specs.Books.{page};
+ghost use Rattle.pf_book.specs.Books.{world_book};
 ghost use Rattle.pf_session.specs.{LineEngine.Sessions.IsSession, Serving.{Told, Serves}, Laws.Serving.{serves-none, serves-then, serves-seen}};
 
 use crate::line_engine::{AnswerLine, EngineFault, serve};
@@ -104,7 +104,7 @@ pub fn serve_alone<D: Disk + Drop, J: Chapter, H: Wait + Drop, R: Read, W: Write
 ) -> Result<(), EngineFault>
     ensures session { IsSession (Serves D.fault_count) result (R.remaining reader.old) (R.remaining reader.new)
         book.old book.new (W.contents writer.old) (W.contents writer.new) }
-    ensures setting { (page book.new).setting ≡ (page book.old).setting }
+    ensures setting { (world_book book.new).setting ≡ (world_book book.old).setting }
 {
     serve(alloc, reader, writer, book)
 }

@@ -7,14 +7,14 @@ ghost use Rattle.pf_snap.specs.declared.fault.LookFault.TheVariants as looking;
 
 use crate::beginning::begin_bank;
 use crate::fault::{LookFault, SwitchFault};
-use crate::header::{HEADER, NEWEST, is_size};
+use crate::header::{BANK_HEADER, NEWEST, is_size};
 use crate::looking::{Looked, look_synced};
 use crate::next_bank::NextBank;
 use pf_disk::{Disk, DiskFault};
 use pf_journal::{AppendFault, Journal, Record};
 use std::alloc::{AllocError, Global};
 
-/// A device with two banks, of which one counts. Places are bytes from the device's start. Own.
+/// A device with two banks, of which one counts. Places are bytes from the device's start.
 #[derive(Drop)]
 pub struct Banks<D: Disk> {
     /// The device, and the counting bank's records.
@@ -31,7 +31,7 @@ pub struct Banks<D: Disk> {
 
 impl<D: Disk> Banks<D> {
     /// Syncs a device, whatever a crash or a fault made of it, and looks at what it holds, in five moments of it at most. Where what is
-    /// found isn't broken the banks are ready; else they only hand the device back. `Err` hands it back too. Own.
+    /// found isn't broken the banks are ready; else they only hand the device back. `Err` hands it back too.
     pub fn open(alloc: Global, disk: D) -> Result<(Banks<D>, Looked), (LookFault, D)>
         requires few { D.fault_count disk < 2 ^ 63 }
         ensures found { IfOk result (λ r. IsFound (D.seen disk) r.1) }
@@ -63,9 +63,9 @@ impl<D: Disk> Banks<D> {
         }
     }
 
-    /// The bank that a switch to this snapshot begins, with all the memory that it takes. Own.
+    /// The bank that a switch to this snapshot begins, with all the memory that it takes.
     pub fn prepare(&self, alloc: Global, snapshot: &[u8]) -> Result<NextBank, AllocError>
-        requires fits { HEADER + length snapshot.now + 1 < 2 ^ 32 }
+        requires fits { BANK_HEADER + length snapshot.now + 1 < 2 ^ 32 }
         requires early { self.now.generation + 1 < 2 ^ 64 }
         ensures { IfOk result (λ next. IsNext self.now.generation next snapshot.now) }
     {
@@ -76,11 +76,11 @@ impl<D: Disk> Banks<D> {
     /// takes six moments of the device at most, and four where the other bank's gate is closed; it makes no read and takes no memory.
     ///
     /// The snapshot has to fit: a bank has a byte left behind it. At its start nothing is unsynced: the banks are ready, which `Ok` leaves
-    /// them. After an `Err` they have to be opened again. Own.
+    /// them. After an `Err` they have to be opened again.
     pub fn begin(&mut self, next: &NextBank) -> Result<(), DiskFault>
         requires ready { IsReady D.seen D.unsynced self.old }
-        requires long { length next.now.behind.items ≡ HEADER + next.now.length }
-        requires fits { HEADER + next.now.length + 1 ≤ bank_size (length (D.seen self.old.journal.disk)) }
+        requires long { length next.now.behind.items ≡ BANK_HEADER + next.now.length }
+        requires fits { BANK_HEADER + next.now.length + 1 ≤ bank_size (length (D.seen self.old.journal.disk)) }
         requires early { self.old.generation + 1 < 2 ^ 64 }
         requires few { D.fault_count self.old.journal.disk < 2 ^ 63 }
 
@@ -92,8 +92,8 @@ impl<D: Disk> Banks<D> {
 
         // At each moment of the call an image is as the read before, but in the other bank; after it so is the read.
         ensures elsewhere { EachMoment D.moment D.left_since self.old.journal.disk self.new.journal.disk
-            (IsImage (D.seen self.old.journal.disk) (is_within self.old.other (HEADER + next.now.length + 1))) }
-        ensures seen_elsewhere { IsImage (D.seen self.old.journal.disk) (is_within self.old.other (HEADER + next.now.length + 1))
+            (IsImage (D.seen self.old.journal.disk) (is_within self.old.other (BANK_HEADER + next.now.length + 1))) }
+        ensures seen_elsewhere { IsImage (D.seen self.old.journal.disk) (is_within self.old.other (BANK_HEADER + next.now.length + 1))
             (D.seen self.new.journal.disk) }
 
         // After `Ok` each image holds the snapshot, and so does the read.
@@ -109,7 +109,7 @@ impl<D: Disk> Banks<D> {
         ensures generation { OnOk result (self.new.generation ≡ self.old.generation + 1) }
         ensures same_generation { OnErr result (self.new.generation ≡ self.old.generation) }
         ensures version { OnOk result (self.new.version ≡ NEWEST) }
-        ensures gate { OnOk result (self.new.journal.gate ≡ self.old.other + HEADER + next.now.length) }
+        ensures gate { OnOk result (self.new.journal.gate ≡ self.old.other + BANK_HEADER + next.now.length) }
         ensures end { OnOk result (self.new.journal.end ≡ self.old.other + bank_size (length (D.seen self.old.journal.disk))) }
         ensures same_size { length (D.seen self.new.journal.disk) ≡ length (D.seen self.old.journal.disk) }
         ensures moments { D.moment self.new.journal.disk ≤ D.moment self.old.journal.disk + (if self.old.other_is_open then 6 else 4) }
@@ -128,17 +128,16 @@ impl<D: Disk> Banks<D> {
         self.other_is_open = true;
         self.version = NEWEST;
         self.generation += 1;
-        self.journal.start = self.at + HEADER + next.length;
+        self.journal.start = self.at + BANK_HEADER + next.length;
         self.journal.gate = self.journal.start;
         self.journal.end = self.at + size;
         Ok(())
     }
 
     /// Prepares a bank with this snapshot and begins it. After `Memory` all is as before; after a `Fault` the banks have to be opened again.
-    /// Own.
     pub fn switch(&mut self, alloc: Global, snapshot: &[u8]) -> Result<(), SwitchFault>
         requires ready { IsReady D.seen D.unsynced self.old }
-        requires fits { HEADER + length snapshot.now + 1 ≤ bank_size (length (D.seen self.old.journal.disk)) }
+        requires fits { BANK_HEADER + length snapshot.now + 1 ≤ bank_size (length (D.seen self.old.journal.disk)) }
         requires early { self.old.generation + 1 < 2 ^ 64 }
         requires few { D.fault_count self.old.journal.disk < 2 ^ 63 }
 
@@ -149,8 +148,8 @@ impl<D: Disk> Banks<D> {
 
         // At each moment of the call the bank that counts at its start is as it was; after it so is the read.
         ensures elsewhere { EachMoment D.moment D.left_since self.old.journal.disk self.new.journal.disk
-            (IsImage (D.seen self.old.journal.disk) (is_within self.old.other (HEADER + length snapshot.now + 1))) }
-        ensures seen_elsewhere { IsImage (D.seen self.old.journal.disk) (is_within self.old.other (HEADER + length snapshot.now + 1))
+            (IsImage (D.seen self.old.journal.disk) (is_within self.old.other (BANK_HEADER + length snapshot.now + 1))) }
+        ensures seen_elsewhere { IsImage (D.seen self.old.journal.disk) (is_within self.old.other (BANK_HEADER + length snapshot.now + 1))
             (D.seen self.new.journal.disk) }
 
         // After `Ok` each image holds the snapshot, and so does the read.
@@ -165,7 +164,7 @@ impl<D: Disk> Banks<D> {
         ensures generation { OnOk result (self.new.generation ≡ self.old.generation + 1) }
         ensures same_generation { OnErr result (self.new.generation ≡ self.old.generation) }
         ensures version { OnOk result (self.new.version ≡ NEWEST) }
-        ensures gate { OnOk result (self.new.journal.gate ≡ self.old.other + HEADER + length snapshot.now) }
+        ensures gate { OnOk result (self.new.journal.gate ≡ self.old.other + BANK_HEADER + length snapshot.now) }
         ensures end { OnOk result (self.new.journal.end ≡ self.old.other + bank_size (length (D.seen self.old.journal.disk))) }
         ensures unchanged_without_memory { IsErrOf result SwitchFault.Memory → self.new ≡ self.old }
         ensures same_size { length (D.seen self.new.journal.disk) ≡ length (D.seen self.old.journal.disk) }
@@ -183,7 +182,7 @@ impl<D: Disk> Banks<D> {
     /// Adds a record, in four moments of the device at most, as `Journal::append` does: header and snapshot stay as they are, and so does
     /// the other bank.
     ///
-    /// At its start the banks are ready, which `Ok`, `NoRoom` and `Memory` leave them. After a `Fault` they have to be opened again. Own.
+    /// At its start the banks are ready, which `Ok`, `NoRoom` and `Memory` leave them. After a `Fault` they have to be opened again.
     pub fn append(&mut self, alloc: Global, payload: &[u8]) -> Result<(), AppendFault>
         requires ready { IsReady D.seen D.unsynced self.old }
         requires few { D.fault_count self.old.journal.disk < 2 ^ 63 }
@@ -227,7 +226,7 @@ impl<D: Disk> Banks<D> {
     /// snapshot stay as they are, and so does the other bank.
     ///
     /// The record and the closed gate behind it have room. At its start the banks are ready, which `Ok` leaves them. After an `Err` they
-    /// have to be opened again. Own.
+    /// have to be opened again.
     pub fn append_record(&mut self, next: &Record) -> Result<(), DiskFault>
         requires ready { IsReady D.seen D.unsynced self.old }
         requires room { self.old.journal.gate + 1 + length next.now.behind.items ≤ self.old.journal.end }
@@ -291,7 +290,7 @@ impl<D: Disk> Banks<D> {
         }
     }
 
-    /// How many bytes the counting bank has from the closed gate on. A record takes six and its payload's. Own.
+    /// How many bytes the counting bank has from the closed gate on. A record takes six and its payload's.
     pub fn room(&self) -> usize
         requires { self.now.journal.gate ≤ self.now.journal.end }
         ensures { self.now.journal.gate + result ≡ self.now.journal.end }
@@ -299,7 +298,7 @@ impl<D: Disk> Banks<D> {
         self.journal.end - self.journal.gate
     }
 
-    /// Bytes of each bank. Own.
+    /// Bytes of each bank.
     pub fn size(&self) -> usize
         requires { self.now.at ≤ self.now.journal.end }
         ensures { self.now.at + result ≡ self.now.journal.end }
@@ -307,14 +306,14 @@ impl<D: Disk> Banks<D> {
         self.journal.end - self.at
     }
 
-    /// The version of the bank that counts. Own.
+    /// The version of the bank that counts.
     pub fn version(&self) -> u8
         ensures { result ≡ self.now.version }
     {
         self.version
     }
 
-    /// The device as it stands. Own.
+    /// The device as it stands.
     pub fn into_disk(self) -> D
         ensures { result ≡ self.journal.disk }
     {

@@ -38,7 +38,7 @@ mod next_bank;
 pub use banks::Banks;
 pub use fault::{FormatFault, LookFault, SwitchFault};
 pub use formatting::format;
-pub use header::{HEADER, NEWEST, is_size};
+pub use header::{BANK_HEADER, NEWEST, is_size};
 pub use laws::{
     content_is_refused_by_chance_alone, header_has_these_bytes, image_holds_one_content,
 };

@@ -2,12 +2,12 @@
 ghost use Rattle.std.specs.Prelude.{◌≡◌, ◌^◌, ◌<◌, ◌++◌, [], ◌∷◌, length, IfOk, OnOk};
 ghost use Rattle.pf_snap.specs.Banks.{front, behind_gate};
 
-use crate::header::{HEADER, header_bytes};
+use crate::header::{BANK_HEADER, header_bytes};
 use pf_journal::CLOSED_GATE;
 use std::alloc::{AllocError, Global};
 
 /// A bank that is to be begun: what is written behind its gate, made before the device is called. It can be started again, in the same
-/// memory. Own.
+/// memory.
 #[derive(Drop)]
 pub struct NextBank {
     /// The rest of its header, its snapshot, and a closed gate.
@@ -17,7 +17,7 @@ pub struct NextBank {
 }
 
 impl NextBank {
-    /// One that has no memory yet. Own.
+    /// One that has no memory yet.
     pub fn new(alloc: Global) -> NextBank {
         NextBank {
             behind: Vec::new(alloc),
@@ -25,7 +25,7 @@ impl NextBank {
         }
     }
 
-    /// The bank of this snapshot. `AllocError`: none is made. Own.
+    /// The bank of this snapshot. `AllocError`: none is made.
     pub fn of(
         alloc: Global,
         version: u8,
@@ -44,7 +44,7 @@ impl NextBank {
     }
 
     /// Starts a bank with a snapshot of so many bytes, and takes all memory that it wants beyond what is here. The snapshot is then put
-    /// behind `behind`, and the gate by [`NextBank::close`]. `AllocError`: it has to be started anew, and what `behind` holds isn't said. Own.
+    /// behind `behind`, and the gate by [`NextBank::close`]. `AllocError`: it has to be started anew, and what `behind` holds isn't said.
     pub fn start(&mut self, version: u8, generation: u64, length: usize) -> Result<(), AllocError>
         requires { length < 2 ^ 32 }
         ensures front { OnOk result (self.new.behind.items ≡ front version generation length) }
@@ -59,7 +59,7 @@ impl NextBank {
         Ok(())
     }
 
-    /// Puts a closed gate behind the snapshot. `AllocError`: it has to be started anew, and what `behind` holds isn't said. Own.
+    /// Puts a closed gate behind the snapshot. `AllocError`: it has to be started anew, and what `behind` holds isn't said.
     pub fn close(&mut self) -> Result<(), AllocError>
         ensures closed { OnOk result (self.new.behind.items ≡ self.old.behind.items ++ CLOSED_GATE ∷ []) }
         ensures same_length { self.new.length ≡ self.old.length }

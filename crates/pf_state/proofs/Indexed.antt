@@ -3,26 +3,26 @@ use Rattle.std.proofs.{Common.{◌≡◌, ℕ, ◌⊎◌, inl, inr, Bool, true, 
 use Rattle.std.specs.{Prelude.◌==◌, FinMap.{is_sorted}, FinMap.Entries.{is_sorted-where_key, same_entries}, List.find as first_where, Option.option_map_or, Ordering.eq_by_cmp}
 use Rattle.pf_map.specs.Indexes.{of_flow, is_clash as clashes_in}
 use Rattle.pf_map.proofs.Maps.{stays_sorted}
-use Rattle.pf_state.specs.{declared.{state.Held.Held, state.StateName.StateName}, FlowKeys.{key_of, key_order}, Flows.{PlainFlow, same_flow}, Orders.{name_total, name_alike, key_total}, States.{Stated, name_order, held_at, state_of, NamesFlows}, Steps.{insertion, has_effect, is_clash, without_creator, without_state}}
+use Rattle.pf_state.specs.{declared.{state.Held.Held, state.StateName.StateName}, FlowKeys.{key_of, key_order}, Flows.{PlainFlow, same_flow}, Orders.{name_total, name_alike, key_total}, States.{PlainState, name_order, held_at, state_of, NamesFlows}, Steps.{insertion, has_effect, is_clash, without_creator, without_state}}
 use Rattle.pf_state.proofs.{FlowKeys.same_flow_is, Flows.{left_true, right_true, either_true}, Leaves.{reads_delete, reads_clear}, Names.{one_name, same_itself}, Tables.{no, nothing_is, no_clash, others_differ, none_behind, one_state_a_flow, first_of, second_of}}
 
 -- ---- what is held, and the state of a flow
 
-pub value_is : {A : Type 0} (now : A → Stated) (n : StateName) (a : A) (es : List Stated) → option_map now (Some a) ≡ option_map (λ held. (n, held)) (held_at n es) → Some (now a).1 ≡ held_at n es
+pub value_is : {A : Type 0} (now : A → PlainState) (n : StateName) (a : A) (es : List PlainState) → option_map now (Some a) ≡ option_map (λ held. (n, held)) (held_at n es) → Some (now a).1 ≡ held_at n es
 value_is now n a es is = by (held_at n es) is where
   by : (o : Option Held) → option_map now (Some a) ≡ option_map (λ held. (n, held)) o → Some (now a).1 ≡ o
   by None e = absurd (cc (e))
-  by (Some held) e = ap (option_map (λ (s : Stated). s.1)) e
+  by (Some held) e = ap (option_map (λ (s : PlainState). s.1)) e
 
-pub nothing_held : {A : Type 0} (now : A → Stated) (n : StateName) (es : List Stated) → option_map now None ≡ option_map (λ held. (n, held)) (held_at n es) → None ≡ held_at n es
+pub nothing_held : {A : Type 0} (now : A → PlainState) (n : StateName) (es : List PlainState) → option_map now None ≡ option_map (λ held. (n, held)) (held_at n es) → None ≡ held_at n es
 nothing_held now n es is = by (held_at n es) is where
   by : (o : Option Held) → option_map now None ≡ option_map (λ held. (n, held)) o → None ≡ o
   by None e = refl
   by (Some held) e = absurd (cc (e))
 
-pub of_flow_is : (es : List Stated) (f : PlainFlow) → of_flow key_order (λ held. key_of held.flow) (key_of f) es ≡ state_of f es
-of_flow_is es f = λ i. first_where (λ (s : Stated). tied s i) es where
-  tied : (s : Stated) → eq_by_cmp key_order (key_of f) (key_of s.1.flow) ≡ same_flow s.1.flow f
+pub of_flow_is : (es : List PlainState) (f : PlainFlow) → of_flow key_order (λ held. key_of held.flow) (key_of f) es ≡ state_of f es
+of_flow_is es f = λ i. first_where (λ (s : PlainState). tied s i) es where
+  tied : (s : PlainState) → eq_by_cmp key_order (key_of f) (key_of s.1.flow) ≡ same_flow s.1.flow f
   tied s = (eq_by_cmp_equiv key_total).symm (key_of f) (key_of s.1.flow) ∙ sym (same_flow_is s.1.flow f)
 
 -- ---- clashes
@@ -31,20 +31,20 @@ not_true : (a : Bool) → not a ≡ true → a ≡ false
 not_true true e = no (sym e)
 not_true false e = refl
 
-record Clashing (es : List Stated) (s : Stated) : Type 0 where
-  pub with : Stated
+record Clashing (es : List PlainState) (s : PlainState) : Type 0 where
+  pub with : PlainState
   pub held : held_at with.0 es ≡ Some with.1
   pub other : eq_by_cmp name_order with.0 s.0 ≡ false
   pub flow : same_flow with.1.flow s.1.flow ≡ true
 
 -- what is held stays so with a state before it
-held_behind : (e : Stated) (es : List Stated) (n : StateName) (h : Held) → T (is_sorted name_order (e ∷ es)) → held_at n es ≡ Some h → held_at n (e ∷ es) ≡ Some h
+held_behind : (e : PlainState) (es : List PlainState) (n : StateName) (h : Held) → T (is_sorted name_order (e ∷ es)) → held_at n es ≡ Some h → held_at n (e ∷ es) ≡ Some h
 held_behind e es n h is held = by (eq_by_cmp name_order n e.0) refl where
   by : (t : Bool) → eq_by_cmp name_order n e.0 ≡ t → cond t (Some e.1) (held_at n es) ≡ Some h
   by true same = nothing_is h (sym (none_behind e.0 es (first_of _ _ is)) ∙ subst (λ n. held_at n es ≡ Some h) (one_name n e.0 same) held)
   by false same = held
 
-clashing : (es : List Stated) (s : Stated) → T (is_sorted name_order es) → is_clash es s ≡ true → Clashing es s
+clashing : (es : List PlainState) (s : PlainState) → T (is_sorted name_order es) → is_clash es s ≡ true → Clashing es s
 clashing [] s is found = no (sym found)
 clashing (e ∷ es) s is found = by (either_true (not (eq_by_cmp name_order e.0 s.0) && same_flow e.1.flow s.1.flow) (is_clash es s) found) (clashing es s (second_of _ _ is)) where
   by : ((not (eq_by_cmp name_order e.0 s.0) && same_flow e.1.flow s.1.flow) ≡ true) ⊎ (is_clash es s ≡ true) → (is_clash es s ≡ true → Clashing es s) → Clashing (e ∷ es) s
@@ -58,13 +58,13 @@ clashing (e ∷ es) s is found = by (either_true (not (eq_by_cmp name_order e.0 
       let rest = next behind in
       record { with = rest.with; held = held_behind e es rest.with.0 rest.with.1 is rest.held; other = rest.other; flow = rest.flow }
 
-pub clash_is : (es : List Stated) (s : Stated) → NamesFlows es → clashes_in name_order key_order (λ held. key_of held.flow) es s ≡ is_clash es s
-clash_is es s is = ap (λ (r : Option Stated). option_map_or (λ e. not (eq_by_cmp name_order e.0 s.0)) r false) (of_flow_is es s.1.flow) ∙ by (is_clash es s) refl (state_of s.1.flow es) refl where
-  by : (t : Bool) → is_clash es s ≡ t → (r : Option Stated) → state_of s.1.flow es ≡ r → option_map_or (λ e. not (eq_by_cmp name_order e.0 s.0)) r false ≡ t
+pub clash_is : (es : List PlainState) (s : PlainState) → NamesFlows es → clashes_in name_order key_order (λ held. key_of held.flow) es s ≡ is_clash es s
+clash_is es s is = ap (λ (r : Option PlainState). option_map_or (λ e. not (eq_by_cmp name_order e.0 s.0)) r false) (of_flow_is es s.1.flow) ∙ by (is_clash es s) refl (state_of s.1.flow es) refl where
+  by : (t : Bool) → is_clash es s ≡ t → (r : Option PlainState) → state_of s.1.flow es ≡ r → option_map_or (λ e. not (eq_by_cmp name_order e.0 s.0)) r false ≡ t
   by true found r there =
       let one = clashing es s is.sorted found in
       let is_one : state_of s.1.flow es ≡ Some one.with = ((one_state_a_flow es s.1.flow is).found one.with).1 (record { held = one.held; flow = one.flow }) in
-      ap (λ (o : Option Stated). option_map_or (λ e. not (eq_by_cmp name_order e.0 s.0)) o false) (sym there ∙ is_one) ∙ ap not one.other
+      ap (λ (o : Option PlainState). option_map_or (λ e. not (eq_by_cmp name_order e.0 s.0)) o false) (sym there ∙ is_one) ∙ ap not one.other
   by false none None there = refl
   by false none (Some t) there = same (eq_by_cmp name_order t.0 s.0) refl where
     same : (u : Bool) → eq_by_cmp name_order t.0 s.0 ≡ u → not u ≡ false
@@ -74,13 +74,13 @@ clash_is es s is = ap (λ (r : Option Stated). option_map_or (λ e. not (eq_by_c
         absurd (others_differ es s t.0 t.1 none has.held e has.flow)
 
 -- an insert that has effect doesn't clash
-pub is_free : (es : List Stated) (s : Stated) → NamesFlows es → has_effect (insertion es s) ≡ true → clashes_in name_order key_order (λ held. key_of held.flow) es s ≡ false
+pub is_free : (es : List PlainState) (s : PlainState) → NamesFlows es → has_effect (insertion es s) ≡ true → clashes_in name_order key_order (λ held. key_of held.flow) es s ≡ false
 is_free es s is effect = clash_is es s is ∙ no_clash es s effect
 
 -- ---- a creator's states are taken out one after the other
 
 -- of a creator's states those are left that are still to come, and all others
-pub record Clearing (es : List Stated) (creator : ℕ) (rest left : List Stated) : Type 0 where
+pub record Clearing (es : List PlainState) (creator : ℕ) (rest left : List PlainState) : Type 0 where
   pub rest_sorted : T (is_sorted name_order rest)
   pub left_sorted : T (is_sorted name_order left)
   pub reads : (q : StateName) → held_at q left ≡ cond (q.creator == creator) (held_at q rest) (held_at q es)
@@ -89,10 +89,10 @@ either_way : {X : Type 0} (b : Bool) (x : X) → x ≡ cond b x x
 either_way true x = refl
 either_way false x = refl
 
-pub clearing_all : (es : List Stated) (creator : ℕ) → T (is_sorted name_order es) → Clearing es creator es es
+pub clearing_all : (es : List PlainState) (creator : ℕ) → T (is_sorted name_order es) → Clearing es creator es es
 clearing_all es creator is = record { rest_sorted = is; left_sorted = is; reads = λ q. either_way (q.creator == creator) (held_at q es) }
 
-pub clearing_one : (es : List Stated) (creator : ℕ) (e : Stated) (rest left : List Stated) → Clearing es creator (e ∷ rest) left → (e.0.creator == creator) ≡ true → Clearing es creator rest (without_state left e.0)
+pub clearing_one : (es : List PlainState) (creator : ℕ) (e : PlainState) (rest left : List PlainState) → Clearing es creator (e ∷ rest) left → (e.0.creator == creator) ≡ true → Clearing es creator rest (without_state left e.0)
 clearing_one es creator e rest left is his = record {
   rest_sorted = second_of _ _ is.rest_sorted;
   left_sorted = stays_sorted Held name_total left e.0 None is.left_sorted;
@@ -105,7 +105,7 @@ clearing_one es creator e rest left is his = record {
       sym (ap (λ (b : Bool). cond b (held_at q rest) (held_at q es)) of_him ∙ gone)
   by q false other = refl
 
-pub clearing_on : (es : List Stated) (creator : ℕ) (e : Stated) (rest left : List Stated) → Clearing es creator (e ∷ rest) left → (e.0.creator == creator) ≡ false → Clearing es creator rest left
+pub clearing_on : (es : List PlainState) (creator : ℕ) (e : PlainState) (rest left : List PlainState) → Clearing es creator (e ∷ rest) left → (e.0.creator == creator) ≡ false → Clearing es creator rest left
 clearing_on es creator e rest left is others = record {
   rest_sorted = second_of _ _ is.rest_sorted;
   left_sorted = is.left_sorted;
@@ -117,7 +117,7 @@ clearing_on es creator e rest left is others = record {
       ap (λ (b : Bool). cond b (Some e.1) (held_at q es)) not_his ∙ sym (ap (λ (b : Bool). cond b (held_at q rest) (held_at q es)) not_his)
   by q false other = refl
 
-pub cleared : (es : List Stated) (creator : ℕ) (left : List Stated) → T (is_sorted name_order es) → Clearing es creator [] left → left ≡ without_creator es creator
+pub cleared : (es : List PlainState) (creator : ℕ) (left : List PlainState) → T (is_sorted name_order es) → Clearing es creator [] left → left ≡ without_creator es creator
 cleared es creator left sorted is =
     same_entries _ name_total name_alike left (without_creator es creator) is.left_sorted (is_sorted-where_key name_order (λ (n : StateName). not (n.creator == creator)) es sorted)
     (λ q. is.reads q ∙ sym (reads_clear es creator q))

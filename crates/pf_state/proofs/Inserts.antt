@@ -1,8 +1,9 @@
 -- The form of an insert's record, and its bytes.
 use Rattle.std.proofs.{Common.{◌≡◌, ℕ, List, ◌++◌, Some, Result, Ok, Err, refl, sym, ap, ◌∙◌}, Math.Nat.mod-eq_of_lt}
 use Rattle.std.specs.Prelude.{IfOk, IfErr}
-use Rattle.pf_addr.specs.{declared.{addr.Addr.Addr, addr.Addr.TheVariants.V4, addr.Addr.TheVariants.V6, bytes.fault.Stop.Stop}, Bytes.{Forms.{Fits, Spells, writes, onto}, Parts.{Bytes, number_bytes}, Readers.{IfFault, Refused}}, Laws.Bytes.{Onto.onto_is, Texts.{only, refused_only}}}
-use Rattle.pf_addr.specs.declared.bytes.fault.Stop.TheVariants as stop
+use Rattle.pf_addr.specs.declared.addr.Addr.{Addr, TheVariants.{V4, V6}}
+use Rattle.pf_form.specs.{declared.bytes.fault.Stop.Stop, Bytes.{Forms.{Fits, Spells, writes, onto}, BasicForms.{Bytes, number_bytes}, Readers.{IfFault, Refused}}, Laws.Bytes.{Onto.onto_is, Texts.{only, refused_only}}}
+use Rattle.pf_form.specs.declared.bytes.fault.Stop.TheVariants as stop
 use Rattle.pf_addr.specs.declared.addr.Family.TheVariants as family
 use Rattle.pf_rule.specs.declared.{value.direction.Direction.Direction, value.direction.Direction.TheVariants.In, value.direction.Direction.TheVariants.Out}
 use Rattle.pf_state.specs.{Flows.IsFlow, Layouts.Flows.{direction_form, family_form, protocol_form, ports_form, flow_form}, Laws.Layouts.flow_fits, Peer.Records.{PlainInsert, IsInsert, told_flow, insert_form, plain_insert, insert_in, insert_from, insert_of, insert_bytes, Says}}

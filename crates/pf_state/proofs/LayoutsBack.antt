@@ -2,7 +2,7 @@
 use Rattle.std.proofs.Common.{◌≡◌, List, [], ◌∷◌, map, refl}
 use Rattle.pf_addr.specs.declared.{addr.Addr.Addr, addr.Addr.TheVariants.V4, addr.Addr.TheVariants.V6}
 use Rattle.pf_rule.specs.{Bytes.direction_byte, declared.{value.direction.Direction.Direction, value.direction.Direction.TheVariants.In, value.direction.Direction.TheVariants.Out}}
-use Rattle.pf_state.specs.{declared.{state.Bound.Bound, state.Bound.TheVariants.Rule, state.Bound.TheVariants.Default, state.Held.Held, step.Step.Step, step.Step.TheVariants.Insert, step.Step.TheVariants.Delete, step.Step.TheVariants.Clear}, Flows.PlainFlow, States.Stated, Layouts.{Flows.{plain_addr, addr_in, plain_flow, direction_in, flow_in}, States.{plain_bound, bound_in, plain_held, held_in, plain_state, state_in, plain_states}, Steps.{plain_step, step_in}}}
+use Rattle.pf_state.specs.{declared.{state.Bound.Bound, state.Bound.TheVariants.Rule, state.Bound.TheVariants.Default, state.Held.Held, step.Step.Step, step.Step.TheVariants.Insert, step.Step.TheVariants.Delete, step.Step.TheVariants.Clear}, Flows.PlainFlow, States.PlainState, Layouts.{Flows.{plain_addr, addr_in, plain_flow, direction_in, flow_in}, States.{plain_bound, bound_in, plain_held, held_in, plain_state, state_in, plain_states}, Steps.{plain_step, step_in}}}
 
 direction_back : (d : Direction) → direction_in (direction_byte d) ≡ d
 direction_back In = refl
@@ -29,10 +29,10 @@ bound_back Default = refl
 held_back : (h : Held) → held_in (plain_held h) ≡ h
 held_back h = λ i. record { generation = h.generation; flow = flow_back h.flow i; bound = bound_back h.bound i }
 
-pub state_back : (s : Stated) → state_in (plain_state s) ≡ s
+pub state_back : (s : PlainState) → state_in (plain_state s) ≡ s
 state_back s = λ i. (s.0, held_back s.1 i)
 
-pub states_back : (es : List Stated) → map state_in (plain_states es) ≡ es
+pub states_back : (es : List PlainState) → map state_in (plain_states es) ≡ es
 states_back [] = refl
 states_back (s ∷ es) = rw (state_back s, states_back es) refl
 

@@ -11,10 +11,10 @@ pub mod Pieces
 pub mod SomeReading
 pub mod Inserts
 pub mod RoundTrip
-pub mod Parts
+pub mod ExportParts
 pub mod Asked
 pub mod Cut
-pub mod Told
+pub mod ExportsTaken
 pub mod ReadBack
 pub mod TakenOver
 pub mod Names

@@ -1,6 +1,6 @@
 -- Parts that are put behind bytes in one piece.
 use Rattle.std.proofs.{Common.{◌≡◌, ℕ, ◌<◌, List, [], ◌∷◌, ◌++◌, refl, sym, ap, ◌∙◌, append_assoc, arith}}
-use Rattle.pf_addr.specs.Bytes.Parts.{number_bytes}
+use Rattle.pf_form.specs.Bytes.BasicForms.{number_bytes}
 
 pub two_pushed : (out a b : List ℕ) → out ++ (a ++ b) ≡ (out ++ a) ++ b
 two_pushed out a b = sym (append_assoc out a b)

@@ -1,8 +1,8 @@
 -- Items that are put behind bytes one by one.
 use Rattle.std.proofs.{Common.{◌≡◌, ℕ, true, List, ◌∷◌, length, map, refl, arith}, lemmas.List.length-map, lemmas.Bool.Decides.nat_tests}
 use Rattle.std.specs.{Prelude.nat_le, List.AllByRecursion}
-use Rattle.pf_addr.specs.Bytes.{Parts.onto_each, Forms.{Shape, Value, Form, Fits, onto}}
-use Rattle.pf_state.specs.{declared.limits.TheConstants.STATE_LIMIT, States.{Stated, IsStates}, Layouts.States.{state_form, states_form, plain_state, state_in, plain_states, no_flow_twice}}
+use Rattle.pf_form.specs.Bytes.{BasicForms.onto_each, Forms.{Shape, Value, Form, Fits, onto}}
+use Rattle.pf_state.specs.{declared.limits.TheConstants.STATE_LIMIT, States.{PlainState, IsStates}, Layouts.States.{state_form, states_form, plain_state, state_in, plain_states, no_flow_twice}}
 use Rattle.pf_state.proofs.{LayoutsBack.states_back, Rows.{in_turn, once_each}}
 
 -- Of all the items these are left: once they stand behind the bytes all do, and all fit where these do.
@@ -19,7 +19,7 @@ pushed_one f plain x rest all begun out new e fits so_far = record {
 }
 
 -- a table's states fit their form where each fits its own
-pub states_fit : (version : ℕ) (es : List Stated) → IsStates es → AllByRecursion (Fits (state_form version)) (plain_states es) → Fits (states_form version) (plain_states es)
+pub states_fit : (version : ℕ) (es : List PlainState) → IsStates es → AllByRecursion (Fits (state_form version)) (plain_states es) → Fits (states_form version) (plain_states es)
 states_fit version es is each =
     let few = is.few in
     let short : nat_le (length (plain_states es)) STATE_LIMIT ≡ true = grind (arith, nat_tests, few, length-map es plain_state) in

@@ -1,15 +1,15 @@
 -- The bytes of an export are read as its messages.
 use Rattle.std.proofs.{Common.{◌≡◌, ◌<◌, ◌^◌, ℕ, zero, suc, List, [], ◌∷◌, length, map, take, drop, cond, Bool, true, false, arith}, lemmas.List.length-take}
 use Rattle.std.specs.Str.{bytes_eq}
-use Rattle.pf_state.specs.{declared.{peer.message.Message.Message, binding.TheConstants.ALL_ONES, state.Bound.Bound, state.Bound.TheVariants.Rule, state.Bound.TheVariants.Default}, Peer.Messages.IsMessage, Peer.Records.IsInsert, Peer.Written.{Each, message_bytes, CanBeWritten}, Bindings.exported, States.Stated, Failover.Outgoing.{exported_insert, exported_message, parts}, Laws.Failover.{IsBound, IsState, IsReadBack}}
-use Rattle.pf_state.proofs.{Cut.by_parts, Parts.{told_fits, IsRead, read_in_turn}}
+use Rattle.pf_state.specs.{declared.{peer.message.Message.Message, binding.TheConstants.ALL_ONES, state.Bound.Bound, state.Bound.TheVariants.Rule, state.Bound.TheVariants.Default}, Peer.Messages.IsMessage, Peer.Records.IsInsert, Peer.Written.{Each, message_bytes, CanBeWritten}, Bindings.exported, States.PlainState, Failover.Outgoing.{exported_insert, exported_message, parts}, Laws.Failover.{IsBound, IsState, IsReadBack}}
+use Rattle.pf_state.proofs.{Cut.by_parts, ExportParts.{told_fits, IsRead, read_in_turn}}
 
-each_take : (n : ℕ) (es : List Stated) → Each IsState es → Each IsState (take n es)
+each_take : (n : ℕ) (es : List PlainState) → Each IsState es → Each IsState (take n es)
 each_take zero es each = tt
 each_take (suc n) [] each = tt
 each_take (suc n) (s ∷ es) each = (each.0, each_take n es each.1)
 
-each_drop : (n : ℕ) (es : List Stated) → Each IsState es → Each IsState (drop n es)
+each_drop : (n : ℕ) (es : List PlainState) → Each IsState es → Each IsState (drop n es)
 each_drop zero es each = each
 each_drop (suc n) [] each = tt
 each_drop (suc n) (s ∷ es) each = each_drop n es each.1
@@ -21,7 +21,7 @@ rule_fits current (Rule number sum) is = by (bytes_eq sum current) where
   by true = is
   by false = omega arith
 
-is_insert : (current : List ℕ) (s : Stated) → IsState s → IsInsert (exported_insert current s)
+is_insert : (current : List ℕ) (s : PlainState) → IsState s → IsInsert (exported_insert current s)
 is_insert current s is = record {
   id = is.id;
   creator = is.creator;
@@ -37,11 +37,11 @@ is_insert current s is = record {
   anchor = omega arith;
 }
 
-pub are_inserts : (current : List ℕ) (es : List Stated) → Each IsState es → Each IsInsert (map (exported_insert current) es)
+pub are_inserts : (current : List ℕ) (es : List PlainState) → Each IsState es → Each IsInsert (map (exported_insert current) es)
 are_inserts current [] each = tt
 are_inserts current (s ∷ es) each = (is_insert current s each.0, are_inserts current es each.1)
 
-can_be_written : (current : List ℕ) (es : List Stated) → length current ≡ 16 → Each IsState es → CanBeWritten (exported_message current (take 31 es))
+can_be_written : (current : List ℕ) (es : List PlainState) → length current ≡ 16 → Each IsState es → CanBeWritten (exported_message current (take 31 es))
 can_be_written current es long each = record {
   checksum = long;
   groups = (are_inserts current (take 31 es) (each_take 31 es each), tt);

@@ -1,10 +1,10 @@
 -- Rows of states make a table, one after the other.
 use Rattle.std.proofs.{Common.{◌≡◌, ◌&&◌, ◌||◌, not, ◌≤◌, Bool, true, false, T, List, [], ◌∷◌, ◌++◌, length, map, Some, ◌⊎◌, inl, inr, None, refl, sym, ap, ◌∙◌, append_assoc, subst, true≢false, arith}, lemmas.List.{append-nil, length-map}, lemmas.Bool.and_parts, lemmas.Bool.Decides.nat_tests}
 use Rattle.std.specs.{Prelude.nat_le, declared.{cmp.Ordering.Ordering, cmp.Ordering.TheVariants.Less}, FinMap.{is_sorted, put}, FinMap.Entries.below_all, List.list_any, Ordering.{eq_by_cmp, is_eq, is_lt}}
-use Rattle.pf_addr.specs.Bytes.Lists.{in_order}
+use Rattle.pf_form.specs.Bytes.Lists.{in_order}
 use Rattle.pf_map.specs.Maps.{with_value}
 use Rattle.pf_map.specs.Indexes.{no_flow_twice as none_twice_in}
-use Rattle.pf_state.specs.{declared.{limits.TheConstants.STATE_LIMIT, layouts.state.StoredState.StoredState}, FlowKeys.{key_of, key_order}, Flows.same_flow, Orders.name_total, States.{Stated, name_order, NamesFlows, IsStates}, Steps.is_clash, Peer.Written.Each, Layouts.{Rows.{plain_row, IsTableOf}, States.{plain_state, state_in, plain_states, state_before, no_flow_twice}}}
+use Rattle.pf_state.specs.{declared.{limits.TheConstants.STATE_LIMIT, layouts.state.StoredState.StoredState}, FlowKeys.{key_of, key_order}, Flows.same_flow, Orders.name_total, States.{PlainState, name_order, NamesFlows, IsStates}, Steps.is_clash, Peer.Written.Each, Layouts.{Rows.{plain_row, IsTableOf}, States.{plain_state, state_in, plain_states, state_before, no_flow_twice}}}
 use Rattle.pf_state.proofs.{FlowKeys.same_flow_is, LayoutsBack.state_back, TakenOver.{Before, Apart, all_kept, put_last, less_of, all_held, apart_of}, Tables.{first_of, second_of, front_within, rest_within, names_put}}
 
 holds : (a : Bool) → T a → a ≡ true
@@ -20,14 +20,14 @@ none_true false b e = refl
 
 -- ---- in order
 
-below_later : (e s : Stated) (es : List Stated) → T (is_lt (name_order e.0 s.0)) → T (below_all name_order s.0 es) → T (below_all name_order e.0 es)
+below_later : (e s : PlainState) (es : List PlainState) → T (is_lt (name_order e.0 s.0)) → T (below_all name_order s.0 es) → T (below_all name_order e.0 es)
 below_later e s [] less low = tt
 below_later e s (f ∷ es) less low =
     let later : name_order e.0 f.0 ≡ Less = name_total.trans e.0 s.0 f.0 (less_of _ less) (less_of _ (first_of _ _ low)) in
     rw later (below_later e s es less (second_of (is_lt (name_order s.0 f.0)) _ low))
 
 -- states of which each comes before the next are sorted
-sorted_of : (es : List Stated) → in_order state_before (plain_states es) ≡ true → T (is_sorted name_order es)
+sorted_of : (es : List PlainState) → in_order state_before (plain_states es) ≡ true → T (is_sorted name_order es)
 sorted_of [] turn = tt
 sorted_of (s ∷ []) turn = tt
 sorted_of (s ∷ t ∷ es) turn =
@@ -38,7 +38,7 @@ sorted_of (s ∷ t ∷ es) turn =
     rw (holds _ less, holds _ low) later
 
 -- and those that are sorted come so
-pub in_turn : (es : List Stated) → T (is_sorted name_order es) → in_order state_before (plain_states es) ≡ true
+pub in_turn : (es : List PlainState) → T (is_sorted name_order es) → in_order state_before (plain_states es) ≡ true
 in_turn [] sorted = refl
 in_turn (s ∷ []) sorted = refl
 in_turn (s ∷ t ∷ es) sorted =
@@ -47,22 +47,22 @@ in_turn (s ∷ t ∷ es) sorted =
 
 -- ---- their flows
 
-others : (e : Stated) (es : List Stated) → Each (λ s. Before s e) es → list_any (λ t. same_flow e.1.flow t.1.flow) es ≡ false
+others : (e : PlainState) (es : List PlainState) → Each (λ s. Before s e) es → list_any (λ t. same_flow e.1.flow t.1.flow) es ≡ false
 others e [] each = refl
 others e (s ∷ es) each = rw each.0.other (others e es each.1)
 
-none_twice : (es : List Stated) → Apart es → no_flow_twice es ≡ true
+none_twice : (es : List PlainState) → Apart es → no_flow_twice es ≡ true
 none_twice [] apart = refl
 none_twice (e ∷ es) apart = rw (others e es apart.0) (none_twice es apart.1)
 
-pub once_each : (es : List Stated) → NamesFlows es → no_flow_twice es ≡ true
+pub once_each : (es : List PlainState) → NamesFlows es → no_flow_twice es ≡ true
 once_each es names = none_twice es (apart_of es names es names.sorted (all_held es names.sorted))
 
 or_true : (a b : Bool) → b ≡ true → (a || b) ≡ true
 or_true true b e = refl
 or_true false b e = e
 
-found : (e s : Stated) (ps fs : List Stated) → same_flow e.1.flow s.1.flow ≡ true → list_any (λ t. same_flow e.1.flow t.1.flow) (ps ++ s ∷ fs) ≡ true
+found : (e s : PlainState) (ps fs : List PlainState) → same_flow e.1.flow s.1.flow ≡ true → list_any (λ t. same_flow e.1.flow t.1.flow) (ps ++ s ∷ fs) ≡ true
 found e s [] fs same = rw same refl
 found e s (p ∷ ps) fs same = or_true (same_flow e.1.flow p.1.flow) _ (found e s ps fs same)
 
@@ -71,7 +71,7 @@ either_of true b e = inl refl
 either_of false b e = inr e
 
 -- a state whose flow is there before it
-twice : (ps : List Stated) (s : Stated) (fs : List Stated) → is_clash ps s ≡ true → no_flow_twice (ps ++ s ∷ fs) ≡ false
+twice : (ps : List PlainState) (s : PlainState) (fs : List PlainState) → is_clash ps s ≡ true → no_flow_twice (ps ++ s ∷ fs) ≡ false
 twice [] s fs clash = absurd (true≢false (sym clash))
 twice (p ∷ ps) s fs clash = by (either_of (not (is_eq (name_order p.0 s.0)) && same_flow p.1.flow s.1.flow) (is_clash ps s) clash) (λ later. twice ps s fs later) where
   by : ((not (is_eq (name_order p.0 s.0)) && same_flow p.1.flow s.1.flow) ≡ true) ⊎ (is_clash ps s ≡ true) → (is_clash ps s ≡ true → no_flow_twice (ps ++ s ∷ fs) ≡ false)
@@ -79,12 +79,12 @@ twice (p ∷ ps) s fs clash = by (either_of (not (is_eq (name_order p.0 s.0)) &&
   by (inl here) rest = rw (found p s ps fs (and_parts (not (is_eq (name_order p.0 s.0))) (same_flow p.1.flow s.1.flow) here).1) refl
   by (inr later) rest = none_true (not (list_any (λ t. same_flow p.1.flow t.1.flow) (ps ++ s ∷ fs))) _ (rest later)
 
-low_at : (e s : Stated) (ps fs : List Stated) → T (below_all name_order e.0 (ps ++ s ∷ fs)) → T (is_lt (name_order e.0 s.0))
+low_at : (e s : PlainState) (ps fs : List PlainState) → T (below_all name_order e.0 (ps ++ s ∷ fs)) → T (is_lt (name_order e.0 s.0))
 low_at e s [] fs low = first_of _ _ low
 low_at e s (p ∷ ps) fs low = low_at e s ps fs (second_of (is_lt (name_order e.0 p.0)) _ low)
 
 -- one that clashes with none, behind them in order
-before_it : (ps : List Stated) (s : Stated) (fs : List Stated) → T (is_sorted name_order (ps ++ s ∷ fs)) → is_clash ps s ≡ false → Each (Before s) ps
+before_it : (ps : List PlainState) (s : PlainState) (fs : List PlainState) → T (is_sorted name_order (ps ++ s ∷ fs)) → is_clash ps s ≡ false → Each (Before s) ps
 before_it [] s fs sorted none = tt
 before_it (p ∷ ps) s fs sorted none =
     let less : name_order p.0 s.0 ≡ Less = less_of _ (low_at p s ps fs (first_of _ _ sorted)) in (
@@ -94,7 +94,7 @@ before_it (p ∷ ps) s fs sorted none =
 
 -- ---- rows
 
-abbrev pub of_row : StoredState → Stated
+abbrev pub of_row : StoredState → PlainState
 of_row r = r.state
 
 rows_back : (rows : List StoredState) → map state_in (map plain_row rows) ≡ map of_row rows
@@ -106,14 +106,14 @@ plain_rows [] = refl
 plain_rows (r ∷ rows) = ap (λ l. plain_row r ∷ l) (plain_rows rows)
 
 -- these states were made of the rows before the ones that are left
-record Made (rows rest : List StoredState) (es : List Stated) : Type 0 where
+record Made (rows rest : List StoredState) (es : List PlainState) : Type 0 where
   pub split : es ++ map of_row rest ≡ map of_row rows
   pub names : NamesFlows es
 
 made_none : (rows : List StoredState) → Made rows rows []
 made_none rows = record { split = refl; names = record { sorted = tt; one_flow = λ a b x y held other same. absurd cc } }
 
-made_one : (rows rest : List StoredState) (es new : List Stated) (r : StoredState) → in_order state_before (map plain_row rows) ≡ true → Made rows (r ∷ rest) es
+made_one : (rows rest : List StoredState) (es new : List PlainState) (r : StoredState) → in_order state_before (map plain_row rows) ≡ true → Made rows (r ∷ rest) es
     → is_clash es r.state ≡ false → new ≡ with_value name_order es r.state.0 (Some r.state.1) → Made rows rest new
 made_one rows rest es new r turn made none is_new =
     let s = r.state in
@@ -126,7 +126,7 @@ made_one rows rest es new r turn made none is_new =
     }
 
 -- in order, and with no flow twice, they are all made
-made_of : (rows rest : List StoredState) (es : List Stated) → in_order state_before (map plain_row rows) ≡ true → no_flow_twice (map of_row rows) ≡ true → Made rows rest es → NamesFlows (map of_row rows)
+made_of : (rows rest : List StoredState) (es : List PlainState) → in_order state_before (map plain_row rows) ≡ true → no_flow_twice (map of_row rows) ≡ true → Made rows rest es → NamesFlows (map of_row rows)
 made_of rows [] es turn once made = subst NamesFlows (sym (append-nil es) ∙ made.split) made.names
 made_of rows (r ∷ rest) es turn once made =
     let none : is_clash es r.state ≡ false = free (is_clash es r.state) (λ clash. sym (ap no_flow_twice made.split) ∙ twice es r.state (map of_row rest) clash) in
@@ -135,10 +135,10 @@ made_of rows (r ∷ rest) es turn once made =
       free true clash = absurd (true≢false (sym once ∙ clash refl))
       free false clash = refl
 
-any_is : (e : Stated) (es : List Stated) → list_any (λ t. eq_by_cmp key_order (key_of e.1.flow) (key_of t.1.flow)) es ≡ list_any (λ t. same_flow e.1.flow t.1.flow) es
-any_is e es = λ i. list_any (λ (t : Stated). sym (same_flow_is e.1.flow t.1.flow) i) es
+any_is : (e : PlainState) (es : List PlainState) → list_any (λ t. eq_by_cmp key_order (key_of e.1.flow) (key_of t.1.flow)) es ≡ list_any (λ t. same_flow e.1.flow t.1.flow) es
+any_is e es = λ i. list_any (λ (t : PlainState). sym (same_flow_is e.1.flow t.1.flow) i) es
 
-once_is : (es : List Stated) → none_twice_in key_order (λ held. key_of held.flow) es ≡ no_flow_twice es
+once_is : (es : List PlainState) → none_twice_in key_order (λ held. key_of held.flow) es ≡ no_flow_twice es
 once_is [] = refl
 once_is (e ∷ es) =
     ap (λ (b : Bool). not b && none_twice_in key_order (λ held. key_of held.flow) es) (any_is e es)
@@ -152,14 +152,14 @@ no_table rows twice =
     let once : no_flow_twice (map state_in (map plain_row rows)) ≡ false = ap no_flow_twice (rows_back rows) ∙ sym (once_is (map of_row rows)) ∙ twice in
     none_true (nat_le (length (map plain_row rows)) STATE_LIMIT) _ (none_true (in_order state_before (map plain_row rows)) _ once)
 
-pub are_states : (rows : List StoredState) (es : List Stated) → in_order state_before (map plain_row rows) ≡ true → length rows ≤ STATE_LIMIT → es ≡ map of_row rows
+pub are_states : (rows : List StoredState) (es : List PlainState) → in_order state_before (map plain_row rows) ≡ true → length rows ≤ STATE_LIMIT → es ≡ map of_row rows
     → none_twice_in key_order (λ held. key_of held.flow) (map of_row rows) ≡ true → IsStates es
 are_states rows es turn few all once = record {
   names = rw all (made_of rows rows [] turn (sym (once_is (map of_row rows)) ∙ once) (made_none rows));
   few = rw all (omega (arith, few, length-map rows of_row));
 }
 
-pub is_table : (rows : List StoredState) (es : List Stated) → in_order state_before (map plain_row rows) ≡ true → length rows ≤ STATE_LIMIT → es ≡ map of_row rows
+pub is_table : (rows : List StoredState) (es : List PlainState) → in_order state_before (map plain_row rows) ≡ true → length rows ≤ STATE_LIMIT → es ≡ map of_row rows
     → none_twice_in key_order (λ held. key_of held.flow) (map of_row rows) ≡ true → IsTableOf rows (Some es)
 is_table rows es turn few all is =
     let short : nat_le (length (map plain_row rows)) STATE_LIMIT ≡ true = grind (arith, nat_tests, few, length-map rows plain_row) in

@@ -1,7 +1,7 @@
 -- All bytes have a reading.
 use Rattle.std.proofs.{Common.{◌≡◌, ◌≢◌, ◌⊎◌, ◌+◌, ◌-◌, ◌*◌, ◌<◌, ◌≤◌, ◌==◌, ◌&&◌, ℕ, zero, suc, Bool, true, false, List, [], ◌∷◌, ◌++◌, length, take, drop, if◌then◌else◌, Result, Ok, Err, inl, inr, refl, sym, ap, subst, length-drop, arith}, lemmas.Bool.{cases_eq, cases_lt}, lemmas.Bool.Decides.nat_tests, lemmas.List.{take-append-drop, length-take-le}}
 use Rattle.std.specs.Prelude.{nat_lt}
-use Rattle.pf_state.specs.{declared.{peer.fault.PeerFault.PeerFault, peer.fault.PeerFault.TheVariants.BadVersion, peer.fault.PeerFault.TheVariants.BadLength, peer.fault.PeerFault.TheVariants.BadAction, peer.fault.OneFault.OneFault, peer.message.Group.Group, peer.message.Message.Message, peer.message.TheConstants.VERSION, peer.stream.TheConstants.HEADER, peer.stream.Front.Front, peer.stream.Front.TheVariants.Partial, peer.stream.Front.TheVariants.Whole, peer.stream.Front.TheVariants.Bad}, Peer.Groups.{group_at, content, is_action, size_at, ◌>>=◌, AreGroups, BreakBehind}, Peer.Messages.{IsWhole, IsJudged}, Peer.Streams.{Ending, Unfinished, Faulty, Reads, IsFront}, Peer.One.{IsOne, one_of}}
+use Rattle.pf_state.specs.{declared.{peer.fault.PeerFault.PeerFault, peer.fault.PeerFault.TheVariants.BadVersion, peer.fault.PeerFault.TheVariants.BadLength, peer.fault.PeerFault.TheVariants.BadAction, peer.fault.OneFault.OneFault, peer.message.Group.Group, peer.message.Message.Message, peer.message.TheConstants.VERSION, peer.stream.TheConstants.MESSAGE_HEADER, peer.stream.MessageStart.MessageStart, peer.stream.MessageStart.TheVariants.Partial, peer.stream.MessageStart.TheVariants.Whole, peer.stream.MessageStart.TheVariants.Bad}, Peer.Groups.{group_at, content, is_action, size_at, ◌>>=◌, AreGroups, BreakBehind}, Peer.Messages.{IsWhole, IsJudged}, Peer.Streams.{Ending, Unfinished, Faulty, Reads, IsFront}, Peer.One.{IsOne, one_of}}
 use Rattle.pf_rule.specs.Bytes.{number_at, byte_at}
 
 -- ---- groups
@@ -53,7 +53,7 @@ grouped_up_to (suc n) (b ∷ bytes) few =
 
 -- ---- one message
 
-judged_by : (bytes : List ℕ) → IsWhole bytes → Grouped (drop HEADER bytes) → (r : Result Message PeerFault) × IsJudged bytes r
+judged_by : (bytes : List ℕ) → IsWhole bytes → Grouped (drop MESSAGE_HEADER bytes) → (r : Result Message PeerFault) × IsJudged bytes r
 judged_by bytes whole (inl (gs, are)) = (
   Ok (record { checksum = take 16 (drop 4 bytes); groups = gs }),
   record { whole = whole; checksum = refl; groups = are },
@@ -61,12 +61,12 @@ judged_by bytes whole (inl (gs, are)) = (
 judged_by bytes whole (inr (f, before, breaks)) = (Err f, record { whole = whole; before = before; breaks = breaks })
 
 judged : (bytes : List ℕ) → IsWhole bytes → (r : Result Message PeerFault) × IsJudged bytes r
-judged bytes whole = judged_by bytes whole (grouped_up_to (length (drop HEADER bytes)) (drop HEADER bytes) (omega arith))
+judged bytes whole = judged_by bytes whole (grouped_up_to (length (drop MESSAGE_HEADER bytes)) (drop MESSAGE_HEADER bytes) (omega arith))
 
 -- ---- what stands where a message begins
 
 abbrev SomeFront : List ℕ → Type 0
-SomeFront bytes = (front : Front) × IsFront bytes front
+SomeFront bytes = (front : MessageStart) × IsFront bytes front
 
 -- a version and a zero, or not
 abbrev IsVersion : ℕ → ℕ → Type 0
@@ -79,7 +79,7 @@ version_or_not v z = by (cases_eq v VERSION) (cases_eq z 0) where
   by (inl is) (inl none) = inl (is, none)
   by (inl is) (inr some) = inr (inr (is, some))
 
-whole_front : (v z a b : ℕ) (bytes : List ℕ) → (v ≡ VERSION) × (z ≡ 0) → HEADER ≤ a * 256 + b → a * 256 + b ≤ length bytes + 4
+whole_front : (v z a b : ℕ) (bytes : List ℕ) → (v ≡ VERSION) × (z ≡ 0) → MESSAGE_HEADER ≤ a * 256 + b → a * 256 + b ≤ length bytes + 4
     → IsWhole (take (a * 256 + b) (v ∷ z ∷ a ∷ b ∷ bytes))
 unfolding number_at
 whole_front v z a b bytes is enough all = by (a * 256 + b - 4) (omega (arith, enough)) where
@@ -104,8 +104,8 @@ some_front (v ∷ z ∷ a ∷ []) = by (version_or_not v z) where
   by (inl is) = (Partial, is)
   by (inr other) = (Bad BadVersion, inl (refl, other))
 some_front (v ∷ z ∷ a ∷ b ∷ bytes) =
-    by (version_or_not v z) (cases_lt (a * 256 + b) HEADER) (cases_lt (length bytes + 4) (a * 256 + b)) where
-      by : IsVersion v z → (a * 256 + b < HEADER) ⊎ (HEADER ≤ a * 256 + b)
+    by (version_or_not v z) (cases_lt (a * 256 + b) MESSAGE_HEADER) (cases_lt (length bytes + 4) (a * 256 + b)) where
+      by : IsVersion v z → (a * 256 + b < MESSAGE_HEADER) ⊎ (MESSAGE_HEADER ≤ a * 256 + b)
           → (length bytes + 4 < a * 256 + b) ⊎ (a * 256 + b ≤ length bytes + 4) → SomeFront (v ∷ z ∷ a ∷ b ∷ bytes)
       by (inr other) s t = (Bad BadVersion, inl (refl, other))
       by (inl is) (inl short) t = (Bad BadLength, inr (refl, (is.0, is.1, short)))

@@ -3,7 +3,7 @@ use Rattle.std.proofs.{Common.{◌≡◌, ℕ, zero, suc, ◌≤◌, Bool, true,
 use Rattle.std.specs.{Prelude.◌==◌, declared.{cmp.Ordering.Ordering, cmp.Ordering.TheVariants.Less, cmp.Ordering.TheVariants.Equal, cmp.Ordering.TheVariants.Greater}, FinMap.is_sorted, FinMap.Entries.{is_sorted-where_key, below_all}, Option.unwrap_or, Ordering.{eq_by_cmp, is_eq, is_lt}}
 use Rattle.pf_map.specs.Maps.{with_value}
 use Rattle.pf_map.proofs.Maps.{stays_sorted}
-use Rattle.pf_state.specs.{Orders.name_total, declared.{limits.TheConstants.STATE_LIMIT, state.Held.Held, state.StateName.StateName, step.Insertion.TheVariants.Stale, step.Insertion.TheVariants.Clash, step.Insertion.TheVariants.Replaced, step.Insertion.TheVariants.New, step.Step.Step, step.Step.TheVariants.Insert, step.Step.TheVariants.Delete, step.Step.TheVariants.Clear}, Flows.{PlainFlow, same_flow}, States.{Stated, name_order, held_at, state_of, NamesFlows}, Steps.{is_stale, is_clash, insertion, has_effect, without_creator, without_state, stepped, after, is_over, passes_limit}, Laws.States.{IsStateOf, OneStateAFlow, StaysStates, RefusedByAnyStep}}
+use Rattle.pf_state.specs.{Orders.name_total, declared.{limits.TheConstants.STATE_LIMIT, state.Held.Held, state.StateName.StateName, step.Insertion.TheVariants.Stale, step.Insertion.TheVariants.Clash, step.Insertion.TheVariants.Replaced, step.Insertion.TheVariants.New, step.Step.Step, step.Step.TheVariants.Insert, step.Step.TheVariants.Delete, step.Step.TheVariants.Clear}, Flows.{PlainFlow, same_flow}, States.{PlainState, name_order, held_at, state_of, NamesFlows}, Steps.{is_stale, is_clash, insertion, has_effect, without_creator, without_state, stepped, after, is_over, passes_limit}, Laws.States.{IsStateOf, OneStateAFlow, StaysStates, RefusedByAnyStep}}
 use Rattle.pf_state.proofs.{Names.{one_name, same_itself}, Flows.{same_back, same_third}, Leaves.{reads_put, reads_delete, reads_clear}}
 
 pub first_of : (a b : Bool) → T (a && b) → T a
@@ -36,11 +36,11 @@ clash_none true clash known e = no (sym e)
 clash_none false true known e = no (sym e)
 clash_none false false known e = refl
 
-pub no_clash : (es : List Stated) (s : Stated) → has_effect (insertion es s) ≡ true → is_clash es s ≡ false
+pub no_clash : (es : List PlainState) (s : PlainState) → has_effect (insertion es s) ≡ true → is_clash es s ≡ false
 no_clash es s e = clash_none (is_stale es s) (is_clash es s) (is_some (held_at s.0 es)) e
 
 -- where none clashes, a state of another name has another flow
-pub others_differ : (es : List Stated) (s : Stated) (b : StateName) (y : Held) → is_clash es s ≡ false → held_at b es ≡ Some y → eq_by_cmp name_order b s.0 ≡ false → same_flow y.flow s.1.flow ≡ true → ⊥
+pub others_differ : (es : List PlainState) (s : PlainState) (b : StateName) (y : Held) → is_clash es s ≡ false → held_at b es ≡ Some y → eq_by_cmp name_order b s.0 ≡ false → same_flow y.flow s.1.flow ≡ true → ⊥
 others_differ [] s b y none there other same = nothing_is y there
 others_differ (e ∷ es) s b y none there other same = by (eq_by_cmp name_order b e.0) refl there none (λ clear found. others_differ es s b y clear found other same) where
   by : (t : Bool) → eq_by_cmp name_order b e.0 ≡ t → cond t (Some e.1) (held_at b es) ≡ Some y → is_clash (e ∷ es) s ≡ false → (is_clash es s ≡ false → held_at b es ≡ Some y → ⊥) → ⊥
@@ -55,7 +55,7 @@ others_differ (e ∷ es) s b y none there other same = by (eq_by_cmp name_order 
 
 -- ---- what steps leave
 
-pub names_put : (es : List Stated) (s : Stated) → NamesFlows es → is_clash es s ≡ false → NamesFlows (with_value name_order es s.0 (Some s.1))
+pub names_put : (es : List PlainState) (s : PlainState) → NamesFlows es → is_clash es s ≡ false → NamesFlows (with_value name_order es s.0 (Some s.1))
 names_put es s is none = record {
   sorted = stays_sorted Held name_total es s.0 (Some s.1) is.sorted;
   one_flow = λ a b x y at_a at_b same. by a b x y (eq_by_cmp name_order a s.0) refl (eq_by_cmp name_order b s.0) refl (sym (reads_put es s a) ∙ at_a) (sym (reads_put es s b) ∙ at_b) same;
@@ -75,19 +75,19 @@ pub left_of : {X : Type 0} (t : Bool) (o : Option X) (x : X) → cond t None o �
 left_of true o x e = nothing_is x e
 left_of false o x e = e
 
-pub names_delete : (es : List Stated) (n : StateName) → NamesFlows es → NamesFlows (without_state es n)
+pub names_delete : (es : List PlainState) (n : StateName) → NamesFlows es → NamesFlows (without_state es n)
 names_delete es n is = record {
   sorted = stays_sorted Held name_total es n None is.sorted;
   one_flow = λ a b x y at_a at_b same. is.one_flow a b x y (left_of (eq_by_cmp name_order a n) (held_at a es) x (sym (reads_delete es n a) ∙ at_a)) (left_of (eq_by_cmp name_order b n) (held_at b es) y (sym (reads_delete es n b) ∙ at_b)) same;
 }
 
-pub names_clear : (es : List Stated) (creator : ℕ) → NamesFlows es → NamesFlows (without_creator es creator)
+pub names_clear : (es : List PlainState) (creator : ℕ) → NamesFlows es → NamesFlows (without_creator es creator)
 names_clear es creator is = record {
   sorted = is_sorted-where_key name_order (λ (n : StateName). not (n.creator == creator)) es is.sorted;
   one_flow = λ a b x y at_a at_b same. is.one_flow a b x y (left_of (a.creator == creator) (held_at a es) x (sym (reads_clear es creator a) ∙ at_a)) (left_of (b.creator == creator) (held_at b es) y (sym (reads_clear es creator b) ∙ at_b)) same;
 }
 
-pub names_step : (es : List Stated) (x : Step) → NamesFlows es → NamesFlows (stepped es x)
+pub names_step : (es : List PlainState) (x : Step) → NamesFlows es → NamesFlows (stepped es x)
 unfolding stepped
 names_step es (Insert s) is = by (has_effect (insertion es s)) refl where
   by : (t : Bool) → has_effect (insertion es s) ≡ t → NamesFlows (cond t (with_value name_order es s.0 (Some s.1)) es)
@@ -96,25 +96,25 @@ names_step es (Insert s) is = by (has_effect (insertion es s)) refl where
 names_step es (Delete n) is = names_delete es n is
 names_step es (Clear creator) is = names_clear es creator is
 
-pub names_after : (es : List Stated) (steps : List Step) → NamesFlows es → NamesFlows (after es steps)
+pub names_after : (es : List PlainState) (steps : List Step) → NamesFlows es → NamesFlows (after es steps)
 names_after es [] is = is
 names_after es (x ∷ xs) is = names_after (stepped es x) xs (names_step es x is)
 
 -- ---- the limit
 
-pub not_over : (es : List Stated) → is_over es ≡ false → length es ≤ STATE_LIMIT
+pub not_over : (es : List PlainState) → is_over es ≡ false → length es ≤ STATE_LIMIT
 not_over es e = grind (arith, nat_tests)
 
-pub within_not_over : (es : List Stated) → length es ≤ STATE_LIMIT → is_over es ≡ false
+pub within_not_over : (es : List PlainState) → length es ≤ STATE_LIMIT → is_over es ≡ false
 within_not_over es e = grind (arith, nat_tests)
 
-fronts_within : (es : List Stated) (steps : List Step) → length es ≤ STATE_LIMIT → passes_limit es steps ≡ false → (k : ℕ) → length (after es (take k steps)) ≤ STATE_LIMIT
+fronts_within : (es : List PlainState) (steps : List Step) → length es ≤ STATE_LIMIT → passes_limit es steps ≡ false → (k : ℕ) → length (after es (take k steps)) ≤ STATE_LIMIT
 unfolding passes_limit
 fronts_within es steps few e zero = few
 fronts_within es [] few e (suc k) = few
 fronts_within es (x ∷ xs) few e (suc k) = fronts_within (stepped es x) xs (not_over (stepped es x) (front_within _ _ e)) (rest_within (is_over (stepped es x)) _ e) k
 
-within_fronts : (es : List Stated) (steps : List Step) → ((k : ℕ) → length (after es (take k steps)) ≤ STATE_LIMIT) → passes_limit es steps ≡ false
+within_fronts : (es : List PlainState) (steps : List Step) → ((k : ℕ) → length (after es (take k steps)) ≤ STATE_LIMIT) → passes_limit es steps ≡ false
 unfolding passes_limit
 within_fronts es [] few = refl
 within_fronts es (x ∷ xs) few = rw (within_not_over (stepped es x) (few 1)) (within_fronts (stepped es x) xs (λ k. few (suc k)))
@@ -122,7 +122,7 @@ within_fronts es (x ∷ xs) few = rw (within_not_over (stepped es x) (few 1)) (w
 pub refused_by_any_step : RefusedByAnyStep
 refused_by_any_step es steps is = (fronts_within es steps is.few, within_fronts es steps)
 
-few_after : (es : List Stated) (steps : List Step) → length es ≤ STATE_LIMIT → passes_limit es steps ≡ false → length (after es steps) ≤ STATE_LIMIT
+few_after : (es : List PlainState) (steps : List Step) → length es ≤ STATE_LIMIT → passes_limit es steps ≡ false → length (after es steps) ≤ STATE_LIMIT
 unfolding passes_limit
 few_after es [] few e = few
 few_after es (x ∷ xs) few e = few_after (stepped es x) xs (not_over (stepped es x) (front_within _ _ e)) (rest_within (is_over (stepped es x)) _ e)
@@ -140,12 +140,12 @@ less_not_tied Less p = refl
 less_not_tied Equal p = absurd p
 less_not_tied Greater p = absurd p
 
-pub none_behind : (n : StateName) (es : List Stated) → T (below_all name_order n es) → held_at n es ≡ None
+pub none_behind : (n : StateName) (es : List PlainState) → T (below_all name_order n es) → held_at n es ≡ None
 none_behind n [] h = refl
 none_behind n (e ∷ es) h = ap (λ b. cond b (Some e.1) (held_at n es)) (less_not_tied (name_order n e.0) (first_of _ _ h)) ∙ none_behind n es (second_of _ _ h)
 
 -- what is found is held, and has the flow
-found_is : (es : List Stated) (f : PlainFlow) (s : Stated) → T (is_sorted name_order es) → state_of f es ≡ Some s → IsStateOf es f s
+found_is : (es : List PlainState) (f : PlainFlow) (s : PlainState) → T (is_sorted name_order es) → state_of f es ≡ Some s → IsStateOf es f s
 found_is [] f s is found = nothing_is s found
 found_is (e ∷ es) f s is found = by (same_flow e.1.flow f) refl found (found_is es f s (second_of _ _ is)) where
   by : (t : Bool) → same_flow e.1.flow f ≡ t → cond t (Some e) (state_of f es) ≡ Some s → (state_of f es ≡ Some s → IsStateOf es f s) → IsStateOf (e ∷ es) f s
@@ -160,7 +160,7 @@ found_is (e ∷ es) f s is found = by (same_flow e.1.flow f) refl found (found_i
         behind false same held = held
 
 -- where a state has the flow, one is found
-is_found : (es : List Stated) (f : PlainFlow) (n : StateName) (x : Held) → held_at n es ≡ Some x → same_flow x.flow f ≡ true → is_some (state_of f es) ≡ true
+is_found : (es : List PlainState) (f : PlainFlow) (n : StateName) (x : Held) → held_at n es ≡ Some x → same_flow x.flow f ≡ true → is_some (state_of f es) ≡ true
 is_found [] f n x there has = nothing_is x there
 is_found (e ∷ es) f n x there has = by (same_flow e.1.flow f) refl (eq_by_cmp name_order n e.0) there (λ held. is_found es f n x held has) where
   by : (t : Bool) → same_flow e.1.flow f ≡ t → (u : Bool) → cond u (Some e.1) (held_at n es) ≡ Some x → (held_at n es ≡ Some x → is_some (state_of f es) ≡ true) → is_some (cond t (Some e) (state_of f es)) ≡ true
@@ -170,7 +170,7 @@ is_found (e ∷ es) f n x there has = by (same_flow e.1.flow f) refl (eq_by_cmp 
       no (sym (subst (λ (h : Held). same_flow h.flow f ≡ true) (sym one) has) ∙ flow)
   by false flow false held rest = rest held
 
-one_state : (es : List Stated) (f : PlainFlow) (s t : Stated) → NamesFlows es → IsStateOf es f s → IsStateOf es f t → s ≡ t
+one_state : (es : List PlainState) (f : PlainFlow) (s t : PlainState) → NamesFlows es → IsStateOf es f s → IsStateOf es f t → s ≡ t
 one_state es f s t is one other =
     let name : s.0 ≡ t.0 = is.one_flow s.0 t.0 s.1 t.1 one.held other.held (same_third s.1.flow f t.1.flow one.flow (same_back t.1.flow f other.flow)) in
     let held : s.1 ≡ t.1 = ap (λ o. unwrap_or o s.1) (sym one.held ∙ ap (λ n. held_at n es) name ∙ other.held) in
@@ -181,6 +181,6 @@ one_state_a_flow es f is = record {
   found = λ s. (found_is es f s is.sorted, λ has. by s has (state_of f es) refl (is_found es f s.0 s.1 has.held has.flow));
   one = λ s t. one_state es f s t is;
 } where
-  by : (s : Stated) → IsStateOf es f s → (o : Option Stated) → state_of f es ≡ o → is_some o ≡ true → state_of f es ≡ Some s
+  by : (s : PlainState) → IsStateOf es f s → (o : Option PlainState) → state_of f es ≡ o → is_some o ≡ true → state_of f es ≡ Some s
   by s has None e some = no (sym some)
   by s has (Some t) e some = e ∙ ap (λ u. Some u) (one_state es f t s is (found_is es f t is.sorted e) has)

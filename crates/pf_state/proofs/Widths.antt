@@ -1,9 +1,10 @@
 -- How many bytes states take where they are kept: 96 each.
 use Rattle.std.proofs.{Common.{◌≡◌, ◌+◌, ◌*◌, ℕ, true, List, [], ◌∷◌, length, refl, arith}, lemmas.{Bool.{and_parts, Decides.nat_tests}, List.Sums.{sum_by-cons}}}
 use Rattle.std.specs.List.{sum_by}
-use Rattle.pf_addr.specs.{Address.family_of, Bytes.Forms.{Value, length_of}, declared.addr.{Addr.Addr, Addr.TheVariants.V4, Addr.TheVariants.V6}}
+use Rattle.pf_addr.specs.{Address.family_of, declared.addr.Addr.{Addr, TheVariants.{V4, V6}}}
+use Rattle.pf_form.specs.Bytes.Forms.{Value, length_of}
 use Rattle.pf_rule.specs.Bytes.{family_byte}
-use Rattle.pf_state.specs.{declared.{state.Bound.Bound, state.Bound.TheVariants.Rule, state.Bound.TheVariants.Default}, Flows.PlainFlow, States.{Stated, is_whole, are_whole}}
+use Rattle.pf_state.specs.{declared.{state.Bound.Bound, state.Bound.TheVariants.Rule, state.Bound.TheVariants.Default}, Flows.PlainFlow, States.{PlainState, is_whole, are_whole}}
 use Rattle.pf_state.specs.Layouts.{Flows.{direction_form, family_form, protocol_form, AddrShape, addr_form, ports_form, flow_form, plain_flow}, States.{name_form, bound_form, plain_bound, held_form, state_form, plain_state, states_form, plain_states}}
 
 ones : (bytes : List ℕ) → sum_by (λ b. 1) bytes ≡ length bytes
@@ -24,11 +25,11 @@ unfolding bound_form
 bound_long Default whole = refl
 bound_long (Rule n sum) whole = let sixteen : length sum ≡ 16 = grind (arith, nat_tests, whole) in omega (arith, ones sum, sixteen)
 
-pub state_long : (version : ℕ) (s : Stated) → is_whole s.1.bound ≡ true → length_of (state_form version) (plain_state s) ≡ 96
+pub state_long : (version : ℕ) (s : PlainState) → is_whole s.1.bound ≡ true → length_of (state_form version) (plain_state s) ≡ 96
 unfolding state_form name_form held_form
 state_long version s whole = omega (arith, flow_long s.1.flow, bound_long s.1.bound whole)
 
-each_long : (version : ℕ) (es : List Stated) → are_whole es ≡ true → sum_by (length_of (state_form version)) (plain_states es) ≡ 96 * length es
+each_long : (version : ℕ) (es : List PlainState) → are_whole es ≡ true → sum_by (length_of (state_form version)) (plain_states es) ≡ 96 * length es
 each_long version [] whole = refl
 each_long version (s ∷ es) whole =
     let parts = and_parts (is_whole s.1.bound) (are_whole es) whole in
@@ -39,6 +40,6 @@ each_long version (s ∷ es) whole =
       each_long version es parts.1,
     )
 
-pub states_long : (version : ℕ) (es : List Stated) → are_whole es ≡ true → length_of (states_form version) (plain_states es) ≡ 4 + 96 * length es
+pub states_long : (version : ℕ) (es : List PlainState) → are_whole es ≡ true → length_of (states_form version) (plain_states es) ≡ 4 + 96 * length es
 unfolding states_form
 states_long version es whole = omega (arith, each_long version es whole)

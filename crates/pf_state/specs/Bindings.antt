@@ -1,4 +1,4 @@
--- To which rule a state is bound. Own.
+-- To which rule a state is bound.
 use Rattle.std.specs.{Prelude.{ℕ, ◌==◌, ◌&&◌, nat_lt, Bool, not, cond, List}, Str.bytes_eq}
 use Rattle.pf_state.specs.declared.{binding.TheConstants.ALL_ONES, state.Bound.Bound, state.Bound.TheVariants.Rule, state.Bound.TheVariants.Default}
 

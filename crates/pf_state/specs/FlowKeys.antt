@@ -1,5 +1,5 @@
 -- What flows are looked for by: one key for both ways of a flow, and an order of keys in which a number mixed of all fields decides
--- first. Own.
+-- first.
 use Rattle.std.specs.{Prelude.{ℕ, ◌+◌, ◌*◌, ◌/◌, ◌%◌, ◌^◌, bit_xor}, Ordering.{ordering_then, nat_cmp}}
 use Rattle.std.specs.declared.cmp.Ordering.{Ordering}
 use Rattle.pf_addr.specs.declared.{addr.Addr.Addr, addr.Addr.TheVariants.V4, addr.Addr.TheVariants.V6}

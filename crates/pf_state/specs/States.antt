@@ -4,28 +4,28 @@ use Rattle.std.specs.declared.cmp.Ordering.{Ordering}
 use Rattle.pf_state.specs.{declared.{limits.TheConstants.STATE_LIMIT, state.Bound.Bound, state.Bound.TheVariants.Rule, state.Bound.TheVariants.Default, state.Held.Held, state.StateName.StateName}, Flows.{PlainFlow, same_flow}}
 
 -- a state: its name, and what is held under it
-abbrev pub Stated : Type 0
-Stated = StateName × Held
+abbrev pub PlainState : Type 0
+PlainState = StateName × Held
 
 -- by the number, then by the creator
 abbrev pub name_order : StateName → StateName → Ordering
 name_order a b = ordering_then (nat_cmp a.id b.id) (nat_cmp a.creator b.creator)
 
 -- what is held under a name
-abbrev pub held_at : StateName → List Stated → Option Held
+abbrev pub held_at : StateName → List PlainState → Option Held
 held_at n es = find name_order n es
 
 -- the state of a flow: the first one there is, and in a table the only one
-abbrev pub state_of : PlainFlow → List Stated → Option Stated
+abbrev pub state_of : PlainFlow → List PlainState → Option PlainState
 state_of f es = first_where (λ s. same_flow s.1.flow f) es
 
 -- In the order of names, so no name twice; and no flow twice.
-pub record NamesFlows (es : List Stated) : Type 0 where
+pub record NamesFlows (es : List PlainState) : Type 0 where
   pub sorted : T (is_sorted name_order es)
   pub one_flow : (a b : StateName) (x y : Held) → held_at a es ≡ Some x → held_at b es ≡ Some y → same_flow x.flow y.flow ≡ true → a ≡ b
 
 -- what a table keeps: that, and no more states than there may be
-pub record IsStates (es : List Stated) : Type 0 where
+pub record IsStates (es : List PlainState) : Type 0 where
   pub names : NamesFlows es
   pub few : length es ≤ STATE_LIMIT
 
@@ -35,5 +35,5 @@ is_whole Default = true
 is_whole (Rule n sum) = length sum == 16
 
 -- each of them is bound by a whole checksum, if by any
-abbrev pub are_whole : List Stated → Bool
+abbrev pub are_whole : List PlainState → Bool
 are_whole es = list_all (λ s. is_whole s.1.bound) es

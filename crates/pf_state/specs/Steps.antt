@@ -1,20 +1,20 @@
 -- Steps that change states: what an insert is judged as, what a delete and a clear take out, and what is counted. All own.
 use Rattle.std.specs.{Prelude.{◌≡◌, ℕ, ◌+◌, ◌<◌, ◌^◌, ◌==◌, ◌&&◌, ◌||◌, nat_lt, nat_le, Bool, true, false, not, cond, List, [], ◌∷◌, length, fold, is_some, Some, None, Result, Ok, Err}, FinMap.Entries.where_key, List.{list_any, count_by}, Option.option_map_or, Ordering.eq_by_cmp}
 use Rattle.pf_map.specs.Maps.{with_value}
-use Rattle.pf_state.specs.{declared.{counts.Counts.Counts, limits.TheConstants.STATE_LIMIT, refusal.StatesRefusal.StatesRefusal, refusal.StatesRefusal.TheVariants.StatesFull, refusal.StatesRefusal.TheVariants.Memory, state.StateName.StateName, step.Insertion.Insertion, step.Insertion.TheVariants.Stale, step.Insertion.TheVariants.Clash, step.Insertion.TheVariants.Replaced, step.Insertion.TheVariants.New, step.Step.Step, step.Step.TheVariants.Insert, step.Step.TheVariants.Delete, step.Step.TheVariants.Clear}, Flows.same_flow, States.{Stated, name_order, held_at}}
+use Rattle.pf_state.specs.{declared.{counts.Counts.Counts, limits.TheConstants.STATE_LIMIT, refusal.StatesRefusal.StatesRefusal, refusal.StatesRefusal.TheVariants.StatesFull, refusal.StatesRefusal.TheVariants.Memory, state.StateName.StateName, step.Insertion.Insertion, step.Insertion.TheVariants.Stale, step.Insertion.TheVariants.Clash, step.Insertion.TheVariants.Replaced, step.Insertion.TheVariants.New, step.Step.Step, step.Step.TheVariants.Insert, step.Step.TheVariants.Delete, step.Step.TheVariants.Clear}, Flows.same_flow, States.{PlainState, name_order, held_at}}
 
 -- ---- inserting
 
 -- the name is known, and the generation isn't greater than the one there
-abbrev pub is_stale : List Stated → Stated → Bool
+abbrev pub is_stale : List PlainState → PlainState → Bool
 is_stale es s = option_map_or (λ held. nat_le s.1.generation held.generation) (held_at s.0 es) false
 
 -- a state of another name has the flow
-abbrev pub is_clash : List Stated → Stated → Bool
+abbrev pub is_clash : List PlainState → PlainState → Bool
 is_clash es s = list_any (λ t. not (eq_by_cmp name_order t.0 s.0) && same_flow t.1.flow s.1.flow) es
 
 -- stale is asked first, then clash, then whether the name is known
-abbrev pub insertion : List Stated → Stated → Insertion
+abbrev pub insertion : List PlainState → PlainState → Insertion
 insertion es s = cond (is_stale es s) Stale (cond (is_clash es s) Clash (cond (is_some (held_at s.0 es)) Replaced New))
 
 abbrev pub has_effect : Insertion → Bool
@@ -26,20 +26,20 @@ has_effect New = true
 -- ---- the states after steps
 
 -- the states without the one of this name
-abbrev pub without_state : List Stated → StateName → List Stated
+abbrev pub without_state : List PlainState → StateName → List PlainState
 without_state es n = with_value name_order es n None
 
 -- the states of all other creators
-abbrev pub without_creator : List Stated → ℕ → List Stated
+abbrev pub without_creator : List PlainState → ℕ → List PlainState
 without_creator es creator = where_key name_order (λ n. not (n.creator == creator)) es
 
-unfoldable pub stepped : List Stated → Step → List Stated
+unfoldable pub stepped : List PlainState → Step → List PlainState
 stepped es (Insert s) = cond (has_effect (insertion es s)) (with_value name_order es s.0 (Some s.1)) es
 stepped es (Delete n) = without_state es n
 stepped es (Clear creator) = without_creator es creator
 
 -- after steps in turn
-abbrev pub after : List Stated → List Step → List Stated
+abbrev pub after : List PlainState → List Step → List PlainState
 after es steps = fold stepped es steps
 
 -- ---- what is counted
@@ -74,29 +74,29 @@ pub record IsCounted (c : Counts) : Type 0 where
   pub deleted : c.deleted < 2 ^ 64
 
 -- how many states of this name there are: one or none
-abbrev pub named_count : List Stated → StateName → ℕ
+abbrev pub named_count : List PlainState → StateName → ℕ
 named_count es n = cond (is_some (held_at n es)) 1 0
 
-abbrev pub creator_count : List Stated → ℕ → ℕ
+abbrev pub creator_count : List PlainState → ℕ → ℕ
 creator_count es creator = count_by (λ s. s.0.creator == creator) es
 
-unfoldable pub counted : List Stated → Step → Counts
+unfoldable pub counted : List PlainState → Step → Counts
 counted es (Insert s) = one_insertion (insertion es s)
 counted es (Delete n) = only_deleted (named_count es n)
 counted es (Clear creator) = only_deleted (creator_count es creator)
 
 -- each step is counted by the states after those before it
-unfoldable pub counts : List Stated → List Step → Counts
+unfoldable pub counts : List PlainState → List Step → Counts
 counts es [] = no_counts
 counts es (x ∷ xs) = both (counted es x) (counts (stepped es x) xs)
 
 -- ---- when a batch is refused
 
-abbrev pub is_over : List Stated → Bool
+abbrev pub is_over : List PlainState → Bool
 is_over es = nat_lt STATE_LIMIT (length es)
 
 -- behind some step there are more states than there may be
-unfoldable pub passes_limit : List Stated → List Step → Bool
+unfoldable pub passes_limit : List PlainState → List Step → Bool
 passes_limit es [] = false
 passes_limit es (x ∷ xs) = is_over (stepped es x) || passes_limit (stepped es x) xs
 

@@ -1,4 +1,4 @@
-//! Flows, states and steps in bytes, by layouts of `pf_addr::bytes`. In the bytes all numbers have their highest byte first.
+//! Flows, states and steps in bytes, by layouts of `pf_form::bytes`. In the bytes all numbers have their highest byte first.
 
 mod flow;
 mod laws;

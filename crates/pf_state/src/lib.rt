@@ -7,7 +7,7 @@
 //!
 //! The crate has four layers, and they stay apart:
 //! - states, their table and steps, in the modules at the root: they know no bytes and nothing of `peer`;
-//! - bytes of flows, states and steps, in [`layouts`], by layouts of `pf_addr::bytes`: what a store keeps of them;
+//! - bytes of flows, states and steps, in [`layouts`], by layouts of `pf_form::bytes`: what a store keeps of them;
 //! - messages, in [`peer`]: how a stream of bytes is read in whatever pieces it comes, and how messages are written. It knows flows and
 //!   their bytes, and no state;
 //! - [`failover`], which knows states and messages: the steps that a message asks for, and the messages that tell a peer of all states.

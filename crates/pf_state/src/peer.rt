@@ -1,7 +1,7 @@
 //! Messages by which a peer that takes over tells of its states: their form in bytes, how a stream of them is read in whatever
 //! pieces it comes, and how they are written.
 //!
-//! A message has a header of [`HEADER`] bytes: the version, a zero byte, the length of the whole message in two bytes, and the
+//! A message has a header of [`MESSAGE_HEADER`] bytes: the version, a zero byte, the length of the whole message in two bytes, and the
 //! checksum of the rules that its states were made by. Groups follow, each an action, a zero byte and a count in two bytes, and
 //! that many records of [`RECORD`] bytes, of which an insert has its layout in `specs/Peer/Records.antt`. In the bytes all numbers have
 //! their highest byte first; in the types here they are plain
@@ -29,5 +29,5 @@ pub use message::{Group, MESSAGE_LIMIT, Message, Records};
 pub use one::read_one;
 pub use reader::{Fed, PeerReader};
 pub use record::{Clear, Delete, Insert, InsertFields, RECORD};
-pub use stream::HEADER;
+pub use stream::MESSAGE_HEADER;
 pub use writing::write_peer;

@@ -3,7 +3,7 @@ ghost use Rattle.std.specs.{Prelude.{◌≡◌, ◌==◌, true, length}, Orderin
 ghost use Rattle.pf_state.specs.States.{name_order, is_whole};
 
 use crate::flow::Flow;
-use pf_map::Entry;
+use pf_map::KeyValue;
 use std::cmp::Ordering;
 
 /// What a state is named by.
@@ -36,7 +36,7 @@ pub struct Held {
 }
 
 /// A state: what it is named by, and what is held. It is shared by all tables and steps that have it. Contracts see the pair.
-pub type State = Entry<StateName, Held>;
+pub type State = KeyValue<StateName, Held>;
 
 impl StateName {
     /// By the number, then by the creator.

@@ -1,6 +1,6 @@
 //! The table of states.
 ghost use Rattle.std.specs.{Prelude.{◌≡◌, ◌≤◌, ◌+◌, [], cond, is_ok, is_some, length, IfOk, IfSome, Contains, Some, None, true, false}, Option.option_map};
-ghost use Rattle.pf_state.specs.{declared.limits.TheConstants.STATE_LIMIT, Flows.flow_of, States.{Stated, IsStates, are_whole, held_at, state_of}, Steps.{Refuses, passes_limit, after, counts, without_state, without_creator, creator_count}};
+ghost use Rattle.pf_state.specs.{declared.limits.TheConstants.STATE_LIMIT, Flows.flow_of, States.{PlainState, IsStates, are_whole, held_at, state_of}, Steps.{Refuses, passes_limit, after, counts, without_state, without_creator, creator_count}};
 
 use crate::change::{act, clear, held_at, is_over};
 use crate::counts::Counts;
@@ -29,9 +29,9 @@ impl Drop for StateTable {
 
 impl Model for StateTable {
     ghost use Rattle.std.specs.Prelude.{◌≡◌, true, List};
-    ghost use Rattle.pf_state.specs.States.{Stated, IsStates, are_whole};
+    ghost use Rattle.pf_state.specs.States.{PlainState, IsStates, are_whole};
 
-    ghost Value = { List Stated };
+    ghost Value = { List PlainState };
 
     ghost view = { λ t. t.index };
 

@@ -1,20 +1,23 @@
 -- What is kept: what its types keep fits its form, its data tell it, and its bytes.
 use Rattle.std.proofs.{Common.{◌*◌, ◌^◌, ◌≡◌, ◌≢◌, ◌≤◌, ◌==◌, ◌&&◌, not, ℕ, Bool, true, false, T, List, [], ◌∷◌, length, map, cond, Some, None, Ok, refl, sym, ap, ◌∙◌, true≢false, arith}, lemmas.{List.length-map, Bool.{and_parts, Decides.nat_tests}, Cmp.{alike_right, tied_itself, nat_list_cmp_total}}}
 use Rattle.std.specs.{Prelude.{nat_le, replicate}, declared.{cmp.Ordering.Ordering, cmp.Ordering.TheVariants.Less, cmp.Ordering.TheVariants.Equal, cmp.Ordering.TheVariants.Greater}, Cmp.IsTotalOrder, FinMap.{find, is_sorted}, FinMap.Entries.below_all, List.{list_all, AllByRecursion}, Ordering.{is_eq, is_lt, ordering_reverse}}
-use Rattle.pf_addr.specs.{Bytes.{Parts.number_bytes, Forms.{Shape, Value, Form, that, Fits, Spells, reads, writes, onto}, Lists.{in_order, ordered}}, Laws.Bytes.{Onto.onto_is, Texts.one_value}, Path.Paths.path_order}
-use Rattle.pf_addr.specs.{Bytes.Codes.below, NetForms.family, Path.PathForms.{path_form, table_name_form}}
-use Rattle.pf_anchor.specs.{declared.limits.TheConstants.{RULESET_LIMIT, TABLE_COUNT_LIMIT}, Rulesets.{Ruled, IsMap}, Tables.{Tabled, table_order, IsTableMap}}
+use Rattle.pf_addr.specs.Path.Paths.{path_order}
+use Rattle.pf_form.specs.{Bytes.{BasicForms.number_bytes, Forms.{Shape, Value, Form, that, Fits, Spells, reads, writes, onto}, Lists.{in_order, ordered}}, Laws.Bytes.{Onto.onto_is, Texts.one_value}}
+use Rattle.pf_addr.specs.{NetForms.family, Path.PathForms.{path_form, table_name_form}}
+use Rattle.pf_form.specs.Bytes.Codes.{below}
+use Rattle.pf_anchor.specs.{declared.limits.TheConstants.{RULESET_LIMIT, TABLE_COUNT_LIMIT}, Rulesets.{PlainPlaced, IsMap}, Tables.{PlainPlacedTable, table_order, IsTableMap}}
 use Rattle.pf_anchor.proofs.TableMaps.{table_order_total}
-use Rattle.pf_core.specs.Durable.Edits.{Kept, kept, kept_nothing}
+use Rattle.pf_core.specs.Durable.Changes.{PlainDurable, durable_with, kept_nothing}
 use Rattle.pf_rule.specs.Sum.{Layouts.plain_rule}
 use Rattle.pf_state.proofs.LayoutsBack.{states_back}
 use Rattle.pf_table.specs.EntryForms.{entry, plain_entry}
-use Rattle.pf_map.proofs.{Ordered.{in_order_of, sorted_of}, Tests.{first_of, second_of, less_of}}
+use Rattle.pf_map.proofs.Tests.{first_of, second_of, less_of}
+use Rattle.pf_store.proofs.InOrder.{in_order_of, sorted_of}
 use Rattle.pf_store.specs.declared.snapshots.{rulesets.StoredRuleset.StoredRuleset, tables.StoredPlaced.StoredPlaced}
 use Rattle.pf_anchor.specs.Forms.{at_most, RulesShape, rules_form, named_form, entries_form, has_some, ruleset_before, are_rulesets, rulesets_form, plain_ruled, PlacedShape, placed_before, are_tables, placed_form, kept_tables_form, plain_tabled, ruled_in, tabled_in, configured}
 use Rattle.pf_core.specs.Durable.Forms.{DurableShape, durable_form, plain_durable, durable_in}
 use Rattle.pf_store.specs.{Durables.{durable_has_form, IsDurable, example_kept, example_bytes}, Snapshots.{empty_form, EndsInSnapshot}}
-use Rattle.pf_store.proofs.Told.{entries_told}
+use Rattle.pf_store.proofs.RecordedForms.{entries_told}
 
 -- ---- lists
 
@@ -76,11 +79,11 @@ module _ {K X : Type 0} {R : K → K → Ordering} (o : IsTotalOrder R) where
 
 -- ---- rulesets
 
-rules_kept : (rs : List Ruled) → list_all (λ v. has_some v.1) (map plain_ruled rs) ≡ list_all (λ r. has_some r.1) rs
+rules_kept : (rs : List PlainPlaced) → list_all (λ v. has_some v.1) (map plain_ruled rs) ≡ list_all (λ r. has_some r.1) rs
 rules_kept [] = refl
 rules_kept (r ∷ rs) = rw (some_mapped plain_rule r.1, rules_kept rs) refl
 
-pub rulesets_fit : (version : ℕ) (rs : List Ruled) → IsMap rs → length rs ≤ RULESET_LIMIT → AllByRecursion (Fits (rules_form version)) (map plain_ruled rs)
+pub rulesets_fit : (version : ℕ) (rs : List PlainPlaced) → IsMap rs → length rs ≤ RULESET_LIMIT → AllByRecursion (Fits (rules_form version)) (map plain_ruled rs)
     → Fits (rulesets_form version) (map plain_ruled rs)
 unfolding rulesets_form
 rulesets_fit version rs is le each =
@@ -98,7 +101,7 @@ pub rulesets_sorted : (rows : List StoredRuleset) → in_order ruleset_before (m
     → T (is_sorted path_order (map (λ r. r.placed) rows))
 rulesets_sorted rows is =
     let plain : StoredRuleset → Value RulesShape = λ r. plain_ruled r.placed in
-    let placed : StoredRuleset → Ruled = λ r. r.placed in
+    let placed : StoredRuleset → PlainPlaced = λ r. r.placed in
     sorted_of nat_list_cmp_total (map placed rows) (seen_in_order (λ a b. is_lt (path_order a.0 b.0)) placed rows
     ∙ sym (seen_in_order ruleset_before plain rows) ∙ is)
 
@@ -128,18 +131,18 @@ pub rulesets_read : (version : ℕ) (rows : List StoredRuleset) (before rest : L
     → reads (rulesets_form version) before ≡ Ok (map plain_ruled (map (λ r. r.placed) rows), rest)
 unfolding rulesets_form
 rulesets_read version rows before rest read is =
-    let placed : StoredRuleset → Ruled = λ r. r.placed in
+    let placed : StoredRuleset → PlainPlaced = λ r. r.placed in
     that_read are_rulesets (ordered ruleset_before 4 (rules_form version)) before rest
     (map (λ r. plain_ruled (placed r)) rows) read (rulesets_are rows ∙ is)
     ∙ ap (λ (vs : List (Value RulesShape)). Ok (vs, rest)) (seen_again placed plain_ruled rows)
 
 -- ---- tables
 
-entries_kept : (ts : List Tabled) → list_all (λ v. has_some v.1.1) (map plain_tabled ts) ≡ list_all (λ t. has_some t.1) ts
+entries_kept : (ts : List PlainPlacedTable) → list_all (λ v. has_some v.1.1) (map plain_tabled ts) ≡ list_all (λ t. has_some t.1) ts
 entries_kept [] = refl
 entries_kept (t ∷ ts) = rw (some_mapped plain_entry t.1, entries_kept ts) refl
 
-pub tables_fit : (ts : List Tabled) → IsTableMap ts → length ts ≤ TABLE_COUNT_LIMIT
+pub tables_fit : (ts : List PlainPlacedTable) → IsTableMap ts → length ts ≤ TABLE_COUNT_LIMIT
     → AllByRecursion (Fits placed_form) (map plain_tabled ts) → Fits kept_tables_form (map plain_tabled ts)
 unfolding kept_tables_form
 tables_fit ts is le each =
@@ -156,7 +159,7 @@ pub tables_sorted : (rows : List StoredPlaced) → in_order placed_before (map (
     → T (is_sorted table_order (map (λ r. r.placed) rows))
 tables_sorted rows is =
     let plain : StoredPlaced → Value PlacedShape = λ r. plain_tabled r.placed in
-    let placed : StoredPlaced → Tabled = λ r. r.placed in
+    let placed : StoredPlaced → PlainPlacedTable = λ r. r.placed in
     sorted_of table_order_total (map placed rows) (seen_in_order (λ a b. is_lt (table_order a.0 b.0)) placed rows
     ∙ sym (seen_in_order placed_before plain rows) ∙ is)
 
@@ -188,23 +191,23 @@ pub tables_read : (rows : List StoredPlaced) (before rest : List ℕ)
     → reads kept_tables_form before ≡ Ok (map plain_tabled (map (λ r. r.placed) rows), rest)
 unfolding kept_tables_form
 tables_read rows before rest read is =
-    let placed : StoredPlaced → Tabled = λ r. r.placed in
+    let placed : StoredPlaced → PlainPlacedTable = λ r. r.placed in
     that_read are_tables (ordered placed_before 4 placed_form) before rest
     (map (λ r. plain_tabled (placed r)) rows) read (tables_are rows ∙ is)
     ∙ ap (λ (vs : List (Value PlacedShape)). Ok (vs, rest)) (seen_again placed plain_tabled rows)
 
 -- ---- told by its data
 
-tables_told : (ts : List Tabled) → map tabled_in (map plain_tabled ts) ≡ ts
+tables_told : (ts : List PlainPlacedTable) → map tabled_in (map plain_tabled ts) ≡ ts
 tables_told [] = refl
 tables_told (t ∷ ts) = λ i. (t.0, entries_told t.1 i) ∷ tables_told ts i
 
-pub durable_told : (d : Kept) → map ruled_in (map plain_ruled d.config.rulesets) ≡ d.config.rulesets → durable_in (plain_durable d) ≡ d
-durable_told d rulesets = λ i. kept d.epoch (configured (rulesets i) (tables_told d.config.tables i)) (states_back d.states i)
+pub durable_told : (d : PlainDurable) → map ruled_in (map plain_ruled d.config.rulesets) ≡ d.config.rulesets → durable_in (plain_durable d) ≡ d
+durable_told d rulesets = λ i. durable_with d.epoch (configured (rulesets i) (tables_told d.config.tables i)) (states_back d.states i)
 
 -- ---- what has bytes
 
-pub durable_formed : (version : ℕ) (d : Kept) → Fits (durable_form version) (plain_durable d) → durable_has_form d ≡ true
+pub durable_formed : (version : ℕ) (d : PlainDurable) → Fits (durable_form version) (plain_durable d) → durable_has_form d ≡ true
 unfolding durable_form rulesets_form kept_tables_form
 durable_formed version d fits =
     let rs : List (Value RulesShape) = map plain_ruled d.config.rulesets in
@@ -217,21 +220,21 @@ durable_formed version d fits =
     (rw (sym (few TABLE_COUNT_LIMIT d.config.tables plain_tabled), tables) refl)
 
 -- what is within all limits has bytes
-pub within_formed : (d : Kept) → length d.config.rulesets ≤ RULESET_LIMIT → length d.config.tables ≤ TABLE_COUNT_LIMIT → durable_has_form d ≡ true
+pub within_formed : (d : PlainDurable) → length d.config.rulesets ≤ RULESET_LIMIT → length d.config.tables ≤ TABLE_COUNT_LIMIT → durable_has_form d ≡ true
 within_formed d rulesets tables = rw (at_most_is RULESET_LIMIT d.config.rulesets rulesets, at_most_is TABLE_COUNT_LIMIT d.config.tables tables) refl
 
-pub durable_formless : (version : ℕ) (d : Kept) (bytes : List ℕ) → durable_has_form d ≡ false → IsDurable version d bytes → ⊥
+pub durable_formless : (version : ℕ) (d : PlainDurable) (bytes : List ℕ) → durable_has_form d ≡ false → IsDurable version d bytes → ⊥
 durable_formless version d bytes none is =
     true≢false (sym (durable_formed version d is.spelled.fits) ∙ none)
 
 -- ---- its bytes
 
-pub durable_spelled : (version : ℕ) (d : Kept) (bytes : List ℕ) → durable_in (plain_durable d) ≡ d → Spells (durable_form version) (plain_durable d) bytes
+pub durable_spelled : (version : ℕ) (d : PlainDurable) (bytes : List ℕ) → durable_in (plain_durable d) ≡ d → Spells (durable_form version) (plain_durable d) bytes
     → IsDurable version d bytes
 durable_spelled version d bytes told is = record { spelled = is; told = sym told }
 
 -- they are put behind others
-pub ends_in_snapshot : (version : ℕ) (d : Kept) (before bytes : List ℕ) → durable_in (plain_durable d) ≡ d → Fits (durable_form version) (plain_durable d)
+pub ends_in_snapshot : (version : ℕ) (d : PlainDurable) (before bytes : List ℕ) → durable_in (plain_durable d) ≡ d → Fits (durable_form version) (plain_durable d)
     → bytes ≡ onto (durable_form version) (plain_durable d) before → EndsInSnapshot version d before bytes
 ends_in_snapshot version d before bytes told fits is = record {
   snapshot = writes (durable_form version) (plain_durable d);
@@ -240,11 +243,11 @@ ends_in_snapshot version d before bytes told fits is = record {
 }
 
 -- bytes are those of one thing kept at most
-pub one_durable : (version : ℕ) (d e : Kept) (bytes : List ℕ) → IsDurable version d bytes → IsDurable version e bytes → d ≡ e
+pub one_durable : (version : ℕ) (d e : PlainDurable) (bytes : List ℕ) → IsDurable version d bytes → IsDurable version e bytes → d ≡ e
 one_durable version d e bytes a b = a.told ∙ ap durable_in (one_value (durable_form version) bytes (plain_durable d) (plain_durable e) a.spelled b.spelled) ∙ sym b.told
 
 -- and what is kept has the bytes of some data that tell it
-pub none_told : {A : Type 0} (version : ℕ) (d : Kept) (bytes : List ℕ) → ((v : Value DurableShape) → Spells (durable_form version) v bytes → A)
+pub none_told : {A : Type 0} (version : ℕ) (d : PlainDurable) (bytes : List ℕ) → ((v : Value DurableShape) → Spells (durable_form version) v bytes → A)
     → IsDurable version d bytes → A
 none_told version d bytes refuses is = refuses (plain_durable d) is.spelled
 

@@ -1,16 +1,18 @@
 -- A snapshot is of something within all limits.
 use Rattle.std.proofs.{Common.{◌≡◌, ◌≢◌, ◌≤◌, ◌&&◌, ◌||◌, not, cond, ℕ, Bool, true, false, List, [], ◌∷◌, length, map, Some, refl, sym, ap, ◌∙◌, subst, true≢false, arith}, lemmas.{List.length-map, Bool.{and_parts, Decides.nat_tests}, Cmp.nat_list_cmp_total}}
 use Rattle.std.specs.{Prelude.nat_le, declared.cmp.Ordering.Ordering, FinMap.find, List.{list_all, list_any, AllByRecursion}, Option.unwrap_or, Ordering.{eq_by_cmp, is_lt}}
-use Rattle.pf_addr.specs.{Bytes.{Forms.{Value, Fits}, Lists.in_order}, Path.Paths.path_order}
+use Rattle.pf_addr.specs.Path.Paths.{path_order}
+use Rattle.pf_form.specs.Bytes.{Forms.{Value, Fits}, Lists.in_order}
 use Rattle.pf_anchor.specs.{declared.limits.TheConstants.{RULE_LIMIT, RULESET_LIMIT, TABLE_COUNT_LIMIT}, Rulesets.IsMap, Tables.{table_order, IsTableMap}}
 use Rattle.pf_anchor.proofs.TableMaps.{table_order_total}
-use Rattle.pf_core.specs.{Durable.Edits.Kept, Laws.Durable.IsWithin}
+use Rattle.pf_core.specs.{Durable.Changes.PlainDurable, Laws.Durable.IsWithin}
 use Rattle.pf_rule.specs.{Rules.PlainRule, Sum.Reading.rule_of}
-use Rattle.pf_state.specs.{declared.{limits.TheConstants.STATE_LIMIT, state.Held.Held, state.StateName.StateName}, Flows.same_flow, Orders.name_total, States.{Stated, name_order, held_at, IsStates}, Layouts.States.{StateShape, states_form, state_before, state_in, no_flow_twice}}
+use Rattle.pf_state.specs.{declared.{limits.TheConstants.STATE_LIMIT, state.Held.Held, state.StateName.StateName}, Flows.same_flow, Orders.name_total, States.{PlainState, name_order, held_at, IsStates}, Layouts.States.{StateShape, states_form, state_before, state_in, no_flow_twice}}
 use Rattle.pf_state.proofs.{Flows.same_back, Names.one_name, Tables.nothing_is}
 use Rattle.pf_table.specs.{EntryForms.{EntryShape, entry_of, entry_before}, Tables.AreEntries}
-use Rattle.pf_map.specs.{ListMaps.{list_at, list_in}, Networks.net_order, NetworkLaws.net_total}
-use Rattle.pf_map.proofs.Ordered.{sorted_of}
+use Rattle.pf_addr.specs.{NetOrder.net_order, Laws.NetOrder.net_total}
+use Rattle.pf_map.specs.ListMaps.{list_at, list_in}
+use Rattle.pf_store.proofs.InOrder.{sorted_of}
 use Rattle.pf_anchor.specs.Forms.{at_most, RulesShape, rules_form, rule_list_form, named_form, entries_form, has_some, rulesets_form, PlacedShape, placed_form, kept_tables_form, ruled_in, tabled_in}
 use Rattle.pf_core.specs.Durable.Forms.{DurableShape, durable_form, plain_durable, durable_in}
 use Rattle.pf_store.specs.Durables.{IsDurable}
@@ -107,7 +109,7 @@ entries_few_at vs fits p name = listed table_order AreEntries (map tabled_in vs)
 -- ---- states
 
 -- a flow that none of them has isn't found
-elsewhere : (es : List Stated) (h : Held) (n : StateName) (x : Held) → not (list_any (λ t. same_flow h.flow t.1.flow) es) ≡ true → held_at n es ≡ Some x
+elsewhere : (es : List PlainState) (h : Held) (n : StateName) (x : Held) → not (list_any (λ t. same_flow h.flow t.1.flow) es) ≡ true → held_at n es ≡ Some x
     → same_flow h.flow x.flow ≡ true → ⊥
 elsewhere [] h n x none there same = nothing_is x there
 elsewhere (e ∷ es) h n x none there same =
@@ -122,7 +124,7 @@ elsewhere (e ∷ es) h n x none there same =
           true≢false (sym none ∙ rw (subst (λ (k : Held). same_flow h.flow k.flow ≡ true) held same) refl)
       by false later rest = rest later
 
-one_flow : (es : List Stated) → no_flow_twice es ≡ true → (a b : StateName) (x y : Held) → held_at a es ≡ Some x → held_at b es ≡ Some y
+one_flow : (es : List PlainState) → no_flow_twice es ≡ true → (a b : StateName) (x y : Held) → held_at a es ≡ Some x → held_at b es ≡ Some y
     → same_flow x.flow y.flow ≡ true → a ≡ b
 one_flow [] once a b x y at_a at_b same = nothing_is x at_a
 one_flow (s ∷ es) once a b x y at_a at_b same =
@@ -166,5 +168,5 @@ data_within version v fits = record {
   states = are_states version v.1.1.1 fits.1.1.1;
 }
 
-pub durable_within : (version : ℕ) (d : Kept) (bytes : List ℕ) → IsDurable version d bytes → IsWithin d
+pub durable_within : (version : ℕ) (d : PlainDurable) (bytes : List ℕ) → IsDurable version d bytes → IsWithin d
 durable_within version d bytes is = subst IsWithin (sym is.told) (data_within version (plain_durable d) is.spelled.fits)

@@ -7,19 +7,19 @@ use Rattle.pf_journal.proofs.Gates.{length-counted, length-records-push}
 use Rattle.pf_store.specs.declared.groups.fault.GroupFault.{GroupFault}
 use Rattle.pf_store.specs.declared.groups.fault.GroupFault.TheVariants.{NoForm}
 use Rattle.pf_snap.specs.Banks.{Content}
-use Rattle.pf_core.specs.Durable.Edits.{Kept, Edit, after, applied}
+use Rattle.pf_core.specs.Durable.Changes.{PlainDurable, PlainChange, after, applied}
 use Rattle.pf_store.specs.declared.groups.change.Recorded.{Recorded}
 use Rattle.pf_store.specs.{Groups.{IsRecorded, made_all}, Stores.{FollowInTurn, Follows, left_by, left_by_all, Leads, Makes}}
-use Rattle.pf_store.proofs.{Durables.one_durable, Told.one_group}
+use Rattle.pf_store.proofs.{Durables.one_durable, RecordedForms.one_group}
 
 -- ---- groups
 
 -- of those that follow in turn each follows where those before it have come
-pub follow_push : (d : Kept) (rs : List Recorded) (r : Recorded) → FollowInTurn d rs → Follows (left_by_all d rs) r → FollowInTurn d (rs ++ r ∷ [])
+pub follow_push : (d : PlainDurable) (rs : List Recorded) (r : Recorded) → FollowInTurn d rs → Follows (left_by_all d rs) r → FollowInTurn d (rs ++ r ∷ [])
 follow_push d [] r all follows = (follows, tt)
 follow_push d (q ∷ rs) r all follows = (all.0, follow_push (left_by d q) rs r all.1 follows)
 
-pub follow_at : (d : Kept) (rs : List Recorded) (r : Recorded) (rest : List Recorded) → FollowInTurn d (rs ++ r ∷ rest) → Follows (left_by_all d rs) r
+pub follow_at : (d : PlainDurable) (rs : List Recorded) (r : Recorded) (rest : List Recorded) → FollowInTurn d (rs ++ r ∷ rest) → Follows (left_by_all d rs) r
 follow_at d [] r rest all = all.0
 follow_at d (q ∷ rs) r rest all = follow_at (left_by d q) rs r rest all.1
 
@@ -31,42 +31,42 @@ taken xs i x lt is = take_more xs i x lt ∙ ap (λ y. take i xs ++ y ∷ []) (s
 split_at : {A : Type 0} (xs : List A) (i : ℕ) (x : A) → i < length xs → x ≡ get_or xs i x → xs ≡ take i xs ++ x ∷ drop (i + 1) xs
 split_at xs i x lt is = sym (take-append-drop i xs) ∙ ap (λ l. take i xs ++ l) (drop_more xs i x lt ∙ ap (λ y. y ∷ drop (i + 1) xs) (sym is))
 
-module _ (d left : Kept) (rs : List Recorded) (i : ℕ) (r : Recorded) (lt : i < length rs) (is : r ≡ get_or rs i r) (so_far : FollowInTurn d (take i rs)) (left_is : left ≡ left_by_all d (take i rs)) where
+module _ (d left : PlainDurable) (rs : List Recorded) (i : ℕ) (r : Recorded) (lt : i < length rs) (is : r ≡ get_or rs i r) (so_far : FollowInTurn d (take i rs)) (left_is : left ≡ left_by_all d (take i rs)) where
   pub follow_on : Follows left r → FollowInTurn d (take (i + 1) rs)
   follow_on follows =
-      subst (FollowInTurn d) (sym (taken rs i r lt is)) (follow_push d (take i rs) r so_far (subst (λ (k : Kept). Follows k r) left_is follows))
+      subst (FollowInTurn d) (sym (taken rs i r lt is)) (follow_push d (take i rs) r so_far (subst (λ (k : PlainDurable). Follows k r) left_is follows))
 
   pub left_on : left_by left r ≡ left_by_all d (take (i + 1) rs)
-  left_on = ap (λ (k : Kept). left_by k r) left_is ∙ sym (fold_push left_by d (take i rs) r) ∙ ap (left_by_all d) (sym (taken rs i r lt is))
+  left_on = ap (λ (k : PlainDurable). left_by k r) left_is ∙ sym (fold_push left_by d (take i rs) r) ∙ ap (left_by_all d) (sym (taken rs i r lt is))
 
   pub stuck : ¬ Follows left r → ¬ FollowInTurn d rs
   stuck none all =
-      none (subst (λ (k : Kept). Follows k r) (sym left_is) (follow_at d (take i rs) r (drop (i + 1) rs) (subst (FollowInTurn d) (split_at rs i r lt is) all)))
+      none (subst (λ (k : PlainDurable). Follows k r) (sym left_is) (follow_at d (take i rs) r (drop (i + 1) rs) (subst (FollowInTurn d) (split_at rs i r lt is) all)))
 
 -- what changes leave
-pub left_by_made : (d : Kept) (es : List Edit) → left_by_all d (made_all es) ≡ after d es
+pub left_by_made : (d : PlainDurable) (es : List PlainChange) → left_by_all d (made_all es) ≡ after d es
 left_by_made d [] = refl
 left_by_made d (e ∷ es) = left_by_made (applied d e) es
 
 -- ---- payloads
 
-pub leads-push : (version : ℕ) (d : Kept) (ps : List (List ℕ)) (e : Kept) (p : List ℕ) (xs : List Recorded) → Leads version d ps e → IsRecorded version xs p → FollowInTurn e xs → Leads version d (ps ++ p ∷ []) (left_by_all e xs)
-leads-push version d [] e p xs led is follows = subst (λ (f : Kept). Leads version f (p ∷ []) (left_by_all e xs)) (sym led) (xs, is, follows, refl)
+pub leads-push : (version : ℕ) (d : PlainDurable) (ps : List (List ℕ)) (e : PlainDurable) (p : List ℕ) (xs : List Recorded) → Leads version d ps e → IsRecorded version xs p → FollowInTurn e xs → Leads version d (ps ++ p ∷ []) (left_by_all e xs)
+leads-push version d [] e p xs led is follows = subst (λ (f : PlainDurable). Leads version f (p ∷ []) (left_by_all e xs)) (sym led) (xs, is, follows, refl)
 leads-push version d (q ∷ ps) e p xs led is follows = (led.0, led.1, led.2, leads-push version (left_by_all d led.0) ps e p xs led.3 is follows)
 
 -- payloads lead to one thing
-pub one_end : (version : ℕ) (d : Kept) (ps : List (List ℕ)) (e f : Kept) → Leads version d ps e → Leads version d ps f → e ≡ f
+pub one_end : (version : ℕ) (d : PlainDurable) (ps : List (List ℕ)) (e f : PlainDurable) → Leads version d ps e → Leads version d ps f → e ≡ f
 one_end version d [] e f a b = sym a ∙ b
 one_end version d (p ∷ ps) e f a b =
     one_end version (left_by_all d b.0) ps e f (subst (λ (xs : List Recorded). Leads version (left_by_all d xs) ps e) (one_group version a.0 b.0 p a.1 b.1) a.3) b.3
 
-pub one_made : (content : Content) (d e : Kept) → Makes content d → Makes content e → d ≡ e
+pub one_made : (content : Content) (d e : PlainDurable) → Makes content d → Makes content e → d ≡ e
 one_made content d e a b =
-    one_end content.version b.first content.payloads d e (subst (λ (f : Kept). Leads content.version f content.payloads d) (one_durable content.version a.first b.first content.snapshot a.kept b.kept) a.leads) b.leads
+    one_end content.version b.first content.payloads d e (subst (λ (f : PlainDurable). Leads content.version f content.payloads d) (one_durable content.version a.first b.first content.snapshot a.kept b.kept) a.leads) b.leads
 
 -- where a payload leads nowhere, all of them don't
-pub stopped : (version : ℕ) (first : Kept) (done : List (List ℕ)) (p : List ℕ) (rest : List (List ℕ)) (d e : Kept) → Leads version first done d → ((xs : List Recorded) → IsRecorded version xs p → FollowInTurn d xs → ⊥) → Leads version first (done ++ p ∷ rest) e → ⊥
-stopped version first [] p rest d e led none all = none all.0 all.1 (subst (λ (f : Kept). FollowInTurn f all.0) led all.2)
+pub stopped : (version : ℕ) (first : PlainDurable) (done : List (List ℕ)) (p : List ℕ) (rest : List (List ℕ)) (d e : PlainDurable) → Leads version first done d → ((xs : List Recorded) → IsRecorded version xs p → FollowInTurn d xs → ⊥) → Leads version first (done ++ p ∷ rest) e → ⊥
+stopped version first [] p rest d e led none all = none all.0 all.1 (subst (λ (f : PlainDurable). FollowInTurn f all.0) led all.2)
 stopped version first (q ∷ done) p rest d e led none all =
     stopped version (left_by_all first all.0) done p rest d e (subst (λ (xs : List Recorded). Leads version (left_by_all first xs) done d) (one_group version led.0 all.0 q led.1 all.1) led.3) none all.3
 
@@ -82,7 +82,7 @@ contents-split payloads i p lt is =
     ∙ ap (λ (v : Vec ℕ Global). contents (take i payloads) ++ v.items ∷ contents (drop (i + 1) payloads)) (sym is)
 
 module _ (payloads : List (Vec ℕ Global)) (i : ℕ) (p : Vec ℕ Global) (lt : i < length payloads) (is : p ≡ get_or payloads i p) where
-  pub leads_on : (version : ℕ) (first d e : Kept) → Leads version first (contents (take i payloads)) d → (xs : List Recorded) × IsRecorded version xs p.items × FollowInTurn d xs × (e ≡ left_by_all d xs) → Leads version first (contents (take (i + 1) payloads)) e
+  pub leads_on : (version : ℕ) (first d e : PlainDurable) → Leads version first (contents (take i payloads)) d → (xs : List Recorded) × IsRecorded version xs p.items × FollowInTurn d xs × (e ≡ left_by_all d xs) → Leads version first (contents (take (i + 1) payloads)) e
   leads_on version first d e led more = subst (λ (ps : List (List ℕ)). Leads version first ps e) (sym (contents-more payloads i p lt is))
       (subst (Leads version first (contents (take i payloads) ++ p.items ∷ [])) (sym more.3) (leads-push version first (contents (take i payloads)) d p.items more.0 led more.1 more.2))
 
@@ -104,7 +104,7 @@ module _ (payloads : List (Vec ℕ Global)) (i : ℕ) (p : Vec ℕ Global) (lt :
       )
 
 -- what alone has a payload doesn't follow
-pub none_follows : {A : Type 0} (version : ℕ) (r : Result A GroupFault) (ys : List Recorded) (d : Kept) (p : List ℕ) → IsRecorded version ys p → IfErr r (λ e. e ≡ NoForm → ¬ FollowInTurn d ys)
+pub none_follows : {A : Type 0} (version : ℕ) (r : Result A GroupFault) (ys : List Recorded) (d : PlainDurable) (p : List ℕ) → IsRecorded version ys p → IfErr r (λ e. e ≡ NoForm → ¬ FollowInTurn d ys)
     → IfErr r (λ e. e ≡ NoForm → (xs : List Recorded) → IsRecorded version xs p → ¬ FollowInTurn d xs)
 none_follows version (Ok a) ys d p is none = tt
 none_follows version (Err e) ys d p is none = λ no_form xs here follows. none no_form (subst (FollowInTurn d) (one_group version xs ys p here is) follows)

@@ -1,13 +1,14 @@
 pub mod Pushed
 pub mod Taken
-pub mod Told
+pub mod RecordedForms
 pub mod Sized
 pub mod Recording
 pub mod Leading
 pub mod Refusing
 pub mod Saving
 pub mod Preparing
-pub mod Rooming
-pub mod Limiting
+pub mod RoomForGroups
+pub mod WithinLimits
 pub mod Durables
 pub mod DurablesWithin
+pub mod InOrder

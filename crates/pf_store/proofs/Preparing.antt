@@ -1,12 +1,12 @@
 -- The bank that a switch begins.
 use Rattle.std.proofs.Common.{◌≡◌, ℕ, ◌+◌, List, [], ◌∷◌, ◌++◌, length, sym, ◌∙◌, ap, arith, length-append}
-use Rattle.pf_snap.specs.{Banks.{front, header, behind_gate}, Ready.IsNext, declared.{header.TheConstants.{HEADER, NEWEST}, next_bank.NextBank.NextBank}}
-use Rattle.pf_core.specs.Durable.Edits.{Kept}
+use Rattle.pf_snap.specs.{Banks.{front, header, behind_gate}, Ready.IsNext, declared.{header.TheConstants.{BANK_HEADER, NEWEST}, next_bank.NextBank.NextBank}}
+use Rattle.pf_core.specs.Durable.Changes.{PlainDurable}
 use Rattle.pf_store.specs.{Lengths.snapshot_length, Snapshots.{EndsInSnapshot, IsBankOf}}
 use Rattle.pf_store.proofs.Sized.{snapshot_long}
 
 -- a front for a snapshot of so many bytes, the snapshot, and the gate
-pub bank_of : (generation : ℕ) (d : Kept) (bank : NextBank) (n : ℕ) (started pushed : List ℕ) → n ≡ snapshot_length d → started ≡ front NEWEST (generation + 1) n
+pub bank_of : (generation : ℕ) (d : PlainDurable) (bank : NextBank) (n : ℕ) (started pushed : List ℕ) → n ≡ snapshot_length d → started ≡ front NEWEST (generation + 1) n
     → EndsInSnapshot NEWEST d started pushed → bank.behind.items ≡ pushed ++ 0 ∷ [] → bank.length ≡ n → IsBankOf generation bank d
 bank_of generation d bank n started pushed long begins ends closed is_long =
     let same : length ends.snapshot ≡ n = snapshot_long NEWEST d ends.snapshot ends.written.spelled ∙ sym long in
@@ -20,7 +20,7 @@ bank_of generation d bank n started pushed long begins ends closed is_long =
       };
     }
 
-pub bank_long : (generation : ℕ) (d : Kept) (bank : NextBank) → IsBankOf generation bank d → length bank.behind.items ≡ HEADER + snapshot_length d
+pub bank_long : (generation : ℕ) (d : PlainDurable) (bank : NextBank) → IsBankOf generation bank d → length bank.behind.items ≡ BANK_HEADER + snapshot_length d
 bank_long generation d bank is =
     let s = is.snapshot in
     let begun = front NEWEST (generation + 1) (length s) in

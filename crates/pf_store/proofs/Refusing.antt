@@ -7,23 +7,23 @@ use Rattle.pf_snap.specs.Banks as snap
 use Rattle.pf_snap.specs.declared.fault.LookFault.TheVariants as looking
 use Rattle.pf_snap.proofs.Holding.{one_place, one_content}
 use Rattle.pf_snap.proofs.Holding as holding
-use Rattle.pf_core.specs.{Durable.Edits.{Kept}, Worlds.last_epoch}
+use Rattle.pf_core.specs.{Durable.Changes.{PlainDurable}, Worlds.last_epoch}
 use Rattle.pf_store.specs.{Durables.IsDurable, Stores.{Holds, IsRoomy, Leads, Makes}, StoreFaults.{BreaksOff, SaysNone}, Openings.{BreaksBehind, IsFull, IsUnopened, MakesNone, gate_of, generation_of}}
 use Rattle.pf_store.specs.declared.store.fault.OpenFault.{OpenFault}
 use Rattle.pf_store.specs.declared.store.fault.OpenFault.TheVariants.{BadSize, NoBank, Corrupt, Memory, Fault, EpochsExhausted, Full, Places}
 use Rattle.pf_store.proofs.{Durables.one_durable, Leading.{one_made, stopped}}
 
 -- what makes something doesn't break off
-makes_some : (torn : Type 0) (bank : ℕ) (content : Content) (place : ℕ) (d : Kept) → ¬ torn → Makes content d → MakesNone torn bank content place → ⊥
+makes_some : (torn : Type 0) (bank : ℕ) (content : Content) (place : ℕ) (d : PlainDurable) → ¬ torn → Makes content d → MakesNone torn bank content place → ⊥
 makes_some torn bank content place d whole makes (inl none) = none.0 makes.first makes.kept
 makes_some torn bank content place d whole makes (inr (inl none)) =
     let s = none.stops in
     stopped content.version none.first s.done s.payload s.rest s.d d s.leads s.none
     (subst (λ (qs : List (List ℕ)). Leads content.version none.first qs d) s.split
-    (subst (λ (f : Kept). Leads content.version f content.payloads d) (one_durable content.version makes.first none.first content.snapshot makes.kept none.kept) makes.leads))
+    (subst (λ (f : PlainDurable). Leads content.version f content.payloads d) (one_durable content.version makes.first none.first content.snapshot makes.kept none.kept) makes.leads))
 makes_some torn bank content place d whole makes (inr (inr none)) = whole none.open_gate
 
-held_behind : (image : List ℕ) (place : ℕ) (d : Kept) → Holds image d → BreaksBehind image place → ⊥
+held_behind : (image : List ℕ) (place : ℕ) (d : PlainDurable) → Holds image d → BreaksBehind image place → ⊥
 held_behind image place d held b =
     let h = held.bank.holds in
     let k = held.content in
@@ -43,10 +43,10 @@ held_behind image place d held b =
     b.none
 
 -- a look is refused by chance alone
-none_refused : (image : List ℕ) (e : LookFault) (d : Kept) (held : Holds image d) → generation_of image d held < 2 ^ 63 → (e ≢ looking.Memory) → (e ≢ looking.Fault) → IsRefused e image → ⊥
+none_refused : (image : List ℕ) (e : LookFault) (d : PlainDurable) (held : Holds image d) → generation_of image d held < 2 ^ 63 → (e ≢ looking.Memory) → (e ≢ looking.Fault) → IsRefused e image → ⊥
 none_refused image e d held early no_memory no_fault refused = ⊎_elim no_memory no_fault (holding.by_chance image e held.content held.bank early refused)
 
-pub held_is_found : (image : List ℕ) (fault : OpenFault) (d : Kept) (held : Holds image d) → generation_of image d held < 2 ^ 63 → IsUnopened fault image → SaysNone fault → ⊥
+pub held_is_found : (image : List ℕ) (fault : OpenFault) (d : PlainDurable) (held : Holds image d) → generation_of image d held < 2 ^ 63 → IsUnopened fault image → SaysNone fault → ⊥
 held_is_found image BadSize d held early refused says = none_refused image looking.BadSize d held early (λ is. cc (is)) (λ is. cc (is)) refused
 held_is_found image NoBank d held early refused says = none_refused image looking.NoBank d held early (λ is. cc (is)) (λ is. cc (is)) refused
 held_is_found image (Corrupt at) d held early (inl refused) says = none_refused image (looking.Corrupt at) d held early (λ is. cc (is)) (λ is. cc (is)) refused
@@ -82,7 +82,7 @@ out_of_memory seen bank other content size places counts early has =
     (size, (bank, content.version, content.generation, length content.snapshot, record { other = other; banks = places; counts = counts; header = has.header; early = early }))
 
 -- so it is where something is held
-pub held_in_want : (seen : List ℕ) (d : Kept) (held : Holds seen d) → generation_of seen d held < 2 ^ 63 → IsUnopened Memory seen
+pub held_in_want : (seen : List ℕ) (d : PlainDurable) (held : Holds seen d) → generation_of seen d held < 2 ^ 63 → IsUnopened Memory seen
 held_in_want seen d held early =
     let h = held.bank.holds in
     out_of_memory seen held.bank.at held.bank.other held.content h.size h.banks h.counts early h.bank.front
@@ -125,28 +125,28 @@ by_reading Places P off = absurd off
 -- ---- what may be opened
 
 -- one bank counts in an image, and has one closed gate
-pub one_at : (image : List ℕ) (d e : Kept) (a : Holds image d) (b : Holds image e) → a.bank.at ≡ b.bank.at
+pub one_at : (image : List ℕ) (d e : PlainDurable) (a : Holds image d) (b : Holds image e) → a.bank.at ≡ b.bank.at
 one_at image d e a b =
     one_place image (length image) a.bank.at a.bank.other b.bank.at b.bank.other a.bank.holds.banks b.bank.holds.banks a.bank.holds.counts b.bank.holds.counts
 
-pub one_gate : (image : List ℕ) (d e : Kept) (a : Holds image d) (b : Holds image e) → gate_of image d a ≡ gate_of image e b
+pub one_gate : (image : List ℕ) (d e : PlainDurable) (a : Holds image d) (b : Holds image e) → gate_of image d a ≡ gate_of image e b
 one_gate image d e a b =
     ap (λ (p : ℕ). records_start p a.content.snapshot + length (records a.content.payloads)) (one_at image d e a b)
     ∙ ap (λ (c : Content). records_start b.bank.at c.snapshot + length (records c.payloads)) (one_content image a.content b.content a.bank b.bank)
 
-pub one_held : (image : List ℕ) (d e : Kept) → Holds image d → Holds image e → d ≡ e
+pub one_held : (image : List ℕ) (d e : PlainDurable) → Holds image d → Holds image e → d ≡ e
 one_held image d e a b = one_made b.content d e (subst (λ (c : Content). Makes c d) (one_content image a.content b.content a.bank b.bank) a.makes) b.makes
 
-pub roomy_is_not_full : (image : List ℕ) (d : Kept) → IsRoomy (bank_size (length image)) d → IsFull image d → ⊥
+pub roomy_is_not_full : (image : List ℕ) (d : PlainDurable) → IsRoomy (bank_size (length image)) d → IsFull image d → ⊥
 roomy_is_not_full image d roomy full = omega (arith, roomy, full.there)
 
-pub by_chance : (image : List ℕ) (fault : OpenFault) (d : Kept) (held : Holds image d) → generation_of image d held < 2 ^ 63 → d.epoch < last_epoch → ¬ IsFull image d → IsUnopened fault image → (fault ≡ Memory) ⊎ (fault ≡ Fault)
+pub by_chance : (image : List ℕ) (fault : OpenFault) (d : PlainDurable) (held : Holds image d) → generation_of image d held < 2 ^ 63 → d.epoch < last_epoch → ¬ IsFull image d → IsUnopened fault image → (fault ≡ Memory) ⊎ (fault ≡ Fault)
 by_chance image BadSize d held early low room refused = absurd (held_is_found image BadSize d held early refused tt)
 by_chance image NoBank d held early low room refused = absurd (held_is_found image NoBank d held early refused tt)
 by_chance image (Corrupt at) d held early low room refused = absurd (held_is_found image (Corrupt at) d held early refused tt)
 by_chance image Memory d held early low room refused = inl refl
 by_chance image Fault d held early low room refused = inr refl
 by_chance image EpochsExhausted d held early low room refused =
-    absurd (omega (arith, ap (λ (k : Kept). k.epoch) (one_held image d refused.0 held refused.1), refused.3, low))
+    absurd (omega (arith, ap (λ (k : PlainDurable). k.epoch) (one_held image d refused.0 held refused.1), refused.3, low))
 by_chance image Full d held early low room refused = absurd (room (subst (IsFull image) (one_held image refused.0 d refused.1.held held) refused.1))
 by_chance image Places d held early low room refused = absurd refused

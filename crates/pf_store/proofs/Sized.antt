@@ -1,19 +1,20 @@
 -- How many bytes what is kept takes: in each version as many, and part by part.
 use Rattle.std.proofs.{Common.{◌≡◌, ◌≤◌, ◌+◌, ◌*◌, ℕ, List, [], ◌∷◌, length, map, refl, ap, ◌∙◌, arith}, lemmas.List.Sums.sum_by-cons}
 use Rattle.std.specs.List.{sum_by}
-use Rattle.pf_addr.specs.{Bytes.Forms.{Spells, counted, length_of}, Laws.Bytes.Lengths.length_is, Path.PathForms.{path_form, table_name_form}}
+use Rattle.pf_addr.specs.Path.PathForms.{path_form, table_name_form}
+use Rattle.pf_form.specs.{Bytes.Forms.{Spells, counted, length_of}, Laws.Bytes.Lengths.length_is}
 use Rattle.pf_snap.specs.declared.header.TheConstants.{NEWEST}
 use Rattle.pf_rule.specs.Sum.Layouts.{rule_layout}
-use Rattle.pf_table.specs.{Entries.Row, EntryForms.{entry, plain_entry}, Laws.EntryForms.entry_long}
+use Rattle.pf_table.specs.{Entries.PlainEntry, EntryForms.{entry, plain_entry}, Laws.EntryForms.entry_long}
 use Rattle.pf_anchor.specs.Forms.{rule_list_form, rules_form, rulesets_form, kept_tables_form, named_form, plain_named, plain_entries}
 use Rattle.pf_state.specs.{declared.step.Step.Step, Layouts.{States.{held_form, state_form}, Steps.{step_form, plain_step}}}
-use Rattle.pf_core.specs.{declared.durable.change.Item.Item, Durable.{Edits.{Kept, kept_nothing}, Forms.{durable_form, plain_durable, durable_length}}, Worlds.raised}
-use Rattle.pf_ticket.specs.NamedTables.{Named}
+use Rattle.pf_core.specs.{declared.durable.change.Item.Item, Durable.{Changes.{PlainDurable, kept_nothing}, Forms.{durable_form, plain_durable, durable_length}}, Worlds.raised}
+use Rattle.pf_ticket.specs.NamedTables.{PlainDefinedTable}
 use Rattle.pf_store.specs.{declared.groups.change.Recorded.{Recorded, TheVariants.Opens as opens}, Groups.{item_form, plain_item, items_form, defined_form, tables_form, edit_form, change_form, group_form, plain_record}, Lengths.{total, snapshot_length, item_length, named_length, edit_length, step_length, recorded_length, payload_length}, Stores.{IsRoomy, IsRoomyIn}}
 
 -- ---- in each version
 
-same_snapshot : (version other : ℕ) (d : Kept) → durable_length version d ≡ durable_length other d
+same_snapshot : (version other : ℕ) (d : PlainDurable) → durable_length version d ≡ durable_length other d
 unfolding durable_form rulesets_form rules_form rule_list_form rule_layout state_form held_form
 same_snapshot version other d = refl
 
@@ -21,7 +22,7 @@ same_record : (version other : ℕ) (r : Recorded) → length_of (change_form ve
 unfolding change_form items_form item_form rules_form rule_list_form rule_layout step_form state_form held_form
 same_record version other r = refl
 
-pub snapshot_long : (version : ℕ) (d : Kept) (bytes : List ℕ) → Spells (durable_form version) (plain_durable d) bytes → length bytes ≡ snapshot_length d
+pub snapshot_long : (version : ℕ) (d : PlainDurable) (bytes : List ℕ) → Spells (durable_form version) (plain_durable d) bytes → length bytes ≡ snapshot_length d
 snapshot_long version d bytes is = ap length is.written ∙ length_is (durable_form version) (plain_durable d) ∙ same_snapshot version NEWEST d
 
 records_long : (version : ℕ) (rs : List Recorded) → sum_by (length_of (change_form version)) (map plain_record rs) ≡ total recorded_length rs
@@ -43,15 +44,15 @@ unfolding durable_form rulesets_form kept_tables_form
 nothing_long epoch = refl
 
 -- the next epoch takes no more bytes
-raised_long : (d : Kept) → snapshot_length (raised d) ≡ snapshot_length d
+raised_long : (d : PlainDurable) → snapshot_length (raised d) ≡ snapshot_length d
 unfolding durable_form
 raised_long d = refl
 
 -- room in one version is room in each
-pub roomy_in : (version other size : ℕ) (d : Kept) → IsRoomyIn version size d → IsRoomyIn other size d
+pub roomy_in : (version other size : ℕ) (d : PlainDurable) → IsRoomyIn version size d → IsRoomyIn other size d
 roomy_in version other size d roomy = omega (arith, same_snapshot version other d, roomy)
 
-pub raised_roomy : (size : ℕ) (d : Kept) → IsRoomy size d → IsRoomy size (raised d)
+pub raised_roomy : (size : ℕ) (d : PlainDurable) → IsRoomy size d → IsRoomy size (raised d)
 raised_roomy size d roomy = omega (arith, raised_long d, roomy)
 
 -- ---- part by part
@@ -65,15 +66,15 @@ summed : {A B : Type 0} (measure : B → ℕ) (plain : A → B) (xs : List A) �
 summed measure plain [] = refl
 summed measure plain (x ∷ xs) = omega (arith, sum_by-cons measure (plain x) (map plain xs), summed measure plain xs)
 
-entries_long : (es : List Row) → sum_by (length_of entry) (plain_entries es) ≡ 20 * length es
+entries_long : (es : List PlainEntry) → sum_by (length_of entry) (plain_entries es) ≡ 20 * length es
 entries_long [] = refl
 entries_long (e ∷ es) = omega (arith, sum_by-cons (length_of entry) (plain_entry e) (plain_entries es), entry_long e, entries_long es)
 
-pub edit_long : (p name : List ℕ) (es : List Row) → edit_length p name es ≡ 6 + length p + length name + 20 * length es
+pub edit_long : (p name : List ℕ) (es : List PlainEntry) → edit_length p name es ≡ 6 + length p + length name + 20 * length es
 unfolding edit_form path_form table_name_form
 edit_long p name es = omega (arith, ones p, ones name, entries_long es)
 
-pub tables_long : (p : List ℕ) (ts : List Named) → length_of tables_form (p, map plain_named ts) ≡ 5 + length p + total named_length ts
+pub tables_long : (p : List ℕ) (ts : List PlainDefinedTable) → length_of tables_form (p, map plain_named ts) ≡ 5 + length p + total named_length ts
 unfolding tables_form defined_form path_form
 tables_long p ts = omega (arith, ones p, summed (length_of named_form) plain_named ts)
 

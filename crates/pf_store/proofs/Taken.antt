@@ -1,11 +1,12 @@
 -- Tables and items that are read in turn, each as a row.
 use Rattle.std.proofs.{Common.{◌≡◌, ◌≤◌, ◌&&◌, Bool, true, false, T, List, [], ◌∷◌, ℕ, length, map, Ok, Err, refl, ap, ◌∙◌}, lemmas.List.length-map}
 use Rattle.std.specs.{Cmp.Lexicographic.nat_list_cmp_total, FinMap.is_sorted, Ordering.is_lt}
-use Rattle.pf_addr.specs.declared.bytes.fault.Fault.TheVariants.{Bad}
-use Rattle.pf_addr.specs.{Bytes.{Forms.{Value, counted, reads}, Lists.{in_order, ordered}}, Path.Names.name_order}
+use Rattle.pf_form.specs.declared.bytes.fault.Fault.TheVariants.{Bad}
+use Rattle.pf_addr.specs.Path.Names.{name_order}
+use Rattle.pf_form.specs.Bytes.{Forms.{Value, counted, reads}, Lists.{in_order, ordered}}
 use Rattle.pf_core.specs.declared.durable.change.Item.{Item}
-use Rattle.pf_map.proofs.Ordered.{sorted_of}
-use Rattle.pf_ticket.specs.{declared.limits.TheConstants.OFFERED_TABLE_LIMIT, NamedTables.Named}
+use Rattle.pf_store.proofs.InOrder.{sorted_of}
+use Rattle.pf_ticket.specs.{declared.limits.TheConstants.OFFERED_TABLE_LIMIT, NamedTables.PlainDefinedTable}
 use Rattle.pf_store.specs.declared.groups.{items.StoredItem.StoredItem, tables.StoredTable.StoredTable}
 use Rattle.pf_anchor.specs.Forms.{NamedShape, named_form, plain_named}
 use Rattle.pf_store.specs.declared.groups.change.Recorded.{Recorded}
@@ -14,13 +15,13 @@ use Rattle.pf_store.proofs.Pushed.{few}
 
 -- ---- tables
 
-abbrev table_of : StoredTable → Named
+abbrev table_of : StoredTable → PlainDefinedTable
 table_of r = r.table
 
 abbrev plain_table : StoredTable → Value NamedShape
 plain_table r = plain_named r.table
 
-abbrev in_turn : List Named → Bool
+abbrev in_turn : List PlainDefinedTable → Bool
 in_turn = in_order (λ a b. is_lt (name_order a.0 b.0))
 
 -- rows of which each comes before the next are tables in the order of their names
@@ -41,7 +42,7 @@ plain_tables : (rows : List StoredTable) → map plain_named (map table_of rows)
 plain_tables [] = refl
 plain_tables (r ∷ rows) = ap (λ l. plain_table r ∷ l) (plain_tables rows)
 
-pub tables_read : (rows : List StoredTable) (tables : List Named) (before after : List ℕ) → tables ≡ map table_of rows
+pub tables_read : (rows : List StoredTable) (tables : List PlainDefinedTable) (before after : List ℕ) → tables ≡ map table_of rows
     → length rows ≤ OFFERED_TABLE_LIMIT → reads (ordered named_before 4 named_form) before ≡ Ok (map plain_table rows, after)
     → reads defined_form before ≡ Ok (map plain_named tables, after)
 unfolding defined_form

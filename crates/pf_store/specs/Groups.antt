@@ -1,5 +1,5 @@
 -- What a bank's records keep, in bytes, in each version: a group of changes and openings. First how many there are, in one byte, 1 to 64,
--- and then each. Own.
+-- and then each.
 --
 --   1 commit: how many it replaces, in one byte, 1 to 64, and then each:
 --       1 and the rules at a path: the path, their number in four bytes, each rule
@@ -13,10 +13,11 @@
 -- tables in that of their names.
 use Rattle.std.specs.{Prelude.{◌≡◌, ℕ, ◌==◌, ◌^◌, ◌&&◌, not, nat_le, nat_lt, Bool, true, List, [], ◌∷◌, length, map}, List.list_all, Ordering.is_lt}
 use Rattle.std.proofs.Common.{inl, inr}
-use Rattle.pf_addr.specs.{Bytes.{Forms.{Shape, nat, both, either, list, Value, Form, Spells, number, front, or, pair, counted, that}, Lists.ordered}, Path.{Names.name_order, PathForms.{TextShape, path_form, table_name_form}}}
+use Rattle.pf_addr.specs.Path.{Names.name_order, PathForms.{TextShape, path_form, table_name_form}}
+use Rattle.pf_form.specs.Bytes.{Forms.{Shape, nat, both, either, list, Value, Form, Spells, number, front, or, pair, counted, that}, Lists.ordered}
 use Rattle.pf_anchor.specs.Forms.{at_most, RulesShape, rules_form, plain_ruled, ruled_in, NamedShape, named_form, plain_entries, plain_named, entries_in, named_in}
 use Rattle.pf_journal.specs.{Journal.IsOf, declared.journal.Record.Record}
-use Rattle.pf_core.specs.{declared.durable.change.Item.Item, Durable.Edits.{Edit, commits, adds, deletes, sets, acts, removes}}
+use Rattle.pf_core.specs.{declared.durable.change.Item.Item, Durable.Changes.{PlainChange, commits, adds, deletes, sets, acts, removes}}
 use Rattle.pf_core.specs.declared.durable.change.Item.TheVariants as item
 use Rattle.pf_store.specs.declared.groups.change.Recorded.{Recorded, TheVariants.Made as made, TheVariants.Opens as opens}
 use Rattle.pf_state.specs.Layouts.{States.{NameShape, name_form, plain_name, name_in}, Steps.{StepShape, step_form, plain_step, step_in}}
@@ -125,7 +126,7 @@ has_form (made (removes name)) = true
 has_form (opens epoch) = nat_lt epoch (2 ^ 32)
 
 -- What a command can want has bytes, where it isn't longer than any bank: then lists are short too.
-abbrev pub can_be_wanted : Edit → Bool
+abbrev pub can_be_wanted : PlainChange → Bool
 can_be_wanted (commits items) = is_commit items && list_all has_item_form items
 can_be_wanted (adds p name xs) = true
 can_be_wanted (deletes p name xs) = true
@@ -136,7 +137,7 @@ can_be_wanted (removes name) = true
 -- ---- groups
 
 -- these changes, as a record has them
-abbrev pub made_all : List Edit → List Recorded
+abbrev pub made_all : List PlainChange → List Recorded
 made_all es = map made es
 
 -- as many as one record keeps, of which each has bytes

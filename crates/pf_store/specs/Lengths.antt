@@ -1,19 +1,19 @@
--- How many bytes what is kept takes in a bank, in the version that is written: in a snapshot, and as the payload of a record. Own.
+-- How many bytes what is kept takes in a bank, in the version that is written: in a snapshot, and as the payload of a record.
 use Rattle.std.specs.Prelude.{ℕ, ◌+◌, List, [], ◌∷◌}
-use Rattle.pf_addr.specs.Bytes.Forms.{length_of}
+use Rattle.pf_form.specs.Bytes.Forms.{length_of}
 use Rattle.pf_snap.specs.declared.header.TheConstants.{NEWEST}
 use Rattle.pf_anchor.specs.Forms.{named_form, plain_named, plain_entries}
-use Rattle.pf_core.specs.{declared.durable.change.Item.Item, Durable.{Edits.Kept, Forms.durable_length}}
+use Rattle.pf_core.specs.{declared.durable.change.Item.Item, Durable.{Changes.PlainDurable, Forms.durable_length}}
 use Rattle.pf_state.specs.{declared.step.Step.Step, Layouts.Steps.{step_form, plain_step}}
-use Rattle.pf_table.specs.Entries.{Row}
-use Rattle.pf_ticket.specs.NamedTables.{Named}
+use Rattle.pf_table.specs.Entries.{PlainEntry}
+use Rattle.pf_ticket.specs.NamedTables.{PlainDefinedTable}
 use Rattle.pf_store.specs.{declared.groups.change.Recorded.Recorded, Groups.{item_form, plain_item, edit_form, change_form, plain_record}}
 
 abbrev pub total : {A : Type 0} → (A → ℕ) → List A → ℕ
 total f [] = 0
 total f (x ∷ xs) = f x + total f xs
 
-abbrev pub snapshot_length : Kept → ℕ
+abbrev pub snapshot_length : PlainDurable → ℕ
 snapshot_length d = durable_length NEWEST d
 
 -- ---- a record's payload
@@ -23,10 +23,10 @@ abbrev pub item_length : Item → ℕ
 item_length i = length_of (item_form NEWEST) (plain_item i)
 
 -- a table behind its path
-abbrev pub named_length : Named → ℕ
+abbrev pub named_length : PlainDefinedTable → ℕ
 named_length t = length_of named_form (plain_named t)
 
-abbrev pub edit_length : List ℕ → List ℕ → List Row → ℕ
+abbrev pub edit_length : List ℕ → List ℕ → List PlainEntry → ℕ
 edit_length p name es = length_of edit_form (p, (name, plain_entries es))
 
 abbrev pub step_length : Step → ℕ

@@ -1,39 +1,39 @@
--- Why a device isn't opened. Own.
+-- Why a device isn't opened.
 use Rattle.std.specs.Prelude.{◌≡◌, ◌⊎◌, ◌<◌, ◌≤◌, ℕ, ◌+◌, ◌^◌, Bool, List, ◌∷◌, ◌++◌, length}
 use Rattle.pf_disk.specs.Disk.{IsImage}
 use Rattle.pf_journal.specs.Records.{records, region, IsFront}
-use Rattle.pf_snap.specs.{Banks.{AreBanks, Content, Counts, HasSnapshot, bank_size, records_start}, Faults.IsRefused, declared.header.TheConstants.HEADER}
+use Rattle.pf_snap.specs.{Banks.{AreBanks, Content, Counts, HasSnapshot, bank_size, records_start}, Faults.IsRefused, declared.header.TheConstants.BANK_HEADER}
 use Rattle.pf_snap.specs.Banks as snap
 use Rattle.pf_snap.specs.declared.fault.LookFault.TheVariants as looking
-use Rattle.pf_core.specs.{Durable.Edits.{Kept}, Worlds.{last_epoch, raised}}
+use Rattle.pf_core.specs.{Durable.Changes.{PlainDurable}, Worlds.{last_epoch, raised}}
 use Rattle.pf_store.specs.{Durables.IsDurable, Groups.IsRecorded, Lengths.snapshot_length, Stores.{FollowInTurn, Holds, HoldsEither, IsRoomyIn, Leads, Makes}}
 use Rattle.pf_store.specs.declared.{groups.change.Recorded.Recorded, store.fault.OpenFault.OpenFault, store.fault.OpenFault.TheVariants.{BadSize, NoBank, Corrupt, Memory, Fault, EpochsExhausted, Full, Places}}
 use Rattle.pf_store.specs.declared.limits.TheConstants.{OPENING_RECORD}
 
 -- The snapshot of the bank of this version at this place is of nothing.
 abbrev pub BreaksInSnapshot : (version at : ℕ) → List ℕ → ℕ → Type 0
-BreaksInSnapshot version at snapshot place = ((d : Kept) → ¬ IsDurable version d snapshot) × (place ≡ at + HEADER)
+BreaksInSnapshot version at snapshot place = ((d : PlainDurable) → ¬ IsDurable version d snapshot) × (place ≡ at + BANK_HEADER)
 
 -- One of the payloads is of no group that follows what the ones before it leave, where the first record's gate stands at `start`.
-pub record StopsAt (version : ℕ) (first : Kept) (start : ℕ) (payloads : List (List ℕ)) (place : ℕ) : Type 0 where
+pub record StopsAt (version : ℕ) (first : PlainDurable) (start : ℕ) (payloads : List (List ℕ)) (place : ℕ) : Type 0 where
   pub done : List (List ℕ)
   pub payload : List ℕ
   pub rest : List (List ℕ)
   pub split : payloads ≡ done ++ payload ∷ rest
-  pub d : Kept
+  pub d : PlainDurable
   pub leads : Leads version first done d
   pub none : (xs : List Recorded) → IsRecorded version xs payload → ¬ FollowInTurn d xs
   pub at : place ≡ start + length (records done)
 
 -- Behind such a snapshot it stops.
 pub record NoGroup (bank : ℕ) (content : Content) (place : ℕ) : Type 0 where
-  pub first : Kept
+  pub first : PlainDurable
   pub kept : IsDurable content.version first content.snapshot
   pub stops : StopsAt content.version first (records_start bank content.snapshot) content.payloads place
 
 -- All of them lead on, but the gate behind them is open.
 pub record IsTorn (torn : Type 0) (bank : ℕ) (content : Content) (place : ℕ) : Type 0 where
-  pub d : Kept
+  pub d : PlainDurable
   pub makes : Makes content d
   pub open_gate : torn
   pub at : place ≡ records_start bank content.snapshot + length (records content.payloads)
@@ -56,32 +56,32 @@ pub record BreaksBehind (seen : List ℕ) (place : ℕ) : Type 0 where
   pub none : MakesNone ((c : Content) → ¬ snap.Holds seen c) bank content place
 
 -- where the closed gate is
-abbrev pub gate_of : (seen : List ℕ) (d : Kept) → Holds seen d → ℕ
+abbrev pub gate_of : (seen : List ℕ) (d : PlainDurable) → Holds seen d → ℕ
 gate_of seen d held = records_start held.bank.at held.content.snapshot + length (records held.content.payloads)
 
 -- the generation of the bank that counts
-abbrev pub generation_of : (seen : List ℕ) (d : Kept) → Holds seen d → ℕ
+abbrev pub generation_of : (seen : List ℕ) (d : PlainDurable) → Holds seen d → ℕ
 generation_of seen d held = held.content.generation
 
 -- what the image holds, it holds by a generation of so many at most
 abbrev pub IsNoLaterThan : ℕ → List ℕ → Type 0
-IsNoLaterThan g seen = (d : Kept) (held : Holds seen d) → generation_of seen d held ≤ g
+IsNoLaterThan g seen = (d : PlainDurable) (held : Holds seen d) → generation_of seen d held ≤ g
 
 abbrev pub IsAsLongAs : List ℕ → List ℕ → Type 0
 IsAsLongAs seen image = length image ≡ length seen
 
 -- A bank has 64 bytes left behind a snapshot of what the image holds, in its own version.
 abbrev pub LeavesRoom : List ℕ → Type 0
-LeavesRoom image = (d : Kept) (held : Holds image d) → IsRoomyIn held.content.version (bank_size (length image)) d
+LeavesRoom image = (d : PlainDurable) (held : Holds image d) → IsRoomyIn held.content.version (bank_size (length image)) d
 
 -- The record of an opening has room behind the others in the bank that counts.
-abbrev pub HasRoomHere : (seen : List ℕ) (d : Kept) → Holds seen d → Type 0
+abbrev pub HasRoomHere : (seen : List ℕ) (d : PlainDurable) → Holds seen d → Type 0
 HasRoomHere seen d held = gate_of seen d held + OPENING_RECORD ≤ held.bank.at + bank_size (length seen)
 
 -- The image holds what the device that was opened held, its epoch perhaps one greater, by the generation from before or the next one, and
 -- leaves room where that did.
 pub record FollowsOn (seen image : List ℕ) : Type 0 where
-  pub kept : Kept
+  pub kept : PlainDurable
   pub held : Holds seen kept
   pub holds : HoldsEither kept (raised kept) image
   pub generation : IsNoLaterThan (generation_of seen kept held + 1) image
@@ -93,12 +93,12 @@ IsOfOpening seen unsynced image = IsImage seen unsynced image ⊎ FollowsOn seen
 
 -- The record of an opening has room neither behind the others nor in a bank behind a snapshot of what is held: it takes 12 bytes with the
 -- gate behind it.
-pub record IsFull (seen : List ℕ) (d : Kept) : Type 0 where
+pub record IsFull (seen : List ℕ) (d : PlainDurable) : Type 0 where
   pub held : Holds seen d
   pub early : generation_of seen d held < 2 ^ 63
   pub low : d.epoch < last_epoch
   pub here : held.bank.at + bank_size (length seen) < gate_of seen d held + OPENING_RECORD
-  pub there : bank_size (length seen) < HEADER + snapshot_length d + OPENING_RECORD
+  pub there : bank_size (length seen) < BANK_HEADER + snapshot_length d + OPENING_RECORD
 
 -- What is so of the bytes that a device reads as, where it isn't opened. A fault of the device may come in place of each but that of the
 -- size, and want of memory in place of what stands behind a header.
@@ -108,6 +108,6 @@ IsUnopened NoBank seen = IsRefused looking.NoBank seen
 IsUnopened (Corrupt at) seen = IsRefused (looking.Corrupt at) seen ⊎ BreaksBehind seen at
 IsUnopened Memory seen = IsRefused looking.Memory seen
 IsUnopened Fault seen = IsRefused looking.Fault seen
-IsUnopened EpochsExhausted seen = (d : Kept) × (held : Holds seen d) × (generation_of seen d held < 2 ^ 63) × (d.epoch ≡ last_epoch)
-IsUnopened Full seen = (d : Kept) × IsFull seen d
+IsUnopened EpochsExhausted seen = (d : PlainDurable) × (held : Holds seen d) × (generation_of seen d held < 2 ^ 63) × (d.epoch ≡ last_epoch)
+IsUnopened Full seen = (d : PlainDurable) × IsFull seen d
 IsUnopened Places seen = ⊥

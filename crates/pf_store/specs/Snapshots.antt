@@ -1,8 +1,8 @@
--- Snapshots where they are written. Own.
+-- Snapshots where they are written.
 use Rattle.std.specs.Prelude.{◌≡◌, ℕ, List, ◌++◌, replicate}
-use Rattle.pf_addr.specs.Bytes.Forms.{nat, Form, number, back}
+use Rattle.pf_form.specs.Bytes.Forms.{nat, Form, number, back}
 use Rattle.pf_snap.specs.{Ready.IsNext, declared.{header.TheConstants.NEWEST, next_bank.NextBank.NextBank}}
-use Rattle.pf_core.specs.Durable.Edits.{Kept}
+use Rattle.pf_core.specs.Durable.Changes.{PlainDurable}
 use Rattle.pf_store.specs.Durables.{IsDurable}
 
 -- The snapshot of nothing: the epoch in four bytes, and no rulesets, tables and states, whose numbers take four bytes each.
@@ -10,13 +10,13 @@ unfoldable pub empty_form : ℕ → Form nat
 empty_form version = back (number 4) (replicate 12 0)
 
 -- These bytes end in a snapshot of what is kept, in a version, behind those that were there.
-pub record EndsInSnapshot (version : ℕ) (d : Kept) (before bytes : List ℕ) : Type 0 where
+pub record EndsInSnapshot (version : ℕ) (d : PlainDurable) (before bytes : List ℕ) : Type 0 where
   pub snapshot : List ℕ
   pub written : IsDurable version d snapshot
   pub behind : bytes ≡ before ++ snapshot
 
 -- The next bank has a snapshot of what is kept, in the version that is written, and its generation is one greater.
-pub record IsBankOf (generation : ℕ) (bank : NextBank) (d : Kept) : Type 0 where
+pub record IsBankOf (generation : ℕ) (bank : NextBank) (d : PlainDurable) : Type 0 where
   pub snapshot : List ℕ
   pub written : IsDurable NEWEST d snapshot
   pub next : IsNext generation bank snapshot

@@ -1,21 +1,21 @@
--- A store over a device. Own.
+-- A store over a device.
 use Rattle.std.specs.Prelude.{ℕ, ◌-◌, ◌^◌, ◌<◌, Bool, List, length}
 use Rattle.pf_disk.specs.Disk.{IsSynced}
 use Rattle.pf_snap.specs.{Banks.{bank_size, Content}, Ready.{IsReady, Keeps}, declared.banks.Banks.Banks}
-use Rattle.pf_core.specs.Durable.Edits.{Kept}
+use Rattle.pf_core.specs.Durable.Changes.{PlainDurable}
 use Rattle.pf_store.specs.Stores.{Holds, Makes}
 
 -- What contracts see of a store: its device; how many bytes each of its banks has; the generation of the one that counts, and how many bytes
 -- that one has from its closed gate on; whether a save has met a fault.
-pub record Storage (D : Type 0) : Type 0 where
+pub record PlainStore (D : Type 0) : Type 0 where
   pub disk : D
   pub size : ℕ
   pub generation : ℕ
   pub room : ℕ
   pub halted : Bool
 
-abbrev pub storage : {D : Type 0} → (seen : D → List ℕ) → Banks D → Bool → Storage D
-storage seen banks halted = record {
+abbrev pub store_with : {D : Type 0} → (seen : D → List ℕ) → Banks D → Bool → PlainStore D
+store_with seen banks halted = record {
   disk = banks.journal.disk;
   size = bank_size (length (seen banks.journal.disk));
   generation = banks.generation;
@@ -24,7 +24,7 @@ storage seen banks halted = record {
 }
 
 -- The store stands for what is kept: its device holds it, and nothing is unsynced.
-pub record Stands {D : Type 0} (seen : D → List ℕ) (unsynced : D → ℕ → Bool) (store : Storage D) (d : Kept) : Type 0 where
+pub record Stands {D : Type 0} (seen : D → List ℕ) (unsynced : D → ℕ → Bool) (store : PlainStore D) (d : PlainDurable) : Type 0 where
   pub holds : Holds (seen store.disk) d
   pub synced : IsSynced (unsynced store.disk)
 
@@ -36,7 +36,7 @@ pub record IsStore {D : Type 0} (seen : D → List ℕ) (unsynced : D → ℕ �
   pub few : faults banks.journal.disk < 2 ^ 63
 
 -- the banks hold what is kept, and their fields tell it
-pub record HaveKept {D : Type 0} (seen : D → List ℕ) (banks : Banks D) (d : Kept) : Type 0 where
+pub record HaveKept {D : Type 0} (seen : D → List ℕ) (banks : Banks D) (d : PlainDurable) : Type 0 where
   pub content : Content
   pub keeps : Keeps seen banks content
   pub makes : Makes content d

@@ -1,8 +1,8 @@
--- What a device's image holds: what was kept first and what changes have made of it since. Own.
+-- What a device's image holds: what was kept first and what changes have made of it since.
 use Rattle.std.specs.Prelude.{◌≡◌, ◌⊎◌, ◌≤◌, ℕ, ◌+◌, true, List, [], ◌∷◌, fold, Ok}
-use Rattle.pf_snap.specs.{Banks.Content, declared.header.TheConstants.{HEADER, NEWEST}}
+use Rattle.pf_snap.specs.{Banks.Content, declared.header.TheConstants.{BANK_HEADER, NEWEST}}
 use Rattle.pf_snap.specs.Banks as snap
-use Rattle.pf_core.specs.Durable.{Edits.{Kept, Edit, in_epoch, applied, fits}, Forms.durable_length}
+use Rattle.pf_core.specs.Durable.{Changes.{PlainDurable, PlainChange, in_epoch, applied, fits}, Forms.durable_length}
 use Rattle.pf_store.specs.{Durables.IsDurable, Groups.{IsRecorded, have_form, made_all}, Lengths.{snapshot_length, payload_length}, declared.groups.change.Recorded.Recorded}
 use Rattle.pf_store.specs.declared.groups.change.Recorded.TheVariants as recorded
 use Rattle.pf_store.specs.declared.limits.TheConstants.{AROUND, ROOM_TO_OPEN}
@@ -10,62 +10,62 @@ use Rattle.pf_store.specs.declared.limits.TheConstants.{AROUND, ROOM_TO_OPEN}
 -- ---- what is held
 
 -- It may come next: a change fits what is kept, and an opening has the next epoch.
-abbrev pub Follows : Kept → Recorded → Type 0
+abbrev pub Follows : PlainDurable → Recorded → Type 0
 Follows d (recorded.Made e) = fits d e ≡ Ok tt
 Follows d (recorded.Opens epoch) = epoch ≡ d.epoch + 1
 
 -- what it leaves
-abbrev pub left_by : Kept → Recorded → Kept
+abbrev pub left_by : PlainDurable → Recorded → PlainDurable
 left_by d (recorded.Made e) = applied d e
 left_by d (recorded.Opens epoch) = in_epoch epoch d
 
 -- Each of a group may come next where those before it have come.
-abbrev pub FollowInTurn : Kept → List Recorded → Type 0
+abbrev pub FollowInTurn : PlainDurable → List Recorded → Type 0
 FollowInTurn d [] = Unit {0}
 FollowInTurn d (r ∷ rs) = Follows d r × FollowInTurn (left_by d r) rs
 
 -- what they leave
-abbrev pub left_by_all : Kept → List Recorded → Kept
+abbrev pub left_by_all : PlainDurable → List Recorded → PlainDurable
 left_by_all d rs = fold left_by d rs
 
 -- The payloads are, in this version, of groups, each of which follows what the ones before it leave, and all of them leave this.
-abbrev pub Leads : (version : ℕ) → Kept → List (List ℕ) → Kept → Type 0
+abbrev pub Leads : (version : ℕ) → PlainDurable → List (List ℕ) → PlainDurable → Type 0
 Leads version d [] e = d ≡ e
 Leads version d (p ∷ ps) e = (xs : List Recorded) × IsRecorded version xs p × FollowInTurn d xs × Leads version (left_by_all d xs) ps e
 
 -- The snapshot is of what was kept first, and the payloads lead from there to this, both in the bank's version.
-pub record Makes (content : Content) (d : Kept) : Type 0 where
-  pub first : Kept
+pub record Makes (content : Content) (d : PlainDurable) : Type 0 where
+  pub first : PlainDurable
   pub kept : IsDurable content.version first content.snapshot
   pub leads : Leads content.version first content.payloads d
 
 -- The image holds what is kept: so the bank that counts says.
-pub record Holds (image : List ℕ) (d : Kept) : Type 0 where
+pub record Holds (image : List ℕ) (d : PlainDurable) : Type 0 where
   pub content : Content
   pub bank : snap.Holds image content
   pub makes : Makes content d
 
 -- one of the two
-abbrev pub HoldsEither : Kept → Kept → List ℕ → Type 0
+abbrev pub HoldsEither : PlainDurable → PlainDurable → List ℕ → Type 0
 HoldsEither before next image = Holds image before ⊎ Holds image next
 
 -- ---- room
 
 -- A bank of so many bytes has 64 left behind a snapshot of what is kept, in a version: enough for an opening's record.
-abbrev pub IsRoomyIn : (version size : ℕ) → Kept → Type 0
-IsRoomyIn version size d = HEADER + durable_length version d + ROOM_TO_OPEN ≤ size
+abbrev pub IsRoomyIn : (version size : ℕ) → PlainDurable → Type 0
+IsRoomyIn version size d = BANK_HEADER + durable_length version d + ROOM_TO_OPEN ≤ size
 
 -- in the version that is written
-abbrev pub IsRoomy : (size : ℕ) → Kept → Type 0
+abbrev pub IsRoomy : (size : ℕ) → PlainDurable → Type 0
 IsRoomy size d = IsRoomyIn NEWEST size d
 
 -- A payload of n bytes finds room in banks of so many bytes: one has 64 bytes left behind a snapshot of what is kept then, and room for
 -- the payload's record behind one of what is kept before.
-pub record HasRoom (size : ℕ) (before next : Kept) (n : ℕ) : Type 0 where
+pub record HasRoom (size : ℕ) (before next : PlainDurable) (n : ℕ) : Type 0 where
   pub then : IsRoomy size next
-  pub behind : HEADER + snapshot_length before + (n + AROUND) ≤ size
+  pub behind : BANK_HEADER + snapshot_length before + (n + AROUND) ≤ size
 
 -- changes that have a payload, and it finds room
-pub record FindsRoom (size : ℕ) (before next : Kept) (es : List Edit) : Type 0 where
+pub record FindsRoom (size : ℕ) (before next : PlainDurable) (es : List PlainChange) : Type 0 where
   pub formed : have_form (made_all es) ≡ true
   pub room : HasRoom size before next (payload_length (made_all es))

@@ -4,7 +4,7 @@ ghost use Rattle.pf_disk.specs.{Disk.IsSynced, Filled.FillsAll};
 
 use crate::records::{END, FIRST, empty, open_gates, read_back, with_two};
 use pf_disk::{Disk, Fill, FuseDisk, MemDisk};
-use pf_journal::{Found, ReadFault};
+use pf_journal::{ReadFault, RegionRecords};
 use std::alloc::Global;
 
 pub fn play(alloc: Global, told: &mut String) -> Result<(), ReadFault> {
@@ -43,8 +43,8 @@ fn left_by(
     alloc: Global,
     disk: &MemDisk,
     moment: u64,
-    before: &Found,
-    after: &Found,
+    before: &RegionRecords,
+    after: &RegionRecords,
 ) -> Result<String, ReadFault> {
     let bytes = vec![in alloc; 0x3Cu8; disk.size()]?;
     let mut counts = String::new(alloc);

@@ -3,7 +3,7 @@ ghost use Rattle.std.specs.Prelude.{◌≡◌, ◌+◌, ◌^◌, ◌<◌, ◌≤
 ghost use Rattle.pf_disk.specs.Disk.{IsSynced};
 
 use pf_disk::{Disk, MemDisk, OPEN_GATE};
-use pf_journal::{AppendFault, CLOSED_GATE, Found, Journal, ReadFault, read_all};
+use pf_journal::{AppendFault, CLOSED_GATE, Journal, ReadFault, RegionRecords, read_all};
 use std::alloc::{AllocError, Global};
 
 /// Where each region begins, in bytes from the device's start.
@@ -64,7 +64,7 @@ pub fn with_two<D: Disk + Drop>(
 }
 
 /// What these bytes of a device are read as.
-pub fn read_back(alloc: Global, bytes: Vec<u8>) -> Result<Found, ReadFault> {
+pub fn read_back(alloc: Global, bytes: Vec<u8>) -> Result<RegionRecords, ReadFault> {
     if bytes.len() < END {
         return Err(ReadFault::Fault);
     }

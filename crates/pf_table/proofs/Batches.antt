@@ -1,9 +1,9 @@
 -- Entries are gathered, added and deleted from front to back, and what each is answered.
 use Rattle.std.proofs.{Common.{◌≡◌, ℕ, zero, suc, ◌+◌, ◌<◌, ◌≤◌, Bool, true, false, not, cond, ◌&&◌, ◌||◌, List, [], ◌∷◌, ◌++◌, length, get_or, take, drop, append-nil, append_assoc, drop-cons, Option, Some, None, is_some, is_none, refl, sym, ap, ◌∙◌, subst, true≢false, arith}, Math.Seq.take-suc, lemmas.List.take-append-drop, lemmas.List.Folds.list_any-append, lemmas.List.Sums.fold-append, lemmas.List.Elements.{All-nil, All-push}}
 use Rattle.std.specs.{Bool.beq, FinMap.put, FinMap.Entries.find_tied, Ordering.is_eq, declared.{cmp.Ordering.Ordering, cmp.Ordering.TheVariants.{Less, Equal, Greater}}, List.{list_any, All, fold}, Option.option_or}
-use Rattle.pf_addr.specs.Address.{IsNetwork, Network}
-use Rattle.pf_table.specs.{declared.answer.{Addition.{Addition, TheVariants.{Added, Same, Conflict}}, Deletion.Deletion}, Entries.Row, Laws.Edits.{Agree, any_is_sign, agree_push, sign_added, sign_left, sign_deleted}, Tables.sign_of, Edits.{with_entry, added, addition, additions, is_sign, has_entry, without_entry, deleted, deletion, deletions, same_entry, is_opposite, conflict_behind, conflict_in}, Noted.{first_sign, noted_with}}
-use Rattle.pf_map.specs.{Networks.net_order, NetworkLaws.net_total}
+use Rattle.pf_addr.specs.Address.{IsNetwork, PlainNet}
+use Rattle.pf_table.specs.{declared.answer.{Addition.{Addition, TheVariants.{Added, Same, Conflict}}, Deletion.Deletion}, Entries.PlainEntry, Laws.Edits.{Agree, any_is_sign, agree_push, sign_added, sign_left, sign_deleted}, Tables.sign_of, Edits.{with_entry, added, addition, additions, is_sign, has_entry, without_entry, deleted, deletion, deletions, same_entry, is_opposite, conflict_behind, conflict_in}, Noted.{first_sign, noted_with}}
+use Rattle.pf_addr.specs.{NetOrder.net_order, Laws.NetOrder.net_total}
 use Rattle.pf_map.specs.Maps.{with_value, without}
 
 -- ---- lists
@@ -16,7 +16,7 @@ or_left : (a b : Bool) → (a || b) ≡ false → a ≡ false
 or_left true b e = absurd (true≢false e)
 or_left false b e = refl
 
-pub next_cut : (xs : List Row) (i : ℕ) (x : Row) → i < length xs → x ≡ get_or xs i x →
+pub next_cut : (xs : List PlainEntry) (i : ℕ) (x : PlainEntry) → i < length xs → x ≡ get_or xs i x →
     (drop i xs ≡ x ∷ drop (i + 1) xs) × (take (i + 1) xs ≡ take i xs ++ x ∷ [])
 next_cut xs i x lt at =
     let next : suc i ≡ i + 1 = omega arith in (
@@ -24,7 +24,7 @@ next_cut xs i x lt at =
       ap (λ n. take n xs) (sym next) ∙ take-suc xs i x lt ∙ ap (λ e. take i xs ++ e ∷ []) (sym at),
     )
 
-pub all_taken : (xs : List Row) (i : ℕ) → length xs ≤ i → (take i xs ≡ xs) × (drop i xs ≡ [])
+pub all_taken : (xs : List PlainEntry) (i : ℕ) → length xs ≤ i → (take i xs ≡ xs) × (drop i xs ≡ [])
 all_taken [] zero le = (refl, refl)
 all_taken [] (suc i) le = (refl, refl)
 all_taken (x ∷ xs) zero le = absurd (omega arith)
@@ -33,7 +33,7 @@ all_taken (x ∷ xs) (suc i) le = let rest = all_taken xs i (omega arith) in (ap
 -- ---- conflicts
 
 -- where a list names no network with both signs, it is a list of networks with one sign alone
-agree_behind : (before xs : List Row) → Agree before → conflict_behind before xs ≡ None → Agree (before ++ xs)
+agree_behind : (before xs : List PlainEntry) → Agree before → conflict_behind before xs ≡ None → Agree (before ++ xs)
 unfolding conflict_behind
 agree_behind before [] agree none = subst Agree (sym (append-nil before)) agree
 agree_behind before (x ∷ xs) agree none = by (list_any (is_opposite x) before) refl (agree_behind (before ++ x ∷ []) xs) where
@@ -44,14 +44,14 @@ agree_behind before (x ∷ xs) agree none = by (list_any (is_opposite x) before)
   by false is rest = let later : conflict_behind (before ++ x ∷ []) xs ≡ None = rw is at none in
       subst Agree (append_assoc before (x ∷ []) xs) (rest (agree_push before x agree is) later)
 
-pub agreeing : (xs : List Row) → conflict_in xs ≡ None → Agree xs
+pub agreeing : (xs : List PlainEntry) → conflict_in xs ≡ None → Agree xs
 agreeing xs none = agree_behind [] xs tt none
 
-agree_front : (xs ys : List Row) → Agree (xs ++ ys) → Agree xs
+agree_front : (xs ys : List PlainEntry) → Agree (xs ++ ys) → Agree xs
 agree_front [] ys agree = tt
 agree_front (x ∷ xs) ys agree = (or_left _ _ (sym (list_any-append (is_opposite x) xs ys) ∙ agree.0), agree_front xs ys agree.1)
 
-pub none_before : (before xs : List Row) (i : ℕ) (x : Row) → i < length xs → x ≡ get_or xs i x → conflict_behind before xs ≡ None →
+pub none_before : (before xs : List PlainEntry) (i : ℕ) (x : PlainEntry) → i < length xs → x ≡ get_or xs i x → conflict_behind before xs ≡ None →
     list_any (is_opposite x) (before ++ take i xs) ≡ false
 unfolding conflict_behind
 none_before before [] i x lt at none = absurd (omega arith)
@@ -68,7 +68,7 @@ none_before before (y ∷ xs) (suc i) x lt at none =
       by false is rest = let later : conflict_behind (before ++ y ∷ []) xs ≡ None = rw is at none in
           ap (list_any (is_opposite x)) (sym (append_assoc before (y ∷ []) (take i xs))) ∙ rest later
 
-pub no_other_sign : (xs : List Row) (i : ℕ) (x : Row) → conflict_in xs ≡ None → i < length xs → x ≡ get_or xs i x →
+pub no_other_sign : (xs : List PlainEntry) (i : ℕ) (x : PlainEntry) → conflict_in xs ≡ None → i < length xs → x ≡ get_or xs i x →
     is_sign (not x.1) (sign_of x.0 (take i xs)) ≡ false
 no_other_sign xs i x none lt at =
     let agree = agree_front (take i xs) (drop i xs) (subst Agree (sym (take-append-drop i xs)) (agreeing xs none)) in
@@ -77,27 +77,27 @@ no_other_sign xs i x none lt at =
 -- ---- gathering
 
 -- what is gathered of the first i entries
-pub record Gathering (xs : List Row) (i : ℕ) (rows : List Row) : Type 0 where
+pub record Gathering (xs : List PlainEntry) (i : ℕ) (rows : List PlainEntry) : Type 0 where
   pub named : rows ≡ added [] (take i xs)
   pub conflict : conflict_behind (take i xs) (drop i xs) ≡ conflict_in xs
   pub agree : Agree (take i xs)
   pub networks : All (λ e. IsNetwork e.0) (take i xs)
 
-pub gathering_nothing : (xs : List Row) → Gathering xs 0 []
+pub gathering_nothing : (xs : List PlainEntry) → Gathering xs 0 []
 unfolding added
 gathering_nothing xs = record { named = refl; conflict = refl; agree = tt; networks = All-nil (λ e. IsNetwork e.0) }
 
-other_named : (xs : List Row) (i : ℕ) (named : List Row) (x : Row) (b : Bool) → Gathering xs i named →
+other_named : (xs : List PlainEntry) (i : ℕ) (named : List PlainEntry) (x : PlainEntry) (b : Bool) → Gathering xs i named →
     is_sign (not x.1) (sign_of x.0 named) ≡ b → list_any (is_opposite x) (take i xs) ≡ b
 other_named xs i named x b g is = any_is_sign (take i xs) g.agree x.0 (not x.1)
     ∙ ap (is_sign (not x.1)) (sym (sign_added [] (take i xs) x.0) ∙ ap (sign_of x.0) (sym g.named)) ∙ is
 
-pub one_more : (es xs : List Row) (i : ℕ) (x : Row) → i < length xs → x ≡ get_or xs i x →
+pub one_more : (es xs : List PlainEntry) (i : ℕ) (x : PlainEntry) → i < length xs → x ≡ get_or xs i x →
     with_entry (added es (take i xs)) x ≡ added es (take (i + 1) xs)
 unfolding added
 one_more es xs i x lt at = sym (ap (fold with_entry es) (next_cut xs i x lt at).1 ∙ fold-append with_entry es (take i xs) (x ∷ []))
 
-pub gathers_next : (xs : List Row) (i : ℕ) (named : List Row) (x : Row) → Gathering xs i named → i < length xs → x ≡ get_or xs i x →
+pub gathers_next : (xs : List PlainEntry) (i : ℕ) (named : List PlainEntry) (x : PlainEntry) → Gathering xs i named → i < length xs → x ≡ get_or xs i x →
     IsNetwork x.0 → is_sign (not x.1) (sign_of x.0 named) ≡ false → Gathering xs (i + 1) (with_entry named x)
 unfolding conflict_behind
 gathers_next xs i named x g lt at network is =
@@ -111,7 +111,7 @@ gathers_next xs i named x g lt at network is =
       networks = rw front (All-push (λ e. IsNetwork e.0) (take i xs) x g.networks network);
     }
 
-pub gathers_no_more : (xs : List Row) (i : ℕ) (named : List Row) (x : Row) → Gathering xs i named → i < length xs → x ≡ get_or xs i x →
+pub gathers_no_more : (xs : List PlainEntry) (i : ℕ) (named : List PlainEntry) (x : PlainEntry) → Gathering xs i named → i < length xs → x ≡ get_or xs i x →
     is_sign (not x.1) (sign_of x.0 named) ≡ true → conflict_in xs ≡ Some i
 unfolding conflict_behind
 gathers_no_more xs i named x g lt at is =
@@ -121,18 +121,18 @@ gathers_no_more xs i named x g lt at is =
     ∙ ap (λ b. cond b (Some (length (take i xs))) (conflict_behind (take i xs ++ x ∷ []) (drop (i + 1) xs))) some
     ∙ ap (λ n. Some n) (length_of xs i lt)
   where
-    length_of : (ys : List Row) (n : ℕ) → n < length ys → length (take n ys) ≡ n
+    length_of : (ys : List PlainEntry) (n : ℕ) → n < length ys → length (take n ys) ≡ n
     length_of [] n lt = absurd (omega arith)
     length_of (y ∷ ys) zero lt = refl
     length_of (y ∷ ys) (suc n) lt = ap suc (length_of ys n (omega arith))
 
 -- what is gathered of all entries
-pub record Gathered (xs rows : List Row) : Type 0 where
+pub record Gathered (xs rows : List PlainEntry) : Type 0 where
   pub none : conflict_in xs ≡ None
   pub named : rows ≡ added [] xs
   pub networks : All (λ e. IsNetwork e.0) xs
 
-pub gathered_all : (xs : List Row) (i : ℕ) (named : List Row) → Gathering xs i named → length xs ≤ i → Gathered xs named
+pub gathered_all : (xs : List PlainEntry) (i : ℕ) (named : List PlainEntry) → Gathering xs i named → length xs ≤ i → Gathered xs named
 unfolding conflict_behind
 gathered_all xs i named g le =
     let (whole, none) = all_taken xs i le in
@@ -145,10 +145,10 @@ gathered_all xs i named g le =
 -- ---- adding, and what is noted of the list
 
 -- what is noted has the sign that each network of the table was first named with
-abbrev pub IsNoted : List Row → List Row → List Row → Type 0
-IsNoted es before noted = (q : Network) → is_some (sign_of q es) ≡ true → sign_of q noted ≡ sign_of q before
+abbrev pub IsNoted : List PlainEntry → List PlainEntry → List PlainEntry → Type 0
+IsNoted es before noted = (q : PlainNet) → is_some (sign_of q es) ≡ true → sign_of q noted ≡ sign_of q before
 
-pub first_is : (es before noted : List Row) (q : Network) (there : Option Bool) → IsNoted es before noted → there ≡ sign_of q (added es before) →
+pub first_is : (es before noted : List PlainEntry) (q : PlainNet) (there : Option Bool) → IsNoted es before noted → there ≡ sign_of q (added es before) →
     first_sign (sign_of q es) (sign_of q noted) there ≡ sign_of q before
 first_is es before noted q there are is = by (sign_of q es) refl there (is ∙ sign_added es before q) where
   by : (o : Option Bool) → sign_of q es ≡ o → (t : Option Bool) → t ≡ option_or (sign_of q es) (sign_of q before) → first_sign o (sign_of q noted) t ≡ sign_of q before
@@ -157,7 +157,7 @@ first_is es before noted q there are is = by (sign_of q es) refl there (is ∙ s
   by None found (Some t) is = rw found at is
   by None found None is = rw found at is
 
-sign_push : (xs : List Row) (x : Row) (q : Network) → sign_of q (xs ++ x ∷ []) ≡ option_or (sign_of q xs) (sign_of q (x ∷ []))
+sign_push : (xs : List PlainEntry) (x : PlainEntry) (q : PlainNet) → sign_of q (xs ++ x ∷ []) ≡ option_or (sign_of q xs) (sign_of q (x ∷ []))
 sign_push [] x q = refl
 sign_push (e ∷ xs) x q = by (is_eq (net_order q e.0)) refl (sign_push xs x q) where
   by : (t : Bool) → is_eq (net_order q e.0) ≡ t → sign_of q (xs ++ x ∷ []) ≡ option_or (sign_of q xs) (sign_of q (x ∷ [])) →
@@ -171,7 +171,7 @@ tied_of Equal e = refl
 tied_of Greater e = absurd (true≢false (sym e))
 
 -- a network that isn't among some has no sign there, and neither has one that is the same
-not_same : (es : List Row) (x : Row) (q : Network) → sign_of x.0 es ≡ None → is_some (sign_of q es) ≡ true → sign_of q (x ∷ []) ≡ None
+not_same : (es : List PlainEntry) (x : PlainEntry) (q : PlainNet) → sign_of x.0 es ≡ None → is_some (sign_of q es) ≡ true → sign_of q (x ∷ []) ≡ None
 not_same es x q none some = by (is_eq (net_order q x.0)) refl where
   by : (t : Bool) → is_eq (net_order q x.0) ≡ t → sign_of q (x ∷ []) ≡ None
   by true tied = absurd (true≢false (sym some ∙ ap is_some (sym (find_tied net_order net_total q x.0 (tied_of _ tied) es) ∙ none)))
@@ -182,7 +182,7 @@ or_none None = refl
 or_none (Some s) = refl
 
 -- a sign that is there stays
-named_stays : (before : List Row) (x : Row) (q : Network) (s : Bool) → sign_of x.0 before ≡ Some s →
+named_stays : (before : List PlainEntry) (x : PlainEntry) (q : PlainNet) (s : Bool) → sign_of x.0 before ≡ Some s →
     sign_of q before ≡ option_or (sign_of q before) (sign_of q (x ∷ []))
 named_stays before x q s is = by (is_eq (net_order q x.0)) refl where
   stays : (o p : Option Bool) → o ≡ Some s → o ≡ option_or o p
@@ -193,7 +193,7 @@ named_stays before x q s is = by (is_eq (net_order q x.0)) refl where
   by true tied = stays (sign_of q before) _ (sym (find_tied net_order net_total q x.0 (tied_of _ tied) before) ∙ is)
   by false other = rw other (or_none (sign_of q before))
 
-pub adds_next : (answers : List Addition) (es now xs : List Row) (i : ℕ) (x : Row) → now ≡ added es (take i xs) → i < length xs →
+pub adds_next : (answers : List Addition) (es now xs : List PlainEntry) (i : ℕ) (x : PlainEntry) → now ≡ added es (take i xs) → i < length xs →
     x ≡ get_or xs i x →
     (answers ++ addition (sign_of x.0 now) x.1 ∷ []) ++ additions (added es (take (i + 1) xs))
     (drop (i + 1) xs) ≡ answers ++ additions (added es (take i xs)) (drop i xs)
@@ -203,7 +203,7 @@ adds_next answers es now xs i x is lt at =
     ∙ ap (λ l. answers ++ l) ((λ j. addition (sign_of x.0 (is j)) x.1 ∷ additions (sym (one_more es xs i x lt at) j) (drop (i + 1) xs))
     ∙ sym (ap (additions (added es (take i xs))) (next_cut xs i x lt at).0))
 
-pub adds_end : (answers : List Addition) (es xs : List Row) (i : ℕ) → length xs ≤ i →
+pub adds_end : (answers : List Addition) (es xs : List PlainEntry) (i : ℕ) → length xs ≤ i →
     answers ≡ answers ++ additions (added es (take i xs)) (drop i xs)
 unfolding additions
 adds_end answers es xs i le = sym (append-nil answers) ∙ ap (λ l. answers ++ additions (added es (take i xs)) l) (sym (all_taken xs i le).1)
@@ -212,7 +212,7 @@ none_of : (o p : Option Bool) → None ≡ option_or o p → o ≡ None
 none_of None p is = refl
 none_of (Some s) p is = absurd (true≢false (sym (ap is_some is)))
 
-pub notes_next : (es before noted : List Row) (x : Row) (there first : Option Bool) → IsNoted es before noted →
+pub notes_next : (es before noted : List PlainEntry) (x : PlainEntry) (there first : Option Bool) → IsNoted es before noted →
     there ≡ sign_of x.0 (added es before) → first ≡ sign_of x.0 before → IsNoted es (before ++ x ∷ []) (noted_with noted there first x)
 unfolding added
 notes_next es before noted x None first are is at = λ q some.
@@ -223,36 +223,36 @@ notes_next es before noted x (Some t) None are is at = λ q some.
     sign_added noted (x ∷ []) q ∙ ap (λ o. option_or o (sign_of q (x ∷ []))) (are q some) ∙ sym (sign_push before x q)
 
 -- what is known once the first i entries were added
-pub record Adding (es xs : List Row) (i : ℕ) (after noted : List Row) (answers : List Addition) : Type 0 where
+pub record Adding (es xs : List PlainEntry) (i : ℕ) (after noted : List PlainEntry) (answers : List Addition) : Type 0 where
   pub so_far : after ≡ added es (take i xs)
   pub signs : IsNoted es (take i xs) noted
   pub told : answers ++ additions (added es (take i xs)) (drop i xs) ≡ additions es xs
   pub list : Gathering xs i (added [] (take i xs))
 
-pub adding_nothing : (es xs after : List Row) (answers : List Addition) → after ≡ es → answers ≡ [] → Adding es xs 0 after [] answers
+pub adding_nothing : (es xs after : List PlainEntry) (answers : List Addition) → after ≡ es → answers ≡ [] → Adding es xs 0 after [] answers
 unfolding added
 adding_nothing es xs after answers is none =
     record { so_far = is; signs = λ q some. refl; told = ap (λ l. l ++ additions es xs) none; list = gathering_nothing xs }
 
 -- by its network's sign in the table so far, and the one that it was first named with
-pub record IsNext (es xs : List Row) (i : ℕ) (after noted : List Row) (x : Row) (there first : Option Bool) : Type 0 where
+pub record IsNext (es xs : List PlainEntry) (i : ℕ) (after noted : List PlainEntry) (x : PlainEntry) (there first : Option Bool) : Type 0 where
   pub low : i < length xs
   pub at : x ≡ get_or xs i x
   pub is_there : there ≡ sign_of x.0 after
   pub is_first : first ≡ first_sign (sign_of x.0 es) (sign_of x.0 noted) there
 
-first-named : (es xs : List Row) (i : ℕ) (after noted : List Row) (answers : List Addition) (x : Row) (there first : Option Bool) →
+first-named : (es xs : List PlainEntry) (i : ℕ) (after noted : List PlainEntry) (answers : List Addition) (x : PlainEntry) (there first : Option Bool) →
     Adding es xs i after noted answers → IsNext es xs i after noted x there first → first ≡ sign_of x.0 (take i xs)
 first-named es xs i after noted answers x there first a n =
     n.is_first ∙ first_is es (take i xs) noted x.0 there a.signs (n.is_there ∙ ap (sign_of x.0) a.so_far)
 
-opposed : (es xs : List Row) (i : ℕ) (after noted : List Row) (answers : List Addition) (x : Row) (there first : Option Bool) (b : Bool) →
+opposed : (es xs : List PlainEntry) (i : ℕ) (after noted : List PlainEntry) (answers : List Addition) (x : PlainEntry) (there first : Option Bool) (b : Bool) →
     Adding es xs i after noted answers → IsNext es xs i after noted x there first → is_sign (not x.1) first ≡ b →
     is_sign (not x.1) (sign_of x.0 (added [] (take i xs))) ≡ b
 opposed es xs i after noted answers x there first b a n is =
     ap (is_sign (not x.1)) (sign_added [] (take i xs) x.0 ∙ sym (first-named es xs i after noted answers x there first a n)) ∙ is
 
-pub adding_next : (es xs : List Row) (i : ℕ) (after noted : List Row) (answers : List Addition) (x : Row) (there first : Option Bool) →
+pub adding_next : (es xs : List PlainEntry) (i : ℕ) (after noted : List PlainEntry) (answers : List Addition) (x : PlainEntry) (there first : Option Bool) →
     Adding es xs i after noted answers → IsNext es xs i after noted x there first → IsNetwork x.0 → is_sign (not x.1) first ≡ false →
     Adding es xs (i + 1) (with_entry after x) (noted_with noted there first x) (answers ++ addition there x.1 ∷ [])
 adding_next es xs i after noted answers x there first a n network is =
@@ -267,19 +267,19 @@ adding_next es xs i after noted answers x there first a n network is =
           (opposed es xs i after noted answers x there first false a n is));
     }
 
-pub adding_stops : (es xs : List Row) (i : ℕ) (after noted : List Row) (answers : List Addition) (x : Row) (there first : Option Bool) →
+pub adding_stops : (es xs : List PlainEntry) (i : ℕ) (after noted : List PlainEntry) (answers : List Addition) (x : PlainEntry) (there first : Option Bool) →
     Adding es xs i after noted answers → IsNext es xs i after noted x there first → is_sign (not x.1) first ≡ true → conflict_in xs ≡ Some i
 adding_stops es xs i after noted answers x there first a n is =
     gathers_no_more xs i (added [] (take i xs)) x a.list n.low n.at (opposed es xs i after noted answers x there first true a n is)
 
 -- what is known of all entries
-pub record AllAdded (es xs after : List Row) (answers : List Addition) : Type 0 where
+pub record AllAdded (es xs after : List PlainEntry) (answers : List Addition) : Type 0 where
   pub leaves : after ≡ added es xs
   pub told : answers ≡ additions es xs
   pub none : conflict_in xs ≡ None
   pub networks : All (λ e. IsNetwork e.0) xs
 
-pub all_added : (es xs : List Row) (i : ℕ) (after noted : List Row) (answers : List Addition) → Adding es xs i after noted answers →
+pub all_added : (es xs : List PlainEntry) (i : ℕ) (after noted : List PlainEntry) (answers : List Addition) → Adding es xs i after noted answers →
     length xs ≤ i → AllAdded es xs after answers
 all_added es xs i after noted answers a le =
     let list = gathered_all xs i (added [] (take i xs)) a.list le in
@@ -293,9 +293,9 @@ all_added es xs i after noted answers a le =
 -- ---- changing entry by entry
 
 -- where a network isn't there, to put it in takes nothing out
-pub put_only : (es : List Row) (x : Row) → sign_of x.0 es ≡ None → with_value net_order es x.0 (Some x.1) ≡ put net_order x.0 x.1 es
+pub put_only : (es : List PlainEntry) (x : PlainEntry) → sign_of x.0 es ≡ None → with_value net_order es x.0 (Some x.1) ≡ put net_order x.0 x.1 es
 put_only es x none = ap (put net_order x.0 x.1) (stays es none) where
-  stays : (fs : List Row) → sign_of x.0 fs ≡ None → without net_order fs x.0 ≡ fs
+  stays : (fs : List PlainEntry) → sign_of x.0 fs ≡ None → without net_order fs x.0 ≡ fs
   stays [] none = refl
   stays (f ∷ fs) none = by (is_eq (net_order x.0 f.0)) refl (stays fs) where
     by : (t : Bool) → is_eq (net_order x.0 f.0) ≡ t → (sign_of x.0 fs ≡ None → without net_order fs x.0 ≡ fs) →
@@ -303,17 +303,17 @@ put_only es x none = ap (put net_order x.0 x.1) (stays es none) where
     by true tied rest = let some : Some f.1 ≡ None = rw tied at none in absurd (true≢false (ap is_some some))
     by false other rest = let later : sign_of x.0 fs ≡ None = rw other at none in rw other (ap (λ l. f ∷ l) (rest later))
 
-pub with_new : (es : List Row) (x : Row) (there : Option Bool) → there ≡ sign_of x.0 es → is_some there ≡ false →
+pub with_new : (es : List PlainEntry) (x : PlainEntry) (there : Option Bool) → there ≡ sign_of x.0 es → is_some there ≡ false →
     with_value net_order es x.0 (Some x.1) ≡ with_entry es x
 with_new es x None is new = rw (sym is) (put_only es x (sym is))
 with_new es x (Some s) is new = absurd (true≢false new)
 
-pub one_less : (es xs : List Row) (i : ℕ) (x : Row) → i < length xs → x ≡ get_or xs i x →
+pub one_less : (es xs : List PlainEntry) (i : ℕ) (x : PlainEntry) → i < length xs → x ≡ get_or xs i x →
     without_entry (deleted es (take i xs)) x ≡ deleted es (take (i + 1) xs)
 unfolding deleted
 one_less es xs i x lt at = sym (ap (fold without_entry es) (next_cut xs i x lt at).1 ∙ fold-append without_entry es (take i xs) (x ∷ []))
 
-pub dels_next : (answers : List Deletion) (es now xs : List Row) (i : ℕ) (x : Row) → now ≡ deleted es (take i xs) → i < length xs →
+pub dels_next : (answers : List Deletion) (es now xs : List PlainEntry) (i : ℕ) (x : PlainEntry) → now ≡ deleted es (take i xs) → i < length xs →
     x ≡ get_or xs i x →
     (answers ++ deletion (has_entry now x) ∷ []) ++ deletions (deleted es (take (i + 1) xs))
     (drop (i + 1) xs) ≡ answers ++ deletions (deleted es (take i xs)) (drop i xs)
@@ -323,7 +323,7 @@ dels_next answers es now xs i x is lt at =
     ∙ ap (λ l. answers ++ l) ((λ j. deletion (has_entry (is j) x) ∷ deletions (sym (one_less es xs i x lt at) j) (drop (i + 1) xs))
     ∙ sym (ap (deletions (deleted es (take i xs))) (next_cut xs i x lt at).0))
 
-pub dels_end : (answers : List Deletion) (es xs : List Row) (i : ℕ) → length xs ≤ i →
+pub dels_end : (answers : List Deletion) (es xs : List PlainEntry) (i : ℕ) → length xs ≤ i →
     answers ≡ answers ++ deletions (deleted es (take i xs)) (drop i xs)
 unfolding deletions
 dels_end answers es xs i le = sym (append-nil answers)
@@ -366,7 +366,7 @@ dels_told (Some t) (Some u) s other named are left at_none at_some = ap (is_sign
       by false false s other = refl
 
 -- what an entry that is deleted finds behind those before it
-pub dels_by_old : (es xs : List Row) (i : ℕ) (x : Row) → conflict_in xs ≡ None → i < length xs → x ≡ get_or xs i x →
+pub dels_by_old : (es xs : List PlainEntry) (i : ℕ) (x : PlainEntry) → conflict_in xs ≡ None → i < length xs → x ≡ get_or xs i x →
     has_entry (deleted es (take i xs)) x ≡ (is_none (sign_of x.0 (take i xs)) && is_sign x.1 (sign_of x.0 es))
 dels_by_old es xs i x none lt at =
     let agree = agree_front (take i xs) (drop i xs) (subst Agree (sym (take-append-drop i xs)) (agreeing xs none)) in

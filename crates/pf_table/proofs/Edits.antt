@@ -3,7 +3,7 @@ use Rattle.std.proofs.{Common.{◌≡◌, ℕ, ◌<◌, ◌≤◌, nat_lt, true,
 use Rattle.pf_addr.specs.Address.{IsNetwork}
 use Rattle.pf_table.specs.declared.limits.TheConstants.{TABLE_LIMIT}
 use Rattle.pf_table.specs.declared.refusal.TableRefusal.TheVariants as refusal
-use Rattle.pf_table.specs.{Entries.Row, Tables.IsTable, Searches.NoneShorter, Edits.{added, deleted, replaced, conflict_in, edit_refusal}, Laws.Edits.{sorted_added, sorted_deleted, added_all, deleted_all, deleted_fewer}}
+use Rattle.pf_table.specs.{Entries.PlainEntry, Tables.IsTable, Searches.NoneShorter, Edits.{added, deleted, replaced, conflict_in, edit_refusal}, Laws.Edits.{sorted_added, sorted_deleted, added_all, deleted_all, deleted_fewer}}
 
 more_than : (n limit : ℕ) → limit < n → nat_lt limit n ≡ true
 more_than n limit lt = grind (arith, nat_tests)
@@ -11,17 +11,17 @@ more_than n limit lt = grind (arith, nat_tests)
 no_more_than : (n limit : ℕ) → n ≤ limit → nat_lt limit n ≡ false
 no_more_than n limit le = grind (arith, nat_tests)
 
-pub refused_full : (xs after : List Row) → conflict_in xs ≡ None → TABLE_LIMIT < length after →
+pub refused_full : (xs after : List PlainEntry) → conflict_in xs ≡ None → TABLE_LIMIT < length after →
     edit_refusal xs after ≡ Some refusal.TableFull
 refused_full xs after none lt = rw (none, more_than (length after) TABLE_LIMIT lt) refl
 
-pub not_refused : (xs after : List Row) → conflict_in xs ≡ None → length after ≤ TABLE_LIMIT → edit_refusal xs after ≡ None
+pub not_refused : (xs after : List PlainEntry) → conflict_in xs ≡ None → length after ≤ TABLE_LIMIT → edit_refusal xs after ≡ None
 not_refused xs after none le = rw (none, no_more_than (length after) TABLE_LIMIT le) refl
 
 pub few_of : (n : ℕ) → nat_lt TABLE_LIMIT n ≡ false → n ≤ TABLE_LIMIT
 few_of n is = grind (arith, nat_tests)
 
-pub add_leaves_table : (es xs after : List Row) → IsTable es → All (λ x. IsNetwork x.0) xs → after ≡ added es xs →
+pub add_leaves_table : (es xs after : List PlainEntry) → IsTable es → All (λ x. IsNetwork x.0) xs → after ≡ added es xs →
     length after ≤ TABLE_LIMIT → IsTable after
 add_leaves_table es xs after table networks is few = record {
   sorted = rw is (sorted_added es xs table.sorted);
@@ -33,11 +33,11 @@ add_leaves_table es xs after table networks is few = record {
 no_entries : IsTable []
 no_entries = record { sorted = tt; networks = All-nil (λ e. IsNetwork e.0); few = omega arith }
 
-pub replace_leaves_table : (xs after : List Row) → All (λ x. IsNetwork x.0) xs → after ≡ replaced xs → length after ≤ TABLE_LIMIT →
+pub replace_leaves_table : (xs after : List PlainEntry) → All (λ x. IsNetwork x.0) xs → after ≡ replaced xs → length after ≤ TABLE_LIMIT →
     IsTable after
 replace_leaves_table xs after = add_leaves_table [] xs after no_entries
 
-pub delete_leaves_table : (es xs after : List Row) → IsTable es → after ≡ deleted es xs → IsTable after
+pub delete_leaves_table : (es xs after : List PlainEntry) → IsTable es → after ≡ deleted es xs → IsTable after
 delete_leaves_table es xs after table is = record {
   sorted = rw is (sorted_deleted es xs table.sorted);
   networks = rw is (All-from_recursion _ _ (deleted_all IsNetwork es xs (recursion_from_All _ es table.networks)));
@@ -49,15 +49,15 @@ delete_leaves_table es xs after table is = record {
 
 -- ---- how short networks are
 
-pub shorter_bound : (m n : ℕ) (es : List Row) → m ≤ n → NoneShorter n es → NoneShorter m es
+pub shorter_bound : (m n : ℕ) (es : List PlainEntry) → m ≤ n → NoneShorter n es → NoneShorter m es
 shorter_bound m n es le all = λ k d lt. let low = all k d lt in omega (arith, le, low)
 
-pub add_leaves_shortest : (es xs after : List Row) (n : ℕ) → NoneShorter n es → NoneShorter n xs → after ≡ added es xs → NoneShorter n after
+pub add_leaves_shortest : (es xs after : List PlainEntry) (n : ℕ) → NoneShorter n es → NoneShorter n xs → after ≡ added es xs → NoneShorter n after
 add_leaves_shortest es xs after n old new is =
     rw is (All-from_recursion _ _ (added_all (λ net. n ≤ net.len) es xs (recursion_from_All _ es old) (recursion_from_All _ xs new)))
 
-pub replace_leaves_shortest : (xs after : List Row) (n : ℕ) → NoneShorter n xs → after ≡ replaced xs → NoneShorter n after
+pub replace_leaves_shortest : (xs after : List PlainEntry) (n : ℕ) → NoneShorter n xs → after ≡ replaced xs → NoneShorter n after
 replace_leaves_shortest xs after n new = add_leaves_shortest [] xs after n (All-nil (λ e. n ≤ e.0.len)) new
 
-pub delete_leaves_shortest : (es xs after : List Row) (n : ℕ) → NoneShorter n es → after ≡ deleted es xs → NoneShorter n after
+pub delete_leaves_shortest : (es xs after : List PlainEntry) (n : ℕ) → NoneShorter n es → after ≡ deleted es xs → NoneShorter n after
 delete_leaves_shortest es xs after n old is = rw is (All-from_recursion _ _ (deleted_all (λ net. n ≤ net.len) es xs (recursion_from_All _ es old)))

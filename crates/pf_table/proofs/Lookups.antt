@@ -1,12 +1,12 @@
 -- Of the entries that contain an address the one with the longest front decides.
 use Rattle.std.proofs.{Common.{append_assoc, append-nil, ◌≡◌, ◌≢◌, ℕ, zero, suc, ◌-◌, ◌*◌, ◌/◌, ◌^◌, ◌<◌, ◌≤◌, ◌==◌, bit_xor, nat_lt, Bool, true, false, not, cond, ◌&&◌, List, [], ◌∷◌, ◌++◌, length, get_or, map, Option, Some, None, is_some, refl, sym, ap, ◌∙◌, subst, true≢false, arith, ◌⊎◌, inl, inr}, lemmas.{Bool.Decides.{nat_tests, Decides-eqb}, Cmp.{nat_cmp_total, ranked}, Map.Keys.ge_from_not_lt, Nat.shl-shr, List.Elements.{All-contains, Contains-append_left, Contains-append_right, Contains-append_cases}}, Math.Nat.div-mul-le_self}
 use Rattle.std.specs.{List.{Contains, All}, Ordering.{is_eq, is_lt, nat_cmp, ordering_then, ordering_reverse}, Cmp.tied_itself, Int.Count.count_leading_zeros}
-use Rattle.pf_addr.specs.{declared.{addr.Addr.Addr, addr.Family.Family, addr.Family.TheVariants.V4, addr.Family.TheVariants.V6}, Address.{Network, IsNetwork, contains, same_family, family_of, width, number_in, first_bits, network_from}, Spelling.{addr_in, first_addr}, NetForms.first_number}
+use Rattle.pf_addr.specs.{declared.{addr.Addr.Addr, addr.Family.Family, addr.Family.TheVariants.V4, addr.Family.TheVariants.V6}, Address.{PlainNet, IsNetwork, contains, same_family, family_of, width, number_in, first_bits, network_from}, Spelling.{addr_in, first_addr}, NetForms.first_number}
 use Rattle.pf_addr.specs.declared.addr.Addr.TheVariants as addr
-use Rattle.pf_table.specs.{Entries.Row, Shared.Share, Tables.{sign_of, Decides, longer, deciding}}
-use Rattle.pf_map.specs.{Networks.{rank, net_order}, NetworkLaws.net_total}
-use Rattle.pf_map.specs.{Maps.{at_or_before, last_where}, Parts.{joined, starts_behind, first_of as first_of_page, IsUpTo, FollowsFrom}}
-use Rattle.pf_map.proofs.Parts.{sorted_up_to}
+use Rattle.pf_table.specs.{Entries.PlainEntry, Shared.Share, Tables.{sign_of, Decides, longer, deciding}}
+use Rattle.pf_addr.specs.{NetOrder.{rank, net_order}, Laws.NetOrder.net_total}
+use Rattle.pf_map.specs.{Maps.{at_or_before, last_where}, MapParts.{joined, starts_behind, first_of as first_of_page, IsUpTo, FollowsFrom}}
+use Rattle.pf_map.proofs.MapParts.{sorted_up_to}
 use Rattle.pf_lanes.specs.Longest.{FindsLongest}
 use Rattle.std.specs.Prelude.{slice_get, MatchOption}
 use Rattle.std.proofs.lemmas.{List.map-id, List.Concat.flat_map-append}
@@ -17,7 +17,7 @@ use Rattle.pf_map.proofs.Tests.{first_of, second_of}
 
 -- ---- what is found decides
 
-either : (r : Option Row) (e : Row) → (longer (Some e) r ≡ Some e) ⊎ (longer (Some e) r ≡ r)
+either : (r : Option PlainEntry) (e : PlainEntry) → (longer (Some e) r ≡ Some e) ⊎ (longer (Some e) r ≡ r)
 either None e = inl refl
 either (Some f) e = by (nat_lt e.0.len f.0.len) where
   by : (t : Bool) → (cond t (Some f) (Some e) ≡ Some e) ⊎ (cond t (Some f) (Some e) ≡ Some f)
@@ -28,10 +28,10 @@ inside : {A : Type 0} (x y : A) → Some x ≡ Some y → x ≡ y
 inside x y e = cc
 
 -- an entry of the rest is one of the whole
-later : (e x : Row) (es : List Row) → Contains es x → Contains (e ∷ es) x
+later : (e x : PlainEntry) (es : List PlainEntry) → Contains es x → Contains (e ∷ es) x
 later e x es (k, lt, at) = (suc k, omega arith, at)
 
-pub is_there : (es : List Row) (a : Addr) (e : Row) → deciding es a ≡ Some e → Contains es e × (contains e.0 a ≡ true)
+pub is_there : (es : List PlainEntry) (a : Addr) (e : PlainEntry) → deciding es a ≡ Some e → Contains es e × (contains e.0 a ≡ true)
 unfolding deciding
 is_there [] a e is = absurd (true≢false (sym (ap is_some is)))
 is_there (f ∷ es) a e is = by (contains f.0 a) refl (is_there es a e) where
@@ -40,60 +40,60 @@ is_there (f ∷ es) a e is = by (contains f.0 a) refl (is_there es a e) where
   by false no_ rest = let there : deciding es a ≡ Some e = rw no_ at is in let (at_, holds) = rest there in (later f e es at_, holds)
   by true yes_ rest = let found : longer (Some f) (deciding es a) ≡ Some e = rw yes_ at is in
       elim (either (deciding es a) f) [
-        | inl own ↦ let same = inside f e (sym own ∙ found) in ((0, omega arith, same), sym (ap (λ (x : Row). contains x.0 a) same) ∙ yes_)
+        | inl own ↦ let same = inside f e (sym own ∙ found) in ((0, omega arith, same), sym (ap (λ (x : PlainEntry). contains x.0 a) same) ∙ yes_)
         | inr other ↦ let (at_, holds) = rest (sym other ∙ found) in (later f e es at_, holds)
       ]
 
-none_of : (f : Row) (r : Option Row) → longer (Some f) r ≡ None → ⊥
+none_of : (f : PlainEntry) (r : Option PlainEntry) → longer (Some f) r ≡ None → ⊥
 none_of f None e = absurd (true≢false (ap is_some e))
 none_of f (Some g) e = by (nat_lt f.0.len g.0.len) e where
   by : (t : Bool) → cond t (Some g) (Some f) ≡ None → ⊥
   by true e = true≢false (ap is_some e)
   by false e = true≢false (ap is_some e)
 
-pub none_contains : (es : List Row) (a : Addr) → deciding es a ≡ None → (e : Row) → Contains es e → contains e.0 a ≡ false
+pub none_contains : (es : List PlainEntry) (a : Addr) → deciding es a ≡ None → (e : PlainEntry) → Contains es e → contains e.0 a ≡ false
 unfolding deciding
 none_contains [] a is e (k, lt, at) = absurd (omega arith)
 none_contains (f ∷ es) a is e there = by (contains f.0 a) refl (none_contains es a) there where
-  by : (t : Bool) → contains f.0 a ≡ t → (deciding es a ≡ None → (x : Row) → Contains es x → contains x.0 a ≡ false) →
+  by : (t : Bool) → contains f.0 a ≡ t → (deciding es a ≡ None → (x : PlainEntry) → Contains es x → contains x.0 a ≡ false) →
       Contains (f ∷ es) e → contains e.0 a ≡ false
   by true yes_ rest at_ = let found : longer (Some f) (deciding es a) ≡ None = rw yes_ at is in absurd (none_of f (deciding es a) found)
-  by false no_ rest (zero, lt, at) = ap (λ (x : Row). contains x.0 a) (sym at) ∙ no_
+  by false no_ rest (zero, lt, at) = ap (λ (x : PlainEntry). contains x.0 a) (sym at) ∙ no_
   by false no_ rest (suc k, lt, at) = let found : deciding es a ≡ None = rw no_ at is in rest found e (k, omega arith, at)
 
-at_least : (f e : Row) (r : Option Row) → longer (Some f) r ≡ Some e → (f.0.len ≤ e.0.len) × ((g : Row) → r ≡ Some g → g.0.len ≤ e.0.len)
+at_least : (f e : PlainEntry) (r : Option PlainEntry) → longer (Some f) r ≡ Some e → (f.0.len ≤ e.0.len) × ((g : PlainEntry) → r ≡ Some g → g.0.len ≤ e.0.len)
 at_least f e None is = (ap_le f e (inside f e is), λ g none. absurd (true≢false (sym (ap is_some none)))) where
-  ap_le : (x y : Row) → x ≡ y → x.0.len ≤ y.0.len
-  ap_le x y same = subst (λ (z : Row). x.0.len ≤ z.0.len) same (omega arith)
+  ap_le : (x y : PlainEntry) → x ≡ y → x.0.len ≤ y.0.len
+  ap_le x y same = subst (λ (z : PlainEntry). x.0.len ≤ z.0.len) same (omega arith)
 at_least f e (Some g) is = by (nat_lt f.0.len g.0.len) refl is where
   by : (t : Bool) → nat_lt f.0.len g.0.len ≡ t → cond t (Some g) (Some f) ≡ Some e →
-      (f.0.len ≤ e.0.len) × ((h : Row) → Some g ≡ Some h → h.0.len ≤ e.0.len)
-  by true lt is = let same : g.0.len ≡ e.0.len = ap (λ (z : Row). z.0.len) (inside g e is) in
+      (f.0.len ≤ e.0.len) × ((h : PlainEntry) → Some g ≡ Some h → h.0.len ≤ e.0.len)
+  by true lt is = let same : g.0.len ≡ e.0.len = ap (λ (z : PlainEntry). z.0.len) (inside g e is) in
       let below : f.0.len < g.0.len = grind (arith, nat_tests) in
-      (omega (arith, same, below), λ h other. omega (arith, same, ap (λ (z : Row). z.0.len) (inside g h other)))
-  by false ge is = let same : f.0.len ≡ e.0.len = ap (λ (z : Row). z.0.len) (inside f e is) in
+      (omega (arith, same, below), λ h other. omega (arith, same, ap (λ (z : PlainEntry). z.0.len) (inside g h other)))
+  by false ge is = let same : f.0.len ≡ e.0.len = ap (λ (z : PlainEntry). z.0.len) (inside f e is) in
       let above : g.0.len ≤ f.0.len = grind (arith, nat_tests) in
-      (omega (arith, same), λ h other. omega (arith, same, above, ap (λ (z : Row). z.0.len) (inside g h other)))
+      (omega (arith, same), λ h other. omega (arith, same, above, ap (λ (z : PlainEntry). z.0.len) (inside g h other)))
 
 -- no entry that contains the address has a longer front
-pub none_longer : (es : List Row) (a : Addr) (e : Row) → deciding es a ≡ Some e → (f : Row) → Contains es f → contains f.0 a ≡ true →
+pub none_longer : (es : List PlainEntry) (a : Addr) (e : PlainEntry) → deciding es a ≡ Some e → (f : PlainEntry) → Contains es f → contains f.0 a ≡ true →
     f.0.len ≤ e.0.len
 unfolding deciding
 none_longer [] a e is f (k, lt, at) holds = absurd (omega arith)
 none_longer (g ∷ es) a e is f there holds = by (contains g.0 a) refl (none_longer es a) there where
   by : (t : Bool) → contains g.0 a ≡ t →
-      ((x : Row) → deciding es a ≡ Some x → (y : Row) → Contains es y → contains y.0 a ≡ true → y.0.len ≤ x.0.len) → Contains (g ∷ es) f →
+      ((x : PlainEntry) → deciding es a ≡ Some x → (y : PlainEntry) → Contains es y → contains y.0 a ≡ true → y.0.len ≤ x.0.len) → Contains (g ∷ es) f →
       f.0.len ≤ e.0.len
   by true yes_ rest (zero, lt, at) = let found : longer (Some g) (deciding es a) ≡ Some e = rw yes_ at is in
-      omega (arith, ap (λ (x : Row). x.0.len) at, (at_least g e (deciding es a) found).0)
+      omega (arith, ap (λ (x : PlainEntry). x.0.len) at, (at_least g e (deciding es a) found).0)
   by true yes_ rest (suc k, lt, at) = let found : longer (Some g) (deciding es a) ≡ Some e = rw yes_ at is in
       some (deciding es a) refl found rest (k, omega arith, at) where
-        some : (r : Option Row) → deciding es a ≡ r → longer (Some g) r ≡ Some e →
-            ((x : Row) → deciding es a ≡ Some x → (y : Row) → Contains es y → contains y.0 a ≡ true → y.0.len ≤ x.0.len) → Contains es f →
+        some : (r : Option PlainEntry) → deciding es a ≡ r → longer (Some g) r ≡ Some e →
+            ((x : PlainEntry) → deciding es a ≡ Some x → (y : PlainEntry) → Contains es y → contains y.0 a ≡ true → y.0.len ≤ x.0.len) → Contains es f →
             f.0.len ≤ e.0.len
         some None none found rest at_ = absurd (true≢false (sym holds ∙ none_contains es a none f at_))
         some (Some x) is found rest at_ = omega (arith, rest x is f at_ holds, (at_least g e (Some x) found).1 x refl)
-  by false no_ rest (zero, lt, at) = absurd (true≢false (sym holds ∙ ap (λ (x : Row). contains x.0 a) (sym at) ∙ no_))
+  by false no_ rest (zero, lt, at) = absurd (true≢false (sym holds ∙ ap (λ (x : PlainEntry). contains x.0 a) (sym at) ∙ no_))
   by false no_ rest (suc k, lt, at) = let found : deciding es a ≡ Some e = rw no_ at is in rest e found f (k, omega arith, at) holds
 
 -- ---- it is the only one
@@ -109,7 +109,7 @@ one_family V6 V4 e = absurd (true≢false (sym e))
 one_family V6 V6 e = refl
 
 -- two networks of one length that contain an address are one
-pub one_network : (m n : Network) (a : Addr) → contains m a ≡ true → contains n a ≡ true → m.len ≡ n.len → m ≡ n
+pub one_network : (m n : PlainNet) (a : Addr) → contains m a ≡ true → contains n a ≡ true → m.len ≡ n.len → m ≡ n
 unfolding contains
 one_network m n a of_m of_n same =
     let (m_family, m_front) = both_true _ _ of_m in
@@ -120,18 +120,18 @@ one_network m n a of_m of_n same =
     λ i. record { family = family i; len = same i; front = front i }
 
 -- in a table the sign of an entry's network is the entry's
-pub sign_there : (es : List Row) (e : Row) → sorted es → Contains es e → sign_of e.0 es ≡ Some e.1
+pub sign_there : (es : List PlainEntry) (e : PlainEntry) → sorted es → Contains es e → sign_of e.0 es ≡ Some e.1
 sign_there [] e is (k, lt, at) = absurd (omega arith)
 sign_there (f ∷ es) e is (zero, lt, at) =
-    subst (λ (x : Row). sign_of x.0 (f ∷ es) ≡ Some x.1) at (ap (λ r. cond (is_eq r) (Some f.1) (sign_of f.0 es))
+    subst (λ (x : PlainEntry). sign_of x.0 (f ∷ es) ≡ Some x.1) at (ap (λ r. cond (is_eq r) (Some f.1) (sign_of f.0 es))
     (tied_itself net_total f.0))
 sign_there (f ∷ es) e is (suc k, lt, at) =
-    let behind : net_order f.0 e.0 ≡ Less = ap (λ (x : Row). net_order f.0 x.0) (sym at)
+    let behind : net_order f.0 e.0 ≡ Less = ap (λ (x : PlainEntry). net_order f.0 x.0) (sym at)
     ∙ below_at f.0 es k e (first_of _ _ is) (omega arith) in
     ap (λ r. cond (is_eq r) (Some f.1) (sign_of e.0 es)) (net_total.antisymm e.0 f.0 ∙ ap ordering_reverse behind)
     ∙ sign_there es e (second_of _ _ is) (k, omega arith, at)
 
-one_entry : (es : List Row) (e f : Row) → sorted es → Contains es e → Contains es f → e.0 ≡ f.0 → e ≡ f
+one_entry : (es : List PlainEntry) (e f : PlainEntry) → sorted es → Contains es e → Contains es f → e.0 ≡ f.0 → e ≡ f
 one_entry es e f is at_e at_f same =
     λ i. (same i, inside e.1 f.1 (sym (sign_there es e is at_e) ∙ ap (λ n. sign_of n es) same ∙ sign_there es f is at_f) i)
 
@@ -141,7 +141,7 @@ lower_or_same m n le = by (nat_lt m n) refl where
   by true lt = inl (grind (arith, nat_tests))
   by false ge = let above : n ≤ m = grind (arith, nat_tests) in inr (omega (arith, above, le))
 
-pub decides : (es : List Row) (a : Addr) (e : Row) → sorted es → deciding es a ≡ Some e → Decides es a e
+pub decides : (es : List PlainEntry) (a : Addr) (e : PlainEntry) → sorted es → deciding es a ≡ Some e → Decides es a e
 decides es a e is found =
     let (there, holds) = is_there es a e found in
     record {
@@ -153,34 +153,34 @@ decides es a e is found =
       ];
     }
 
-pub decided : (es : List Row) (a : Addr) (e : Row) → sorted es → Decides es a e → deciding es a ≡ Some e
+pub decided : (es : List PlainEntry) (a : Addr) (e : PlainEntry) → sorted es → Decides es a e → deciding es a ≡ Some e
 decided es a e is d = by (deciding es a) refl where
-  by : (r : Option Row) → deciding es a ≡ r → r ≡ Some e
+  by : (r : Option PlainEntry) → deciding es a ≡ r → r ≡ Some e
   by None none = absurd (true≢false (sym d.holds ∙ none_contains es a none e d.member))
   by (Some g) found =
       let (there, holds) = is_there es a g found in
-      ap (λ (x : Row). Some x) (elim (lower_or_same e.0.len g.0.len (none_longer es a g found e d.member d.holds)) [
+      ap (λ (x : PlainEntry). Some x) (elim (lower_or_same e.0.len g.0.len (none_longer es a g found e d.member d.holds)) [
         | inl lt ↦ absurd (apart g there holds lt)
         | inr same ↦ one_entry es g e is there d.member (one_network g.0 e.0 a holds d.holds (sym same))
       ])
     where
-      apart : (g : Row) → Contains es g → contains g.0 a ≡ true → e.0.len < g.0.len → ⊥
+      apart : (g : PlainEntry) → Contains es g → contains g.0 a ≡ true → e.0.len < g.0.len → ⊥
       apart g there holds lt = let less : g.0.len < e.0.len =
-          d.longest g there holds (λ same. absurd (omega (arith, lt, ap (λ (x : Row). x.0.len) same))) in absurd (omega (arith, lt, less))
+          d.longest g there holds (λ same. absurd (omega (arith, lt, ap (λ (x : PlainEntry). x.0.len) same))) in absurd (omega (arith, lt, less))
 
 -- a network contains addresses of its own family alone
-pub contains_family : (net : Network) (a : Addr) → contains net a ≡ true → net.family ≡ family_of a
+pub contains_family : (net : PlainNet) (a : Addr) → contains net a ≡ true → net.family ≡ family_of a
 unfolding contains
 contains_family net a is = one_family net.family (family_of a) (both_true _ _ is).0
 
 -- ---- the last entry that isn't behind a network
 
 -- an entry is not behind another one: a key comes before it or is it
-abbrev up_to : Network → Row → Bool
+abbrev up_to : PlainNet → PlainEntry → Bool
 up_to net e = not (is_lt (net_order net e.0))
 
 -- where an entry isn't behind a network, it isn't by family, first address and length, in this order
-record IsNotBehind (net f : Network) : Type 0 where
+record IsNotBehind (net f : PlainNet) : Type 0 where
   family : rank f.family ≤ rank net.family
   first : rank f.family ≡ rank net.family → first_number f ≤ first_number net
   len : rank f.family ≡ rank net.family → first_number f ≡ first_number net → f.len ≤ net.len
@@ -193,7 +193,7 @@ not_less Greater s e = (refl, λ tied. absurd (true≢false (sym (ap is_eq tied)
 tied_numbers : (m n : ℕ) → m ≡ n → nat_cmp n m ≡ Equal
 tied_numbers m n same = subst (λ (k : ℕ). nat_cmp n k ≡ Equal) (sym same) (tied_itself nat_cmp_total n)
 
-by_parts : (net f : Network) → is_lt (net_order net f) ≡ false → IsNotBehind net f
+by_parts : (net f : PlainNet) → is_lt (net_order net f) ≡ false → IsNotBehind net f
 unfolding net_order
 by_parts net f is =
     let (family, behind) = not_less _ _ is in
@@ -211,7 +211,7 @@ not_before m n le Less is = let less : m < n = ranked _ _ Less (sym is) in absur
 not_before m n le Equal is = refl
 not_before m n le Greater is = refl
 
-from_parts : (net f : Network) → rank f.family ≡ rank net.family → first_number f ≤ first_number net → f.len ≤ net.len →
+from_parts : (net f : PlainNet) → rank f.family ≡ rank net.family → first_number f ≤ first_number net → f.len ≤ net.len →
     is_lt (net_order net f) ≡ false
 unfolding net_order
 from_parts net f family first len = rw (tied_numbers _ _ family) (by (nat_cmp (first_number net) (first_number f)) refl) where
@@ -220,37 +220,37 @@ from_parts net f family first len = rw (tied_numbers _ _ family) (by (nat_cmp (f
   by Equal is = not_before net.len f.len len (nat_cmp net.len f.len) refl
   by Greater is = refl
 
-none_up_to : (net : Network) (es : List Row) → at_or_before net_order net es ≡ None → (f : Row) → Contains es f →
+none_up_to : (net : PlainNet) (es : List PlainEntry) → at_or_before net_order net es ≡ None → (f : PlainEntry) → Contains es f →
     is_lt (net_order net f.0) ≡ true
 none_up_to net [] is f (k, lt, at) = absurd (omega arith)
 none_up_to net (e ∷ es) is f there = by (last_where (up_to net) es) refl (is_lt (net_order net e.0)) refl (none_up_to net es) there where
-  by : (o : Option Row) → last_where (up_to net) es ≡ o → (t : Bool) → is_lt (net_order net e.0) ≡ t →
-      (last_where (up_to net) es ≡ None → (x : Row) → Contains es x → is_lt (net_order net x.0) ≡ true) → Contains (e ∷ es) f →
+  by : (o : Option PlainEntry) → last_where (up_to net) es ≡ o → (t : Bool) → is_lt (net_order net e.0) ≡ t →
+      (last_where (up_to net) es ≡ None → (x : PlainEntry) → Contains es x → is_lt (net_order net x.0) ≡ true) → Contains (e ∷ es) f →
       is_lt (net_order net f.0) ≡ true
   by (Some x) found t here rest at_ = let gone : Some x ≡ None = rw found at is in absurd (true≢false (ap is_some gone))
   by None none false here rest at_ = let gone : Some e ≡ None = rw (none, here) at is in absurd (true≢false (ap is_some gone))
-  by None none true here rest (zero, lt, at) = ap (λ (x : Row). is_lt (net_order net x.0)) (sym at) ∙ here
+  by None none true here rest (zero, lt, at) = ap (λ (x : PlainEntry). is_lt (net_order net x.0)) (sym at) ∙ here
   by None none true here rest (suc k, lt, at) = rest none f (k, omega arith, at)
 
 -- ---- looking for the entry that decides, from the longest front down
 
 -- no entry that contains the address has a longer front than this
-abbrev pub NoneLonger : List Row → Addr → ℕ → Type 0
-NoneLonger es a len = (f : Row) → Contains es f → contains f.0 a ≡ true → f.0.len ≤ len
+abbrev pub NoneLonger : List PlainEntry → Addr → ℕ → Type 0
+NoneLonger es a len = (f : PlainEntry) → Contains es f → contains f.0 a ≡ true → f.0.len ≤ len
 
 -- an entry that isn't behind the network of an address's first bits, and that those that contain the address aren't behind
-pub record Passes (a : Addr) (len : ℕ) (es : List Row) (e : Row) : Type 0 where
+pub record Passes (a : Addr) (len : ℕ) (es : List PlainEntry) (e : PlainEntry) : Type 0 where
   pub up_to : is_lt (net_order (network_from a len) e.0) ≡ false
   pub other : contains e.0 a ≡ false
-  pub last : (f : Row) → Contains es f → contains f.0 a ≡ true → is_lt (net_order e.0 f.0) ≡ false
+  pub last : (f : PlainEntry) → Contains es f → contains f.0 a ≡ true → is_lt (net_order e.0 f.0) ≡ false
 
 -- a network that contains an address is of its family, and its first address is the address cut to its front
-record Holds (n : Network) (a : Addr) : Type 0 where
+record Holds (n : PlainNet) (a : Addr) : Type 0 where
   family : n.family ≡ family_of a
   front : number_in a / 2 ^ (width (family_of a) - n.len) ≡ n.front
   first : first_number n ≡ cut_off (width (family_of a) - n.len) (number_in a)
 
-holds_of : (n : Network) (a : Addr) → contains n a ≡ true → Holds n a
+holds_of : (n : PlainNet) (a : Addr) → contains n a ≡ true → Holds n a
 unfolding contains
 holds_of n a is =
     let (same, front) = both_true _ _ is in
@@ -258,7 +258,7 @@ holds_of n a is =
     let own = (Decides-eqb (first_bits n.len a) n.front).0 front in
     record { family = family; front = own; first = λ i. sym own i * 2 ^ (width (family i) - n.len) }
 
-holds_from : (n : Network) (a : Addr) → n.family ≡ family_of a → number_in a / 2 ^ (width (family_of a) - n.len) ≡ n.front →
+holds_from : (n : PlainNet) (a : Addr) → n.family ≡ family_of a → number_in a / 2 ^ (width (family_of a) - n.len) ≡ n.front →
     contains n a ≡ true
 unfolding contains
 holds_from n a family front =
@@ -272,7 +272,7 @@ holds_from n a family front =
     own V6 = refl
 
 -- an entry that contains the address isn't behind the network of its first bits, if it has no more of them
-contains_up_to : (n : Network) (a : Addr) (len : ℕ) → contains n a ≡ true → n.len ≤ len → is_lt (net_order (network_from a len) n) ≡ false
+contains_up_to : (n : PlainNet) (a : Addr) (len : ℕ) → contains n a ≡ true → n.len ≤ len → is_lt (net_order (network_from a len) n) ≡ false
 contains_up_to n a len is le =
     let own = holds_of n a is in
     from_parts (network_from a len) n (ap rank own.family)
@@ -286,23 +286,23 @@ same_rank V4 V6 e = absurd (omega (arith, e))
 same_rank V6 V4 e = absurd (omega (arith, e))
 same_rank V6 V6 e = refl
 
-pub none_longer_at_first : (es : List Row) (a : Addr) (len : ℕ) → All (λ e. IsNetwork e.0) es → len ≡ width (family_of a) →
+pub none_longer_at_first : (es : List PlainEntry) (a : Addr) (len : ℕ) → All (λ e. IsNetwork e.0) es → len ≡ width (family_of a) →
     NoneLonger es a len
 none_longer_at_first es a len networks is f there holds =
     let within : f.0.len ≤ width f.0.family = (All-contains (λ e. IsNetwork e.0) es f networks there).len in
     subst (λ (m : ℕ). f.0.len ≤ m) (ap width (holds_of f.0 a holds).family ∙ sym is) within
 
-pub none_left : (es : List Row) (a : Addr) (len : ℕ) → NoneLonger es a len → at_or_before net_order (network_from a len) es ≡ None →
+pub none_left : (es : List PlainEntry) (a : Addr) (len : ℕ) → NoneLonger es a len → at_or_before net_order (network_from a len) es ≡ None →
     deciding es a ≡ None
 none_left es a len most is = by (deciding es a) refl where
-  by : (o : Option Row) → deciding es a ≡ o → o ≡ None
+  by : (o : Option PlainEntry) → deciding es a ≡ o → o ≡ None
   by None none = refl
   by (Some e) found =
       let (there, holds) = is_there es a e found in
       absurd (true≢false (sym (none_up_to (network_from a len) es is e there) ∙ contains_up_to e.0 a len holds (most e there holds)))
 
 -- of two entries that contain the address the one that isn't behind has the shorter front
-shorter_front : (es : List Row) (a : Addr) (e f : Row) → sorted es → Contains es e → Contains es f → contains e.0 a ≡ true → contains f.0 a ≡ true →
+shorter_front : (es : List PlainEntry) (a : Addr) (e f : PlainEntry) → sorted es → Contains es e → Contains es f → contains e.0 a ≡ true → contains f.0 a ≡ true →
     is_lt (net_order e.0 f.0) ≡ false → f ≢ e → f.0.len < e.0.len
 shorter_front es a e f order at_e at_f holds of_f up_to other = by (nat_lt f.0.len e.0.len) refl where
   by : (t : Bool) → nat_lt f.0.len e.0.len ≡ t → f.0.len < e.0.len
@@ -324,18 +324,18 @@ shorter_front es a e f order at_e at_f holds of_f up_to other = by (nat_lt f.0.l
 -- ---- the page of the last entry that isn't behind a network
 
 -- what stands in front isn't behind what comes later
-in_front : (front page back : List Row) (e f : Row) → sorted (front ++ (page ++ back)) → Contains front f → Contains page e → is_lt (net_order e.0 f.0) ≡ false
+in_front : (front page back : List PlainEntry) (e f : PlainEntry) → sorted (front ++ (page ++ back)) → Contains front f → Contains page e → is_lt (net_order e.0 f.0) ≡ false
 in_front [] page back e f order (k, lt, at) at_e = absurd (omega arith)
 in_front (x ∷ front) page back e f order (zero, lt, at) at_e =
     let (k, within, there) = Contains-append_right front (page ++ back) e (Contains-append_left page back e at_e) in
-    let less : net_order x.0 e.0 ≡ Less = ap (λ (y : Row). net_order x.0 y.0) (sym there)
+    let less : net_order x.0 e.0 ≡ Less = ap (λ (y : PlainEntry). net_order x.0 y.0) (sym there)
     ∙ below_at x.0 (front ++ (page ++ back)) k e (first_of _ _ order) within in
-    subst (λ (y : Row). is_lt (net_order e.0 y.0) ≡ false) at (ap is_lt (net_total.antisymm e.0 x.0 ∙ ap ordering_reverse less))
+    subst (λ (y : PlainEntry). is_lt (net_order e.0 y.0) ≡ false) at (ap is_lt (net_total.antisymm e.0 x.0 ∙ ap ordering_reverse less))
 in_front (x ∷ front) page back e f order (suc k, lt, at) at_e = in_front front page back e f (second_of _ _ order) (k, omega arith, at) at_e
 
-module _ (es page : List Row) (a : Addr) (len : ℕ) (order : sorted es) (most : NoneLonger es a len) (at : IsUpTo net_order (network_from a len) page es) where
+module _ (es page : List PlainEntry) (a : Addr) (len : ℕ) (order : sorted es) (most : NoneLonger es a len) (at : IsUpTo net_order (network_from a len) page es) where
   -- an entry that contains the address stands in front of the page or in it
-  in_front_or_in : (f : Row) → Contains es f → contains f.0 a ≡ true → Contains at.front f ⊎ Contains page f
+  in_front_or_in : (f : PlainEntry) → Contains es f → contains f.0 a ≡ true → Contains at.front f ⊎ Contains page f
   in_front_or_in f there holds = elim (Contains-append_cases at.front (page ++ at.back) f (subst (λ l. Contains l f) at.around there)) [
     | inl front ↦ inl front
     | inr later_ ↦ elim (Contains-append_cases page at.back f later_) [
@@ -344,14 +344,14 @@ module _ (es page : List Row) (a : Addr) (len : ℕ) (order : sorted es) (most :
     ]
   ]
 
-  of_page : (e : Row) → Contains page e → Contains es e
+  of_page : (e : PlainEntry) → Contains page e → Contains es e
   of_page e at_e = subst (λ l. Contains l e) (sym at.around) (Contains-append_right at.front (page ++ at.back) e (Contains-append_left page at.back e at_e))
 
   front_order : sorted (at.front ++ (page ++ at.back))
   front_order = subst sorted at.around order
 
   -- the longest of the page decides
-  page_decides : (e : Row) → Contains page e → contains e.0 a ≡ true → ((f : Row) → Contains page f → contains f.0 a ≡ true → f.0.len ≤ e.0.len) →
+  page_decides : (e : PlainEntry) → Contains page e → contains e.0 a ≡ true → ((f : PlainEntry) → Contains page f → contains f.0 a ≡ true → f.0.len ≤ e.0.len) →
       deciding es a ≡ Some e
   page_decides e at_e holds longest = decided es a e order (record {
     member = of_page e at_e;
@@ -366,7 +366,7 @@ module _ (es page : List Row) (a : Addr) (len : ℕ) (order : sorted es) (most :
   })
 
   -- where no entry of the page contains the address, those that do stand in front of its first entry
-  page_passes : (e : Row) (rest : List Row) → page ≡ e ∷ rest → ((f : Row) → Contains page f → contains f.0 a ≡ false) → Passes a len es e
+  page_passes : (e : PlainEntry) (rest : List PlainEntry) → page ≡ e ∷ rest → ((f : PlainEntry) → Contains page f → contains f.0 a ≡ false) → Passes a len es e
   page_passes e rest is none = record {
     up_to = subst (λ l. starts_behind net_order (network_from a len) l ≡ false) is at.starts;
     other = none e first;
@@ -378,9 +378,9 @@ module _ (es page : List Row) (a : Addr) (len : ℕ) (order : sorted es) (most :
     first : Contains page e
     first = subst (λ l. Contains l e) (sym is) (0, omega arith, refl)
 
-pub other_family : (es : List Row) (a : Addr) (len : ℕ) (e : Row) → NoneLonger es a len → Passes a len es e → e.0.family ≢ family_of a → deciding es a ≡ None
+pub other_family : (es : List PlainEntry) (a : Addr) (len : ℕ) (e : PlainEntry) → NoneLonger es a len → Passes a len es e → e.0.family ≢ family_of a → deciding es a ≡ None
 other_family es a len e most passes other = by (deciding es a) refl where
-  by : (o : Option Row) → deciding es a ≡ o → o ≡ None
+  by : (o : Option PlainEntry) → deciding es a ≡ o → o ≡ None
   by None none = refl
   by (Some f) found =
       let (there, holds) = is_there es a f found in
@@ -398,7 +398,7 @@ first_number_in : (f : Family) (n : ℕ) → number_in (addr_in f n) ≡ n
 first_number_in V4 n = refl
 first_number_in V6 n = refl
 
-pub shorter : (es : List Row) (a : Addr) (len : ℕ) (e : Row) (n : ℕ) → All (λ f. IsNetwork f.0) es → len ≤ width (family_of a) → Passes a len es e →
+pub shorter : (es : List PlainEntry) (a : Addr) (len : ℕ) (e : PlainEntry) (n : ℕ) → All (λ f. IsNetwork f.0) es → len ≤ width (family_of a) → Passes a len es e →
     Share a (first_addr e.0) n → NoneLonger es a n × (n < len)
 shorter es a len e n networks le passes share = (none_more, fewer (nat_lt n len) refl) where
   family : e.0.family ≡ family_of a
@@ -445,50 +445,50 @@ shorter es a len e n networks le passes share = (none_more, fewer (nat_lt n len)
 
 -- ---- what is found in a page
 
-get_net : (es : List Row) (i : ℕ) (n : Network) (e : Row) → slice_get (map (λ x. x.0) es) i ≡ Some n → e ≡ get_or es i e → Contains es e × (e.0 ≡ n)
+get_net : (es : List PlainEntry) (i : ℕ) (n : PlainNet) (e : PlainEntry) → slice_get (map (λ x. x.0) es) i ≡ Some n → e ≡ get_or es i e → Contains es e × (e.0 ≡ n)
 get_net [] i n e is at = absurd (cc (is))
-get_net (x ∷ es) zero n e is at = let same : x.0 ≡ n = cc (is) in ((0, omega arith, sym at), ap (λ (y : Row). y.0) at ∙ same)
+get_net (x ∷ es) zero n e is at = let same : x.0 ≡ n = cc (is) in ((0, omega arith, sym at), ap (λ (y : PlainEntry). y.0) at ∙ same)
 get_net (x ∷ es) (suc i) n e is at = let (there, same) = get_net es i n e is at in (later x e es there, same)
 
-contains_net : (es : List Row) (e : Row) → Contains es e → Contains (map (λ x. x.0) es) e.0
+contains_net : (es : List PlainEntry) (e : PlainEntry) → Contains es e → Contains (map (λ x. x.0) es) e.0
 contains_net [] e (k, lt, at) = absurd (omega arith)
-contains_net (x ∷ es) e (zero, lt, at) = (0, omega arith, ap (λ (y : Row). y.0) at)
+contains_net (x ∷ es) e (zero, lt, at) = (0, omega arith, ap (λ (y : PlainEntry). y.0) at)
 contains_net (x ∷ es) e (suc k, lt, at) = let (i, within, there) = contains_net es e (k, omega arith, at) in (suc i, omega arith, there)
 
 -- what is found has a place in the page
-pub place_within : (es : List Row) (a : Addr) (i : ℕ) → FindsLongest (map (λ x. x.0) es) a (Some i) → i < length es
+pub place_within : (es : List PlainEntry) (a : Addr) (i : ℕ) → FindsLongest (map (λ x. x.0) es) a (Some i) → i < length es
 place_within es a i found = within es i found.here where
-  within : (es : List Row) (i : ℕ) → slice_get (map (λ x. x.0) es) i ≡ Some found.net → i < length es
+  within : (es : List PlainEntry) (i : ℕ) → slice_get (map (λ x. x.0) es) i ≡ Some found.net → i < length es
   within [] i is = absurd (cc (is))
   within (x ∷ es) zero is = omega arith
   within (x ∷ es) (suc i) is = let rest = within es i is in omega arith
 
-pub longest_found : (es : List Row) (a : Addr) (i : ℕ) (e : Row) → FindsLongest (map (λ x. x.0) es) a (Some i) → e ≡ get_or es i e → IsLongest es a e
+pub longest_found : (es : List PlainEntry) (a : Addr) (i : ℕ) (e : PlainEntry) → FindsLongest (map (λ x. x.0) es) a (Some i) → e ≡ get_or es i e → IsLongest es a e
 longest_found es a i e found is =
     let (there, same) = get_net es i found.net e found.here is in
     record {
       member = there;
       holds = ap (λ n. contains n a) same ∙ found.holds;
-      longest = λ f at_f of_f. subst (λ (n : Network). f.0.len ≤ n.len) (sym same)
+      longest = λ f at_f of_f. subst (λ (n : PlainNet). f.0.len ≤ n.len) (sym same)
           (All-contains (λ n. contains n a ≡ true → n.len ≤ found.net.len) (map (λ x. x.0) es) f.0 found.longest (contains_net es f at_f) of_f);
     }
 
-pub none_found : (es : List Row) (a : Addr) → FindsLongest (map (λ x. x.0) es) a None → NoneContains es a
+pub none_found : (es : List PlainEntry) (a : Addr) → FindsLongest (map (λ x. x.0) es) a None → NoneContains es a
 none_found es a none f at_f = All-contains (λ n. contains n a ≡ false) (map (λ x. x.0) es) f.0 none (contains_net es f at_f)
 
 -- a page of which the entries behind a front don't contain the address
-pub record Behind (page front : List Row) (a : Addr) : Type 0 where
-  pub back : List Row
+pub record Behind (page front : List PlainEntry) (a : Addr) : Type 0 where
+  pub back : List PlainEntry
   pub around : page ≡ front ++ back
   pub none_behind : NoneContains back a
 
-pub behind_nothing : (page front : List Row) (a : Addr) → front ≡ page → Behind page front a
+pub behind_nothing : (page front : List PlainEntry) (a : Addr) → front ≡ page → Behind page front a
 behind_nothing page front a is = record { back = []; around = sym is ∙ sym (append-nil front); none_behind = λ e (k, lt, at). absurd (omega arith) }
 
-pub behind_all : (page front : List Row) (a : Addr) → Behind page front a → front ≡ [] → NoneContains page a
+pub behind_all : (page front : List PlainEntry) (a : Addr) → Behind page front a → front ≡ [] → NoneContains page a
 behind_all page front a behind is = subst (λ l. NoneContains l a) (sym (behind.around ∙ ap (λ l. l ++ behind.back) is)) behind.none_behind
 
-module _ (page : List Row) (front : List (List Row)) (slot : List Row) (a : Addr) (e : Row) (one : e ∷ [] ≡ slot) (behind : Behind page (joined (front ++ slot ∷ [])) a) where
+module _ (page : List PlainEntry) (front : List (List PlainEntry)) (slot : List PlainEntry) (a : Addr) (e : PlainEntry) (one : e ∷ [] ≡ slot) (behind : Behind page (joined (front ++ slot ∷ [])) a) where
   last_out : page ≡ joined front ++ (e ∷ behind.back)
   last_out =
       behind.around ∙ ap (λ s. joined (front ++ s ∷ []) ++ behind.back) (sym one)
@@ -501,67 +501,67 @@ module _ (page : List Row) (front : List (List Row)) (slot : List Row) (a : Addr
   pub one_more_behind : contains e.0 a ≡ false → Behind page (joined front) a
   one_more_behind other = record { back = e ∷ behind.back; around = last_out; none_behind = none } where
     none : NoneContains (e ∷ behind.back) a
-    none f (zero, lt, at) = ap (λ (x : Row). contains x.0 a) (sym at) ∙ other
+    none f (zero, lt, at) = ap (λ (x : PlainEntry). contains x.0 a) (sym at) ∙ other
     none f (suc k, lt, at) = behind.none_behind f (k, omega arith, at)
 
 -- the last is the longest
-pub last_longest : (es : List Row) (a : Addr) (e : Row) → sorted es → IsLast es a e → IsLongest es a e
+pub last_longest : (es : List PlainEntry) (a : Addr) (e : PlainEntry) → sorted es → IsLast es a e → IsLongest es a e
 last_longest es a e order last = record { member = member; holds = last.holds; longest = longest } where
   member : Contains es e
   member = subst (λ l. Contains l e) (sym last.around) (Contains-append_right last.front (e ∷ last.back) e (0, omega arith, refl))
 
-  own : (f : Row) → Contains (e ∷ last.back) f → contains f.0 a ≡ true → f.0.len ≤ e.0.len
-  own f (zero, lt, at) of_f = subst (λ (x : Row). x.0.len ≤ e.0.len) at (omega arith)
+  own : (f : PlainEntry) → Contains (e ∷ last.back) f → contains f.0 a ≡ true → f.0.len ≤ e.0.len
+  own f (zero, lt, at) of_f = subst (λ (x : PlainEntry). x.0.len ≤ e.0.len) at (omega arith)
   own f (suc k, lt, at) of_f = absurd (true≢false (sym of_f ∙ last.none_behind f (k, omega arith, at)))
 
-  no_longer : (f : Row) → Contains es f → Contains last.front f → contains f.0 a ≡ true → (t : Bool) → nat_lt e.0.len f.0.len ≡ t → f.0.len ≤ e.0.len
+  no_longer : (f : PlainEntry) → Contains es f → Contains last.front f → contains f.0 a ≡ true → (t : Bool) → nat_lt e.0.len f.0.len ≡ t → f.0.len ≤ e.0.len
   no_longer f there front of_f false ge = grind (arith, nat_tests)
   no_longer f there front of_f true lt =
       let more : e.0.len < f.0.len = grind (arith, nat_tests) in
       let up_to = in_front last.front (e ∷ []) last.back e f (subst sorted last.around order) front (0, omega arith, refl) in
-      let less = shorter_front es a e f order member there last.holds of_f up_to (λ same. absurd (omega (arith, more, ap (λ (x : Row). x.0.len) same))) in
+      let less = shorter_front es a e f order member there last.holds of_f up_to (λ same. absurd (omega (arith, more, ap (λ (x : PlainEntry). x.0.len) same))) in
       omega (arith, less)
 
-  longest : (f : Row) → Contains es f → contains f.0 a ≡ true → f.0.len ≤ e.0.len
+  longest : (f : PlainEntry) → Contains es f → contains f.0 a ≡ true → f.0.len ≤ e.0.len
   longest f there of_f = elim (Contains-append_cases last.front (e ∷ last.back) f (subst (λ l. Contains l f) last.around there)) [
     | inl front ↦ no_longer f there front of_f (nat_lt e.0.len f.0.len) refl
     | inr later_ ↦ own f later_ of_f
   ]
 
-pub longest_of_last : (es : List Row) (a : Addr) (found : Option Row) → sorted es → MatchOption found (NoneContains es a) (IsLast es a) →
+pub longest_of_last : (es : List PlainEntry) (a : Addr) (found : Option PlainEntry) → sorted es → MatchOption found (NoneContains es a) (IsLast es a) →
     MatchOption found (NoneContains es a) (IsLongest es a)
 longest_of_last es a None order none = none
 longest_of_last es a (Some e) order last = last_longest es a e order last
 
 -- what stands beside a page is of its entries
-pub beside_is : (cols : PageColumns) (page : List Row) → FollowsFrom {E = Row} {K = Network} {X = Bool} (λ e. e) AreOf cols page → AreOf cols page
+pub beside_is : (cols : PageColumns) (page : List PlainEntry) → FollowsFrom {E = PlainEntry} {K = PlainNet} {X = Bool} (λ e. e) AreOf cols page → AreOf cols page
 beside_is cols page beside = subst (AreOf cols) (sym (map-id beside.entries) ∙ beside.pairs) beside.follows_from
 
-module _ (es page : List Row) (a : Addr) (len : ℕ) (key : Network) (order : sorted es) (most : NoneLonger es a len) (key_is : key ≡ network_from a len)
+module _ (es page : List PlainEntry) (a : Addr) (len : ℕ) (key : PlainNet) (order : sorted es) (most : NoneLonger es a len) (key_is : key ≡ network_from a len)
     (at : IsUpTo net_order key page es) where
   here : IsUpTo net_order (network_from a len) page es
-  here = subst (λ (n : Network). IsUpTo net_order n page es) key_is at
+  here = subst (λ (n : PlainNet). IsUpTo net_order n page es) key_is at
 
   pub page_sorted : sorted page
   page_sorted = sorted_up_to net_order key page es at order
 
-  pub longest_decides : (e : Row) → IsLongest page a e → deciding es a ≡ Some e
+  pub longest_decides : (e : PlainEntry) → IsLongest page a e → deciding es a ≡ Some e
   longest_decides e is = page_decides es page a len order most here e is.member is.holds is.longest
 
-  pub first_passes : (e : Row) → first_of_page page ≡ Some e → NoneContains page a → Passes a len es e
+  pub first_passes : (e : PlainEntry) → first_of_page page ≡ Some e → NoneContains page a → Passes a len es e
   first_passes e first none = page_passes es page a len order most here e (rest page) (begins page first) none where
-    rest : List Row → List Row
+    rest : List PlainEntry → List PlainEntry
     rest [] = []
     rest (x ∷ xs) = xs
 
-    begins : (p : List Row) → first_of_page p ≡ Some e → p ≡ e ∷ rest p
+    begins : (p : List PlainEntry) → first_of_page p ≡ Some e → p ≡ e ∷ rest p
     begins [] is = absurd (cc (is))
     begins (x ∷ xs) is = ap (λ y. y ∷ xs) (inside x e is)
 
 -- where each entry that contains the address has fewer bits than any entry has, there is none
-pub none_so_short : (es : List Row) (a : Addr) (len n : ℕ) → NoneLonger es a len → NoneShorter n es → len < n → deciding es a ≡ None
+pub none_so_short : (es : List PlainEntry) (a : Addr) (len n : ℕ) → NoneLonger es a len → NoneShorter n es → len < n → deciding es a ≡ None
 none_so_short es a len n most short lt = by (deciding es a) refl where
-  by : (o : Option Row) → deciding es a ≡ o → o ≡ None
+  by : (o : Option PlainEntry) → deciding es a ≡ o → o ≡ None
   by None none = refl
   by (Some e) found =
       let (there, holds) = is_there es a e found in

@@ -1,9 +1,9 @@
 -- The laws of tables.
 use Rattle.std.proofs.{Common.{◌≡◌, ◌≢◌, ℕ, zero, suc, ◌+◌, ◌<◌, ◌≤◌, T, Bool, true, false, not, cond, List, [], ◌∷◌, ◌++◌, ◌&&◌, length, get_or, slice_get, take, append-nil, append_assoc, length-append, filter, Option, Some, None, is_some, is_none, option_map, refl, sym, ap, ◌∙◌, subst, true≢false, arith, Contains}, lemmas.List.Elements.{All-from_recursion, recursion_from_All}, lemmas.Option.{slice_get_within, get_or_from_slice_get}}
 use Rattle.std.specs.{Bool.beq, Cmp.tied_itself, FinMap.{put, is_sorted}, FinMap.Entries.{where_key, find-put, length-put, length_without, is_sorted-put, is_sorted-where_key}, List.list_any, Option.{option_or, option_map_or}, Ordering.{eq_by_cmp, is_eq}}
-use Rattle.pf_addr.specs.Address.{Network, contains, IsNetwork}
-use Rattle.pf_table.specs.{declared.answer.{Addition.{Addition, TheVariants.{Same, Conflict}}, Deletion.{Deletion, TheVariants.Absent}}, Entries.Row, Tables.{sign_of, Decides, deciding, table_holds}, Edits.{added, addition, additions, with_entry, is_sign, has_entry, without_entry, deleted, deletion, deletions, same_entry, is_opposite, conflict_behind, conflict_in}, Laws.Edits.{sign_added, sign_deleted, sign_left, sorted_added, sorted_deleted, added_all, deleted_all, deleted_fewer, one_table}}
-use Rattle.pf_map.specs.{Networks.net_order, NetworkLaws.net_total}
+use Rattle.pf_addr.specs.Address.{PlainNet, contains, IsNetwork}
+use Rattle.pf_table.specs.{declared.answer.{Addition.{Addition, TheVariants.{Same, Conflict}}, Deletion.{Deletion, TheVariants.Absent}}, Entries.PlainEntry, Tables.{sign_of, Decides, deciding, table_holds}, Edits.{added, addition, additions, with_entry, is_sign, has_entry, without_entry, deleted, deletion, deletions, same_entry, is_opposite, conflict_behind, conflict_in}, Laws.Edits.{sign_added, sign_deleted, sign_left, sorted_added, sorted_deleted, added_all, deleted_all, deleted_fewer, one_table}}
+use Rattle.pf_addr.specs.{NetOrder.net_order, Laws.NetOrder.net_total}
 use Rattle.pf_table.specs.Laws.Tables as Laws
 use Rattle.pf_table.proofs.{Batches.{told, none_before, no_other_sign, adds_told, dels_by_old}, Lookups.{none_contains, decides, decided, contains_family}}
 
@@ -17,20 +17,20 @@ table_decides es a is = record {
     inside : {A : Type 0} (x y : A) → Some x ≡ Some y → x ≡ y
     inside x y e = cc
 
-    by : ((e : Row) → Contains es e → contains e.0 a ≡ false) → (o : Option Row) → deciding es a ≡ o → o ≡ None
+    by : ((e : PlainEntry) → Contains es e → contains e.0 a ≡ false) → (o : Option PlainEntry) → deciding es a ≡ o → o ≡ None
     by none None found = refl
     by none (Some e) found = let d = decides es a e is found in absurd (true≢false (sym d.holds ∙ none e d.member))
 
 pub table_matches : Laws.TableMatches
 unfolding table_holds
-table_matches es a is = (by (deciding es a) refl, λ d. ap (λ o. option_map_or (λ (e : Row). not e.1) o false) (decided es a d.0 is d.1) ∙ ap not d.2) where
+table_matches es a is = (by (deciding es a) refl, λ d. ap (λ o. option_map_or (λ (e : PlainEntry). not e.1) o false) (decided es a d.0 is d.1) ∙ ap not d.2) where
   plain : (s : Bool) → not s ≡ true → s ≡ false
   plain true e = absurd (true≢false (sym e))
   plain false e = refl
 
-  by : (o : Option Row) → deciding es a ≡ o → option_map_or (λ (e : Row). not e.1) (deciding es a) false ≡ true → (e : Row) × Decides es a e × (e.1 ≡ false)
-  by None none holds = absurd (true≢false (sym holds ∙ ap (λ o. option_map_or (λ (e : Row). not e.1) o false) none))
-  by (Some e) some holds = (e, decides es a e is some, plain e.1 (sym (ap (λ o. option_map_or (λ (f : Row). not f.1) o false) some) ∙ holds))
+  by : (o : Option PlainEntry) → deciding es a ≡ o → option_map_or (λ (e : PlainEntry). not e.1) (deciding es a) false ≡ true → (e : PlainEntry) × Decides es a e × (e.1 ≡ false)
+  by None none holds = absurd (true≢false (sym holds ∙ ap (λ o. option_map_or (λ (e : PlainEntry). not e.1) o false) none))
+  by (Some e) some holds = (e, decides es a e is some, plain e.1 (sym (ap (λ o. option_map_or (λ (f : PlainEntry). not f.1) o false) some) ∙ holds))
 
 pub families_apart : Laws.FamiliesApart
 families_apart e a is = contains_family e.0 a is
@@ -41,7 +41,7 @@ one_table_law = one_table
 pub holds_the_list : Laws.HoldsTheList
 holds_the_list xs q = sign_added [] xs q
 
-named_with : (xs : List Row) (q : Network) (s : Bool) → sign_of q xs ≡ None → list_any (same_entry (q, s)) xs ≡ false
+named_with : (xs : List PlainEntry) (q : PlainNet) (s : Bool) → sign_of q xs ≡ None → list_any (same_entry (q, s)) xs ≡ false
 named_with [] q s none = refl
 named_with (x ∷ xs) q s none = by (eq_by_cmp net_order q x.0) refl (named_with xs q s) where
   by : (t : Bool) → eq_by_cmp net_order q x.0 ≡ t → (sign_of q xs ≡ None → list_any (same_entry (q, s)) xs ≡ false) → list_any (same_entry (q, s)) (x ∷ xs) ≡ false
@@ -75,12 +75,12 @@ stays_table es xs is = record {
     no_more : (a b c : ℕ) → a ≤ b → b ≤ c → a ≤ c
     no_more a b c p q = omega arith
 
-adds_each : (es xs : List Row) → length (additions es xs) ≡ length xs
+adds_each : (es xs : List PlainEntry) → length (additions es xs) ≡ length xs
 unfolding additions
 adds_each es [] = refl
 adds_each es (x ∷ xs) = ap suc (adds_each (with_entry es x) xs)
 
-dels_each : (es xs : List Row) → length (deletions es xs) ≡ length xs
+dels_each : (es xs : List PlainEntry) → length (deletions es xs) ≡ length xs
 unfolding deletions
 dels_each es [] = refl
 dels_each es (x ∷ xs) = ap suc (dels_each (without_entry es x) xs)
@@ -88,22 +88,22 @@ dels_each es (x ∷ xs) = ap suc (dels_each (without_entry es x) xs)
 pub one_answer_each : Laws.OneAnswerEach
 one_answer_each es xs = (adds_each es xs, dels_each es xs)
 
-abbrev others : List Row → Row → List Row
+abbrev others : List PlainEntry → PlainEntry → List PlainEntry
 others es x = where_key net_order (λ n. not (eq_by_cmp net_order x.0 n)) es
 
-with_sorted : (es : List Row) (x : Row) → T (is_sorted net_order es) → T (is_sorted net_order (with_entry es x))
+with_sorted : (es : List PlainEntry) (x : PlainEntry) → T (is_sorted net_order es) → T (is_sorted net_order (with_entry es x))
 with_sorted es x is = by (is_some (sign_of x.0 es)) where
   by : (t : Bool) → T (is_sorted net_order (cond t es (put net_order x.0 x.1 es)))
   by true = is
   by false = is_sorted-put net_order net_total x.0 x.1 es is
 
-without_sorted : (es : List Row) (x : Row) → T (is_sorted net_order es) → T (is_sorted net_order (without_entry es x))
+without_sorted : (es : List PlainEntry) (x : PlainEntry) → T (is_sorted net_order es) → T (is_sorted net_order (without_entry es x))
 without_sorted es x is = by (has_entry es x) where
   by : (t : Bool) → T (is_sorted net_order (cond t (others es x) es))
   by true = is_sorted-where_key net_order (λ n. not (eq_by_cmp net_order x.0 n)) es is
   by false = is
 
-grows : (es : List Row) (x : Row) → T (is_sorted net_order es) → length (with_entry es x) ≡ length es + cond (Laws.is_added (addition (sign_of x.0 es) x.1)) 1 0
+grows : (es : List PlainEntry) (x : PlainEntry) → T (is_sorted net_order es) → length (with_entry es x) ≡ length es + cond (Laws.is_added (addition (sign_of x.0 es) x.1)) 1 0
 grows es x is = by (sign_of x.0 es) refl where
   there : (b : Bool) → length es ≡ length es + cond (Laws.is_added (cond b Same Conflict)) 1 0
   there true = omega arith
@@ -113,7 +113,7 @@ grows es x is = by (sign_of x.0 es) refl where
   by None none = rw none (length-put net_order net_total x.0 x.1 es is ∙ ap (λ (o : Option Bool). cond (is_some o) (length es) (length es + 1)) none)
   by (Some t) some = rw some (there (beq x.1 t))
 
-counts_added : (es xs : List Row) → T (is_sorted net_order es) → length (added es xs) ≡ length es + length (filter Laws.is_added (additions es xs))
+counts_added : (es xs : List PlainEntry) → T (is_sorted net_order es) → length (added es xs) ≡ length es + length (filter Laws.is_added (additions es xs))
 unfolding added additions
 counts_added es [] is = omega arith
 counts_added es (x ∷ xs) is = counts_added (with_entry es x) xs (with_sorted es x is) ∙ by (Laws.is_added answer) (grows es x is) where
@@ -124,7 +124,7 @@ counts_added es (x ∷ xs) is = counts_added (with_entry es x) xs (with_sorted e
   by true e = omega (arith, e)
   by false e = omega (arith, e)
 
-shrinks : (es : List Row) (x : Row) → T (is_sorted net_order es) → length (without_entry es x) + cond (Laws.is_deleted (deletion (has_entry es x))) 1 0 ≡ length es
+shrinks : (es : List PlainEntry) (x : PlainEntry) → T (is_sorted net_order es) → length (without_entry es x) + cond (Laws.is_deleted (deletion (has_entry es x))) 1 0 ≡ length es
 shrinks es x is = by (sign_of x.0 es) refl where
   by : (o : Option Bool) → sign_of x.0 es ≡ o → length (cond (is_sign x.1 (sign_of x.0 es)) (others es x) es) + cond (Laws.is_deleted (deletion (is_sign x.1 (sign_of x.0 es)))) 1 0 ≡ length es
   by None none = rw none (omega arith)
@@ -136,7 +136,7 @@ shrinks es x is = by (sign_of x.0 es) refl where
     there true = omega (arith, gone)
     there false = omega arith
 
-counts_deleted : (es xs : List Row) → T (is_sorted net_order es) → length (deleted es xs) + length (filter Laws.is_deleted (deletions es xs)) ≡ length es
+counts_deleted : (es xs : List PlainEntry) → T (is_sorted net_order es) → length (deleted es xs) + length (filter Laws.is_deleted (deletions es xs)) ≡ length es
 unfolding deleted deletions
 counts_deleted es [] is = omega arith
 counts_deleted es (x ∷ xs) is = by (Laws.is_deleted answer) (shrinks es x is) (counts_deleted (without_entry es x) xs (without_sorted es x is)) where
@@ -199,16 +199,16 @@ repeats_change_nothing es x = record {
 
 -- ---- each entry's answer
 
-adds_at : (es xs : List Row) (i : ℕ) (x : Row) → slice_get xs i ≡ Some x → slice_get (additions es xs) i ≡ Some (addition (sign_of x.0 (added es (take i xs))) x.1)
+adds_at : (es xs : List PlainEntry) (i : ℕ) (x : PlainEntry) → slice_get xs i ≡ Some x → slice_get (additions es xs) i ≡ Some (addition (sign_of x.0 (added es (take i xs))) x.1)
 unfolding added additions
 adds_at es [] i x at = absurd (true≢false (sym (ap is_some at)))
-adds_at es (y ∷ xs) zero x at = ap (option_map (λ (e : Row). addition (sign_of e.0 es) e.1)) at
+adds_at es (y ∷ xs) zero x at = ap (option_map (λ (e : PlainEntry). addition (sign_of e.0 es) e.1)) at
 adds_at es (y ∷ xs) (suc i) x at = adds_at (with_entry es y) xs i x at
 
-dels_at : (es xs : List Row) (i : ℕ) (x : Row) → slice_get xs i ≡ Some x → slice_get (deletions es xs) i ≡ Some (deletion (has_entry (deleted es (take i xs)) x))
+dels_at : (es xs : List PlainEntry) (i : ℕ) (x : PlainEntry) → slice_get xs i ≡ Some x → slice_get (deletions es xs) i ≡ Some (deletion (has_entry (deleted es (take i xs)) x))
 unfolding deleted deletions
 dels_at es [] i x at = absurd (true≢false (sym (ap is_some at)))
-dels_at es (y ∷ xs) zero x at = ap (option_map (λ (e : Row). deletion (has_entry es e))) at
+dels_at es (y ∷ xs) zero x at = ap (option_map (λ (e : PlainEntry). deletion (has_entry es e))) at
 dels_at es (y ∷ xs) (suc i) x at = dels_at (without_entry es y) xs i x at
 
 other_sign : (s : Bool) → beq s (not s) ≡ false
@@ -262,12 +262,12 @@ answers_in_order es xs none i x at = record {
 
 -- ---- conflicts
 
-first_from : (before xs : List Row) (n : ℕ) → conflict_behind before xs ≡ Some n → (i : ℕ) × (n ≡ length before + i) × (i < length xs) × ((x : Row) → x ≡ get_or xs i x → list_any (is_opposite x) (before ++ take i xs) ≡ true) × ((j : ℕ) → j < i → (x : Row) → x ≡ get_or xs j x → list_any (is_opposite x) (before ++ take j xs) ≡ false)
+first_from : (before xs : List PlainEntry) (n : ℕ) → conflict_behind before xs ≡ Some n → (i : ℕ) × (n ≡ length before + i) × (i < length xs) × ((x : PlainEntry) → x ≡ get_or xs i x → list_any (is_opposite x) (before ++ take i xs) ≡ true) × ((j : ℕ) → j < i → (x : PlainEntry) → x ≡ get_or xs j x → list_any (is_opposite x) (before ++ take j xs) ≡ false)
 unfolding conflict_behind
 first_from before [] n is = absurd (true≢false (sym (ap is_some is)))
 first_from before (y ∷ xs) n is = by (list_any (is_opposite y) before) refl (first_from (before ++ y ∷ []) xs n) where
-  by : (b : Bool) → list_any (is_opposite y) before ≡ b → (conflict_behind (before ++ y ∷ []) xs ≡ Some n → (i : ℕ) × (n ≡ length (before ++ y ∷ []) + i) × (i < length xs) × ((x : Row) → x ≡ get_or xs i x → list_any (is_opposite x) ((before ++ y ∷ []) ++ take i xs) ≡ true) × ((j : ℕ) → j < i → (x : Row) → x ≡ get_or xs j x → list_any (is_opposite x) ((before ++ y ∷ []) ++ take j xs) ≡ false)) →
-      (i : ℕ) × (n ≡ length before + i) × (i < suc (length xs)) × ((x : Row) → x ≡ get_or (y ∷ xs) i x → list_any (is_opposite x) (before ++ take i (y ∷ xs)) ≡ true) × ((j : ℕ) → j < i → (x : Row) → x ≡ get_or (y ∷ xs) j x → list_any (is_opposite x) (before ++ take j (y ∷ xs)) ≡ false)
+  by : (b : Bool) → list_any (is_opposite y) before ≡ b → (conflict_behind (before ++ y ∷ []) xs ≡ Some n → (i : ℕ) × (n ≡ length (before ++ y ∷ []) + i) × (i < length xs) × ((x : PlainEntry) → x ≡ get_or xs i x → list_any (is_opposite x) ((before ++ y ∷ []) ++ take i xs) ≡ true) × ((j : ℕ) → j < i → (x : PlainEntry) → x ≡ get_or xs j x → list_any (is_opposite x) ((before ++ y ∷ []) ++ take j xs) ≡ false)) →
+      (i : ℕ) × (n ≡ length before + i) × (i < suc (length xs)) × ((x : PlainEntry) → x ≡ get_or (y ∷ xs) i x → list_any (is_opposite x) (before ++ take i (y ∷ xs)) ≡ true) × ((j : ℕ) → j < i → (x : PlainEntry) → x ≡ get_or (y ∷ xs) j x → list_any (is_opposite x) (before ++ take j (y ∷ xs)) ≡ false)
   by true found rest =
       let some : Some (length before) ≡ Some n = rw found at is in
       let same : length before ≡ n = cc in
@@ -282,13 +282,13 @@ first_from before (y ∷ xs) n is = by (list_any (is_opposite y) before) refl (f
         first i earlier,
       )
     where
-      first : (i : ℕ) → ((k : ℕ) → k < i → (x : Row) → x ≡ get_or xs k x → list_any (is_opposite x) ((before ++ y ∷ []) ++ take k xs) ≡ false) → (j : ℕ) → j < suc i → (x : Row) → x ≡ get_or (y ∷ xs) j x → list_any (is_opposite x) (before ++ take j (y ∷ xs)) ≡ false
+      first : (i : ℕ) → ((k : ℕ) → k < i → (x : PlainEntry) → x ≡ get_or xs k x → list_any (is_opposite x) ((before ++ y ∷ []) ++ take k xs) ≡ false) → (j : ℕ) → j < suc i → (x : PlainEntry) → x ≡ get_or (y ∷ xs) j x → list_any (is_opposite x) (before ++ take j (y ∷ xs)) ≡ false
       first i earlier zero lt x at = ap (list_any (is_opposite x)) (append-nil before) ∙ ap (λ e. list_any (is_opposite e) before) at ∙ none
       first i earlier (suc j) lt x at = ap (list_any (is_opposite x)) (sym (append_assoc before (y ∷ []) (take j xs))) ∙ earlier j (omega arith) x at
 
 pub tells_the_first_conflict : Laws.TellsTheFirstConflict
 tells_the_first_conflict xs = (first, λ none j x at. none_before [] xs j x (slice_get_within xs j x at) (read j x at) none) where
-  read : (j : ℕ) (x : Row) → slice_get xs j ≡ Some x → x ≡ get_or xs j x
+  read : (j : ℕ) (x : PlainEntry) → slice_get xs j ≡ Some x → x ≡ get_or xs j x
   read j x at = sym (get_or_from_slice_get xs j x x at)
 
   first : (i : ℕ) → conflict_in xs ≡ Some i → Laws.IsFirstConflict xs i

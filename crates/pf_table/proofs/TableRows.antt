@@ -2,12 +2,13 @@
 use Rattle.std.proofs.Common.{◌≡◌, ◌&&◌, suc, T, Bool, true, false, List, [], ◌∷◌, refl, sym, ◌∙◌, arith}
 use Rattle.std.specs.{Prelude.map, List.{All, AllByRecursion}, Ordering.is_lt, FinMap.is_sorted, FinMap.Entries.below_all, declared.cmp.Ordering.{Ordering, TheVariants.Less}}
 use Rattle.std.proofs.lemmas.List.{length-map}
-use Rattle.pf_addr.specs.{Address.{Network, IsNetwork}, Bytes.Forms.Fits, Bytes.Lists.{ordered, in_order}}
-use Rattle.pf_table.specs.{Entries.Row, Tables.IsTable, EntryForms.{entry, plain_entry, entry_before}, Laws.EntryForms.{entry_fits, entry_again}}
-use Rattle.pf_map.specs.{Networks.net_order, NetworkLaws.net_total}
+use Rattle.pf_addr.specs.Address.{PlainNet, IsNetwork}
+use Rattle.pf_form.specs.Bytes.{Forms.Fits, Lists.{ordered, in_order}}
+use Rattle.pf_table.specs.{Entries.PlainEntry, Tables.IsTable, EntryForms.{entry, plain_entry, entry_before}, Laws.EntryForms.{entry_fits, entry_again}}
+use Rattle.pf_addr.specs.{NetOrder.net_order, Laws.NetOrder.net_total}
 use Rattle.pf_map.proofs.Tests.{first_of, second_of, less_of}
 
-each_fits : (es : List Row) → All (λ e. IsNetwork e.0) es → AllByRecursion (Fits entry) (map plain_entry es)
+each_fits : (es : List PlainEntry) → All (λ e. IsNetwork e.0) es → AllByRecursion (Fits entry) (map plain_entry es)
 each_fits [] all = tt
 each_fits (e ∷ es) all = (entry_fits e (all 0 e (omega arith)), each_fits es (λ k d lt. all (suc k) d (omega (arith, lt))))
 
@@ -15,20 +16,20 @@ is_of : (b : Bool) → T b → b ≡ true
 is_of true h = refl
 is_of false h = absurd h
 
-before_is : (e f : Row) → entry_before (plain_entry e) (plain_entry f) ≡ is_lt (net_order e.0 f.0)
+before_is : (e f : PlainEntry) → entry_before (plain_entry e) (plain_entry f) ≡ is_lt (net_order e.0 f.0)
 before_is e f = λ i. is_lt (net_order (entry_again e i).0 (entry_again f i).0)
 
 both : (a b : Bool) → a ≡ true → b ≡ true → (a && b) ≡ true
 both a b e f = rw (e, f) refl
 
-in_turn : (es : List Row) → T (is_sorted net_order es) → in_order entry_before (map plain_entry es) ≡ true
+in_turn : (es : List PlainEntry) → T (is_sorted net_order es) → in_order entry_before (map plain_entry es) ≡ true
 in_turn [] s = refl
 in_turn (e ∷ []) s = refl
 in_turn (e ∷ f ∷ es) s =
     let less : is_lt (net_order e.0 f.0) ≡ true = is_of _ (first_of _ _ (first_of _ _ s)) in
     both (entry_before (plain_entry e) (plain_entry f)) (in_order entry_before (map plain_entry (f ∷ es))) (before_is e f ∙ less) (in_turn (f ∷ es) (second_of _ _ s))
 
-pub table_fits : (es : List Row) → IsTable es → Fits (ordered entry_before 4 entry) (map plain_entry es)
+pub table_fits : (es : List PlainEntry) → IsTable es → Fits (ordered entry_before 4 entry) (map plain_entry es)
 table_fits es is = ((omega (arith, is.few, length-map es plain_entry), each_fits es is.networks), in_turn es is.sorted)
 
 -- ---- what is read
@@ -39,7 +40,7 @@ less_is o e = less_of o (by (is_lt o) e) where
   by true e = tt
   by false e = absurd cc
 
-behind : (x : Network) (e : Row) (es : List Row) → net_order x e.0 ≡ Less → T (below_all net_order e.0 es) → T (below_all net_order x es)
+behind : (x : PlainNet) (e : PlainEntry) (es : List PlainEntry) → net_order x e.0 ≡ Less → T (below_all net_order e.0 es) → T (below_all net_order x es)
 behind x e [] less h = tt
 behind x e (f ∷ es) less h =
     let next : net_order x f.0 ≡ Less = net_total.trans x e.0 f.0 less (less_of _ (first_of _ _ h)) in
@@ -49,7 +50,7 @@ both_of : (a b : Bool) → (a && b) ≡ true → (a ≡ true) × (b ≡ true)
 both_of true b e = (refl, e)
 both_of false b e = absurd cc
 
-pub in_order_is : (es : List Row) → in_order entry_before (map plain_entry es) ≡ true → T (is_sorted net_order es)
+pub in_order_is : (es : List PlainEntry) → in_order entry_before (map plain_entry es) ≡ true → T (is_sorted net_order es)
 in_order_is [] e = tt
 in_order_is (x ∷ []) e = tt
 in_order_is (x ∷ y ∷ es) e =

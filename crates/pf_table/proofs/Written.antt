@@ -1,6 +1,6 @@
 -- An entry's bytes in few pieces.
 use Rattle.std.proofs.{Common.{◌≡◌, ℕ, ◌<◌, List, [], ◌∷◌, ◌++◌, refl, sym, ap, ◌∙◌, append_assoc, arith}}
-use Rattle.pf_addr.specs.Bytes.Parts.{number_bytes}
+use Rattle.pf_form.specs.Bytes.BasicForms.{number_bytes}
 
 pub one_byte : (n : ℕ) → n < 256 → number_bytes 1 n ≡ n ∷ []
 unfolding number_bytes

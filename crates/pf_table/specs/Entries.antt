@@ -1,7 +1,7 @@
 -- Entries of tables (pf.conf(5), TABLES): networks, each plain or negated.
 use Rattle.std.specs.Prelude.{Bool}
-use Rattle.pf_addr.specs.Address.{Network}
+use Rattle.pf_addr.specs.Address.{PlainNet}
 
 -- An entry: its network, and its sign, which is true where it is negated.
-abbrev pub Row : Type 0
-Row = Network × Bool
+abbrev pub PlainEntry : Type 0
+PlainEntry = PlainNet × Bool

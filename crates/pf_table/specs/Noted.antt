@@ -1,6 +1,6 @@
--- What is noted while a list is added to a table, so that a network with both signs in the list is found. Own.
+-- What is noted while a list is added to a table, so that a network with both signs in the list is found.
 use Rattle.std.specs.Prelude.{Bool, List, Option, Some, None}
-use Rattle.pf_table.specs.{Entries.Row, Edits.with_entry}
+use Rattle.pf_table.specs.{Entries.PlainEntry, Edits.with_entry}
 
 -- By the signs that a network has in the table that a list is added to, in what is noted, and once it was added: the sign that the list first
 -- names it with.
@@ -10,7 +10,7 @@ first_sign None noted (Some there) = Some there
 first_sign table noted None = None
 
 -- a network that is there and that the list didn't name is noted
-abbrev pub noted_with : List Row → Option Bool → Option Bool → Row → List Row
+abbrev pub noted_with : List PlainEntry → Option Bool → Option Bool → PlainEntry → List PlainEntry
 noted_with noted None first x = noted
 noted_with noted (Some there) (Some s) x = noted
 noted_with noted (Some there) None x = with_entry noted x

@@ -1,27 +1,27 @@
--- What a search of a table finds in a page, and when it ends. Own.
+-- What a search of a table finds in a page, and when it ends.
 use Rattle.std.specs.Prelude.{◌≡◌, ℕ, ◌≤◌, true, false, List, ◌∷◌, ◌++◌, All, Contains}
 use Rattle.pf_addr.specs.declared.addr.Addr.{Addr}
 use Rattle.pf_addr.specs.Address.{contains}
-use Rattle.pf_table.specs.Entries.{Row}
+use Rattle.pf_table.specs.Entries.{PlainEntry}
 
 -- no entry has fewer bits than this
-abbrev pub NoneShorter : ℕ → List Row → Type 0
+abbrev pub NoneShorter : ℕ → List PlainEntry → Type 0
 NoneShorter n es = All (λ e. n ≤ e.0.len) es
 
 -- no entry contains an address
-abbrev pub NoneContains : List Row → Addr → Type 0
-NoneContains es a = (e : Row) → Contains es e → contains e.0 a ≡ false
+abbrev pub NoneContains : List PlainEntry → Addr → Type 0
+NoneContains es a = (e : PlainEntry) → Contains es e → contains e.0 a ≡ false
 
 -- of the entries that contain an address none has more bits than this one
-pub record IsLongest (es : List Row) (a : Addr) (e : Row) : Type 0 where
+pub record IsLongest (es : List PlainEntry) (a : Addr) (e : PlainEntry) : Type 0 where
   pub member : Contains es e
   pub holds : contains e.0 a ≡ true
-  pub longest : (f : Row) → Contains es f → contains f.0 a ≡ true → f.0.len ≤ e.0.len
+  pub longest : (f : PlainEntry) → Contains es f → contains f.0 a ≡ true → f.0.len ≤ e.0.len
 
 -- of the entries that contain an address none stands behind this one
-pub record IsLast (es : List Row) (a : Addr) (e : Row) : Type 0 where
-  pub front : List Row
-  pub back : List Row
+pub record IsLast (es : List PlainEntry) (a : Addr) (e : PlainEntry) : Type 0 where
+  pub front : List PlainEntry
+  pub back : List PlainEntry
   pub around : es ≡ front ++ (e ∷ back)
   pub holds : contains e.0 a ≡ true
   pub none_behind : NoneContains back a

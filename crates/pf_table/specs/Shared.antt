@@ -1,4 +1,4 @@
--- The first bits that two addresses share. Own.
+-- The first bits that two addresses share.
 use Rattle.std.specs.Prelude.{◌≡◌, ℕ, ◌≤◌}
 use Rattle.pf_addr.specs.declared.addr.Addr.{Addr}
 use Rattle.pf_addr.specs.Address.{family_of, width, first_bits}

@@ -16,9 +16,9 @@ pub struct Entry {
 
 impl Model for Entry {
     ghost use Rattle.pf_addr.specs.Address.{IsNetwork};
-    ghost use Rattle.pf_table.specs.Entries.{Row};
+    ghost use Rattle.pf_table.specs.Entries.{PlainEntry};
 
-    ghost Value = { Row };
+    ghost Value = { PlainEntry };
 
     ghost view = { λ e. (e.net, e.is_negated) };
 

@@ -1,12 +1,12 @@
 //! Entries in bytes.
 ghost use Rattle.std.specs.Prelude.{◌≡◌, ◌++◌, ◌∷◌, [], replicate, OnOk};
-ghost use Rattle.pf_addr.specs.Bytes.Forms.{back, number, onto};
+ghost use Rattle.pf_form.specs.Bytes.Forms.{back, number, onto};
 
 use crate::entry::Entry;
-use pf_addr::bytes::{
+use pf_addr::{Addr, Net, push_addr, read_addr, read_family};
+use pf_form::bytes::{
     Fault, Fitting, Layout, Ordered, Rest, Stop, expect, push_bytes, read_flag, read_u8,
 };
-use pf_addr::{Addr, Net, push_addr, read_addr, read_family};
 use pf_map::Key;
 use std::alloc::{AllocError, Global};
 
@@ -40,7 +40,7 @@ impl Layout for Entry {
         }
     }
 
-    #[tactic(auto, unfolding(crate::specs::EntryForms::entry, pf_addr::specs::NetForms::family, pf_addr::specs::Bytes::Codes::below))]
+    #[tactic(auto, unfolding(crate::specs::EntryForms::entry, pf_addr::specs::NetForms::family, pf_form::specs::Bytes::Codes::below))]
     fn write(&self, _version: u8, out: &mut Vec<u8>) -> Result<(), AllocError> {
         let net = self.net();
         let (length, negated) = (net.prefix_len(), u8::from(self.is_negated()));
@@ -64,7 +64,7 @@ fn push_front(out: &mut Vec<u8>, family: u8, length: u8, negated: u8) -> Result<
 }
 
 // An entry of IPv4, at once.
-#[tactic(auto, unfolding(pf_addr::specs::Bytes::Parts::number_bytes), using(crate::proofs::Written::entry_pushed))]
+#[tactic(auto, unfolding(pf_form::specs::Bytes::BasicForms::number_bytes), using(crate::proofs::Written::entry_pushed))]
 fn push_v4(out: &mut Vec<u8>, length: u8, negated: u8, address: u32) -> Result<(), AllocError>
     ensures { OnOk result (out.new.items ≡ onto (back (number 4) (replicate 12 0)) address
         (onto (number 1) negated (onto (number 1) length (onto (number 1) 4 out.old.items)) ++ 0 ∷ [])) }

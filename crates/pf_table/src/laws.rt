@@ -1,9 +1,10 @@
 //! What follows from the definitions that contracts cite: functions that do nothing, whose contracts are the laws.
 ghost use Rattle.std.specs.{Prelude.{◌≡◌, T, true, List, map}, Cmp.IsTotalOrder, FinMap.{IsAntisymmetric, is_sorted}};
-ghost use Rattle.pf_addr.specs.{Address.IsNetwork, Bytes.Forms.{Fits, length_of}, Bytes.Lists.{ordered, in_order}};
+ghost use Rattle.pf_addr.specs.Address.{IsNetwork};
+ghost use Rattle.pf_form.specs.Bytes.{Forms.{Fits, length_of}, Lists.{ordered, in_order}};
 ghost use Rattle.pf_table.specs.declared.limits.TheConstants.{TABLE_LIMIT};
-ghost use Rattle.pf_table.specs.{Entries.Row, Tables.IsTable, EntryForms.{entry, plain_entry, entry_of, entry_before}, Laws.Tables.{TableDecides, TableMatches, FamiliesApart, OneTable, AddsWhatIsNamed, DeletesWhatIsNamed, HoldsTheList, AllElseStays, StaysTable, OneAnswerEach, AnswersInOrder, CountsWhatChanged, RepeatsChangeNothing, TellsTheFirstConflict}};
-ghost use Rattle.pf_map.specs.Networks.{net_order};
+ghost use Rattle.pf_table.specs.{Entries.PlainEntry, Tables.IsTable, EntryForms.{entry, plain_entry, entry_of, entry_before}, Laws.Tables.{TableDecides, TableMatches, FamiliesApart, OneTable, AddsWhatIsNamed, DeletesWhatIsNamed, HoldsTheList, AllElseStays, StaysTable, OneAnswerEach, AnswersInOrder, CountsWhatChanged, RepeatsChangeNothing, TellsTheFirstConflict}};
+ghost use Rattle.pf_addr.specs.NetOrder.{net_order};
 
 /// A table has at most 65,536 entries.
 pub fn the_limit_of_entries()
@@ -11,7 +12,7 @@ pub fn the_limit_of_entries()
 {}
 
 /// Networks are in a total order, in which only equal ones tie.
-#[tactic(auto, using(pf_map::specs::NetworkLaws::net_total, pf_map::specs::NetworkLaws::net_same))]
+#[tactic(auto, using(pf_addr::specs::Laws::NetOrder::net_total, pf_addr::specs::Laws::NetOrder::net_same))]
 pub fn networks_are_in_order()
     ensures total { IsTotalOrder net_order }
     ensures own { IsAntisymmetric net_order }
@@ -64,9 +65,9 @@ pub fn the_first_conflict_is_told()
 /// are read in that order are a table's. An entry takes 20 bytes.
 #[tactic(auto, using(crate::specs::Laws::EntryForms::entry_fits, crate::specs::Laws::EntryForms::entry_again, crate::specs::Laws::EntryForms::entry_long, crate::proofs::TableRows::in_order_is))]
 pub fn entries_have_bytes_of_their_own()
-    ensures fits { (e : Row) → IsNetwork e.0 → Fits entry (plain_entry e) }
-    ensures again { (e : Row) → entry_of (plain_entry e) ≡ e }
-    ensures length { (e : Row) → length_of entry (plain_entry e) ≡ 20 }
-    ensures table { (es : List Row) → IsTable es → Fits (ordered entry_before 4 entry) (map plain_entry es) }
-    ensures sorted { (es : List Row) → in_order entry_before (map plain_entry es) ≡ true → T (is_sorted net_order es) }
+    ensures fits { (e : PlainEntry) → IsNetwork e.0 → Fits entry (plain_entry e) }
+    ensures again { (e : PlainEntry) → entry_of (plain_entry e) ≡ e }
+    ensures length { (e : PlainEntry) → length_of entry (plain_entry e) ≡ 20 }
+    ensures table { (es : List PlainEntry) → IsTable es → Fits (ordered entry_before 4 entry) (map plain_entry es) }
+    ensures sorted { (es : List PlainEntry) → in_order entry_before (map plain_entry es) ≡ true → T (is_sorted net_order es) }
 {}

@@ -1,7 +1,7 @@
 //! Which entry decides about an address.
 ghost use Rattle.std.specs.{Prelude.{◌≡◌, ◌≢◌, T, map, MatchOption}, FinMap.is_sorted};
 ghost use Rattle.pf_addr.specs.Address.{family_of};
-ghost use Rattle.pf_map.specs.Networks.{net_order};
+ghost use Rattle.pf_addr.specs.NetOrder.{net_order};
 ghost use Rattle.pf_table.specs.{Tables.{IsTable, deciding}, Searches.{NoneShorter, NoneContains, IsLongest, IsLast}, Shared.Share};
 
 use crate::columns::{EntryMap, PageColumns, TablePage};

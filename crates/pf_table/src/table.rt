@@ -2,7 +2,7 @@
 ghost use Rattle.std.specs.Prelude.{◌≡◌, ◌==◌, false, [], cond, length, is_ok, All, Contains, IfOk, IfSome, None};
 ghost use Rattle.pf_addr.specs.{Refusing.Refuses, Address.{contains, IsNetwork}};
 ghost use Rattle.pf_table.specs.declared.refusal.TableRefusal.TheVariants.{Memory};
-ghost use Rattle.pf_table.specs.{Entries.Row, Tables.{AreEntries, IsTable, Decides, deciding, table_holds}, Searches.NoneShorter, Edits.{added, additions, deleted, deletions, replaced, conflict_refusal, edit_refusal}};
+ghost use Rattle.pf_table.specs.{Entries.PlainEntry, Tables.{AreEntries, IsTable, Decides, deciding, table_holds}, Searches.NoneShorter, Edits.{added, additions, deleted, deletions, replaced, conflict_refusal, edit_refusal}};
 
 use crate::answer::{Addition, Deletion};
 use crate::batch::gather;
@@ -36,11 +36,11 @@ impl Drop for Table {
 
 impl Model for Table {
     ghost use Rattle.std.specs.Prelude.{List};
-    ghost use Rattle.pf_table.specs.Entries.{Row};
+    ghost use Rattle.pf_table.specs.Entries.{PlainEntry};
     ghost use Rattle.pf_table.specs.Tables.{IsTable};
     ghost use Rattle.pf_table.specs.Searches.{NoneShorter};
 
-    ghost Value = { List Row };
+    ghost Value = { List PlainEntry };
 
     ghost view = { λ t. t.entries };
 
@@ -119,7 +119,7 @@ impl Table {
     pub fn lookup(&self, addr: Addr) -> Option<Entry>
         ensures value { result ≡ deciding self.now addr }
         ensures decides { IfSome result (λ e. Decides self.now addr e) }
-        ensures none { result ≡ None → (e : Row) → Contains self.now e → contains e.0 addr ≡ false }
+        ensures none { result ≡ None → (e : PlainEntry) → Contains self.now e → contains e.0 addr ≡ false }
     {
         decider(&self.entries, self.shortest, addr)
     }

@@ -3,8 +3,8 @@ use Rattle.std.proofs.{Common.{◌≡◌, ℕ, Bool, true, false, cond, ◌&&◌
 use Rattle.std.specs.{Prelude.{flat_map, T}, FinMap.{find, is_sorted}, FinMap.Entries.{find-put, is_sorted-put}, Cmp.Lexicographic.nat_list_cmp_total, List.last_or}
 use Rattle.pf_addr.specs.Path.Names.{name_order, same_name as same_table}
 use Rattle.pf_rule.specs.Rules.{PlainRule}
-use Rattle.pf_table.specs.{Edits.replaced, Entries.Row}
-use Rattle.pf_ticket.specs.{declared.{name.RulesetName.RulesetName, ticket.Ticket.Ticket}, Laws.Tickets.{touches, AreQuiet, IsGivenLast, ValidIsGivenLast, GivenLastIsValid, rules_added, OffersTheAdded, tables_defined, OffersTheDefined}, Mentions.{Mention, gave, added, defined, switched, dropped, named_in, moved, after}, Names.{filter_at, table_ruleset_at, same_name, ticket, same_ticket, is_ticket}, Laws.Names.{names_alike, name_is}, NamedTables.Named, Tickets.{Loaded, nothing, with_rule, with_table, Offer, offer, offer_at, Open, fresh, next_ticket, ticket_in, loaded_in, valid_ticket, loaded, is_valid}}
+use Rattle.pf_table.specs.{Edits.replaced, Entries.PlainEntry}
+use Rattle.pf_ticket.specs.{declared.{name.RulesetName.RulesetName, ticket.Ticket.Ticket}, Laws.Tickets.{touches, AreQuiet, IsGivenLast, ValidIsGivenLast, GivenLastIsValid, rules_added, OffersTheAdded, tables_defined, OffersTheDefined}, Mentions.{Mention, gave, added, defined, switched, dropped, named_in, moved, after}, Names.{filter_at, table_ruleset_at, same_name, ticket, same_ticket, is_ticket}, Laws.Names.{names_alike, name_is}, NamedTables.PlainDefinedTable, Tickets.{Loaded, nothing, with_rule, with_table, PlainOffer, offer_with, offer_at, PlainTickets, fresh, next_ticket, ticket_in, loaded_in, valid_ticket, loaded, is_valid}}
 use Rattle.pf_ticket.proofs.Moves.{made_by, reads}
 
 -- two tickets that are the same are one
@@ -23,22 +23,22 @@ never name h = let k : true ≡ false = sym (names_alike.refl name) ∙ h in abs
 -- ---- a valid ticket was given
 
 -- it was there before and nothing touched it, or some mention gave it
-abbrev StoodOrGiven : Open → List Mention → RulesetName → Ticket → Type 0
+abbrev StoodOrGiven : PlainTickets → List Mention → RulesetName → Ticket → Type 0
 StoodOrGiven t ms name u = ((valid_ticket t name ≡ Some u) × AreQuiet name u ms) ⊎ IsGivenLast t ms name u
 
-later : (t : Open) (m : Mention) (ms : List Mention) (name : RulesetName) (u : Ticket) → IsGivenLast (moved t m) ms name u → IsGivenLast t (m ∷ ms) name u
+later : (t : PlainTickets) (m : Mention) (ms : List Mention) (name : RulesetName) (u : Ticket) → IsGivenLast (moved t m) ms name u → IsGivenLast t (m ∷ ms) name u
 later t m ms name u g = record { before = m ∷ g.before; given = g.given; behind = g.behind; all = ap (λ (xs : List Mention). m ∷ xs) g.all; same = g.same; ticket = g.ticket; quiet = g.quiet }
 
-loaded-stood : (t : Open) (n : RulesetName) (w u : Ticket) (l : Loaded) (b : Bool) → is_valid t n w ≡ b → ticket_in (cond b (Some (offer w l)) (offer_at t.offers n)) ≡ Some u → valid_ticket t n ≡ Some u
+loaded-stood : (t : PlainTickets) (n : RulesetName) (w u : Ticket) (l : Loaded) (b : Bool) → is_valid t n w ≡ b → ticket_in (cond b (Some (offer_with w l)) (offer_at t.offers n)) ≡ Some u → valid_ticket t n ≡ Some u
 loaded-stood t n w u l true e h = valid-is (valid_ticket t n) w e ∙ h
 loaded-stood t n w u l false e h = h
 
-dropped-stood : (t : Open) (n : RulesetName) (w u : Ticket) (b : Bool) → is_valid t n w ≡ b → ticket_in (cond b None (offer_at t.offers n)) ≡ Some u → (valid_ticket t n ≡ Some u) × (same_ticket u w ≡ false)
+dropped-stood : (t : PlainTickets) (n : RulesetName) (w u : Ticket) (b : Bool) → is_valid t n w ≡ b → ticket_in (cond b None (offer_at t.offers n)) ≡ Some u → (valid_ticket t n ≡ Some u) × (same_ticket u w ≡ false)
 dropped-stood t n w u true e h = absurd (cc (h))
 dropped-stood t n w u false e h = (h, ap (λ (v : Option Ticket). is_ticket v w) (sym h) ∙ e)
 
 -- by the mention's own ruleset
-own-stood : (t : Open) (m : Mention) (ms : List Mention) (u : Ticket) → ticket_in (made_by t m) ≡ Some u → AreQuiet (named_in m) u ms → StoodOrGiven t (m ∷ ms) (named_in m) u
+own-stood : (t : PlainTickets) (m : Mention) (ms : List Mention) (u : Ticket) → ticket_in (made_by t m) ≡ Some u → AreQuiet (named_in m) u ms → StoodOrGiven t (m ∷ ms) (named_in m) u
 own-stood t (gave n) ms u h quiet = inr (record { before = []; given = n; behind = ms; all = refl; same = names_alike.refl n; ticket = (let is : Some (next_ticket t) ≡ Some u = h in cc (is)); quiet = quiet })
 own-stood t (added n w r) ms u h quiet = inl (loaded-stood t n w u (with_rule (loaded t n) r) (is_valid t n w) refl h, (refl, quiet))
 own-stood t (defined n w name xs) ms u h quiet = inl (loaded-stood t n w u (with_table (loaded t n) name (replaced xs)) (is_valid t n w) refl h, (refl, quiet))
@@ -54,13 +54,13 @@ untouched (defined n w name xs) q u e = refl
 untouched (switched n) q u e = e
 untouched (dropped n w) q u e = ap (λ (b : Bool). b && same_ticket u w) e
 
-stood-by : (t : Open) (m : Mention) (ms : List Mention) (q : RulesetName) (u : Ticket) (b : Bool) → same_name (named_in m) q ≡ b → ticket_in (cond b (made_by t m) (offer_at t.offers q)) ≡ Some u → AreQuiet q u ms → StoodOrGiven t (m ∷ ms) q u
+stood-by : (t : PlainTickets) (m : Mention) (ms : List Mention) (q : RulesetName) (u : Ticket) (b : Bool) → same_name (named_in m) q ≡ b → ticket_in (cond b (made_by t m) (offer_at t.offers q)) ≡ Some u → AreQuiet q u ms → StoodOrGiven t (m ∷ ms) q u
 stood-by t m ms q u true e h quiet =
     let is : named_in m ≡ q = name_is (named_in m) q e in
     subst (λ (p : RulesetName). StoodOrGiven t (m ∷ ms) p u) is (own-stood t m ms u h (subst (λ (p : RulesetName). AreQuiet p u ms) (sym is) quiet))
 stood-by t m ms q u false e h quiet = inl (h, (untouched m q u e, quiet))
 
-stood-or-given : (t : Open) (ms : List Mention) (q : RulesetName) (u : Ticket) → valid_ticket (after t ms) q ≡ Some u → StoodOrGiven t ms q u
+stood-or-given : (t : PlainTickets) (ms : List Mention) (q : RulesetName) (u : Ticket) → valid_ticket (after t ms) q ≡ Some u → StoodOrGiven t ms q u
 stood-or-given t [] q u is = inl (is, tt)
 stood-or-given t (m ∷ ms) q u is = elim (stood-or-given (moved t m) ms q u is) [
   | inl stood ↦ stood-by t m ms q u (same_name (named_in m) q) refl (ap ticket_in (sym (reads t m q)) ∙ stood.0) stood.1
@@ -83,11 +83,11 @@ loads q u l (switched n) = l
 loads q u l (dropped n w) = l
 
 -- a ruleset's offer still has this ticket, and this was loaded with it
-abbrev Has : Ticket → Loaded → Option Offer → Type 0
+abbrev Has : Ticket → Loaded → Option PlainOffer → Type 0
 Has u l v = (ticket_in v ≡ Some u) × (loaded_in v ≡ l)
 
 -- by the mention's own ruleset
-own-load : (t : Open) (n : RulesetName) (w u : Ticket) (l : Loaded) (b : Bool) → is_valid t n w ≡ b → valid_ticket t n ≡ Some u → Has u (cond (same_name n n && same_ticket u w) l (loaded t n)) (cond b (Some (offer w l)) (offer_at t.offers n))
+own-load : (t : PlainTickets) (n : RulesetName) (w u : Ticket) (l : Loaded) (b : Bool) → is_valid t n w ≡ b → valid_ticket t n ≡ Some u → Has u (cond (same_name n n && same_ticket u w) l (loaded t n)) (cond b (Some (offer_with w l)) (offer_at t.offers n))
 own-load t n w u l true e h =
     let same : same_ticket u w ≡ true = ap (λ (v : Option Ticket). is_ticket v w) (sym h) ∙ e in
     (ap Some (sym (ticket_is u w same)), sym (ap (λ (b : Bool). cond (b && same_ticket u w) l (loaded t n)) (names_alike.refl n) ∙ ap (λ (b : Bool). cond b l (loaded t n)) same))
@@ -95,7 +95,7 @@ own-load t n w u l false e h =
     let same : same_ticket u w ≡ false = ap (λ (v : Option Ticket). is_ticket v w) (sym h) ∙ e in
     (h, sym (ap (λ (b : Bool). cond (b && same_ticket u w) l (loaded t n)) (names_alike.refl n) ∙ ap (λ (b : Bool). cond b l (loaded t n)) same))
 
-own-stays : (t : Open) (m : Mention) (u : Ticket) → valid_ticket t (named_in m) ≡ Some u → touches (named_in m) u m ≡ false → Has u (loads (named_in m) u (loaded t (named_in m)) m) (made_by t m)
+own-stays : (t : PlainTickets) (m : Mention) (u : Ticket) → valid_ticket t (named_in m) ≡ Some u → touches (named_in m) u m ≡ false → Has u (loads (named_in m) u (loaded t (named_in m)) m) (made_by t m)
 own-stays t (gave n) u h quiet = never n quiet
 own-stays t (added n w r) u h quiet = own-load t n w u (with_rule (loaded t n) r) (is_valid t n w) refl h
 own-stays t (defined n w name xs) u h quiet = own-load t n w u (with_table (loaded t n) name (replaced xs)) (is_valid t n w) refl h
@@ -112,29 +112,29 @@ none-loaded (defined n w name xs) q u l e = ap (λ (b : Bool). cond (b && same_t
 none-loaded (switched n) q u l e = refl
 none-loaded (dropped n w) q u l e = refl
 
-stays-by : (t : Open) (m : Mention) (q : RulesetName) (u : Ticket) (b : Bool) → same_name (named_in m) q ≡ b → valid_ticket t q ≡ Some u → touches q u m ≡ false → Has u (loads q u (loaded t q) m) (cond b (made_by t m) (offer_at t.offers q))
+stays-by : (t : PlainTickets) (m : Mention) (q : RulesetName) (u : Ticket) (b : Bool) → same_name (named_in m) q ≡ b → valid_ticket t q ≡ Some u → touches q u m ≡ false → Has u (loads q u (loaded t q) m) (cond b (made_by t m) (offer_at t.offers q))
 stays-by t m q u true e h quiet =
     let is : named_in m ≡ q = name_is (named_in m) q e in
     subst (λ (p : RulesetName). Has u (loads p u (loaded t p) m) (made_by t m)) is (own-stays t m u (ap (λ (p : RulesetName). valid_ticket t p) is ∙ h) (ap (λ (p : RulesetName). touches p u m) is ∙ quiet))
 stays-by t m q u false e h quiet = (h, sym (none-loaded m q u (loaded t q) e))
 
-quiet-on : (t : Open) (ms : List Mention) (q : RulesetName) (u : Ticket) → valid_ticket t q ≡ Some u → AreQuiet q u ms → Has u (fold (loads q u) (loaded t q) ms) (offer_at (after t ms).offers q)
+quiet-on : (t : PlainTickets) (ms : List Mention) (q : RulesetName) (u : Ticket) → valid_ticket t q ≡ Some u → AreQuiet q u ms → Has u (fold (loads q u) (loaded t q) ms) (offer_at (after t ms).offers q)
 quiet-on t [] q u h quiet = (h, refl)
 quiet-on t (m ∷ ms) q u h quiet =
-    let one : Has u (loads q u (loaded t q) m) (offer_at (moved t m).offers q) = subst (λ (v : Option Offer). Has u (loads q u (loaded t q) m) v) (sym (reads t m q)) (stays-by t m q u (same_name (named_in m) q) refl h quiet.0) in
+    let one : Has u (loads q u (loaded t q) m) (offer_at (moved t m).offers q) = subst (λ (v : Option PlainOffer). Has u (loads q u (loaded t q) m) v) (sym (reads t m q)) (stays-by t m q u (same_name (named_in m) q) refl h quiet.0) in
     let rest : Has u (fold (loads q u) (loaded (moved t m) q) ms) (offer_at (after (moved t m) ms).offers q) = quiet-on (moved t m) ms q u one.0 quiet.1 in
     (rest.0, rest.1 ∙ ap (λ (l : Loaded). fold (loads q u) l ms) one.1)
 
 -- since it was given
-given-since : (t : Open) (ms : List Mention) (q : RulesetName) (u : Ticket) → (g : IsGivenLast t ms q u) → Has u (fold (loads q u) nothing g.behind) (offer_at (after t ms).offers q)
+given-since : (t : PlainTickets) (ms : List Mention) (q : RulesetName) (u : Ticket) → (g : IsGivenLast t ms q u) → Has u (fold (loads q u) nothing g.behind) (offer_at (after t ms).offers q)
 given-since t ms q u g =
-    let s : Open = after t g.before in
+    let s : PlainTickets = after t g.before in
     let now : offer_at (moved s (gave g.given)).offers q ≡ made_by s (gave g.given) =
     reads s (gave g.given) q ∙ ap (λ (b : Bool). cond b (made_by s (gave g.given)) (offer_at s.offers q)) g.same in
     let all : after (moved s (gave g.given)) g.behind ≡ after t ms = sym (ap (after t) g.all ∙ fold-append moved t g.before (gave g.given ∷ g.behind)) in
     let since : Has u (fold (loads q u) (loaded (moved s (gave g.given)) q) g.behind) (offer_at (after (moved s (gave g.given)) g.behind).offers q) =
     quiet-on (moved s (gave g.given)) g.behind q u (ap ticket_in now ∙ ap Some (sym g.ticket)) g.quiet in
-    subst (λ (o : Open). Has u (fold (loads q u) nothing g.behind) (offer_at o.offers q)) all (since.0, since.1 ∙ ap (λ (v : Option Offer). fold (loads q u) (loaded_in v) g.behind) now)
+    subst (λ (o : PlainTickets). Has u (fold (loads q u) nothing g.behind) (offer_at o.offers q)) all (since.0, since.1 ∙ ap (λ (v : Option PlainOffer). fold (loads q u) (loaded_in v) g.behind) now)
 
 pub given_last_is_valid : GivenLastIsValid
 given_last_is_valid epoch ms name u g = (given-since (fresh epoch) ms name u g).0
@@ -145,7 +145,7 @@ one-rule : (l : Loaded) (r : PlainRule) (b : Bool) → (cond b (with_rule l r) l
 one-rule l r true = refl
 one-rule l r false = sym (append-nil l.rules)
 
-no-rule : (l : Loaded) (name : List ℕ) (rows : List Row) (b : Bool) → (cond b (with_table l name rows) l).rules ≡ l.rules ++ []
+no-rule : (l : Loaded) (name : List ℕ) (rows : List PlainEntry) (b : Bool) → (cond b (with_table l name rows) l).rules ≡ l.rules ++ []
 no-rule l name rows true = sym (append-nil l.rules)
 no-rule l name rows false = sym (append-nil l.rules)
 
@@ -168,11 +168,11 @@ offers_the_added epoch ms path u g =
 
 -- ---- the tables that are loaded
 
-chosen : (b : Bool) (o : Option (List Row)) (rows : List Row) → cond b (Some rows) o ≡ last_or o (cond b (rows ∷ []) [])
+chosen : (b : Bool) (o : Option (List PlainEntry)) (rows : List PlainEntry) → cond b (Some rows) o ≡ last_or o (cond b (rows ∷ []) [])
 chosen true o rows = refl
 chosen false o rows = refl
 
-one-table : (l : Loaded) (k name : List ℕ) (rows : List Row) (b same : Bool) → same_table k name ≡ same → find name_order k (cond b (with_table l name rows) l).tables ≡ last_or (find name_order k l.tables) (cond (b && same) (rows ∷ []) [])
+one-table : (l : Loaded) (k name : List ℕ) (rows : List PlainEntry) (b same : Bool) → same_table k name ≡ same → find name_order k (cond b (with_table l name rows) l).tables ≡ last_or (find name_order k l.tables) (cond (b && same) (rows ∷ []) [])
 one-table l k name rows true same h = find-put name_order nat_list_cmp_total k name rows l.tables ∙ ap (λ (c : Bool). cond c (Some rows) (find name_order k l.tables)) h ∙ chosen same (find name_order k l.tables) rows
 one-table l k name rows false same h = refl
 
@@ -184,14 +184,14 @@ loads-table q u l k (defined n w name xs) =
 loads-table q u l k (switched n) = refl
 loads-table q u l k (dropped n w) = refl
 
-last-append : (o : Option (List Row)) (xs ys : List (List Row)) → last_or o (xs ++ ys) ≡ last_or (last_or o xs) ys
+last-append : (o : Option (List PlainEntry)) (xs ys : List (List PlainEntry)) → last_or o (xs ++ ys) ≡ last_or (last_or o xs) ys
 last-append o [] ys = refl
 last-append o (x ∷ xs) ys = last-append (Some x) xs ys
 
 table-loaded : (q : RulesetName) (u : Ticket) (l : Loaded) (k : List ℕ) (ms : List Mention) → find name_order k (fold (loads q u) l ms).tables ≡ last_or (find name_order k l.tables) (flat_map (tables_defined q u k) ms)
 table-loaded q u l k [] = refl
 table-loaded q u l k (m ∷ ms) =
-    table-loaded q u (loads q u l m) k ms ∙ ap (λ (o : Option (List Row)). last_or o (flat_map (tables_defined q u k) ms)) (loads-table q u l k m)
+    table-loaded q u (loads q u l m) k ms ∙ ap (λ (o : Option (List PlainEntry)). last_or o (flat_map (tables_defined q u k) ms)) (loads-table q u l k m)
     ∙ sym (last-append (find name_order k l.tables) (tables_defined q u k m) (flat_map (tables_defined q u k) ms))
 
 sorted-on : (q : RulesetName) (u : Ticket) (l : Loaded) (m : Mention) → T (is_sorted name_order l.tables) → T (is_sorted name_order (loads q u l m).tables)
@@ -212,5 +212,5 @@ offers_the_defined epoch ms path u g =
     let is : (loaded (after (fresh epoch) ms) q).tables ≡ (fold (loads q u) nothing g.behind).tables = ap (λ (l : Loaded). l.tables) (given-since (fresh epoch) ms q u g).1 in
     record {
       last = λ k. ap (find name_order k) is ∙ table-loaded q u nothing k g.behind;
-      order = subst (λ (ts : List Named). T (is_sorted name_order ts)) (sym is) (tables-sorted q u nothing g.behind tt);
+      order = subst (λ (ts : List PlainDefinedTable). T (is_sorted name_order ts)) (sym is) (tables-sorted q u nothing g.behind tt);
     }

@@ -4,5 +4,5 @@ pub mod NamedTables
 pub mod Moves
 pub mod Voided
 pub mod Latest
-pub mod Keeping
+pub mod TicketLimits
 pub mod Twice

@@ -1,7 +1,7 @@
 -- The entry that is found is the first of a ruleset named before it; and tickets that are numbered are given once.
 use Rattle.std.proofs.{Common.{◌≡◌, ℕ, suc, zero, ◌+◌, ◌<◌, ◌==◌, Bool, false, cond, ◌||◌, List, [], ◌∷◌, ◌++◌, length, map, refl, sym, ap, subst, ◌∙◌, append-nil, append_assoc, Option, Some, None, arith, get_or, take, drop}, Math.Seq.{take-suc, drop-cons}, lemmas.Bool.{eqb-true, or_parts, or_from, and_right, false_from_ne_true, cond_both}, lemmas.List.{get_or-map, length-map, length-take-le, take-map}, lemmas.List.Folds.list_any-append}
 use Rattle.std.specs.List.{list_any}
-use Rattle.pf_ticket.specs.{declared.{entry.Entry.Entry, name.RulesetName.RulesetName, ticket.Ticket.Ticket}, Laws.Tickets.{IsFirstAgain, TwiceIsFirstAgain, OtherwiseOnce, GivesEachOnce}, Names.{same_name, is_named, names_of, ticket, same_ticket, tickets_from, IsDistinct}, Laws.Names.names_alike, Replies.twice_behind}
+use Rattle.pf_ticket.specs.{declared.{entry.RulesetTicket.RulesetTicket, name.RulesetName.RulesetName, ticket.Ticket.Ticket}, Laws.Tickets.{IsFirstAgain, TwiceIsFirstAgain, OtherwiseOnce, GivesEachOnce}, Names.{same_name, is_named, names_of, ticket, same_ticket, tickets_from, IsDistinct}, Laws.Names.names_alike, Replies.twice_behind}
 
 -- ---- one name more
 
@@ -23,10 +23,10 @@ twice-on ns p n b l h k =
     ∙ ap (λ (m : ℕ). cond b (Some m) (twice_behind (take p ns ++ n ∷ []) rest)) long
     ∙ ap (λ (ms : List RulesetName). cond b (Some p) (twice_behind ms rest)) more
 
-pub twice-at : (es : List Entry) (p : ℕ) (e : Entry) (b : Bool) → p < length es → e ≡ get_or es p e → list_any (λ x. same_name x.name e.name) (take p es) ≡ b →
+pub twice-at : (es : List RulesetTicket) (p : ℕ) (e : RulesetTicket) (b : Bool) → p < length es → e ≡ get_or es p e → list_any (λ x. same_name x.name e.name) (take p es) ≡ b →
     twice_behind (take p (names_of es)) (drop p (names_of es)) ≡ cond b (Some p) (twice_behind (take (p + 1) (names_of es)) (drop (p + 1) (names_of es)))
 twice-at es p e b l h k =
-    let name : Entry → RulesetName = λ x. x.name in
+    let name : RulesetTicket → RulesetName = λ x. x.name in
     let long : length (names_of es) ≡ length es = length-map es name in
     twice-on (names_of es) p e.name b (omega (arith, l, long)) (ap name h ∙ sym (get_or-map name es p e e.name l))
     (ap (λ (ns : List RulesetName). is_named ns e.name) (take-map name p es) ∙ any-of name (take p es) e.name ∙ k)
@@ -40,22 +40,22 @@ distinct-behind (n ∷ ns) p d h =
     (list_any-append (λ m. same_name m n) ns (p ∷ []) ∙ or_from (is_named ns n) (is_named (p ∷ []) n) d.0 (or_from (same_name p n) false (names_alike.symm p n ∙ other.0) refl), distinct-behind ns p d.1 other.1)
 
 -- the first that is named again, or none is
-abbrev Found : List RulesetName → Option ℕ → Type 0
-Found names None = IsDistinct names
-Found names (Some place) = IsFirstAgain names place
+abbrev IsFirstTwice : List RulesetName → Option ℕ → Type 0
+IsFirstTwice names None = IsDistinct names
+IsFirstTwice names (Some place) = IsFirstAgain names place
 
-found : (front ns : List RulesetName) → IsDistinct front → Found (front ++ ns) (twice_behind front ns)
+found : (front ns : List RulesetName) → IsDistinct front → IsFirstTwice (front ++ ns) (twice_behind front ns)
 found front [] d = subst IsDistinct (sym (append-nil front)) d
 found front (n ∷ ns) d =
-    cond_both (is_named front n) (Some (length front)) (twice_behind (front ++ n ∷ []) ns) (Found (front ++ n ∷ ns))
+    cond_both (is_named front n) (Some (length front)) (twice_behind (front ++ n ∷ []) ns) (IsFirstTwice (front ++ n ∷ ns))
     (λ again. record { before = front; name = n; behind = ns; all = refl; placed = refl; again = again; once = d })
-    (λ new. subst (λ (l : List RulesetName). Found l (twice_behind (front ++ n ∷ []) ns)) (append_assoc front (n ∷ []) ns) (found (front ++ n ∷ []) ns (distinct-behind front n d new)))
+    (λ new. subst (λ (l : List RulesetName). IsFirstTwice l (twice_behind (front ++ n ∷ []) ns)) (append_assoc front (n ∷ []) ns) (found (front ++ n ∷ []) ns (distinct-behind front n d new)))
 
 pub twice_is_first_again : TwiceIsFirstAgain
-twice_is_first_again entries place h = subst (Found (names_of entries)) h (found [] (names_of entries) tt)
+twice_is_first_again entries place h = subst (IsFirstTwice (names_of entries)) h (found [] (names_of entries) tt)
 
 pub otherwise_once : OtherwiseOnce
-otherwise_once entries h = subst (Found (names_of entries)) h (found [] (names_of entries) tt)
+otherwise_once entries h = subst (IsFirstTwice (names_of entries)) h (found [] (names_of entries) tt)
 
 -- ---- numbered tickets are given once
 

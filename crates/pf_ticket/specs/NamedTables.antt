@@ -1,7 +1,7 @@
 -- Tables under their names (pf.conf(5), TABLES).
 use Rattle.std.specs.Prelude.{ℕ, List}
-use Rattle.pf_table.specs.Entries.{Row}
+use Rattle.pf_table.specs.Entries.{PlainEntry}
 
 -- a table's name, and its entries in their order
-abbrev pub Named : Type 0
-Named = List ℕ × List Row
+abbrev pub PlainDefinedTable : Type 0
+PlainDefinedTable = List ℕ × List PlainEntry

@@ -3,7 +3,7 @@
 use Rattle.std.specs.{Prelude.{◌≡◌, ℕ, zero, suc, ◌+◌, ◌==◌, ◌&&◌, Bool, true, false, List, [], ◌∷◌, map, Option, Some, None}, List.list_any, Ordering.{nat_cmp, ordering_then}}
 use Rattle.std.specs.declared.cmp.Ordering.{Ordering}
 use Rattle.pf_addr.specs.Path.Paths.{path_order, same_path}
-use Rattle.pf_ticket.specs.declared.{entry.Entry.Entry, name.RulesetKind.RulesetKind, name.RulesetKind.TheVariants.Filter, name.RulesetKind.TheVariants.Table, name.RulesetName.RulesetName, ticket.Ticket.Ticket, ticket.TicketRange.TicketRange}
+use Rattle.pf_ticket.specs.declared.{entry.RulesetTicket.RulesetTicket, name.RulesetKind.RulesetKind, name.RulesetKind.TheVariants.Filter, name.RulesetKind.TheVariants.Table, name.RulesetName.RulesetName, ticket.Ticket.Ticket, ticket.TicketRange.TicketRange}
 
 abbrev pub filter_at : List ℕ → RulesetName
 filter_at p = record { kind = Filter; path = p }
@@ -33,7 +33,7 @@ ruleset_order a b = ordering_then (nat_cmp (kind_rank a.kind) (kind_rank b.kind)
 abbrev pub is_named : List RulesetName → RulesetName → Bool
 is_named names name = list_any (λ n. same_name n name) names
 
-abbrev pub names_of : List Entry → List RulesetName
+abbrev pub names_of : List RulesetTicket → List RulesetName
 names_of entries = map (λ e. e.name) entries
 
 abbrev pub ticket : ℕ → ℕ → Ticket

@@ -4,8 +4,8 @@ use Rattle.std.specs.{Prelude.{ℕ, ◌+◌, ◌-◌, ◌==◌, Bool, not, cond,
 use Rattle.pf_addr.specs.Refusing.{and_then, refused_at}
 use Rattle.pf_anchor.specs.declared.limits.TheConstants.{RULE_LIMIT, RULESET_LIMIT}
 use Rattle.pf_table.specs.declared.limits.TheConstants.{TABLE_LIMIT}
-use Rattle.pf_table.specs.{Edits.{conflict_in, replaced}, Entries.Row}
-use Rattle.pf_ticket.specs.{declared.{entry.Entry.Entry, limits.TheConstants.ENTRY_LIMIT, limits.TheConstants.LAST_COUNT, limits.TheConstants.OFFERED_TABLE_LIMIT, name.RulesetName.RulesetName, refusal.TicketRefusal.TicketRefusal, refusal.TicketRefusal.TheVariants.BadCount, refusal.TicketRefusal.TheVariants.Twice, refusal.TicketRefusal.TheVariants.Conflict, refusal.TicketRefusal.TheVariants.Busy, refusal.TicketRefusal.TheVariants.RulesetFull, refusal.TicketRefusal.TheVariants.TableFull, refusal.TicketRefusal.TheVariants.TooManyRulesets, refusal.TicketRefusal.TheVariants.TooManyTables, refusal.TicketRefusal.TheVariants.TicketsExhausted, ticket.Ticket.Ticket, ticket.TicketRange.TicketRange}, Names.{is_named, names_of}, Tickets.{rules_in, with_table, Open, next_ticket, loaded, content, is_valid}, Mentions.{gives, after}}
+use Rattle.pf_table.specs.{Edits.{conflict_in, replaced}, Entries.PlainEntry}
+use Rattle.pf_ticket.specs.{declared.{entry.RulesetTicket.RulesetTicket, limits.TheConstants.ENTRY_LIMIT, limits.TheConstants.LAST_COUNT, limits.TheConstants.OFFERED_TABLE_LIMIT, name.RulesetName.RulesetName, refusal.TicketRefusal.TicketRefusal, refusal.TicketRefusal.TheVariants.BadCount, refusal.TicketRefusal.TheVariants.Twice, refusal.TicketRefusal.TheVariants.Conflict, refusal.TicketRefusal.TheVariants.Busy, refusal.TicketRefusal.TheVariants.RulesetFull, refusal.TicketRefusal.TheVariants.TableFull, refusal.TicketRefusal.TheVariants.TooManyRulesets, refusal.TicketRefusal.TheVariants.TooManyTables, refusal.TicketRefusal.TheVariants.TicketsExhausted, ticket.Ticket.Ticket, ticket.TicketRange.TicketRange}, Names.{is_named, names_of}, Tickets.{rules_in, with_table, PlainTickets, next_ticket, loaded, content, is_valid}, Mentions.{gives, after}}
 
 -- ---- conditions
 
@@ -19,38 +19,38 @@ twice_behind before [] = None
 twice_behind before (n ∷ ns) = cond (is_named before n) (Some (length before)) (twice_behind (before ++ n ∷ []) ns)
 
 -- the first entry that names a ruleset named before it
-abbrev pub twice_in : List Entry → Option ℕ
+abbrev pub twice_in : List RulesetTicket → Option ℕ
 twice_in entries = twice_behind [] (names_of entries)
 
 -- the first entry whose ticket isn't valid
-abbrev pub busy_in : Open → List Entry → Option ℕ
+abbrev pub busy_in : PlainTickets → List RulesetTicket → Option ℕ
 busy_in t entries = position (λ e. not (is_valid t e.name e.ticket)) entries
 
 -- ---- one small reply for each step. Each line is one refusal with its condition, in their order
 
 -- the next tickets, so many
-abbrev pub range : Open → ℕ → TicketRange
+abbrev pub range : PlainTickets → ℕ → TicketRange
 range t n = record { first = next_ticket t; number = n }
 
-abbrev pub begin_reply : Open → List RulesetName → Result TicketRange TicketRefusal
+abbrev pub begin_reply : PlainTickets → List RulesetName → Result TicketRange TicketRefusal
 begin_reply t names =
     if bad_count (length names) then Err BadCount else
     (if nat_lt RULESET_LIMIT (length (after t (gives names)).offers) then Err TooManyRulesets else
     (if nat_lt LAST_COUNT (t.next + length names - 1) then Err TicketsExhausted else
     Ok (range t (length names))))
 
-abbrev pub add_reply : Open → RulesetName → Ticket → Result (Unit {0}) TicketRefusal
+abbrev pub add_reply : PlainTickets → RulesetName → Ticket → Result (Unit {0}) TicketRefusal
 add_reply t name u =
     if not (is_valid t name u) then Err (Busy 0) else
     (if nat_le RULE_LIMIT (length (rules_in (content t name))) then Err RulesetFull else
     Ok tt)
 
 -- the table that a define's entries make, none where it has more than there may be, by the place of a conflict among them
-abbrev pub table_reply : Option ℕ → List Row → Result (Option (List Row)) TicketRefusal
+abbrev pub table_reply : Option ℕ → List PlainEntry → Result (Option (List PlainEntry)) TicketRefusal
 table_reply (Some i) rows = Err (Conflict i)
 table_reply None rows = Ok (if nat_lt TABLE_LIMIT (length rows) then None else Some rows)
 
-abbrev pub define_reply : Open → RulesetName → Ticket → List ℕ → List Row → Result (Unit {0}) TicketRefusal
+abbrev pub define_reply : PlainTickets → RulesetName → Ticket → List ℕ → List PlainEntry → Result (Unit {0}) TicketRefusal
 define_reply t n u name xs =
     and_then (refused_at (λ i. Conflict i) (conflict_in xs))
     (if not (is_valid t n u) then Err (Busy 0) else
@@ -59,9 +59,9 @@ define_reply t n u name xs =
     Ok tt)))
 
 -- the entries of a commit or a rollback by themselves, which is all that a rollback is refused for
-abbrev pub list_check : List Entry → Result (Unit {0}) TicketRefusal
+abbrev pub list_check : List RulesetTicket → Result (Unit {0}) TicketRefusal
 list_check entries = if bad_count (length entries) then Err BadCount else refused_at (λ i. Twice i) (twice_in entries)
 
 -- and then with their tickets
-abbrev pub commit_check : Open → List Entry → Result (Unit {0}) TicketRefusal
+abbrev pub commit_check : PlainTickets → List RulesetTicket → Result (Unit {0}) TicketRefusal
 commit_check t entries = and_then (list_check entries) (refused_at (λ i. Busy i) (busy_in t entries))

@@ -3,9 +3,9 @@
 use Rattle.std.specs.{Prelude.{◌≡◌, ℕ, ◌+◌, Bool, true, List, [], ◌∷◌, ◌++◌, map, set, get_or, fold, Option, Some, None, is_some}, FinMap.{find, put}, List.{insert, remove}}
 use Rattle.pf_addr.specs.Path.Names.{name_order}
 use Rattle.pf_rule.specs.Rules.{PlainRule}
-use Rattle.pf_table.specs.Entries.{Row}
+use Rattle.pf_table.specs.Entries.{PlainEntry}
 use Rattle.pf_map.specs.Maps.{with_value}
-use Rattle.pf_ticket.specs.{declared.{name.RulesetKind.RulesetKind, name.RulesetKind.TheVariants.Filter, name.RulesetKind.TheVariants.Table, name.RulesetName.RulesetName, offered.Offered.Offered, offered.Offered.TheVariants.Rules, offered.Offered.TheVariants.Tables, ticket.Ticket.Ticket}, NamedTables.Named, Names.{ruleset_order, ticket, is_ticket}}
+use Rattle.pf_ticket.specs.{declared.{name.RulesetKind.RulesetKind, name.RulesetKind.TheVariants.Filter, name.RulesetKind.TheVariants.Table, name.RulesetName.RulesetName, offered.Offered.Offered, offered.Offered.TheVariants.Rules, offered.Offered.TheVariants.Tables, ticket.Ticket.Ticket}, NamedTables.PlainDefinedTable, Names.{ruleset_order, ticket, is_ticket}}
 
 -- ---- what is offered
 
@@ -13,9 +13,9 @@ use Rattle.pf_ticket.specs.{declared.{name.RulesetKind.RulesetKind, name.Ruleset
 -- offered of it are the rules of a filter ruleset, and the tables of a table ruleset
 pub record Loaded : Type 0 where
   pub rules : List PlainRule
-  pub tables : List Named
+  pub tables : List PlainDefinedTable
 
-abbrev pub loaded_with : List PlainRule → List Named → Loaded
+abbrev pub loaded_with : List PlainRule → List PlainDefinedTable → Loaded
 loaded_with rs ts = record { rules = rs; tables = ts }
 
 abbrev pub nothing : Loaded
@@ -26,7 +26,7 @@ abbrev pub with_rule : Loaded → PlainRule → Loaded
 with_rule l r = loaded_with (l.rules ++ r ∷ []) l.tables
 
 -- with these entries as the table of that name, whatever was the table before
-abbrev pub with_table : Loaded → List ℕ → List Row → Loaded
+abbrev pub with_table : Loaded → List ℕ → List PlainEntry → Loaded
 with_table l name rows = loaded_with l.rules (put name_order name rows l.tables)
 
 abbrev pub offered_as : RulesetKind → Loaded → Offered
@@ -40,91 +40,91 @@ abbrev pub rules_in : Offered → List PlainRule
 rules_in (Rules rs) = rs
 rules_in (Tables ts) = []
 
-abbrev pub tables_in : Offered → List Named
+abbrev pub tables_in : Offered → List PlainDefinedTable
 tables_in (Rules rs) = []
 tables_in (Tables ts) = ts
 
 -- the valid ticket of an inactive ruleset, and what was loaded with it
-pub record Offer : Type 0 where
+pub record PlainOffer : Type 0 where
   pub ticket : Ticket
   pub loaded : Loaded
 
-abbrev pub offer : Ticket → Loaded → Offer
-offer t l = record { ticket = t; loaded = l }
+abbrev pub offer_with : Ticket → Loaded → PlainOffer
+offer_with t l = record { ticket = t; loaded = l }
 
 -- inactive rulesets with their offers, in the order of their names: a finite map
-abbrev pub Offers : Type 0
-Offers = List (RulesetName × Offer)
+abbrev pub PlainSlots : Type 0
+PlainSlots = List (RulesetName × PlainOffer)
 
-abbrev pub offer_at : Offers → RulesetName → Option Offer
+abbrev pub offer_at : PlainSlots → RulesetName → Option PlainOffer
 offer_at os name = find ruleset_order name os
 
 -- with this as the ruleset's offer, or with none
-abbrev pub with_offer : Offers → RulesetName → Option Offer → Offers
+abbrev pub with_offer : PlainSlots → RulesetName → Option PlainOffer → PlainSlots
 with_offer os name o = with_value ruleset_order os name o
 
 -- with these in turn
-abbrev pub with_all : Offers → Offers → Offers
+abbrev pub with_all : PlainSlots → PlainSlots → PlainSlots
 with_all os new = fold (λ to e. with_offer to e.0 (Some e.1)) os new
 
 -- what a begin of these rulesets offers: nothing yet, with the tickets from this count on
-abbrev pub given_from : ℕ → ℕ → List RulesetName → Offers
+abbrev pub given_from : ℕ → ℕ → List RulesetName → PlainSlots
 given_from epoch count [] = []
-given_from epoch count (n ∷ ns) = (n, offer (ticket epoch count) nothing) ∷ given_from epoch (count + 1) ns
+given_from epoch count (n ∷ ns) = (n, offer_with (ticket epoch count) nothing) ∷ given_from epoch (count + 1) ns
 
 -- the ruleset's offer stands at this place
-pub record IsPlace (name : RulesetName) (os : Offers) (i : ℕ) : Type 0 where
-  pub found : (e : RulesetName × Offer) → e ≡ get_or os i e → (e.0 ≡ name) × (offer_at os name ≡ Some e.1)
+pub record IsPlace (name : RulesetName) (os : PlainSlots) (i : ℕ) : Type 0 where
+  pub found : (e : RulesetName × PlainOffer) → e ≡ get_or os i e → (e.0 ≡ name) × (offer_at os name ≡ Some e.1)
   pub some : is_some (offer_at os name) ≡ true
-  pub replaced : (o : Offer) → with_offer os name (Some o) ≡ set os i (name, o)
+  pub replaced : (o : PlainOffer) → with_offer os name (Some o) ≡ set os i (name, o)
   pub removed : with_offer os name None ≡ remove os i
 
 -- the ruleset has no offer, and this is where one would stand
-pub record IsGap (name : RulesetName) (os : Offers) (i : ℕ) : Type 0 where
+pub record IsGap (name : RulesetName) (os : PlainSlots) (i : ℕ) : Type 0 where
   pub none : offer_at os name ≡ None
-  pub inserted : (o : Offer) → with_offer os name (Some o) ≡ insert os i (name, o)
+  pub inserted : (o : PlainOffer) → with_offer os name (Some o) ≡ insert os i (name, o)
   pub kept : with_offer os name None ≡ os
 
 -- ---- the transactions of an opening
 
 -- its epoch, the count of the next ticket, and what is offered
-pub record Open : Type 0 where
+pub record PlainTickets : Type 0 where
   pub epoch : ℕ
   pub next : ℕ
-  pub offers : Offers
+  pub offers : PlainSlots
 
-abbrev pub open_with : ℕ → ℕ → Offers → Open
-open_with e n os = record { epoch = e; next = n; offers = os }
+abbrev pub tickets_with : ℕ → ℕ → PlainSlots → PlainTickets
+tickets_with e n os = record { epoch = e; next = n; offers = os }
 
 -- no ticket was given yet
-abbrev pub fresh : ℕ → Open
-fresh epoch = open_with epoch 1 []
+abbrev pub fresh : ℕ → PlainTickets
+fresh epoch = tickets_with epoch 1 []
 
 -- the ticket that a begin gives next
-abbrev pub next_ticket : Open → Ticket
+abbrev pub next_ticket : PlainTickets → Ticket
 next_ticket t = ticket t.epoch t.next
 
 -- the rulesets with a valid ticket
-abbrev pub open_rulesets : Open → List RulesetName
+abbrev pub open_rulesets : PlainTickets → List RulesetName
 open_rulesets t = map (λ e. e.0) t.offers
 
-abbrev pub ticket_in : Option Offer → Option Ticket
+abbrev pub ticket_in : Option PlainOffer → Option Ticket
 ticket_in None = None
 ticket_in (Some o) = Some o.ticket
 
-abbrev pub loaded_in : Option Offer → Loaded
+abbrev pub loaded_in : Option PlainOffer → Loaded
 loaded_in None = nothing
 loaded_in (Some o) = o.loaded
 
 -- the valid ticket of a ruleset, and what is offered with it
-abbrev pub valid_ticket : Open → RulesetName → Option Ticket
+abbrev pub valid_ticket : PlainTickets → RulesetName → Option Ticket
 valid_ticket t name = ticket_in (offer_at t.offers name)
 
-abbrev pub loaded : Open → RulesetName → Loaded
+abbrev pub loaded : PlainTickets → RulesetName → Loaded
 loaded t name = loaded_in (offer_at t.offers name)
 
-abbrev pub content : Open → RulesetName → Offered
+abbrev pub content : PlainTickets → RulesetName → Offered
 content t name = offered_as name.kind (loaded t name)
 
-abbrev pub is_valid : Open → RulesetName → Ticket → Bool
+abbrev pub is_valid : PlainTickets → RulesetName → Ticket → Bool
 is_valid t name u = is_ticket (valid_ticket t name) u

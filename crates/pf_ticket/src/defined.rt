@@ -1,7 +1,7 @@
 //! Tables that are offered.
 ghost use Rattle.std.specs.{Prelude.{◌≡◌, T, [], length, nat_lt, List, IfOk, OnOk, OnErr}, FinMap.{put, is_sorted}};
 ghost use Rattle.pf_addr.specs.Path.Names.{name_order};
-ghost use Rattle.pf_table.specs.Entries.{Row};
+ghost use Rattle.pf_table.specs.Entries.{PlainEntry};
 ghost use Rattle.pf_ticket.specs.declared.limits.TheConstants.{OFFERED_TABLE_LIMIT};
 
 use crate::limits::OFFERED_TABLE_LIMIT;
@@ -24,9 +24,9 @@ impl Drop for DefinedTable {
 }
 
 impl Model for DefinedTable {
-    ghost use Rattle.pf_ticket.specs.NamedTables.{Named};
+    ghost use Rattle.pf_ticket.specs.NamedTables.{PlainDefinedTable};
 
-    ghost Value = { Named };
+    ghost Value = { PlainDefinedTable };
 
     ghost view = { λ d. (d.name, d.table) };
 }
@@ -84,9 +84,9 @@ impl Model for Defined {
     ghost use Rattle.std.specs.Prelude.{List, T};
     ghost use Rattle.std.specs.FinMap.{is_sorted};
     ghost use Rattle.pf_addr.specs.Path.Names.{name_order};
-    ghost use Rattle.pf_ticket.specs.NamedTables.{Named};
+    ghost use Rattle.pf_ticket.specs.NamedTables.{PlainDefinedTable};
 
-    ghost Value = { List Named };
+    ghost Value = { List PlainDefinedTable };
 
     ghost view = { λ d. d.tables };
 
@@ -139,7 +139,7 @@ impl Defined {
 
     // Whether there would be more tables than may be, with one of this name.
     pub(crate) fn is_full_for(&self, name: &TableName) -> bool
-        ensures { (rows : List Row) → result ≡ nat_lt OFFERED_TABLE_LIMIT (length (put name_order name.now rows self.now)) }
+        ensures { (rows : List PlainEntry) → result ≡ nat_lt OFFERED_TABLE_LIMIT (length (put name_order name.now rows self.now)) }
     {
         let room = match self.tables.get(name) {
             Some(_) => OFFERED_TABLE_LIMIT,

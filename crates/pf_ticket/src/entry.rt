@@ -7,7 +7,7 @@ use std::marker::Model;
 
 /// A ruleset with a ticket for it, as a commit or a rollback names it.
 #[derive(Drop)]
-pub struct Entry {
+pub struct RulesetTicket {
     /// The ruleset that is switched or dropped.
     pub name: RulesetName,
     /// The ticket that a commit wants to be its valid one. Where it isn't, a rollback lets the ruleset be.
@@ -17,28 +17,28 @@ pub struct Entry {
 /// Rulesets with their tickets, in the order in which a commit or a rollback names them.
 #[derive(Drop)]
 pub struct Entries {
-    entries: Vec<Entry>,
+    entries: Vec<RulesetTicket>,
 }
 
 impl Model for Entries {
     ghost use Rattle.std.specs.Prelude.{List};
-    ghost use Rattle.pf_ticket.specs.declared.entry.Entry.{Entry};
+    ghost use Rattle.pf_ticket.specs.declared.entry.RulesetTicket.{RulesetTicket};
 
-    ghost Value = { List Entry };
+    ghost Value = { List RulesetTicket };
 
     ghost view = { λ e. e.entries.items };
 }
 
 impl Entries {
     /// The list of these. It takes no memory.
-    pub fn new(entries: Vec<Entry>) -> Entries
+    pub fn new(entries: Vec<RulesetTicket>) -> Entries
         ensures { result ≡ entries.items }
     {
         Entries { entries }
     }
 
     /// The entries in order.
-    pub fn as_slice(&self) -> &[Entry]
+    pub fn as_slice(&self) -> &[RulesetTicket]
         ensures { result.now ≡ self.now }
     {
         self.entries.as_slice()

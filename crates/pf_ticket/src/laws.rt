@@ -65,20 +65,20 @@ pub fn counts_the_open()
 {}
 
 /// A begin's reply tells at each ruleset's place the ticket that is then valid for it, where it isn't named again behind.
-#[tactic(auto, using(crate::proofs::Keeping::tells_what_is_given))]
+#[tactic(auto, using(crate::proofs::TicketLimits::tells_what_is_given))]
 pub fn a_begin_tells_the_valid_tickets()
     ensures { TellsWhatIsGiven }
 {}
 
 /// A begin gives the next tickets, and no other step gives one; and tickets that are numbered are given once each.
-#[tactic(auto, using(crate::proofs::Keeping::begins_give, crate::proofs::Twice::gives_each_once))]
+#[tactic(auto, using(crate::proofs::TicketLimits::begins_give, crate::proofs::Twice::gives_each_once))]
 pub fn gives_each_ticket_once()
     ensures begins { BeginsGive }
     ensures once { GivesEachOnce }
 {}
 
 /// All limits of tickets hold at first, and after each step that isn't refused.
-#[tactic(auto, using(crate::proofs::Keeping::keeps_the_limits))]
+#[tactic(auto, using(crate::proofs::TicketLimits::keeps_the_limits))]
 pub fn keeps_the_limits()
     ensures { KeepsTheLimits }
 {}

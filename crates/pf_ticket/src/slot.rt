@@ -1,9 +1,9 @@
 //! Where an inactive ruleset's offer is kept.
 ghost use Rattle.std.specs.Prelude.{◌≡◌, ◌<◌, List, length, nat_lt, IfOk, OnOk, OnErr};
 ghost use Rattle.pf_anchor.specs.declared.limits.TheConstants.{RULE_LIMIT};
-ghost use Rattle.pf_table.specs.Entries.{Row};
+ghost use Rattle.pf_table.specs.Entries.{PlainEntry};
 ghost use Rattle.pf_ticket.specs.declared.limits.TheConstants.{OFFERED_TABLE_LIMIT};
-ghost use Rattle.pf_ticket.specs.Tickets.{offer, nothing, with_rule, with_table, offered_as};
+ghost use Rattle.pf_ticket.specs.Tickets.{offer_with, nothing, with_rule, with_table, offered_as};
 
 use crate::defined::Defined;
 use crate::name::{RulesetKind, RulesetName};
@@ -41,17 +41,17 @@ impl Drop for Slot {
 
 impl Model for Slot {
     ghost use Rattle.pf_ticket.specs.declared.name.RulesetName.{RulesetName};
-    ghost use Rattle.pf_ticket.specs.Tickets.{Offer, offer, loaded_with};
+    ghost use Rattle.pf_ticket.specs.Tickets.{PlainOffer, offer_with, loaded_with};
 
-    ghost Value = { RulesetName × Offer };
+    ghost Value = { RulesetName × PlainOffer };
 
-    ghost view = { λ s. (s.inactive.value.name, offer s.inactive.value.ticket (loaded_with s.inactive.value.rules s.inactive.value.tables)) };
+    ghost view = { λ s. (s.inactive.value.name, offer_with s.inactive.value.ticket (loaded_with s.inactive.value.rules s.inactive.value.tables)) };
 }
 
 impl Slot {
     // A new ticket's, with nothing loaded yet.
     pub(crate) fn new(alloc: Global, name: RulesetName, ticket: Ticket) -> Result<Slot, AllocError>
-        ensures { IfOk result (λ s. s ≡ (name, offer ticket nothing)) }
+        ensures { IfOk result (λ s. s ≡ (name, offer_with ticket nothing)) }
     {
         Ok(Slot {
             inactive: Box::new(
@@ -89,7 +89,7 @@ impl Slot {
 
     // Whether there would be more tables than may be, with one of this name.
     pub(crate) fn is_full_for(&self, name: &TableName) -> bool
-        ensures { (rows : List Row) → result ≡ nat_lt OFFERED_TABLE_LIMIT (length (with_table self.now.1.loaded name.now rows).tables) }
+        ensures { (rows : List PlainEntry) → result ≡ nat_lt OFFERED_TABLE_LIMIT (length (with_table self.now.1.loaded name.now rows).tables) }
     {
         self.inactive.tables.is_full_for(name)
     }
@@ -97,7 +97,7 @@ impl Slot {
     // Loads a rule behind the others. Where memory is refused all is as before.
     pub(crate) fn add(&mut self, alloc: Global, rule: Rule) -> Result<(), AllocError>
         requires { length self.old.1.loaded.rules < RULE_LIMIT }
-        ensures ok { OnOk result (self.new ≡ (self.old.0, offer self.old.1.ticket (with_rule self.old.1.loaded rule))) }
+        ensures ok { OnOk result (self.new ≡ (self.old.0, offer_with self.old.1.ticket (with_rule self.old.1.loaded rule))) }
         ensures err { OnErr result (self.new ≡ self.old) }
     {
         self.inactive.rules.add(alloc, rule)
@@ -110,7 +110,7 @@ impl Slot {
         name: &TableName,
         table: Table,
     ) -> Result<(), AllocError>
-        ensures ok { OnOk result (self.new ≡ (self.old.0, offer self.old.1.ticket (with_table self.old.1.loaded name.now table))) }
+        ensures ok { OnOk result (self.new ≡ (self.old.0, offer_with self.old.1.ticket (with_table self.old.1.loaded name.now table))) }
         ensures err { OnErr result (self.new ≡ self.old) }
     {
         self.inactive.tables.define(alloc, name, table)

@@ -5,9 +5,9 @@ ghost use Rattle.pf_table.specs.Edits.{conflict_in, replaced};
 ghost use Rattle.pf_addr.specs.Refusing.{OrMemory};
 ghost use Rattle.pf_ticket.specs.declared.limits.TheConstants.{LAST_COUNT};
 ghost use Rattle.pf_ticket.specs.declared.refusal.TicketRefusal.TheVariants.{Memory};
-ghost use Rattle.pf_ticket.specs.{Mentions.{added, defined, load, moved, take_out, after, gives, switches, drops}, Names.{filter_at, table_ruleset_at, is_named, same_name}, Replies.{bad_count, twice_behind, twice_in, busy_in, list_check, commit_check, begin_reply, add_reply, table_reply, define_reply}, Tickets.{Offer, offer_at, loaded, with_rule, with_table, given_from, IsPlace, fresh, open_with, content, is_valid}};
+ghost use Rattle.pf_ticket.specs.{Mentions.{added, defined, load, moved, take_out, after, gives, switches, drops}, Names.{filter_at, table_ruleset_at, is_named, same_name}, Replies.{bad_count, twice_behind, twice_in, busy_in, list_check, commit_check, begin_reply, add_reply, table_reply, define_reply}, Tickets.{PlainOffer, offer_at, loaded, with_rule, with_table, given_from, IsPlace, fresh, tickets_with, content, is_valid}};
 
-use crate::entry::Entry;
+use crate::entry::RulesetTicket;
 use crate::limits::{ENTRY_LIMIT, LAST_COUNT};
 use crate::name::RulesetName;
 use crate::offered::Offered;
@@ -22,7 +22,7 @@ use pf_table::{Table, TableRefusal};
 use std::alloc::{AllocError, Global};
 use std::marker::Model;
 
-/// The valid tickets of one opening, and the inactive rulesets. Contracts see it as an `Open`.
+/// The valid tickets of one opening, and the inactive rulesets. Contracts see it as an `PlainTickets`.
 #[derive(Drop)]
 pub struct Tickets {
     alloc: Global,
@@ -35,11 +35,11 @@ pub struct Tickets {
 impl Model for Tickets {
     ghost use Rattle.std.specs.Prelude.{◌≤◌, ◌+◌};
     ghost use Rattle.pf_ticket.specs.declared.limits.TheConstants.{LAST_COUNT};
-    ghost use Rattle.pf_ticket.specs.Tickets.{Open, open_with};
+    ghost use Rattle.pf_ticket.specs.Tickets.{PlainTickets, tickets_with};
 
-    ghost Value = { Open };
+    ghost Value = { PlainTickets };
 
-    ghost view = { λ t. open_with t.epoch t.next t.slots };
+    ghost view = { λ t. tickets_with t.epoch t.next t.slots };
 
     ghost invariant = { λ t. t.next ≤ LAST_COUNT + 1 };
 }
@@ -70,14 +70,14 @@ pub fn named_twice(names: &[RulesetName]) -> Option<usize>
 }
 
 // Whether one of these entries names the ruleset.
-fn names_it(entries: &[Entry], name: &RulesetName) -> bool
+fn names_it(entries: &[RulesetTicket], name: &RulesetName) -> bool
     ensures { result ≡ list_any (λ e. same_name e.name name.now) entries.now }
 {
     entries.iter().any(|other| other.name.same(name))
 }
 
 // The first entry that names a ruleset named before it.
-fn first_twice(entries: &[Entry]) -> Option<usize>
+fn first_twice(entries: &[RulesetTicket]) -> Option<usize>
     ensures { result ≡ twice_in entries.now }
 {
     for (place, entry) in entries.iter().enumerate() {
@@ -89,7 +89,7 @@ fn first_twice(entries: &[Entry]) -> Option<usize>
 }
 
 // Whether the entries of a commit or a rollback are good by themselves.
-fn check_list(entries: &[Entry]) -> Result<(), TicketRefusal>
+fn check_list(entries: &[RulesetTicket]) -> Result<(), TicketRefusal>
     ensures { result ≡ list_check entries.now }
 {
     if is_bad_count(entries.len()) {
@@ -134,7 +134,7 @@ impl Tickets {
     /// memory.
     pub fn starting(alloc: Global, epoch: u32, next_count: u32) -> Tickets
         requires { 0 < next_count }
-        ensures { result ≡ open_with epoch next_count [] }
+        ensures { result ≡ tickets_with epoch next_count [] }
     {
         Tickets {
             alloc,
@@ -148,7 +148,7 @@ impl Tickets {
     fn valid_place(&self, name: &RulesetName, ticket: Ticket) -> Option<usize>
         ensures within { IfSome result (λ i. i < length self.now.offers) }
         ensures some { IfSome result (IsPlace name.now self.now.offers) }
-        ensures ticket { IfSome result (λ i. (e : RulesetName × Offer) → e ≡ get_or self.now.offers i e → e.1.ticket ≡ ticket) }
+        ensures ticket { IfSome result (λ i. (e : RulesetName × PlainOffer) → e ≡ get_or self.now.offers i e → e.1.ticket ≡ ticket) }
         ensures valid { is_some result ≡ is_valid self.now name.now ticket }
     {
         let place = self.slots.place_of(name).ok()?;
@@ -175,7 +175,7 @@ impl Tickets {
     }
 
     // The first entry whose ticket isn't valid then.
-    fn first_busy(&self, voided: &[RulesetName], entries: &[Entry]) -> Option<usize>
+    fn first_busy(&self, voided: &[RulesetName], entries: &[RulesetTicket]) -> Option<usize>
         ensures { result ≡ busy_in (after self.now (switches voided.now)) entries.now }
     {
         entries.iter().position(|entry| !self.is_valid_behind(voided, &entry.name, entry.ticket))
@@ -204,7 +204,7 @@ impl Tickets {
         requires within { place < length self.old.offers }
         requires stands { IsPlace name.now self.old.offers place }
         requires room { length (loaded self.old name.now).rules < RULE_LIMIT }
-        ensures ok { OnOk result ((e : RulesetName × Offer) → e ≡ get_or self.old.offers place e →
+        ensures ok { OnOk result ((e : RulesetName × PlainOffer) → e ≡ get_or self.old.offers place e →
             self.new ≡ load self.old name.now e.1.ticket (with_rule (loaded self.old name.now) rule)) }
         ensures err { OnErr result (self.new ≡ self.old) }
     {
@@ -221,7 +221,7 @@ impl Tickets {
     ) -> Result<(), AllocError>
         requires within { place < length self.old.offers }
         requires stands { IsPlace name.now self.old.offers place }
-        ensures ok { OnOk result ((e : RulesetName × Offer) → e ≡ get_or self.old.offers place e →
+        ensures ok { OnOk result ((e : RulesetName × PlainOffer) → e ≡ get_or self.old.offers place e →
             self.new ≡ load self.old name.now e.1.ticket (with_table (loaded self.old name.now) table_name.now table)) }
         ensures err { OnErr result (self.new ≡ self.old) }
     {
@@ -339,7 +339,7 @@ impl Tickets {
 
     /// Whether a commit of these entries may go on. The refusal is the first in this order: `BadCount`; `Twice`; `Busy`. It takes no
     /// memory.
-    pub fn check_all(&self, entries: &[Entry]) -> Result<(), TicketRefusal>
+    pub fn check_all(&self, entries: &[RulesetTicket]) -> Result<(), TicketRefusal>
         ensures { result ≡ commit_check self.now entries.now }
     {
         self.check_behind(&[], entries)
@@ -349,7 +349,7 @@ impl Tickets {
     pub fn check_behind(
         &self,
         voided: &[RulesetName],
-        entries: &[Entry],
+        entries: &[RulesetTicket],
     ) -> Result<(), TicketRefusal>
         ensures { result ≡ commit_check (after self.now (switches voided.now)) entries.now }
     {
@@ -387,7 +387,7 @@ impl Tickets {
     }
 
     /// Drops each of these rulesets whose ticket is valid. After a refusal all is as before. It takes no memory.
-    pub fn rollback(&mut self, entries: &[Entry]) -> Result<(), TicketRefusal>
+    pub fn rollback(&mut self, entries: &[RulesetTicket]) -> Result<(), TicketRefusal>
         ensures reply { result ≡ list_check entries.now }
         ensures ok { OnOk result (self.new ≡ after self.old (drops entries.now)) }
         ensures err { OnErr result (self.new ≡ self.old) }

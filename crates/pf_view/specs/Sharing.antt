@@ -1,7 +1,7 @@
--- Changes that have several owners. Own.
+-- Changes that have several owners.
 use Rattle.std.specs.{Prelude.{List, map}, Arc.arc_value, declared.{sync.Arc.Arc, alloc.Global.Global}}
-use Rattle.pf_core.specs.Durable.Edits.{Edit}
+use Rattle.pf_core.specs.Durable.Changes.{PlainChange}
 
 -- what they keep, in order
-abbrev pub edits_of : List (Arc Edit Global) → List Edit
-edits_of changes = map arc_value changes
+abbrev pub changes_of : List (Arc PlainChange Global) → List PlainChange
+changes_of changes = map arc_value changes

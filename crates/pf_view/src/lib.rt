@@ -6,7 +6,7 @@
 //! What is kept stands in two copies. A [`Shower`] takes changes by [`Shower::offer`] and shows all of them at once by
 //! [`Shower::show`]; a [`Seer`] judges by the copy that is shown. What each of them may rest on is one rule: the copy that is shown is
 //! what the opening gave after the copy's changes, these are a front of the opening's history, each acknowledged, and what a seer saw is a
-//! front of them. Read first `specs/Copies.antt`, then `specs/Known.antt`: what contracts see. The modules, each of which uses none below it:
+//! front of them. Read first `specs/Copies.antt`, then `specs/Seers.antt`: what contracts see. The modules, each of which uses none below it:
 //!
 //! - `shown`: one copy, and what is published.
 //! - `law`: the rule.

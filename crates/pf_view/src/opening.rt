@@ -1,8 +1,8 @@
 //! A shower and its seers.
 ghost use Rattle.std.specs.{Prelude.{◌≡◌, ◌<◌, ◌≤◌, [], drop, vec_len, All, IfOk}, Arc.arc_value};
 ghost use Rattle.pf_view.specs.declared.opening.ViewFault.TheVariants.{Memory};
-ghost use Rattle.pf_past.specs.Pasts.{all_acked, mark};
-ghost use Rattle.pf_view.specs.{Copies.{IsChain, version}, Known.{IsNewSeer, IsNewShower, SitsAt}};
+ghost use Rattle.pf_past.specs.Pasts.{all_acked, trace_with};
+ghost use Rattle.pf_view.specs.{Copies.{IsChain, shown_with}, Seers.{IsNewSeer, IsNewShower, SitsAt}};
 
 use crate::law::{Law, Sight};
 use crate::seer::{CopyReader, Seer};
@@ -87,7 +87,7 @@ fn copy_of<J: Naming>(
     base: &Arc<Durable>,
     start: &Front<J>,
 ) -> Result<Shown, AllocError>
-    ensures { IfOk result (λ s. s ≡ version [] (arc_value base.now) (mark J.history start.now)) }
+    ensures { IfOk result (λ s. s ≡ shown_with [] (arc_value base.now) (trace_with J.history start.now)) }
 {
     let durable = Arc::try_clone(base)?;
     Ok(Shown {

@@ -2,9 +2,9 @@
 ghost use Rattle.std.specs.Prelude.{◌≡◌, ◌<◌, ◌≤◌, length, IfOk, IfSome, OnErr, MatchOption};
 ghost use mathlib.Core.List.{IsPrefix};
 ghost use Rattle.left_right.specs.Sides.{view};
-ghost use Rattle.pf_core.specs.Durable.Edits.{after, verdict};
+ghost use Rattle.pf_core.specs.Durable.Changes.{after, verdict};
 ghost use Rattle.pf_past.specs.Pasts.{all_acked};
-ghost use Rattle.pf_view.specs.Known.{SitsAt, learns};
+ghost use Rattle.pf_view.specs.Seers.{SitsAt, learns};
 
 use crate::law::{Law, Seeing, Sight};
 use crate::shown::Shown;
@@ -23,7 +23,7 @@ pub struct Gone;
 pub(crate) type CopyReader<J> = Reader<Shown, Sight, Law<J>>;
 
 /// A worker's own way into the published copies. Contracts see what it saw and what it learnt, both of them fronts of the history whose
-/// changes were all acknowledged, and at which copies it sits (`Known`).
+/// changes were all acknowledged, and at which copies it sits (`PlainSeer`).
 #[derive(Drop)]
 pub struct Seer<J: Naming> {
     reader: CopyReader<J>,
@@ -36,9 +36,9 @@ pub struct Seer<J: Naming> {
 impl<J: Naming> Model for Seer<J> {
     ghost use Rattle.std.specs.Prelude.{◌≡◌};
     ghost use Rattle.pf_past.specs.Pasts.{all_acked};
-    ghost use Rattle.pf_view.specs.Known.{Known, HoldsSight};
+    ghost use Rattle.pf_view.specs.Seers.{PlainSeer, HoldsSight};
 
-    ghost Value = { Known };
+    ghost Value = { PlainSeer };
 
     ghost view = { λ s. record { seen = s.saw.front; learnt = s.learnt; copies = s.reader.place.table_id } };
 

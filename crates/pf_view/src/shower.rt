@@ -1,8 +1,8 @@
 //! What publishes.
 ghost use Rattle.std.specs.{Prelude.{◌≡◌, ◌<◌, ◌++◌, [], length, drop, vec_len, IfSome, OnOk, OnErr}, Arc.arc_value};
-ghost use Rattle.pf_core.specs.Durable.Edits.{after};
+ghost use Rattle.pf_core.specs.Durable.Changes.{after};
 ghost use Rattle.pf_past.specs.Pasts.{all_acked};
-ghost use Rattle.pf_view.specs.{Sharing.edits_of, Copies.{offered_version, IsChain}, Known.{IsNewShower, SitsAt}};
+ghost use Rattle.pf_view.specs.{Sharing.changes_of, Copies.{offered_version, IsChain}, Seers.{IsNewShower, SitsAt}};
 
 use crate::law::{Law, Seeing, Sight};
 use crate::seer::Seer;
@@ -18,7 +18,7 @@ use std::sync::{Arc, Wait};
 
 pub(crate) type CopyWriter<J> = Writer<Shown, Operation, Sight, Law<J>>;
 
-/// Shows changes to all seers at once. Contracts see what is shown, what is offered, and to which copies it publishes (`Stage`).
+/// Shows changes to all seers at once. Contracts see what is shown, what is offered, and to which copies it publishes (`PlainShower`).
 ///
 /// It keeps a handle on the runtime, since [`Shower::show`] and its drop wait for the seers that are judging. After its drop they answer
 /// `Gone`.
@@ -36,11 +36,11 @@ impl<J: Naming, R: Wait + Drop> Drop for Shower<J, R> {
 
 impl<J: Naming, R: Wait + Drop> Model for Shower<J, R> {
     ghost use Rattle.std.specs.Prelude.{drop};
-    ghost use Rattle.pf_view.specs.{Known.Stage, Copies.{stage, IsStage}};
+    ghost use Rattle.pf_view.specs.{Seers.PlainShower, Copies.{shower_with, IsStage}};
 
-    ghost Value = { Stage };
+    ghost Value = { PlainShower };
 
-    ghost view = { λ s. stage s.writer.desk.shown.value (drop s.writer.behind s.writer.log.items) s.writer.desk.place.table_id };
+    ghost view = { λ s. shower_with s.writer.desk.shown.value (drop s.writer.behind s.writer.log.items) s.writer.desk.place.table_id };
 
     ghost invariant = { λ s.
         IsStage J.base J.history s.writer.desk.shown.value (drop s.writer.behind s.writer.log.items) };
@@ -68,9 +68,9 @@ impl<J: Naming, R: Wait + Drop> Shower<J, R> {
         front: &Front<J>,
     ) -> Result<(), AllocError>
         requires some { 0 < vec_len changes }
-        requires chain { arc_value durable ≡ after J.base (self.old.offered ++ edits_of changes.items) }
-        requires front { front.now ≡ all_acked (self.old.offered ++ edits_of changes.items) }
-        ensures ok { OnOk result (self.new.offered ≡ self.old.offered ++ edits_of changes.items) }
+        requires chain { arc_value durable ≡ after J.base (self.old.offered ++ changes_of changes.items) }
+        requires front { front.now ≡ all_acked (self.old.offered ++ changes_of changes.items) }
+        ensures ok { OnOk result (self.new.offered ≡ self.old.offered ++ changes_of changes.items) }
         ensures err { OnErr result (self.new.offered ≡ self.old.offered) }
         ensures shown { self.new.shown ≡ self.old.shown }
         ensures copies { self.new.copies ≡ self.old.copies }

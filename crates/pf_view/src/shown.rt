@@ -1,6 +1,6 @@
 //! One of the two copies, and what is published.
 ghost use Rattle.std.specs.Prelude.{◌≡◌, ◌++◌, MatchResult};
-ghost use Rattle.pf_view.specs.Sharing.{edits_of};
+ghost use Rattle.pf_view.specs.Sharing.{changes_of};
 
 use left_right::Absorb;
 use pf_core::{Change, Durable};
@@ -9,7 +9,7 @@ use std::alloc::AllocError;
 use std::marker::Model;
 use std::sync::Arc;
 
-/// Changes, in order, what is kept after them, and the front of a history that they are. Contracts see it as a `Version`.
+/// Changes, in order, what is kept after them, and the front of a history that they are. Contracts see it as a `PlainShown`.
 #[derive(Drop)]
 pub struct Shown {
     pub changes: Vec<Arc<Change>>,
@@ -19,15 +19,15 @@ pub struct Shown {
 
 impl Model for Shown {
     ghost use Rattle.std.specs.Arc.{arc_value};
-    ghost use Rattle.pf_view.specs.{Sharing.edits_of, Copies.{Version, version}};
+    ghost use Rattle.pf_view.specs.{Sharing.changes_of, Copies.{PlainShown, shown_with}};
 
-    ghost Value = { Version };
+    ghost Value = { PlainShown };
 
-    ghost view = { λ s. version (edits_of s.changes.items) (arc_value s.durable) s.front };
+    ghost view = { λ s. shown_with (changes_of s.changes.items) (arc_value s.durable) s.front };
 }
 
 /// Changes behind those that a copy has, what is kept after all, and the front of a history that all of them are. Contracts see it as a
-/// `Version`, which has its own changes alone.
+/// `PlainShown`, which has its own changes alone.
 #[derive(Drop)]
 pub struct Operation {
     pub changes: Vec<Arc<Change>>,
@@ -37,11 +37,11 @@ pub struct Operation {
 
 impl Model for Operation {
     ghost use Rattle.std.specs.Arc.{arc_value};
-    ghost use Rattle.pf_view.specs.{Sharing.edits_of, Copies.{Version, version}};
+    ghost use Rattle.pf_view.specs.{Sharing.changes_of, Copies.{PlainShown, shown_with}};
 
-    ghost Value = { Version };
+    ghost Value = { PlainShown };
 
-    ghost view = { λ o. version (edits_of o.changes.items) (arc_value o.after) o.front };
+    ghost view = { λ o. shown_with (changes_of o.changes.items) (arc_value o.after) o.front };
 }
 
 impl Absorb<Operation> for Shown {
@@ -65,7 +65,7 @@ impl Absorb<Operation> for Shown {
 // Puts the changes behind a list, shared, or none of them.
 fn push_shared(list: &mut Vec<Arc<Change>>, changes: &[Arc<Change>]) -> Result<(), AllocError>
     ensures { MatchResult result
-        (λ _. edits_of list.new.items ≡ edits_of list.old.items ++ edits_of changes.now)
+        (λ _. changes_of list.new.items ≡ changes_of list.old.items ++ changes_of changes.now)
         (λ _. list.new.items ≡ list.old.items) }
 {
     list.reserve(changes.len())?;

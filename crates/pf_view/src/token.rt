@@ -15,10 +15,10 @@ pub struct Token<J: Naming> {
 
 impl<J: Naming> Model for Token<J> {
     ghost use Rattle.std.specs.Prelude.{◌≡◌, List, length};
-    ghost use Rattle.pf_core.specs.Durable.Edits.{Edit};
+    ghost use Rattle.pf_core.specs.Durable.Changes.{PlainChange};
     ghost use Rattle.pf_past.specs.Pasts.{all_acked};
 
-    ghost Value = { List Edit };
+    ghost Value = { List PlainChange };
 
     ghost view = { λ t. t.front.front };
 

@@ -1,6 +1,6 @@
 -- What keeps a fresh disk from being opened.
 use Rattle.std.proofs.{Common.{◌≡◌, ◌∙◌, inl, inr, sym, ℕ, ◌+◌, ◌≤◌, Bool, List, length, ap, arith, refl, subst}, lemmas.Nat.le-div}
-use Rattle.pf_core.specs.{Durable.Edits.{Kept, kept_nothing}, Worlds.raised}
+use Rattle.pf_core.specs.{Durable.Changes.{PlainDurable, kept_nothing}, Worlds.raised}
 use Rattle.pf_store.specs.{Banks.{IsSize, bank_size}, Openings.{IsFull, IsUnopened, generation_of}, Stores.Holds}
 use Rattle.pf_store.specs.declared.{store.fault.OpenFault.OpenFault, store.fault.OpenFault.TheVariants.{BadSize, NoBank, Corrupt, Memory, Fault, EpochsExhausted, Full, Places}}
 use Rattle.pf_store.proofs.{Refusing.{held_is_found, one_held, roomy_is_not_full}, Sized.{nothing_long}}
@@ -25,7 +25,7 @@ module _ (seen : List ℕ) (size : ℕ) (is : IsSize size) (same : length seen �
   unopened-hinders (Corrupt at) why = absurd (held_is_found seen (Corrupt at) (kept_nothing 0) held (omega (arith, first)) why tt)
   unopened-hinders Memory why = is
   unopened-hinders Fault why = is
-  unopened-hinders EpochsExhausted (d, other, early, last) = absurd (omega (arith, ap (λ (k : Kept). k.epoch) (one_held seen d (kept_nothing 0) other held), last))
+  unopened-hinders EpochsExhausted (d, other, early, last) = absurd (omega (arith, ap (λ (k : PlainDurable). k.epoch) (one_held seen d (kept_nothing 0) other held), last))
   unopened-hinders Full (d, full) =
       absurd (roomy_is_not_full seen (kept_nothing 0) (omega (arith, roomy size is, ap bank_size same, nothing_long 0)) (subst (IsFull seen) (one_held seen d (kept_nothing 0) full.held held) full))
   unopened-hinders Places why = absurd why
@@ -35,5 +35,5 @@ unshown-hinders size e is (inl memory) = subst (λ (f : OpenFault). Hinders size
 unshown-hinders size e is (inr places) = subst (λ (f : OpenFault). Hinders size (told_of_opening f)) (sym places) is
 
 -- what an opening gave of a disk that holds nothing
-pub given-is : (seen : List ℕ) (d given : Kept) → Holds seen d → Holds seen (kept_nothing 0) → given ≡ raised d → given ≡ raised (kept_nothing 0)
+pub given-is : (seen : List ℕ) (d given : PlainDurable) → Holds seen d → Holds seen (kept_nothing 0) → given ≡ raised d → given ≡ raised (kept_nothing 0)
 given-is seen d given held nothing is = is ∙ ap raised (one_held seen d (kept_nothing 0) held nothing)

@@ -1,4 +1,4 @@
--- What is carried from a reader to a writer, as it comes. Own.
+-- What is carried from a reader to a writer, as it comes.
 use Rattle.std.specs.{Prelude.{◌≡◌, ℕ, List, [], Option, Result, Ok, Err}, Io.KnownBytes.{Appends, Consumes, IsAtEnd}}
 use Rattle.pf_addr.specs.Writing.{WritesFront}
 use Rattle.pf_session.specs.declared.line_engine.fault.EngineFault.{EngineFault}
@@ -12,7 +12,7 @@ Carried (Err fault.Write) bytes unread held held' = WritesFront held held' bytes
 Carried (Err fault.Memory) bytes unread held held' = (bytes ≡ []) × Appends held held' []
 
 -- These bytes were read, and so carried.
-pub record Carries (result : Result (Unit {0}) EngineFault) (unread unread' held held' : Option (List ℕ)) : Type 0 where
+pub record Carries (result : Result (Unit {0}) EngineFault) (unread still_unread held held' : Option (List ℕ)) : Type 0 where
   pub bytes : List ℕ
-  pub read : Consumes unread unread' bytes
-  pub carried : Carried result bytes unread' held held'
+  pub read : Consumes unread still_unread bytes
+  pub carried : Carried result bytes still_unread held held'

@@ -8,8 +8,8 @@ pub use Rattle.pf_session.specs.Laws
 pub use Rattle.pfd_files.specs.Faults
 pub use Rattle.pfd_files.specs.Showing
 pub use Rattle.pf_core.specs.Calls
-pub use Rattle.pf_core.specs.Durable.Edits
-pub use Rattle.pf_core.specs.Pages
+pub use Rattle.pf_core.specs.Durable.Changes
+pub use Rattle.pf_core.specs.WorldBooks
 pub use Rattle.pf_core.specs.Worlds
 pub use Rattle.pf_disk.specs.Disk
 pub use Rattle.pf_store.specs.Rooms

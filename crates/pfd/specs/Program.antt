@@ -1,11 +1,11 @@
--- What the program does with its words. Own.
+-- What the program does with its words.
 use Rattle.std.specs.{Prelude.{◌≡◌, ◌⊎◌, ℕ, ◌+◌, ◌<◌, List, [], ◌∷◌, ◌++◌, length, Option, Result, Ok, Err, codes}, Io.KnownBytes.Keeps}
 use Rattle.std.specs.declared.{io.ErrorKind.ErrorKind, io.ErrorKind.TheVariants.OutOfMemory}
 use Rattle.pf_addr.specs.Writing.{Writes}
-use Rattle.pf_core.specs.{Durable.Edits.{Kept, kept_nothing}, Pages.{IsAt, StandsFor}, Worlds.{Event, begun, down, last_epoch, opened, raised, state_after, IsWorld}}
+use Rattle.pf_core.specs.{Durable.Changes.{PlainDurable, kept_nothing}, WorldBooks.{IsAt, StandsFor}, Worlds.{Event, begun, down, last_epoch, opened, raised, state_after, IsWorld}}
 use Rattle.pf_store.specs.{Banks.{IsSize, bank_size}, Openings.IsUnopened, Rooms.on_device, Stores.Holds}
 use Rattle.pf_store.specs.declared.store.fault.OpenFault.{OpenFault}
-use Rattle.pf_book.specs.Books.{IsUnshown, Ledger, Opened, page, setting_of}
+use Rattle.pf_book.specs.Books.{IsUnshown, PlainBook, PlainOpening, world_book, setting_of}
 use Rattle.pfd_words.specs.declared.words.{Task.Task, Task.TheVariants.{Run, RunOn, Format, Show, Serve, Connect}, TheConstants.MEMORY_SIZE}
 use Rattle.pf_session.specs.declared.line_engine.fault.EngineFault.{EngineFault}
 use Rattle.pf_session.specs.declared.line_engine.fault.EngineFault.TheVariants as session
@@ -24,37 +24,37 @@ ended (Ok u) = Ok u
 ended (Err fault) = Err (told_of_session fault)
 
 -- of worlds that come to this and don't have the last epoch, the Book stands for those with this opening at their end
-abbrev pub Follows : {D : Type 0} → Opened D → ℕ → Ledger D → Type 0
-Follows opening history book = (first d : Kept) (world : List Event) → IsWorld first world → state_after (down first) world ≡ down d
+abbrev pub Follows : {D : Type 0} → PlainOpening D → ℕ → PlainBook D → Type 0
+Follows opening history book = (first d : PlainDurable) (world : List Event) → IsWorld first world → state_after (down first) world ≡ down d
     → d.epoch < last_epoch → opening.given ≡ raised d
-    → StandsFor first (page book) (world ++ opened (setting_of opening history) ∷ [])
+    → StandsFor first (world_book book) (world ++ opened (setting_of opening history) ∷ [])
 
 -- A session was served over what was opened, by a Book with room for so many changes.
-pub record Began {D : Type 0} (faults : D → ℕ) (opening : Opened D) (history : ℕ)
-    (result : Result (Unit {0}) EngineFault) (unread unread' held held' : Option (List ℕ)) : Type 0 where
-  pub old : Ledger D
-  pub new : Ledger D
-  pub at : IsAt (begun (setting_of opening history) opening.given) (page old)
+pub record Began {D : Type 0} (faults : D → ℕ) (opening : PlainOpening D) (history : ℕ)
+    (result : Result (Unit {0}) EngineFault) (unread still_unread held held' : Option (List ℕ)) : Type 0 where
+  pub old : PlainBook D
+  pub new : PlainBook D
+  pub at : IsAt (begun (setting_of opening history) opening.given) (world_book old)
   pub device : old.disk ≡ opening.disk
   pub worlds : Follows opening history old
-  pub session : IsSession (Serves faults) result unread unread' old new held held'
+  pub session : IsSession (Serves faults) result unread still_unread old new held held'
 
 -- So it was, or the copies for workers couldn't be made, and nothing was read or written.
-abbrev pub ServesFrom : {D : Type 0} → (D → ℕ) → Opened D → ℕ → Result (Unit {0}) Fault
+abbrev pub ServesFrom : {D : Type 0} → (D → ℕ) → PlainOpening D → ℕ → Result (Unit {0}) Fault
     → Option (List ℕ) → Option (List ℕ) → Option (List ℕ) → Option (List ℕ) → Type 0
-ServesFrom faults opening history result unread unread' held held' =
-    ((session : Result (Unit {0}) EngineFault) × (result ≡ ended session) × Began faults opening history session unread unread' held held')
-    ⊎ ((fault : OpenFault) × IsUnshown fault × (result ≡ Err (told_of_opening fault)) × Keeps unread unread' × Keeps held held')
+ServesFrom faults opening history result unread still_unread held held' =
+    ((session : Result (Unit {0}) EngineFault) × (result ≡ ended session) × Began faults opening history session unread still_unread held held')
+    ⊎ ((fault : OpenFault) × IsUnshown fault × (result ≡ Err (told_of_opening fault)) × Keeps unread still_unread × Keeps held held')
 
 -- A session was served over a disk in memory that was just formatted, by a Book with room for so many changes: it stands for the world in
 -- which the first opening begins, with the room that a disk of this size has.
-pub record Ran {M : Type 0} (faults : M → ℕ) (size history : ℕ)
-    (result : Result (Unit {0}) EngineFault) (unread unread' held held' : Option (List ℕ)) : Type 0 where
+pub record IsMemorySession {M : Type 0} (faults : M → ℕ) (size history : ℕ)
+    (result : Result (Unit {0}) EngineFault) (unread still_unread held held' : Option (List ℕ)) : Type 0 where
   pub size_is : IsSize size
-  pub old : Ledger M
-  pub new : Ledger M
-  pub fresh : StandsFor (kept_nothing 0) (page old) (opened (on_device history (bank_size size)) ∷ [])
-  pub session : IsSession (Serves faults) result unread unread' old new held held'
+  pub old : PlainBook M
+  pub new : PlainBook M
+  pub fresh : StandsFor (kept_nothing 0) (world_book old) (opened (on_device history (bank_size size)) ∷ [])
+  pub session : IsSession (Serves faults) result unread still_unread old new held held'
 
 -- Why there is no session over a disk in memory of so many bytes: it may not have so many; or it may, and memory is refused, the disk fails,
 -- or there are no places for workers.
@@ -66,42 +66,42 @@ Hinders size Places = IsSize size
 Hinders size fault = ⊥
 
 -- It ran, or something kept it from beginning: then nothing was read or written.
-abbrev pub RanOver : {M : Type 0} → (M → ℕ) → ℕ → ℕ → Result (Unit {0}) Fault
+abbrev pub IsMemoryRun : {M : Type 0} → (M → ℕ) → ℕ → ℕ → Result (Unit {0}) Fault
     → Option (List ℕ) → Option (List ℕ) → Option (List ℕ) → Option (List ℕ) → Type 0
-RanOver faults size history result unread unread' held held' =
-    ((session : Result (Unit {0}) EngineFault) × (result ≡ ended session) × Ran faults size history session unread unread' held held')
-    ⊎ ((fault : Fault) × (result ≡ Err fault) × Hinders size fault × Keeps unread unread' × Keeps held held')
+IsMemoryRun faults size history result unread still_unread held held' =
+    ((session : Result (Unit {0}) EngineFault) × (result ≡ ended session) × IsMemorySession faults size history session unread still_unread held held')
+    ⊎ ((fault : Fault) × (result ≡ Err fault) × Hinders size fault × Keeps unread still_unread × Keeps held held')
 
 -- What the disk held, in the next epoch. Each of its banks has half of its bytes.
-pub record Opens {D : Type 0} (seen : List ℕ) (opening : Opened D) : Type 0 where
-  pub kept : Kept
+pub record Opens {D : Type 0} (seen : List ℕ) (opening : PlainOpening D) : Type 0 where
+  pub kept : PlainDurable
   pub held : Holds seen kept
   pub given : opening.given ≡ raised kept
   pub size : opening.size ≡ bank_size (length seen)
 
 -- A session was served over what the disk held; or the disk couldn't be opened, for a cause that there is, and nothing was read or written.
-abbrev pub RanOn : {D : Type 0} → (D → List ℕ) → (D → ℕ) → D → ℕ → Result (Unit {0}) Fault
+abbrev pub IsDeviceRun : {D : Type 0} → (D → List ℕ) → (D → ℕ) → D → ℕ → Result (Unit {0}) Fault
     → Option (List ℕ) → Option (List ℕ) → Option (List ℕ) → Option (List ℕ) → Type 0
-RanOn {D = D} seen faults disk history result unread unread' held held' =
-    ((opening : Opened D) × Opens (seen disk) opening × ServesFrom faults opening history result unread unread' held held')
-    ⊎ ((fault : OpenFault) × (result ≡ Err (told_of_opening fault)) × IsUnopened fault (seen disk) × Keeps unread unread' × Keeps held held')
+IsDeviceRun {D = D} seen faults disk history result unread still_unread held held' =
+    ((opening : PlainOpening D) × Opens (seen disk) opening × ServesFrom faults opening history result unread still_unread held held')
+    ⊎ ((fault : OpenFault) × (result ≡ Err (told_of_opening fault)) × IsUnopened fault (seen disk) × Keeps unread still_unread × Keeps held held')
 
 -- So it was over some disk; or the file couldn't be had as one.
-abbrev pub RanOnFile : {F : Type 0} → (F → List ℕ) → (F → ℕ) → ℕ → Result (Unit {0}) Fault
+abbrev pub IsFileRun : {F : Type 0} → (F → List ℕ) → (F → ℕ) → ℕ → Result (Unit {0}) Fault
     → Option (List ℕ) → Option (List ℕ) → Option (List ℕ) → Option (List ℕ) → Type 0
-RanOnFile {F = F} seen faults history result unread unread' held held' =
-    ((disk : F) × RanOn seen faults disk history result unread unread' held held')
-    ⊎ ((fault : Fault) × (result ≡ Err fault) × IsOfFile fault × Keeps unread unread' × Keeps held held')
+IsFileRun {F = F} seen faults history result unread still_unread held held' =
+    ((disk : F) × IsDeviceRun seen faults disk history result unread still_unread held held')
+    ⊎ ((fault : Fault) × (result ≡ Err fault) × IsOfFile fault × Keeps unread still_unread × Keeps held held')
 
 abbrev pub status_of : {E : Type 0} → Result (Unit {0}) E → ℕ
 status_of (Ok u) = 0
 status_of (Err fault) = 1
 
 -- It ran, and the status says whether it came to the input's end; or it couldn't begin.
-abbrev pub RanWith : {M : Type 0} → (M → ℕ) → ℕ → ℕ → Option (List ℕ) → Option (List ℕ) → Option (List ℕ) → Option (List ℕ) → Type 0
-RanWith faults history status unread unread' held held' =
-    ((session : Result (Unit {0}) EngineFault) × (status ≡ status_of session) × Ran faults MEMORY_SIZE history session unread unread' held held')
-    ⊎ ((status ≡ 1) × Keeps unread unread' × Keeps held held')
+abbrev pub IsProgramRun : {M : Type 0} → (M → ℕ) → ℕ → ℕ → Option (List ℕ) → Option (List ℕ) → Option (List ℕ) → Option (List ℕ) → Type 0
+IsProgramRun faults history status unread still_unread held held' =
+    ((session : Result (Unit {0}) EngineFault) × (status ≡ status_of session) × IsMemorySession faults MEMORY_SIZE history session unread still_unread held held')
+    ⊎ ((status ≡ 1) × Keeps unread still_unread × Keeps held held')
 
 -- what is written once connections can be made to the address
 abbrev pub listening_text : List ℕ → List ℕ
@@ -111,13 +111,13 @@ listening_text address = codes "listening " ++ (address ++ 10 ∷ [])
 -- where it listens. The functions count the faults of disks in memory, give what a disk on a file reads as, and count the faults of such disks.
 abbrev pub IsDone : {M F : Type 0} → (M → ℕ) → (F → List ℕ) → (F → ℕ) → Task → Result (Unit {0}) Fault
     → Option (List ℕ) → Option (List ℕ) → Option (List ℕ) → Option (List ℕ) → Type 0
-IsDone memory seen file (Run size history) result unread unread' held held' = RanOver memory size history result unread unread' held held'
-IsDone memory seen file (RunOn path size history) result unread unread' held held' = RanOnFile seen file history result unread unread' held held'
-IsDone memory seen file (Format path size) result unread unread' held held' = Keeps unread unread' × Keeps held held'
-IsDone memory seen file (Show path) result unread unread' held held' = Keeps unread unread' × ShownOfFile seen result held held'
-IsDone memory seen file (Serve service) result unread unread' held held' =
-    Keeps unread unread' × ((bound : List ℕ) × Writes result held held' (listening_text bound))
-IsDone memory seen file (Connect address) result unread unread' held held' = Unit {0}
+IsDone memory seen file (Run size history) result unread still_unread held held' = IsMemoryRun memory size history result unread still_unread held held'
+IsDone memory seen file (RunOn path size history) result unread still_unread held held' = IsFileRun seen file history result unread still_unread held held'
+IsDone memory seen file (Format path size) result unread still_unread held held' = Keeps unread still_unread × Keeps held held'
+IsDone memory seen file (Show path) result unread still_unread held held' = Keeps unread still_unread × ShownOfFile seen result held held'
+IsDone memory seen file (Serve service) result unread still_unread held held' =
+    Keeps unread still_unread × ((bound : List ℕ) × Writes result held held' (listening_text bound))
+IsDone memory seen file (Connect address) result unread still_unread held held' = Unit {0}
 
 -- The status where the words couldn't be had: 1 for want of memory, else 2.
 abbrev pub status_without_words : ErrorKind → ℕ

@@ -19,14 +19,14 @@ const MOST_DROPPED: usize = 64;
 
 // How many connections were accepted, and whether an accept failed.
 #[derive(Drop)]
-struct Door {
+struct Acceptor {
     accepted: u32,
     has_failed: bool,
 }
 
-impl Door {
-    fn new() -> Door {
-        Door {
+impl Acceptor {
+    fn new() -> Acceptor {
+        Acceptor {
             accepted: 0,
             has_failed: false,
         }
@@ -94,7 +94,7 @@ fn drop_rest(stream: &TcpStream) {
 }
 
 // Serves a connection to its end.
-fn attend<W: Wait, D: Disk + Drop, J: Chapter, H: Wait + Drop, G: Gate>(
+fn serve_connection<W: Wait, D: Disk + Drop, J: Chapter, H: Wait + Drop, G: Gate>(
     rt: &W,
     alloc: Global,
     stream: &TcpStream,
@@ -137,24 +137,24 @@ fn work<W: Wait, D: Disk + Drop, J: Chapter, H: Wait + Drop, G: Gate>(
     rt: &W,
     alloc: Global,
     listener: &TcpListener,
-    door: &Mutex<Door>,
+    acceptor: &Mutex<Acceptor>,
     shared: &Shared<D, J, H>,
     mut seer: Seer<J>,
     gate: &G,
     sessions: u32,
 ) {
     for _ in rt.forever() {
-        let next = door.lock(rt).next(listener, sessions);
+        let next = acceptor.lock(rt).next(listener, sessions);
         let Some((stream, session)) = next else {
             return;
         };
         // a fault of a connection ends it alone
-        let _ = attend(rt, alloc, &stream, shared, &mut seer, gate, session);
+        let _ = serve_connection(rt, alloc, &stream, shared, &mut seer, gate, session);
     }
 }
 
 /// Serves the connections of a listener by one worker for each seer, and returns once so many connections were accepted and have ended, or
-/// never where it is 0. Own.
+/// never where it is 0.
 ///
 /// A worker serves one connection at a time; further ones wait until a worker is free. Sessions are numbered from 1 in the order in which
 /// their connections were accepted, and the number stays at 4,294,967,295 once it has come so far. A connection whose first byte is 5 is a
@@ -183,17 +183,28 @@ pub fn serve_listener<
 ) -> Result<(), EngineFault>
     ensures { IfErr result (λ fault. (fault ≡ EngineFault.Read) ⊎ (fault ≡ EngineFault.Memory)) }
 {
-    let door = Mutex::new(Door::new());
-    let the_door = &door;
+    let acceptor = Mutex::new(Acceptor::new());
+    let the_acceptor = &acceptor;
     let served = thread::map_vec(
         rt,
         seers,
-        &|seer| { work(rt, alloc, listener, the_door, shared, seer, gate, sessions) },
+        &|seer| {
+            work(
+                rt,
+                alloc,
+                listener,
+                the_acceptor,
+                shared,
+                seer,
+                gate,
+                sessions,
+            )
+        },
     );
     if served.is_err() {
         return Err(EngineFault::Memory);
     }
-    if door.into_inner().has_failed {
+    if acceptor.into_inner().has_failed {
         return Err(EngineFault::Read);
     }
     Ok(())

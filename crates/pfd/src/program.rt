@@ -8,8 +8,8 @@ ghost use Rattle.clap.specs.Words.{kind_of, subcommand_of};
 ghost use Rattle.pfd_files.specs.declared.fault.Fault.{Fault};
 ghost use Rattle.pfd_words.specs.declared.words.Task.{Task};
 ghost use Rattle.pf_book.specs.Books.{IsNamed};
-ghost use Rattle.pfd_words.specs.Words.{IsRun, HasHistory, IsAsked, IsHistory, program_words};
-ghost use Rattle.pfd.specs.Program.{IsDone, RanOn, RanOver, RanWith, ServesFrom, status_of, status_without_words};
+ghost use Rattle.pfd_words.specs.Words.{IsPlainRun, HasHistory, IsAsked, IsHistory, program_words};
+ghost use Rattle.pfd.specs.Program.{IsDone, IsDeviceRun, IsMemoryRun, IsProgramRun, ServesFrom, status_of, status_without_words};
 
 mod ended;
 mod fresh;
@@ -67,7 +67,7 @@ fn run<H: Wait + Drop, R: Read, W: Write>(
     writer: &mut W,
 ) -> Result<(), Fault>
     requires { IsHistory history }
-    ensures { RanOver ⟦<MemDisk as Disk>⟧.fault_count size history result (R.remaining reader.old) (R.remaining reader.new)
+    ensures { IsMemoryRun ⟦<MemDisk as Disk>⟧.fault_count size history result (R.remaining reader.old) (R.remaining reader.new)
         (W.contents writer.old) (W.contents writer.new) }
 {
     let opening = open_memory(alloc, size)?;
@@ -85,7 +85,7 @@ fn run_on<D: Disk + Drop, H: Wait + Drop, R: Read, W: Write>(
 ) -> Result<(), Fault>
     requires few { D.fault_count disk < 2 ^ 63 }
     requires history { IsHistory history }
-    ensures { RanOn D.seen D.fault_count disk history result (R.remaining reader.old) (R.remaining reader.new)
+    ensures { IsDeviceRun D.seen D.fault_count disk history result (R.remaining reader.old) (R.remaining reader.new)
         (W.contents writer.old) (W.contents writer.new) }
 {
     match Opening::open(alloc, disk) {
@@ -201,8 +201,8 @@ pub fn start<
     faults: &mut F,
 ) -> u8
     ensures status { result ≤ 2 }
-    ensures run { IsRun (map string_bytes words.now) →
-        RanWith ⟦<MemDisk as Disk>⟧.fault_count HISTORY_LIMIT result (R.remaining reader.old) (R.remaining reader.new)
+    ensures run { IsPlainRun (map string_bytes words.now) →
+        IsProgramRun ⟦<MemDisk as Disk>⟧.fault_count HISTORY_LIMIT result (R.remaining reader.old) (R.remaining reader.new)
         (W.contents writer.old) (W.contents writer.new) }
     ensures others { ((task : Task) × (end : Result (Unit {0}) Fault) × IsAsked (subcommand_of program_words (map string_bytes words.now)) task
         × HasHistory task × (result ≡ status_of end)

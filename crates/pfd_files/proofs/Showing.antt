@@ -4,11 +4,11 @@ use Rattle.std.proofs.lemmas.List.{take_all}
 use Rattle.std.specs.Io.KnownBytes.{Appends, Keeps}
 use Rattle.std.specs.declared.io.Error.{Error}
 use Rattle.pf_addr.specs.Writing.{Appends-kept, Writes}
-use Rattle.pf_core.specs.Durable.Edits.{Kept, main_sum}
+use Rattle.pf_core.specs.Durable.Changes.{PlainDurable, main_sum}
 use Rattle.pfd_files.specs.Showing.{number_line, shown_text, sum_line}
 
 -- lines with what is kept are its text
-pub told : (d : Kept) (epoch rulesets tables states : ℕ) (sum : List ℕ) → epoch ≡ d.epoch → sum ≡ main_sum d → rulesets ≡ length d.config.rulesets
+pub told : (d : PlainDurable) (epoch rulesets tables states : ℕ) (sum : List ℕ) → epoch ≡ d.epoch → sum ≡ main_sum d → rulesets ≡ length d.config.rulesets
     → tables ≡ length d.config.tables → states ≡ length d.states
     → number_line (codes "epoch ") epoch ++ (sum_line sum ++ (number_line (codes "rulesets ") rulesets
     ++ (number_line (codes "tables ") tables ++ number_line (codes "states ") states))) ≡ shown_text d

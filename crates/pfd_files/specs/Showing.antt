@@ -1,7 +1,7 @@
--- What is told of a disk, and what it tells. Own.
+-- What is told of a disk, and what it tells.
 use Rattle.std.specs.{Prelude.{◌≡◌, ◌≢◌, ◌⊎◌, ℕ, Bool, true, false, List, [], ◌∷◌, ◌++◌, codes, decimal, length, Option, Result, Ok, Err}, Io.KnownBytes.{Appends, Keeps}}
 use Rattle.pf_addr.specs.Writing.{WritesFront}
-use Rattle.pf_core.specs.Durable.Edits.{Kept, main_sum}
+use Rattle.pf_core.specs.Durable.Changes.{PlainDurable, main_sum}
 use Rattle.pf_core.specs.declared.reply.{Answer.TheVariants.Sum, Reply.TheVariants.Answer}
 use Rattle.pf_line.specs.Reply.Replies.{reply_text}
 use Rattle.pf_store.specs.{Openings.IsUnopened, Stores.Holds}
@@ -18,7 +18,7 @@ abbrev pub sum_line : List ℕ → List ℕ
 sum_line sum = codes "sum " ++ reply_text (Answer (Sum sum))
 
 -- the epoch, the checksum of the main rules, and how many rulesets, tables and states there are
-abbrev pub shown_text : Kept → List ℕ
+abbrev pub shown_text : PlainDurable → List ℕ
 shown_text d =
     number_line (codes "epoch ") d.epoch
     ++ (sum_line (main_sum d)
@@ -35,10 +35,10 @@ pub record IsUnread (why : OpenFault) (seen : List ℕ) : Type 0 where
 -- It was told what a disk with these bytes holds. Or nothing was, since nothing was read that can be kept: the fault says why. Or a
 -- write failed behind some front of the text.
 abbrev pub IsShown : Result (Unit {0}) Fault → List ℕ → Option (List ℕ) → Option (List ℕ) → Type 0
-IsShown (Ok u) seen held held' = (d : Kept) × Holds seen d × Appends held held' (shown_text d)
+IsShown (Ok u) seen held held' = (d : PlainDurable) × Holds seen d × Appends held held' (shown_text d)
 IsShown (Err fault) seen held held' =
     ((why : OpenFault) × (fault ≡ told_of_opening why) × IsUnread why seen × Keeps held held')
-    ⊎ ((fault ≡ Output) × ((d : Kept) × Holds seen d × WritesFront held held' (shown_text d)))
+    ⊎ ((fault ≡ Output) × ((d : PlainDurable) × Holds seen d × WritesFront held held' (shown_text d)))
 
 abbrev is_device : Fault → Bool
 is_device Device = true

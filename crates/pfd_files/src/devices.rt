@@ -3,7 +3,7 @@ ghost use Rattle.std.specs.Prelude.{◌≡◌, ◌≤◌, ◌<◌, ◌^◌, ◌�
 ghost use Rattle.pf_addr.specs.Writing.{Continues, Writes};
 ghost use Rattle.pf_disk.specs.Disk.{IsImage};
 ghost use Rattle.pf_anchor.specs.declared.limits.TheConstants.{RULESET_LIMIT, TABLE_COUNT_LIMIT};
-ghost use Rattle.pf_core.specs.Durable.Edits.{kept_nothing};
+ghost use Rattle.pf_core.specs.Durable.Changes.{kept_nothing};
 ghost use Rattle.pf_store.specs.{Banks.IsSize, Stores.Holds};
 ghost use Rattle.pfd_files.specs.Showing.{IsShown, is_device_fault, number_line, shown_text, sum_line};
 
@@ -18,7 +18,7 @@ use std::alloc::Global;
 use std::io::{self, Write};
 
 /// Makes a disk hold nothing but the epoch 0, whatever it held. `BadSize` and `Memory`: the disk is as before. `Fault`: a call of it
-/// failed, and it may hold what it held, or nothing but the epoch 0, or have no bank. Own.
+/// failed, and it may hold what it held, or nothing but the epoch 0, or have no bank.
 pub fn format_on<D: Disk>(alloc: Global, disk: &mut D) -> Result<(), Fault>
     requires few { D.fault_count disk.old < 2 ^ 63 }
     ensures holds { OnOk result ((c : List ℕ) → IsImage (D.seen disk.new) (D.unsynced disk.new) c → Holds c (kept_nothing 0)) }
@@ -36,7 +36,7 @@ pub fn format_on<D: Disk>(alloc: Global, disk: &mut D) -> Result<(), Fault>
 /// The disk is neither written nor synced.
 ///
 /// `Output`: a write or a flush failed, and some front of the text is out. Each other fault says why what the disk holds can't be told, and
-/// nothing is written. Own.
+/// nothing is written.
 pub fn show_on<D: Disk, W: Write>(alloc: Global, disk: &mut D, writer: &mut W) -> Result<(), Fault>
     requires few { D.fault_count disk.old < 2 ^ 63 }
     ensures shown { IsShown result (D.seen disk.old) (W.contents writer.old) (W.contents writer.new) }

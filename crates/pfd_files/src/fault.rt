@@ -6,7 +6,7 @@ use pf_disk::FileFault;
 use pf_store::{FormatFault, OpenFault};
 use thiserror::Error;
 
-/// Why the program ends with status 1. Own.
+/// Why the program ends with status 1.
 #[derive(Clone, Copy, Debug, PartialEq, Eq, Error)]
 pub enum Fault {
     /// A disk would have, or has, an odd number of bytes, or fewer than 256 or more than 2^30.

@@ -15,7 +15,7 @@ use std::io::Write;
 ///
 /// What is wrong comes in this order. `Input`: the file can't be opened or made, or is locked, whatever the size is. `BadSize`: no disk has so
 /// many bytes; the file's length isn't set, so that one that was there is as it was, and one that wasn't is there and empty. `Input`: it can't be
-/// brought to its length. Then the faults of [`FileDisk::of`] and [`format_on`]: the file has its new length, and may hold what it held. Own.
+/// brought to its length. Then the faults of [`FileDisk::of`] and [`format_on`]: the file has its new length, and may hold what it held.
 pub fn format_file<S: Files<File = File>>(
     alloc: Global,
     files: &S,

@@ -50,7 +50,7 @@ fn end_of(
 }
 
 // One session, and how many lines passed its gate.
-fn attend<J: Chapter, R: Wait>(
+fn run_session<J: Chapter, R: Wait>(
     rt: &R,
     alloc: Global,
     shared: &Shared<Device, J, &R>,
@@ -119,7 +119,7 @@ fn share<J: Chapter, R: Wait>(
     };
     match kind {
         Kind::Peers => follow(rt, alloc, shared, case),
-        _ => attend(rt, alloc, &shared, &mut seer, case),
+        _ => run_session(rt, alloc, &shared, &mut seer, case),
     }
 }
 

@@ -4,7 +4,7 @@ use Rattle.std.specs.{Prelude.{option_map, unwrap_or}, Str.Parse.ParsesUnsigned}
 use Rattle.clap.specs.Words.{ReadsOne, Row, Text, is_simple, subcommand_of, takes}
 use Rattle.clap.proofs.OnLiterals.{clap_on_literals}
 use Rattle.pfd_words.specs.declared.words.{Task.Task, Task.TheVariants.{Run, RunOn, Format, Show, Serve, Connect}, TheConstants.{MEMORY_SIZE, HISTORY_LIMIT}}
-use Rattle.pfd_words.specs.Words.{IsAsked, IsRun, MaySayNumber, SaysNumber, plain_run, program_words}
+use Rattle.pfd_words.specs.Words.{IsAsked, IsPlainRun, MaySayNumber, SaysNumber, plain_run, program_words}
 
 -- ---- `pfd run`
 
@@ -41,7 +41,7 @@ is_run (Show path) asked = absurd (apart 114 115 (lit< tt) (sym (first_bytes (co
 is_run (Serve service) asked = absurd (apart 114 115 (lit< tt) (sym (first_bytes (codes "serve") asked.0)))
 is_run (Connect address) asked = absurd (apart 99 114 (lit< tt) (first_bytes (codes "connect") asked.0))
 
-pub alone : (words : List Text) (task : Task) → IsRun words → IsAsked (subcommand_of program_words words) task → task ≡ plain_run
+pub alone : (words : List Text) (task : Task) → IsPlainRun words → IsAsked (subcommand_of program_words words) task → task ≡ plain_run
 alone words task is asked =
     let met_it : subcommand_of program_words words ≡ Some (codes "run", []) = ap (subcommand_of program_words) is.1 ∙ met is.0 in
     is_run task (subst (λ (m : Option (Text × List Row)). IsAsked m task) met_it asked)

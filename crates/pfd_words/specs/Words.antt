@@ -1,4 +1,4 @@
--- The words that the program takes, as clap reads them, and what they ask. Own.
+-- The words that the program takes, as clap reads them, and what they ask.
 use Rattle.std.specs.{Prelude.{◌≡◌, ◌≤◌, ℕ, true, List, [], ◌∷◌, Option, Some, None, codes, option_and_then, option_map, pos, unwrap_or}, Str.Parse.{IsNumeral, digits_value, without_leading_plus}}
 use Rattle.clap.specs.{Simple.on_top, Words.{App, Row, Rule, Text, new_app, new_rule, one_of, first_of, with_rule, with_subcommand}}
 use Rattle.clap.specs.declared.builder.value_parser.ValueParser.TheVariants.{Signed}
@@ -123,8 +123,8 @@ IsAsked met (Serve service) = (option_map (λ m. m.0) met ≡ Some (codes "serve
 IsAsked met (Connect address) = (option_map (λ m. m.0) met ≡ Some (codes "connect")) × SaysText (codes "address") met address.now
 
 -- the program's name, whatever it is, and `run`
-abbrev pub IsRun : List Text → Type 0
-IsRun words = (name : Text) × (words ≡ name ∷ codes "run" ∷ [])
+abbrev pub IsPlainRun : List Text → Type 0
+IsPlainRun words = (name : Text) × (words ≡ name ∷ codes "run" ∷ [])
 
 -- which ask for this: a session over memory, with what the words don't say
 abbrev pub plain_run : Task

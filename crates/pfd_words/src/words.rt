@@ -2,7 +2,7 @@
 ghost use Rattle.std.specs.Prelude.{◌≡◌, ◌≤◌, IfErr, IfOk, List, ℕ, Some, [], codes, false, map, option_map, string_bytes, unwrap_or};
 ghost use Rattle.clap.specs.Words.{app_of, found_of, kind_of, one_of, first_of, rows_of, rule_of, subcommand_of, subcommand_rows_of};
 ghost use Rattle.clap.specs.declared.builder.command.Command.TheViews.{out-Command};
-ghost use Rattle.pfd_words.specs.Words.{IsRun, plain_run, HasHistory, IsAsked, MaySayNumber, SaysNumber, disk_rule, history_rule, size_rule, listen_rule, workers_rule, sessions_rule, run_words, format_words, show_words, place_words, server_words, serve_words, connect_words, program_words};
+ghost use Rattle.pfd_words.specs.Words.{IsPlainRun, plain_run, HasHistory, IsAsked, MaySayNumber, SaysNumber, disk_rule, history_rule, size_rule, listen_rule, workers_rule, sessions_rule, run_words, format_words, show_words, place_words, server_words, serve_words, connect_words, program_words};
 
 use clap::error::ErrorKind;
 use clap::{Arg, ArgMatches, Command, Error, value_parser};
@@ -30,7 +30,7 @@ const MOST_SESSIONS: usize = 4_294_967_295;
 const VERSION: &str = "0.1.0";
 
 /// A server: the address that it listens on; the file that its disk lies on, which has to have so many bytes; how many connections it serves
-/// at once; how many changes its history may have; and after how many connections it ends, or never where that is 0. Own.
+/// at once; how many changes its history may have; and after how many connections it ends, or never where that is 0.
 #[derive(Clone, Copy, Debug, PartialEq, Eq)]
 pub struct Service<'a> {
     /// As it was said: it may be no address.
@@ -46,7 +46,7 @@ pub struct Service<'a> {
     pub sessions: u32,
 }
 
-/// What the words ask. A history has 1 to 1,048,576 changes; a size is in bytes, and any number up to 4,294,967,295. Own.
+/// What the words ask. A history has 1 to 1,048,576 changes; a size is in bytes, and any number up to 4,294,967,295.
 #[derive(Clone, Copy, Debug, PartialEq, Eq)]
 pub enum Task<'a> {
     /// A session over a memory disk of so many bytes, whose history may have so many changes.
@@ -235,12 +235,12 @@ fn program_words<'a>(alloc: Global) -> Result<Command<'a>, AllocError>
 }
 
 /// What the words ask, the program's own name first among them; or the text for who started it, which is help, the version or why the
-/// words are refused, or that memory was. The word `run` alone is refused for want of memory alone. Own.
+/// words are refused, or that memory was. The word `run` alone is refused for want of memory alone.
 pub fn read_words<'a>(alloc: Global, words: &'a [String]) -> Result<Task<'a>, Error>
     ensures asked { IfOk result (λ task. IsAsked (subcommand_of program_words (map string_bytes words.entry.now)) task) }
     ensures history { IfOk result HasHistory }
-    ensures run { IsRun (map string_bytes words.entry.now) → IfErr result (λ e. kind_of e ≡ ErrorKind.OutOfMemory) }
-    ensures alone { IsRun (map string_bytes words.entry.now) → IfOk result (λ task. task ≡ plain_run) }
+    ensures run { IsPlainRun (map string_bytes words.entry.now) → IfErr result (λ e. kind_of e ≡ ErrorKind.OutOfMemory) }
+    ensures alone { IsPlainRun (map string_bytes words.entry.now) → IfOk result (λ task. task ≡ plain_run) }
 {
     match program_words(alloc)?.try_get_matches_from(words) {
         Ok(matches) => Ok(task_of(&matches)),

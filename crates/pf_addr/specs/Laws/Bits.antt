@@ -2,7 +2,7 @@
 use Rattle.std.proofs.{Common.{◌≡◌, ℕ, ◌+◌, ◌-◌, ◌/◌, ◌%◌, ◌^◌, ◌<◌, ◌≤◌, ◌==◌, Decides, refl, sym, ap, ◌∙◌, subst, arith, true≢false}, lemmas.Bool.Decides.{Decides-and, Decides-eqb, Decides-like}, lemmas.Nat.{shr-shr, shr_below}, lemmas.Nat.Bits.same_from_bits_below}
 use Rattle.pf_addr.specs.declared.{addr.Addr.Addr, addr.Family.Family, addr.Family.TheVariants.{V4, V6}}
 use Rattle.pf_addr.specs.declared.addr.Addr.TheVariants as addr
-use Rattle.pf_addr.specs.Address.{Network, IsNetwork, width, family_of, number_in, first_bits, network_from, same_family, contains, IsAddr, bit, BeginsAs, Agree}
+use Rattle.pf_addr.specs.Address.{PlainNet, IsNetwork, width, family_of, number_in, first_bits, network_from, same_family, contains, IsAddr, bit, BeginsAs, Agree}
 
 one_family : (f g : Family) → Decides (same_family f g) (f ≡ g)
 one_family V4 V4 = (λ _. refl, λ _. refl)
@@ -33,7 +33,7 @@ same_by_bits size a b p q same = same_from_bits_below size a b p q (λ i lt.
     subst (λ (k : ℕ). a / 2 ^ k % 2 ≡ b / 2 ^ k % 2) turned (same (size - 1 - i) (omega arith)))
 
 -- a network contains exactly the addresses of its family whose first bits are its front's
-pub contains_by_bits : (net : Network) (a : Addr) → IsNetwork net → IsAddr a → Decides (contains net a) (BeginsAs net a)
+pub contains_by_bits : (net : PlainNet) (a : Addr) → IsNetwork net → IsAddr a → Decides (contains net a) (BeginsAs net a)
 unfolding contains
 contains_by_bits net a whole is =
     let within : family_of a ≡ net.family → net.len ≤ width (family_of a) = λ e. subst (λ (f : Family). net.len ≤ width f) (sym e) whole.len in

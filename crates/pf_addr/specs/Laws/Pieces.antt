@@ -1,7 +1,8 @@
 -- Pieces in a row are read as the numbers that they write.
 use Rattle.std.proofs.{Common.{◌≡◌, ℕ, ◌+◌, ◌<◌, ◌==◌, true, List, [], ◌∷◌, ◌++◌, length, Some, None, Option, Ok, refl, ap, ◌∙◌, subst, arith}, lemmas.List.{get_or_at, length-append}, lemmas.List.Elements.{All-nil, All-cons}, lemmas.Bool.Decides.nat_tests}
 use Rattle.std.specs.List.{All, AllZip, position}
-use Rattle.pf_addr.specs.{Form.Forms.◌>>=◌, Laws.Form.Decided.bind_ok, Grammar.pieces, Laws.Places.{first_none, split_none}, Reading.{One, Last, single, pieces_at, has}}
+use Rattle.pf_addr.specs.{Grammar.pieces, Laws.Places.{first_none, split_none}, Reading.{One, Last, single, pieces_at, has}}
+use Rattle.pf_form.specs.{Form.Forms.◌>>=◌, Laws.Form.Decided.bind_ok}
 
 -- what a piece has to be for a number, and the last for some
 abbrev pub OfNumber : Type 1

@@ -1,7 +1,8 @@
 -- A text is read as an address or a network exactly where it spells it.
 use Rattle.std.proofs.{Common.{◌≡◌, ℕ, ◌+◌, ◌-◌, ◌<◌, ◌≤◌, ◌==◌, Bool, true, false, List, [], ◌∷◌, ◌++◌, length, take, drop, replicate, Option, Some, None, Result, Ok, Err, inl, inr, refl, sym, ap, ◌∙◌, subst, arith, append_assoc, eq-eqb}, lemmas.Bool.le-leb, lemmas.Bool.Decides.{leb_tells, eqb_tells, nat_tests}, lemmas.List.{length-append, length-replicate, take_at, drop_at}, lemmas.List.Elements.{All-nil, All-cons, All-append, All-head, All-tail}, lemmas.List.Splits.join_with_byte-slice_split}
 use Rattle.std.specs.{Prelude.{◌⊎◌, IfOk}, Char.digit_value, List.{position, join_with_byte, All}, Option.ok_or, Str.Parse.{AllDigits, digits_value}}
-use Rattle.pf_addr.specs.{Form.Forms.◌>>=◌, Laws.Form.Decided.bind_ok, Form.Numbers.number_of, Laws.Form.Numbers.{number_only, number_found}, Address.{Network, width, family_of, network_from, network_of}, Grammar.{is_other, is_short, pieces, IsNumber, Dotted, v4_number, SpellsV4, IsGroup, Grouped, two_groups, EndGrouped, Shortened, v6_number, SpellsV6, Spells, SpellsAddr, SpellsFront, SpellsNet}, Reading.{kept_to, small_number, part_fault, part_at, piece_by, group_at, single, pieces_at, parts_at, v4_of, v4_at, has, end_at, groups_at, v6_of, v6_around, gap, v6_by, v6_at, family_at, address_at, addr_at, is_slash, length_at, front_at, cut_at, net_at}, Laws.Places.{without, no_place, place_after, cut_there}, Laws.Digits.{none_in_digits, all_digits, digits_all}, Laws.Gaps.{Clean, no_gap, gap_after, gap_cut}, Laws.Pieces.{Alone, zip_length, zip_all, all_read, run_read, run_found, alone_found, run_alone, all_found, has_between, has_there}}
+use Rattle.pf_addr.specs.{Address.{PlainNet, width, family_of, network_from, network_of}, Grammar.{is_other, is_short, pieces, IsNumber, Dotted, v4_number, SpellsV4, IsGroup, Grouped, two_groups, EndGrouped, Shortened, v6_number, SpellsV6, Spells, SpellsAddr, SpellsFront, SpellsNet}, Reading.{kept_to, small_number, part_fault, part_at, piece_by, group_at, single, pieces_at, parts_at, v4_of, v4_at, has, end_at, groups_at, v6_of, v6_around, gap, v6_by, v6_at, family_at, address_at, addr_at, is_slash, length_at, front_at, cut_at, net_at}, Laws.{Places.{without, no_place, place_after, cut_there}, Digits.{none_in_digits, all_digits, digits_all}, Gaps.{Clean, no_gap, gap_after, gap_cut}, Pieces.{Alone, zip_length, zip_all, all_read, run_read, run_found, alone_found, run_alone, all_found, has_between, has_there}}}
+use Rattle.pf_form.specs.{Form.{Forms.◌>>=◌, Numbers.number_of}, Laws.Form.{Decided.bind_ok, Numbers.{number_only, number_found}}}
 use Rattle.pf_addr.specs.declared.{addr.Addr.Addr, fault.AddrFault.AddrFault, fault.AddrFault.TheVariants.BadLength}
 use Rattle.pf_addr.specs.declared.addr.Addr.TheVariants as addr
 
@@ -287,14 +288,14 @@ pub no_slash : (fewest : ℕ) (text : List ℕ) (a : Addr) → Spells fewest tex
 no_slash fewest text a is = addr_without 47 fewest text a (record { digit = omega arith; dot = refl; colon = refl }) is
 
 -- a byte that stands in no network's text
-pub net_without : (c : ℕ) (text : List ℕ) (net : Network) → Outside c → ((47 == c) ≡ false) → SpellsNet text net → without c text
+pub net_without : (c : ℕ) (text : List ℕ) (net : PlainNet) → Outside c → ((47 == c) ≡ false) → SpellsNet text net → without c text
 unfolding SpellsNet SpellsAddr
 net_without c text net out slash (inl (a, spelled, is)) = addr_without c 4 text a out spelled
 net_without c text net out slash (inr is) =
     let digits = none_in_digits 10 c is.digits (omega (arith, out.digit)) is.number.number.digits.1 in
     rw is.cut (All-append (λ b. (b == c) ≡ false) is.front (47 ∷ is.digits) (addr_without c 1 is.front is.first out is.address) (All-cons (λ b. (b == c) ≡ false) 47 is.digits slash digits))
 
-front_found : (text : List ℕ) (i : ℕ) (net : Network) → position is_slash text ≡ Some i → cut_at text (Some i) ≡ Ok net → SpellsFront text net
+front_found : (text : List ℕ) (i : ℕ) (net : PlainNet) → position is_slash text ≡ Some i → cut_at text (Some i) ≡ Ok net → SpellsFront text net
 front_found text i net p e =
     let digits : List ℕ = drop (i + 1) text in
     let (a, read, made) = bind_ok (address_at 1 (take i text)) (front_at (i + 1) digits) net e in
@@ -311,7 +312,7 @@ front_found text i net p e =
       value = is_net;
     }
 
-pub net_found : (text : List ℕ) (net : Network) → net_at text ≡ Ok net → SpellsNet text net
+pub net_found : (text : List ℕ) (net : PlainNet) → net_at text ≡ Ok net → SpellsNet text net
 unfolding SpellsNet
 net_found text net e = by (position is_slash text) refl e where
   by : (o : Option ℕ) → position is_slash text ≡ o → cut_at text o ≡ Ok net → SpellsNet text net
@@ -321,7 +322,7 @@ net_found text net e = by (position is_slash text) refl e where
       inl (one.0, addr_found text one.0 one.1, is)
   by (Some i) p e = inr (front_found text i net p e)
 
-pub net_if_ok : (text : List ℕ) (r : Result Network AddrFault) → r ≡ net_at text → IfOk r (λ n. SpellsNet text n)
+pub net_if_ok : (text : List ℕ) (r : Result PlainNet AddrFault) → r ≡ net_at text → IfOk r (λ n. SpellsNet text n)
 net_if_ok text (Ok n) e = net_found text n (sym e)
 net_if_ok text (Err f) e = tt
 
@@ -329,7 +330,7 @@ net_if_ok text (Err f) e = tt
 pub behind : (front digits : List ℕ) → drop (length front + 1) (front ++ 47 ∷ digits) ≡ digits
 behind front digits = ap (drop (length front + 1)) (sym (append_assoc front (47 ∷ []) digits)) ∙ drop_at (front ++ 47 ∷ []) digits (length front + 1) (length-append front (47 ∷ []))
 
-pub net_only : (text : List ℕ) (net : Network) → SpellsNet text net → net_at text ≡ Ok net
+pub net_only : (text : List ℕ) (net : PlainNet) → SpellsNet text net → net_at text ≡ Ok net
 unfolding SpellsNet SpellsAddr
 net_only text net (inl (a, spelled, is)) = rw (no_place 47 text (no_slash 4 text a spelled), addr_only text a spelled, is) refl
 net_only text net (inr is) =

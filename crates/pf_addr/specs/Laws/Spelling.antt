@@ -3,7 +3,7 @@ use Rattle.std.proofs.{Common.{◌≡◌, ℕ, ◌+◌, ◌-◌, ◌*◌, ◌/�
 use Rattle.std.specs.{Prelude.◌⊎◌, Char.digit_char, Int.{to_be_bytes, from_be_bytes, w32}, List.{All, AllZip, slice_split, join_with_byte, slice_index_or}, Net.Text.{hex, leading_zero_digits}, Str.Parse.{AllDigits, IsNumeral, digits_value}}
 use Rattle.pf_addr.specs.declared.{addr.Addr.Addr, addr.Family.Family, addr.Family.TheVariants.{V4, V6}}
 use Rattle.pf_addr.specs.declared.addr.Addr.TheVariants as addr
-use Rattle.pf_addr.specs.{Address.{Network, width, family_of, number_in, network_from, IsAddr}, Laws.Bits.{front_below, number_below}, Laws.Digits.none_in_digits, Grammar.{pieces, IsNumber, Dotted, four_bytes, SpellsV4, IsGroup, Grouped, two_groups, EndGrouped, Shortened, v6_number, SpellsV6, Spells, SpellsAddr, SpellsNet}, Laws.Pieces.{zip_all, zip_numbers}, Laws.Places.without, Reading.{addr_at, net_at}, Laws.Reading.{joined_bytes, dotted_bytes, addr_only, net_only}, Spelling.{group_text, addr_text, addr_in, first_addr, length_text, net_text}}
+use Rattle.pf_addr.specs.{Address.{PlainNet, width, family_of, number_in, network_from, IsAddr}, Laws.Bits.{front_below, number_below}, Laws.Digits.none_in_digits, Grammar.{pieces, IsNumber, Dotted, four_bytes, SpellsV4, IsGroup, Grouped, two_groups, EndGrouped, Shortened, v6_number, SpellsV6, Spells, SpellsAddr, SpellsNet}, Laws.Pieces.{zip_all, zip_numbers}, Laws.Places.without, Reading.{addr_at, net_at}, Laws.Reading.{joined_bytes, dotted_bytes, addr_only, net_only}, Spelling.{group_text, addr_text, addr_in, first_addr, length_text, net_text}}
 pub use Rattle.pf_addr.specs.Address.{IsNetwork}
 
 -- ---- pieces that are joined
@@ -176,14 +176,14 @@ first_below : (f : Family) (len front : ℕ) → len ≤ width f → front < 2 ^
 first_below V4 len front le lt = let sum : len + (32 - len) ≡ 32 = omega arith in rw sum at (shl_below front len (32 - len) lt)
 first_below V6 len front le lt = let sum : len + (128 - len) ≡ 128 = omega arith in rw sum at (shl_below front len (128 - len) lt)
 
-first_is : (net : Network) → IsNetwork net → IsAddr (first_addr net)
+first_is : (net : PlainNet) → IsNetwork net → IsAddr (first_addr net)
 first_is net is = first_below net.family net.len net.front is.len is.front
 
 family_first : (f : Family) (n : ℕ) → family_of (addr_in f n) ≡ f
 family_first V4 n = refl
 family_first V6 n = refl
 
-abbrev network : Family → ℕ → ℕ → Network
+abbrev network : Family → ℕ → ℕ → PlainNet
 network f len front = record { family = f; len = len; front = front }
 
 from_first : (f : Family) (len front : ℕ) → network_from (addr_in f (front * 2 ^ (width f - len))) len ≡ network f len front
@@ -199,7 +199,7 @@ width_small V4 = omega arith
 width_small V6 = omega arith
 
 -- a network is read again from the text that it is written as
-pub net_text_spells : (net : Network) → IsNetwork net → SpellsNet (net_text net) net
+pub net_text_spells : (net : PlainNet) → IsNetwork net → SpellsNet (net_text net) net
 unfolding SpellsNet SpellsAddr
 net_text_spells net is =
     let a : Addr = first_addr net in
@@ -216,7 +216,7 @@ net_text_spells net is =
     ]
 
 -- two networks that are written as one text are one
-pub own_net_text : (a b : Network) → IsNetwork a → IsNetwork b → net_text a ≡ net_text b → a ≡ b
+pub own_net_text : (a b : PlainNet) → IsNetwork a → IsNetwork b → net_text a ≡ net_text b → a ≡ b
 own_net_text a b p q e =
     let first = net_only (net_text a) a (net_text_spells a p) in
     let second = net_only (net_text b) b (net_text_spells b q) in
@@ -227,7 +227,7 @@ from_addr : (a : Addr) (len : ℕ) → IsAddr a → len ≤ width (family_of a) 
 from_addr a len is le = record { len = le; front = front_below (width (family_of a)) len (number_in a) le (number_below a is) }
 
 -- what a text spells is a network
-pub IsNetwork-spelled : (text : List ℕ) (net : Network) → SpellsNet text net → IsNetwork net
+pub IsNetwork-spelled : (text : List ℕ) (net : PlainNet) → SpellsNet text net → IsNetwork net
 unfolding SpellsNet
 IsNetwork-spelled text net (inl (a, is, e)) = rw e (from_addr a (width (family_of a)) (IsAddr-spelled text a is) (omega arith))
 IsNetwork-spelled text net (inr is) = rw is.value (from_addr is.first is.len (below_spelled 1 is.front is.first is.address) is.number.small)
@@ -269,7 +269,7 @@ addr_bytes (addr.V6 n) =
     let ends : List ℕ = 112 ∷ 96 ∷ 80 ∷ 64 ∷ 48 ∷ 32 ∷ 16 ∷ 0 ∷ [] in
     joined_bytes IsNetByte 58 (map (group_text n) ends) (inl (omega arith, omega arith)) (All-map (All IsNetByte) (group_text n) ends (λ k d lt. hex_bytes (n / 2 ^ slice_index_or ends k d % 2 ^ 16) (low_group n (slice_index_or ends k d))))
 
-length_bytes : (net : Network) → IsNetwork net → All IsNetByte (length_text net) × (length (length_text net) ≤ 4)
+length_bytes : (net : PlainNet) → IsNetwork net → All IsNetByte (length_text net) × (length (length_text net) ≤ 4)
 length_bytes net is = elim (eqb_tells net.len (width net.family)) [
   | inl full ↦ rw full.0 (All-nil IsNetByte, omega arith)
   | inr short ↦
@@ -284,7 +284,7 @@ addr_length (addr.V4 n) = let l = v4_length n in (l.0, omega (arith, l.1))
 addr_length (addr.V6 n) = v6_length n
 
 -- a network's text is one word of at most 43 digits, letters, dots, colons and slashes
-pub net_text_is_word : (net : Network) → IsNetwork net → IsNetWord 43 (net_text net)
+pub net_text_is_word : (net : PlainNet) → IsNetwork net → IsNetWord 43 (net_text net)
 net_text_is_word net is =
     let a : Addr = first_addr net in
     let size = length-append (addr_text a) (length_text net) in

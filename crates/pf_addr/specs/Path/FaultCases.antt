@@ -1,7 +1,9 @@
 -- Which fault a word has that is no name, no path or no reference, by cases on the word. Their order is own.
 use Rattle.std.specs.{Prelude.{◌≡◌, ◌≢◌, ℕ, ◌<◌, ◌≤◌, ◌⊎◌, true, false, List, [], ◌∷◌, ◌++◌, length, codes}, List.{AllByRecursion, list_all}}
-use Rattle.pf_addr.specs.declared.{form.fault.Kind.Kind, form.fault.Kind.TheVariants.{BadWord, NameTooLong, BadProto}, path.limits.TheConstants.{PATH_LIMIT, COMPONENT_LIMIT, DEPTH_LIMIT, REFERENCE_LIMIT}}
-use Rattle.pf_addr.specs.{Form.Words.Word, Path.Names.is_name_byte, Path.Paths.{components, is_component}, Path.PathGrammar.IsComponent, Path.References.{ending, quoted}}
+use Rattle.pf_addr.specs.declared.path.limits.TheConstants.{PATH_LIMIT, COMPONENT_LIMIT, DEPTH_LIMIT, REFERENCE_LIMIT}
+use Rattle.pf_form.specs.declared.form.fault.Kind.{Kind, TheVariants.{BadWord, NameTooLong, BadProto}}
+use Rattle.pf_addr.specs.Path.{Names.is_name_byte, Paths.{components, is_component}, PathGrammar.IsComponent, References.{ending, quoted}}
+use Rattle.pf_form.specs.Form.Words.{Word}
 
 -- A name past its limit is too long whatever its bytes; a shorter one is empty, or has another byte.
 abbrev pub IsNameFault : ℕ → Word → Kind → Type 0

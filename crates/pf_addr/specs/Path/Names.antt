@@ -1,8 +1,9 @@
 -- Names: of interfaces, of tables, and the bytes of a path's components too. Their bytes, and that they are ordered by them, are own.
 use Rattle.std.specs.{Prelude.{◌≡◌, ℕ, ◌==◌, ◌||◌, ◌&&◌, ◌<◌, ◌≤◌, nat_le, nat_lt, Bool, true, if◌then◌else◌, List, length, Result, Ok, Err}, List.list_all, Ordering.{nat_cmp, eq_by_cmp}, Cmp.Lexicographic.slice_cmp}
 use Rattle.std.specs.declared.cmp.Ordering.{Ordering}
-use Rattle.pf_addr.specs.declared.{form.fault.Kind.Kind, form.fault.Kind.TheVariants.{BadWord, NameTooLong}, path.limits.TheConstants.TABLE_NAME_LIMIT}
-use Rattle.pf_addr.specs.Form.Words.{Word}
+use Rattle.pf_addr.specs.declared.path.limits.TheConstants.{TABLE_NAME_LIMIT}
+use Rattle.pf_form.specs.declared.form.fault.Kind.{Kind, TheVariants.{BadWord, NameTooLong}}
+use Rattle.pf_form.specs.Form.Words.{Word}
 
 -- a letter, a digit, `_`, `.` or `-`
 abbrev pub is_name_byte : ℕ → Bool

@@ -1,7 +1,8 @@
--- Paths and names of tables in bytes: the length of the text in one byte, and its bytes. Own.
+-- Paths and names of tables in bytes: the length of the text in one byte, and its bytes.
 use Rattle.std.specs.{Prelude.{ℕ, ◌-◌, ◌==◌, Bool, List, [], ◌∷◌, length, is_ok, if◌then◌else◌}, Option.is_none}
 use Rattle.pf_addr.specs.declared.path.limits.TheConstants.{TABLE_NAME_LIMIT, REFERENCE_LIMIT}
-use Rattle.pf_addr.specs.{Bytes.Forms.{Shape, list, nat, both, Value, Form, number, counted, that, back, pair}, Bytes.Codes.{flag, flag_byte}, Bytes.Names.{filled, padded, before_zero}, Path.Names.name_of, Path.Paths.{is_path, fault_within}, Path.References.{PlainReference, refers, ending}}
+use Rattle.pf_addr.specs.Path.{Names.name_of, Paths.{is_path, fault_within}, References.{PlainReference, refers, ending}}
+use Rattle.pf_form.specs.Bytes.{Forms.{Shape, list, nat, both, Value, Form, number, counted, that, back, pair}, Codes.{flag, flag_byte}, Names.{filled, padded, before_zero}}
 
 abbrev pub TextShape : Shape
 TextShape = list nat

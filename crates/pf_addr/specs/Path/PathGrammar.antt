@@ -1,6 +1,7 @@
 -- Which words spell a path (pf.conf(5), ANCHORS), by cases.
 use Rattle.std.specs.{Prelude.{◌≡◌, ◌≢◌, ◌⊎◌, ℕ, ◌<◌, ◌≤◌, true, List, length, codes}, List.{AllByRecursion, list_all, join_with_byte}}
-use Rattle.pf_addr.specs.{Path.Names.is_name_byte, Form.Words.Word, Path.Paths.main}
+use Rattle.pf_addr.specs.Path.{Names.is_name_byte, Paths.main}
+use Rattle.pf_form.specs.Form.Words.{Word}
 use Rattle.pf_addr.specs.declared.path.limits.TheConstants.{PATH_LIMIT, COMPONENT_LIMIT, DEPTH_LIMIT}
 
 -- 1 to 63 bytes of a name, and neither ".." nor "-"

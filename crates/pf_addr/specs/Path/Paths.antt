@@ -2,8 +2,10 @@
 -- ruleset is written "-", and that paths are ordered by their bytes, are own.
 use Rattle.std.specs.{Prelude.{ℕ, ◌==◌, ◌&&◌, Bool, true, not, if◌then◌else◌, List, [], ◌∷◌, length, codes, Option, Some, None, Result, Ok, Err, nat_lt}, List.{list_all, slice_split}, Option.{is_none, option_map_or, option_or}, Str.bytes_eq, Ordering.{nat_cmp, eq_by_cmp}, Cmp.Lexicographic.slice_cmp}
 use Rattle.std.specs.declared.cmp.Ordering.{Ordering}
-use Rattle.pf_addr.specs.declared.{form.fault.Kind.Kind, form.fault.Kind.TheVariants.{BadWord, NameTooLong}, path.limits.TheConstants.{PATH_LIMIT, COMPONENT_LIMIT, DEPTH_LIMIT}}
-use Rattle.pf_addr.specs.{Path.Names.is_name_byte, Form.Words.Word}
+use Rattle.pf_addr.specs.declared.path.limits.TheConstants.{PATH_LIMIT, COMPONENT_LIMIT, DEPTH_LIMIT}
+use Rattle.pf_form.specs.declared.form.fault.Kind.{Kind, TheVariants.{BadWord, NameTooLong}}
+use Rattle.pf_addr.specs.Path.Names.{is_name_byte}
+use Rattle.pf_form.specs.Form.Words.{Word}
 
 -- the path of the main ruleset
 abbrev pub main : List ℕ

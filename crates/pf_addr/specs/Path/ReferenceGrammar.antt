@@ -1,6 +1,7 @@
 -- Which words spell a reference (pf.conf(5), ANCHORS), by cases.
 use Rattle.std.specs.Prelude.{◌≡◌, ◌⊎◌, ◌≤◌, length}
-use Rattle.pf_addr.specs.{Form.Words.Word, Path.PathGrammar.IsNames, Path.References.{PlainReference, reference_text, quoted}}
+use Rattle.pf_addr.specs.Path.{PathGrammar.IsNames, References.{PlainReference, reference_text, quoted}}
+use Rattle.pf_form.specs.Form.Words.{Word}
 use Rattle.pf_addr.specs.declared.path.limits.TheConstants.{REFERENCE_LIMIT}
 
 -- names of a path, and at most 63 bytes with the "/*" behind them

@@ -1,8 +1,10 @@
 -- References to rulesets (pf.conf(5), ANCHORS): names of a path, "/*" behind them where the rulesets attached to it are meant, and
 -- perhaps quotes round all. The limit of bytes is own.
 use Rattle.std.specs.{Prelude.{ℕ, ◌-◌, ◌++◌, Bool, true, false, if◌then◌else◌, List, [], length, take, drop, codes, Option, Some, None, Result, Ok, Err}, Option.{option_and_then, option_map_or}, Str.bytes_eq}
-use Rattle.pf_addr.specs.declared.{form.fault.Kind.Kind, path.limits.TheConstants.REFERENCE_LIMIT}
-use Rattle.pf_addr.specs.{Form.Words.Word, Path.Paths.fault_within}
+use Rattle.pf_addr.specs.declared.path.limits.TheConstants.{REFERENCE_LIMIT}
+use Rattle.pf_form.specs.declared.form.fault.Kind.{Kind}
+use Rattle.pf_addr.specs.Path.Paths.{fault_within}
+use Rattle.pf_form.specs.Form.Words.{Word}
 
 -- the names of a path, and whether the rulesets attached to it are meant, in place of its own
 pub record PlainReference : Type 0 where

@@ -3,9 +3,9 @@ ghost use Rattle.std.specs.{Prelude.{◌≡◌, ◌≤◌, ◌-◌, length, slic
 ghost use Rattle.std.proofs.Common.{rules};
 ghost use Rattle.pf_addr.specs.Path.Names.{IsName, name_of, name_order, same_name};
 
-use crate::form::Kind;
 use crate::path::limits::TABLE_NAME_LIMIT;
 use crate::path::names::has_name_bytes;
+use pf_form::form::Kind;
 use std::cmp::Ordering;
 use std::marker::Model;
 

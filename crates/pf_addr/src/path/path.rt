@@ -2,9 +2,9 @@
 ghost use Rattle.std.specs.{Prelude.{◌≡◌, ◌≤◌, [], true, take, if◌then◌else◌, Some, None}, Option.is_none};
 ghost use Rattle.pf_addr.specs.Path.Paths.{path_of, path_fault, is_path, path_order, same_path};
 
-use crate::form::Kind;
 use crate::path::limits::PATH_LIMIT;
 use crate::path::path_text::fault_in;
+use pf_form::form::Kind;
 use std::cmp::Ordering;
 use std::marker::Model;
 

@@ -1,17 +1,18 @@
 //! Paths, names and references in bytes. Which bytes are refused is by `specs/Path/PathForms.antt`; each form is the same in each version.
 ghost use Rattle.std.specs.Prelude.{◌≡◌, ◌≤◌, true, Some, None, if◌then◌else◌};
-ghost use Rattle.pf_addr.specs.{Bytes.Names.filled, Bytes.Readers.Reads, Path.Paths.is_path, Path.References.refers, Path.PathForms.{name_field, names_limit, is_reference}};
+ghost use Rattle.pf_addr.specs.Path.{Paths.is_path, References.refers, PathForms.{name_field, names_limit, is_reference}};
+ghost use Rattle.pf_form.specs.Bytes.{Names.filled, Readers.Reads};
 
-use crate::bytes::{
-    Fault, Fitting, Layout, Ordered, Rest, Stop, expect, push_bytes, push_counted_bytes,
-    push_padded, push_u8, read_counted_bytes, read_filled, read_flag,
-};
 use crate::path::limits::REFERENCE_LIMIT;
 use crate::path::name::{Name, TableName};
 use crate::path::nested::faultless;
 use crate::path::path::Path;
 use crate::path::path_text::fault_in;
 use crate::path::reference::Reference;
+use pf_form::bytes::{
+    Fault, Fitting, Layout, Ordered, Rest, Stop, expect, push_bytes, push_counted_bytes,
+    push_padded, push_u8, read_counted_bytes, read_filled, read_flag,
+};
 use std::alloc::{AllocError, Global};
 
 /// The length of its text in one byte, and the text: none for the main ruleset's.
@@ -165,7 +166,7 @@ impl Layout for Reference {
         }
     }
 
-    #[tactic(auto, unfolding(crate::specs::Path::PathForms::reference_form, crate::specs::Bytes::Codes::below))]
+    #[tactic(auto, unfolding(crate::specs::Path::PathForms::reference_form, pf_form::specs::Bytes::Codes::below))]
     fn write(&self, _version: u8, out: &mut Vec<u8>) -> Result<(), AllocError> {
         push_padded(out, REFERENCE_FIELD, self.names())?;
         push_u8(out, u8::from(self.is_wildcard()))?;

@@ -2,9 +2,9 @@
 ghost use Rattle.std.specs.{Prelude.{◌≡◌, ◌<◌, length, count_by, IfSome}, List.position};
 ghost use Rattle.pf_addr.specs.Path.Paths.{is_slash, components, is_component, component_fault, first_fault, depth_fault, fault_within};
 
-use crate::form::Kind;
 use crate::path::limits::{COMPONENT_LIMIT, DEPTH_LIMIT};
 use crate::path::names::has_name_bytes;
+use pf_form::form::Kind;
 
 /// Why a text of at most `limit` bytes can't have these names in it, if it can't: its whole length comes first, then their
 /// components from left to right, then the number of these. It takes no memory.

@@ -2,9 +2,9 @@
 ghost use Rattle.std.specs.Prelude.{◌≡◌, ◌≤◌, length, None};
 ghost use Rattle.pf_addr.specs.{Path.References.{refers, unquoted, split_wildcard, reference_in, reference_of}, Path.ReferenceGrammar.IsReference};
 
-use crate::form::Kind;
 use crate::path::limits::REFERENCE_LIMIT;
 use crate::path::path_text::fault_in;
+use pf_form::form::Kind;
 use std::marker::Model;
 
 /// What an anchor rule names (pf.conf(5), Anchors): the names of a path, relative to the ruleset that holds the rule, and whether

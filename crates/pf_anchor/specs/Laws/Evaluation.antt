@@ -4,23 +4,23 @@ use Rattle.std.specs.{Prelude.{◌≡◌, ◌⊎◌, ℕ, zero, suc, ◌+◌, �
 use Rattle.pf_addr.specs.declared.path.limits.TheConstants.{DEPTH_LIMIT}
 use Rattle.pf_addr.specs.{Path.Paths.{main, same_path}, Path.Nested.path_within, Path.References.PlainReference}
 use Rattle.pf_rule.specs.{Packets.PlainPacket, Rules.PlainRule, declared.{rule.Action.Action, rule.Effect.TheVariants.Decide, rule.Effect.TheVariants.Evaluate}}
-use Rattle.pf_anchor.specs.{declared.{evaluated.Evaluated.Evaluated, evaluated.Evaluated.TheVariants.Open, evaluated.Evaluated.TheVariants.Ended}, Matches.{PlainMatch, found}, Rulesets.{Ruled, ruled, IsMap, rules_at, children, leads_to, targets}, Configurations.{Configuration, with_rulesets}, Evaluation.{Tests, and_then, in_turn, rules_at_path, evaluate_with, levels, evaluation, matching, judged}}
+use Rattle.pf_anchor.specs.{declared.{evaluated.Evaluated.Evaluated, evaluated.Evaluated.TheVariants.Open, evaluated.Evaluated.TheVariants.Ended}, Matches.{PlainMatch, found}, Rulesets.{PlainPlaced, ruled, IsMap, rules_at, children, leads_to, targets}, Configurations.{PlainConfig, with_rulesets}, Evaluation.{Tests, and_then, in_turn, rules_at_path, evaluate_with, levels, evaluation, matching, judged}}
 use Rattle.pf_anchor.specs.declared.verdict.RuleVerdict.TheVariants as by
 
 -- ---- one solution
 
 -- a ruleset is its rules in order, where each ruleset that they lead to is so itself
 abbrev pub Unrolls : Type 0
-Unrolls = (c : List Ruled) (tests : Tests) (e : Ruled) → evaluation c tests e ≡ evaluate_with (evaluation c tests) c tests e
+Unrolls = (c : List PlainPlaced) (tests : Tests) (e : PlainPlaced) → evaluation c tests e ≡ evaluate_with (evaluation c tests) c tests e
 
 -- nothing else is
 abbrev pub IsTheOnly : Type 0
-IsTheOnly = (c : List Ruled) (tests : Tests) (f : Ruled → Evaluated PlainMatch) → ((e : Ruled) → f e ≡ evaluate_with f c tests e) →
-    (e : Ruled) → f e ≡ evaluation c tests e
+IsTheOnly = (c : List PlainPlaced) (tests : Tests) (f : PlainPlaced → Evaluated PlainMatch) → ((e : PlainPlaced) → f e ≡ evaluate_with f c tests e) →
+    (e : PlainPlaced) → f e ≡ evaluation c tests e
 
 -- more levels than a path may have components change nothing
 abbrev pub DepthIsEnough : Type 0
-DepthIsEnough = (c : List Ruled) (tests : Tests) (e : Ruled) (k : ℕ) → DEPTH_LIMIT ≤ k → levels k c tests e ≡ evaluation c tests e
+DepthIsEnough = (c : List PlainPlaced) (tests : Tests) (e : PlainPlaced) (k : ℕ) → DEPTH_LIMIT ≤ k → levels k c tests e ≡ evaluation c tests e
 
 -- ---- rules that decide
 
@@ -39,7 +39,7 @@ pub record IsDeciding (test : PlainRule → Bool) (rules : List PlainRule) (numb
   pub stands : (rule.quick ≡ true) ⊎ (list_any test behind ≡ false)
 
 -- none of the main ruleset's rules matches, and the default is told; or one decides, and its number is told with what it does
-abbrev pub IsToldOfMain : Configuration → PlainPacket → Type 0
+abbrev pub IsToldOfMain : PlainConfig → PlainPacket → Type 0
 IsToldOfMain c packet =
     ((list_any (matching c.tables packet main) (rules_at main c.rulesets) ≡ false) × (judged c packet ≡ by.Default))
     ⊎ ((n : ℕ) × ((r : PlainRule) × ((a : Action) × (IsDeciding (matching c.tables packet main) (rules_at main c.rulesets) n r
@@ -47,13 +47,13 @@ IsToldOfMain c packet =
 
 -- so it is where the main ruleset has no anchor rule
 abbrev pub TellsWhatDecides : Type 0
-TellsWhatDecides = (c : Configuration) (packet : PlainPacket) → list_all decides (rules_at main c.rulesets) ≡ true → IsToldOfMain c packet
+TellsWhatDecides = (c : PlainConfig) (packet : PlainPacket) → list_all decides (rules_at main c.rulesets) ≡ true → IsToldOfMain c packet
 
 -- ---- a rule that matches, before other rules; f is what each ruleset gives
 
 -- of a rule that decides a quick one ends, and else its match stands until a later one
 abbrev pub OwnMatch : Type 0
-OwnMatch = (f : Ruled → Evaluated PlainMatch) (c : List Ruled) (tests : Tests) (p : List ℕ) (n : ℕ) (r : PlainRule)
+OwnMatch = (f : PlainPlaced → Evaluated PlainMatch) (c : List PlainPlaced) (tests : Tests) (p : List ℕ) (n : ℕ) (r : PlainRule)
     (a : Action) (rs : List PlainRule) →
     tests p r ≡ true → r.effect ≡ Decide a → rules_at_path f c tests p n (r ∷ rs)
     ≡ cond r.quick (Ended (found p n a)) (and_then (Open (Some (found p n a))) (rules_at_path f c tests p (n + 1) rs))
@@ -63,20 +63,20 @@ IsAnchor tests p r s = (tests p r ≡ true) × (r.effect ≡ Evaluate s)
 
 -- what ends within an anchor rule ends the rule's ruleset too, and so all outside
 abbrev pub EndsOutside : Type 0
-EndsOutside = (f : Ruled → Evaluated PlainMatch) (c : List Ruled) (tests : Tests) (p : List ℕ) (n : ℕ) (r : PlainRule)
+EndsOutside = (f : PlainPlaced → Evaluated PlainMatch) (c : List PlainPlaced) (tests : Tests) (p : List ℕ) (n : ℕ) (r : PlainRule)
     (s : PlainReference) (rs : List PlainRule) (m : PlainMatch) →
     IsAnchor tests p r s → in_turn f (targets c p s) ≡ Ended m → rules_at_path f c tests p n (r ∷ rs) ≡ Ended m
 
 -- where nothing within matched it is as if the rule weren't there, quick or not
 abbrev pub NothingWithin : Type 0
-NothingWithin = (f : Ruled → Evaluated PlainMatch) (c : List Ruled) (tests : Tests) (p : List ℕ) (n : ℕ) (r : PlainRule)
+NothingWithin = (f : PlainPlaced → Evaluated PlainMatch) (c : List PlainPlaced) (tests : Tests) (p : List ℕ) (n : ℕ) (r : PlainRule)
     (s : PlainReference) (rs : List PlainRule) →
     IsAnchor tests p r s → in_turn f (targets c p s) ≡ Open None →
     rules_at_path f c tests p n (r ∷ rs) ≡ rules_at_path f c tests p (n + 1) rs
 
 -- a quick one ends where something within matched, and else the match stands until a later one
 abbrev pub MatchWithin : Type 0
-MatchWithin = (f : Ruled → Evaluated PlainMatch) (c : List Ruled) (tests : Tests) (p : List ℕ) (n : ℕ) (r : PlainRule)
+MatchWithin = (f : PlainPlaced → Evaluated PlainMatch) (c : List PlainPlaced) (tests : Tests) (p : List ℕ) (n : ℕ) (r : PlainRule)
     (s : PlainReference) (rs : List PlainRule) (m : PlainMatch) →
     IsAnchor tests p r s → in_turn f (targets c p s) ≡ Open (Some m) →
     rules_at_path f c tests p n (r ∷ rs) ≡ cond r.quick (Ended m) (and_then (Open (Some m)) (rules_at_path f c tests p (n + 1) rs))
@@ -84,21 +84,21 @@ MatchWithin = (f : Ruled → Evaluated PlainMatch) (c : List Ruled) (tests : Tes
 -- ---- what a rule leads to
 
 -- of rulesets in turn the first that ends ends all, and else the latest match stands
-pub record TakesInTurn (f : Ruled → Evaluated PlainMatch) : Type 0 where
+pub record TakesInTurn (f : PlainPlaced → Evaluated PlainMatch) : Type 0 where
   pub none : in_turn f [] ≡ Open None
-  pub one : (e : Ruled) → in_turn f (e ∷ []) ≡ f e
-  pub more : (front back : List Ruled) → in_turn f (front ++ back) ≡ and_then (in_turn f front) (in_turn f back)
+  pub one : (e : PlainPlaced) → in_turn f (e ∷ []) ≡ f e
+  pub more : (front back : List PlainPlaced) → in_turn f (front ++ back) ≡ and_then (in_turn f front) (in_turn f back)
 
 abbrev pub InTurn : Type 0
-InTurn = (f : Ruled → Evaluated PlainMatch) → TakesInTurn f
+InTurn = (f : PlainPlaced → Evaluated PlainMatch) → TakesInTurn f
 
 -- the rulesets at some paths
-abbrev pub rulesets_at : List Ruled → List (List ℕ) → List Ruled
+abbrev pub rulesets_at : List PlainPlaced → List (List ℕ) → List PlainPlaced
 rulesets_at c paths = map (λ q. ruled q (rules_at q c)) paths
 
 -- a rule leads to the ruleset at its path if there is one, by a wildcard to those at its children in their order, and past the limits to
 -- none
-pub record LeadsThere (c : List Ruled) (p : List ℕ) (s : PlainReference) : Type 0 where
+pub record LeadsThere (c : List PlainPlaced) (p : List ℕ) (s : PlainReference) : Type 0 where
   pub by_wildcard : (base : List ℕ) → path_within p s.names ≡ Some base → s.wildcard ≡ true →
       targets c p s ≡ rulesets_at c (children c base)
   pub one : (base : List ℕ) → path_within p s.names ≡ Some base → s.wildcard ≡ false →
@@ -106,20 +106,20 @@ pub record LeadsThere (c : List Ruled) (p : List ℕ) (s : PlainReference) : Typ
   pub none : path_within p s.names ≡ None → targets c p s ≡ []
 
 abbrev pub LeadsToTheseAlone : Type 0
-LeadsToTheseAlone = (c : List Ruled) (p : List ℕ) (s : PlainReference) → IsMap c → LeadsThere c p s
+LeadsToTheseAlone = (c : List PlainPlaced) (p : List ℕ) (s : PlainReference) → IsMap c → LeadsThere c p s
 
 -- ---- a quick end, over a whole ruleset
 
 -- a quick rule that decides ends its ruleset's evaluation where no rule before it did, at any path: no rule behind it is looked at
 abbrev pub QuickEnds : Type 0
-QuickEnds = (c : List Ruled) (tests : Tests) (p : List ℕ) (front back : List PlainRule) (r : PlainRule)
+QuickEnds = (c : List PlainPlaced) (tests : Tests) (p : List ℕ) (front back : List PlainRule) (r : PlainRule)
     (a : Action) (last : Option PlainMatch) →
     rules_at_path (evaluation c tests) c tests p 0 front ≡ Open last → tests p r ≡ true → r.effect ≡ Decide a → r.quick ≡ true →
     evaluation c tests (ruled p (front ++ r ∷ back)) ≡ Ended (found p (length front) a)
 
 -- what ends within an anchor rule of the main ruleset is told, whatever stands behind that rule
 abbrev pub EndsTheVerdict : Type 0
-EndsTheVerdict = (c : Configuration) (packet : PlainPacket) (front back : List PlainRule) (r : PlainRule)
+EndsTheVerdict = (c : PlainConfig) (packet : PlainPacket) (front back : List PlainRule) (r : PlainRule)
     (s : PlainReference) (last : Option PlainMatch) (m : PlainMatch) →
     rules_at main c.rulesets ≡ front ++ r ∷ back →
     rules_at_path (evaluation c.rulesets (matching c.tables packet)) c.rulesets (matching c.tables packet) main 0 front ≡ Open last →
@@ -128,7 +128,7 @@ EndsTheVerdict = (c : Configuration) (packet : PlainPacket) (front back : List P
 
 -- ---- what decides
 
-abbrev pub IsIn : Ruled → List Ruled → Type 0
+abbrev pub IsIn : PlainPlaced → List PlainPlaced → Type 0
 IsIn e [] = ⊥
 IsIn e (x ∷ xs) = (x ≡ e) ⊎ IsIn e xs
 
@@ -138,7 +138,7 @@ rule_numbered (r ∷ rs) zero = Some r
 rule_numbered (r ∷ rs) (suc n) = rule_numbered rs n
 
 -- this match is a rule of the ruleset that matches and is no anchor rule
-abbrev pub IsDecidedBy : Tests → PlainMatch → Ruled → Type 0
+abbrev pub IsDecidedBy : Tests → PlainMatch → PlainPlaced → Type 0
 IsDecidedBy tests m e = (r : PlainRule) × ((e.0 ≡ m.path) × (rule_numbered e.1 m.number ≡ Some r) × (tests e.0 r ≡ true)
     × (r.effect ≡ Decide m.action))
 
@@ -149,37 +149,37 @@ Holds P (Open (Some m)) = P m
 
 -- what is found is a rule that decides, of a ruleset that is there
 abbrev pub AnchorsNeverDecide : Type 0
-AnchorsNeverDecide = (c : List Ruled) (tests : Tests) (e : Ruled) → IsIn e c →
-    Holds (λ m. (t : Ruled) × (IsIn t c × IsDecidedBy tests m t)) (evaluation c tests e)
+AnchorsNeverDecide = (c : List PlainPlaced) (tests : Tests) (e : PlainPlaced) → IsIn e c →
+    Holds (λ m. (t : PlainPlaced) × (IsIn t c × IsDecidedBy tests m t)) (evaluation c tests e)
 
 -- the rule that a verdict tells stands at that path under that number, matches the packet, and does what is told
 abbrev pub ToldRuleDecides : Type 0
-ToldRuleDecides = (c : Configuration) (packet : PlainPacket) (p : List ℕ) (n : ℕ) (a : Action) →
+ToldRuleDecides = (c : PlainConfig) (packet : PlainPacket) (p : List ℕ) (n : ℕ) (a : Action) →
     IsMap c.rulesets → judged c packet ≡ by.Rule p n a →
     (r : PlainRule) × ((rule_numbered (rules_at p c.rulesets) n ≡ Some r) × (matching c.tables packet p r ≡ true)
     × (r.effect ≡ Decide a))
 
 -- ---- a ruleset that no rule leads to
 
-abbrev pub NoneLeadsTo : List ℕ → List Ruled → Type 0
-NoneLeadsTo q c = (e : Ruled) (n : ℕ) (r : PlainRule) (s : PlainReference) → IsIn e c → rule_numbered e.1 n ≡ Some r →
+abbrev pub NoneLeadsTo : List ℕ → List PlainPlaced → Type 0
+NoneLeadsTo q c = (e : PlainPlaced) (n : ℕ) (r : PlainRule) (s : PlainReference) → IsIn e c → rule_numbered e.1 n ≡ Some r →
     r.effect ≡ Evaluate s → leads_to e.0 s q ≡ false
 
 -- it may be replaced by any other and no verdict changes, where it isn't the main ruleset; rulesets that lead only to one another are
 -- taken out one by one, the outermost first
 abbrev pub UnreachedIsNothing : Type 0
-UnreachedIsNothing = (c : Configuration) (new : Ruled) (packet : PlainPacket) → IsMap c.rulesets → NoneLeadsTo new.0 c.rulesets →
+UnreachedIsNothing = (c : PlainConfig) (new : PlainPlaced) (packet : PlainPacket) → IsMap c.rulesets → NoneLeadsTo new.0 c.rulesets →
     same_path new.0 main ≡ false → judged (with_rulesets c (new ∷ [])) packet ≡ judged c packet
 
 -- ---- parts
 
 -- rules in two parts, the second's numbers going on from the first's
 abbrev pub InTwoParts : Type 0
-InTwoParts = (f : Ruled → Evaluated PlainMatch) (c : List Ruled) (tests : Tests) (p : List ℕ) (n : ℕ) (front back : List PlainRule) →
+InTwoParts = (f : PlainPlaced → Evaluated PlainMatch) (c : List PlainPlaced) (tests : Tests) (p : List ℕ) (n : ℕ) (front back : List PlainRule) →
     rules_at_path f c tests p n (front ++ back)
     ≡ and_then (rules_at_path f c tests p n front) (rules_at_path f c tests p (n + length front) back)
 
 -- rules that don't match say nothing
 abbrev pub PassedOver : Type 0
-PassedOver = (f : Ruled → Evaluated PlainMatch) (c : List Ruled) (tests : Tests) (p : List ℕ) (n : ℕ) (rs : List PlainRule) →
+PassedOver = (f : PlainPlaced → Evaluated PlainMatch) (c : List PlainPlaced) (tests : Tests) (p : List ℕ) (n : ℕ) (rs : List PlainRule) →
     list_any (tests p) rs ≡ false → rules_at_path f c tests p n rs ≡ Open None

@@ -3,9 +3,9 @@ ghost use Rattle.std.specs.{Arc.arc_value, List.list_all, Prelude.{◌≡◌, �
 ghost use Rattle.pf_disk.specs.Disk.{EachMoment, IsImage};
 ghost use Rattle.pf_core.specs.Refusing.{and_then, unless};
 ghost use Rattle.pf_core.specs.declared.reply.Refusal.TheVariants as told;
-ghost use Rattle.pf_core.specs.{Calls.replies_in, Commands.group_words, Durable.Edits.{Kept, after}, Pages.{IsAt, StandsFor, LeadsGroup}, Worlds.{Held, idle, grouping, upshot, Event, called_group, changes_due, is_fault, is_halted, flat, LegalReplies, shown_by}};
+ghost use Rattle.pf_core.specs.{Calls.replies_in, Commands.group_words, Durable.Changes.{PlainDurable, after}, WorldBooks.{IsAt, StandsFor, LeadsGroup}, Worlds.{CurrentOpening, idle, grouping, upshot, Event, called_group, changes_due, is_fault, is_halted, flat, LegalReplies, shown_by}};
 ghost use Rattle.pf_store.specs.{Groups.{can_be_wanted, is_group, made_all}, Stores.{FollowInTurn, HoldsEither}};
-ghost use Rattle.pf_book.specs.Books.{page, HoldsLeft, left_together, listed, replied, IsMore, IsUnkept, AreMade, AreNumbered, StaysOpenable, StaysUnlessAnyKept, is_fault_result};
+ghost use Rattle.pf_book.specs.Books.{world_book, HoldsLeft, left_together, listed, replied, IsMore, IsUnkept, AreMade, AreNumbered, StaysOpenable, StaysUnlessAnyKept, is_fault_result};
 
 use crate::book::Book;
 use crate::chapter::Chapter;
@@ -33,9 +33,9 @@ impl<D: Disk + Drop, J: Chapter, R: Wait + Drop> Book<D, J, R> {
         requires wanted { list_all can_be_wanted changes.items ≡ true }
         requires group { is_group changes.items ≡ true }
         requires free { self.old.pending ≡ [] }
-        ensures ok { OnOk result (IsMore (page self.old) (page self.new) changes.items) }
+        ensures ok { OnOk result (IsMore (world_book self.old) (world_book self.new) changes.items) }
         ensures given { IfOk result (λ given. map arc_value given.items ≡ changes.items) }
-        ensures err { IfErr result (λ e. IsUnkept e (page self.old) (page self.new) changes.items) }
+        ensures err { IfErr result (λ e. IsUnkept e (world_book self.old) (world_book self.new) changes.items) }
         ensures any_moment { EachMoment D.moment D.left_since self.old.disk self.new.disk
             (HoldsEither self.old.whole.durable (after self.old.whole.durable changes.items)) }
         ensures still { IfErr result (λ e. is_fault e ≡ false → self.new.disk ≡ self.old.disk) }
@@ -62,7 +62,7 @@ impl<D: Disk + Drop, J: Chapter, R: Wait + Drop> Book<D, J, R> {
         requires wanted { list_all can_be_wanted changes.items ≡ true }
         requires group { is_group changes.items ≡ true }
         requires free { self.old.pending ≡ [] }
-        ensures made { AreMade (replied result) replies.items changes.items (page self.old) (page self.new) }
+        ensures made { AreMade (replied result) replies.items changes.items (world_book self.old) (world_book self.new) }
         ensures given { IfOk result (λ r. map arc_value r.1.items ≡ changes.items) }
         ensures any_moment { EachMoment D.moment D.left_since self.old.disk self.new.disk
             (HoldsEither self.old.whole.durable (after self.old.whole.durable changes.items)) }
@@ -100,17 +100,17 @@ impl<D: Disk + Drop, J: Chapter, R: Wait + Drop> Book<D, J, R> {
         &mut self,
         commands: &[Command],
     ) -> Result<(Vec<Reply>, Vec<Arc<Change>>), Refusal>
-        ensures leads { (h : Held) → IsAt h (page self.old) → LeadsGroup h (page self.new) commands.now (replied result)
+        ensures leads { (h : CurrentOpening) → IsAt h (world_book self.old) → LeadsGroup h (world_book self.new) commands.now (replied result)
             (upshot self.new.shown (nat_lt (D.fault_count self.old.disk) (D.fault_count self.new.disk))) }
-        ensures any_moment { (h : Held) → IsAt h (page self.old)
+        ensures any_moment { (h : CurrentOpening) → IsAt h (world_book self.old)
             → EachMoment D.moment D.left_since self.old.disk self.new.disk (HoldsLeft h (grouping commands.now)) }
-        ensures given { IfOk result (λ r. (h : Held) → IsAt h (page self.old) → map arc_value r.1.items ≡ changes_due h [] commands.now) }
+        ensures given { IfOk result (λ r. (h : CurrentOpening) → IsAt h (world_book self.old) → map arc_value r.1.items ≡ changes_due h [] commands.now) }
         ensures openable { StaysOpenable D.moment D.left_since self.old self.new }
         ensures moments { D.moment self.new.disk ≤ D.moment self.old.disk + 10 }
         ensures same_size { length (D.seen self.new.disk) ≡ length (D.seen self.old.disk) }
         ensures faults { D.fault_count self.new.disk ≡ D.fault_count self.old.disk + (if is_fault_result result then 1 else 0) }
         ensures base { self.new.base ≡ self.old.base }
-        ensures setting { (page self.new).setting ≡ (page self.old).setting }
+        ensures setting { (world_book self.new).setting ≡ (world_book self.old).setting }
         ensures stays { StaysUnlessAnyKept (replied result) self.old self.new }
     {
         self.check_all(commands)?;
@@ -140,19 +140,19 @@ impl<D: Disk + Drop, J: Chapter, R: Wait + Drop> Book<D, J, R> {
     /// instead of any reply but the first three; but once all changes are made the two limits come before any further want of memory. All
     /// growths but those for showing come before the device is written. After every `Err` but `Fault` all is as before, and no call of the
     /// device was made. After `Fault` the changes stand in the history, not acknowledged, and all else is as before; each later command
-    /// that may change something is `Halted`. Own.
+    /// that may change something is `Halted`.
     pub fn group(&mut self, commands: &[Command]) -> Result<Vec<Reply>, Refusal>
         // The replies, or the refusal, are legal in each world that the Book stood for, and it stands for that with this group at its end.
-        ensures worlds { (first : Kept) (world : List Event) → StandsFor first (page self.old) world →
-            StandsFor first (page self.new) (world ++ called_group commands.now (listed result)
+        ensures worlds { (first : PlainDurable) (world : List Event) → StandsFor first (world_book self.old) world →
+            StandsFor first (world_book self.new) (world ++ called_group commands.now (listed result)
             (upshot self.new.shown (nat_lt (D.fault_count self.old.disk) (D.fault_count self.new.disk))) ∷ []) }
-        ensures legal { (h : Held) → IsAt h (page self.old)
+        ensures legal { (h : CurrentOpening) → IsAt h (world_book self.old)
             → LegalReplies h commands.now (listed result) (nat_lt (D.fault_count self.old.disk) (D.fault_count self.new.disk)) }
 
         // At each moment of the call an image holds what some crash within it leaves of the opening, and after it what one then leaves.
-        ensures any_moment { (h : Held) → IsAt h (page self.old)
+        ensures any_moment { (h : CurrentOpening) → IsAt h (world_book self.old)
             → EachMoment D.moment D.left_since self.old.disk self.new.disk (HoldsLeft h (grouping commands.now)) }
-        ensures images { (h : Held) → IsAt h (page self.new) → (c : List ℕ)
+        ensures images { (h : CurrentOpening) → IsAt h (world_book self.new) → (c : List ℕ)
             → IsImage (D.seen self.new.disk) (D.unsynced self.new.disk) c → HoldsLeft h idle c }
 
         // What is kept is the fold of all that was acknowledged, and what is shown is the fold of as many changes as are shown.
@@ -162,7 +162,7 @@ impl<D: Disk + Drop, J: Chapter, R: Wait + Drop> Book<D, J, R> {
         ensures numbered { IfOk (listed result) (λ replies. AreNumbered replies (length (flat self.old.acked)) (length (flat self.new.acked))) }
         ensures stays { StaysUnlessAnyKept (listed result) self.old self.new }
         ensures base { self.new.base ≡ self.old.base }
-        ensures setting { (page self.new).setting ≡ (page self.old).setting }
+        ensures setting { (world_book self.new).setting ≡ (world_book self.old).setting }
 
         // What an opening needs of each image at each moment of the call.
         ensures openable { StaysOpenable D.moment D.left_since self.old self.new }

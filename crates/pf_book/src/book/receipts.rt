@@ -3,8 +3,8 @@ ghost use Rattle.std.specs.Prelude.{◌≡◌, ◌<◌, ◌≤◌, ◌↔◌, �
 ghost use Rattle.pf_disk.specs.Disk.{EachMoment};
 ghost use Rattle.std.specs.{Arc.arc_value, List.AllByRecursion, Option.{ForSome, option_copied, option_map}, Vec.Iter.into_iter_items};
 ghost use mathlib.Core.List.{IsPrefix};
-ghost use Rattle.pf_core.specs.{Calls.call, Pages.{IsAt, Leads, LeadsGroup}, Worlds.{Held, calling, grouping, flat, upshot}};
-ghost use Rattle.pf_book.specs.{Groups.{behind, is_kept, given_to, kept_count, left_behind, paired, slip_at, told, replies_of, HasReceipts}, Books.{StaysUnlessAnyKept, HoldsLeft, StaysOpenable, StaysUnlessKept, page, log_in}, Receipts.{token_of, Confirms, EndsIn, Follows, IsGiven, ShownFits}};
+ghost use Rattle.pf_core.specs.{Calls.call, WorldBooks.{IsAt, Leads, LeadsGroup}, Worlds.{CurrentOpening, calling, grouping, flat, upshot}};
+ghost use Rattle.pf_book.specs.{Groups.{behind, is_kept, given_to, kept_count, left_behind, paired, slip_at, told, replies_of, HasReceipts}, Books.{StaysUnlessAnyKept, HoldsLeft, StaysOpenable, StaysUnlessKept, world_book, log_in}, Receipts.{token_of, Confirms, EndsIn, Follows, IsGiven, ShownFits}};
 
 use crate::book::Book;
 use crate::chapter::Chapter;
@@ -59,19 +59,19 @@ impl<D: Disk + Drop, J: Chapter, R: Wait + Drop> Book<D, J, R> {
         command: &Command,
         last: Option<&Receipt<J>>,
     ) -> (Reply, Receipt<J>)
-        ensures leads { (h : Held) → IsAt h (page self.old) → Leads h (page self.new) (call command.now result.0)
+        ensures leads { (h : CurrentOpening) → IsAt h (world_book self.old) → Leads h (world_book self.new) (call command.now result.0)
             (upshot self.new.shown (nat_lt (D.fault_count self.old.disk) (D.fault_count self.new.disk))) }
-        ensures any_moment { (h : Held) → IsAt h (page self.old)
+        ensures any_moment { (h : CurrentOpening) → IsAt h (world_book self.old)
             → EachMoment D.moment D.left_since self.old.disk self.new.disk (HoldsLeft h (calling command.now)) }
         ensures openable { StaysOpenable D.moment D.left_since self.old self.new }
-        ensures front { result.1.front ≡ log_in (page self.new) }
+        ensures front { result.1.front ≡ log_in (world_book self.new) }
         ensures acked { result.1.acked ≡ length (flat self.new.acked) }
-        ensures given { IsGiven result.0 result.1.change (page self.old) (page self.new) }
-        ensures token { result.1.token ≡ token_of result.0 (log_in (page self.new)) }
+        ensures given { IsGiven result.0 result.1.change (world_book self.old) (world_book self.new) }
+        ensures token { result.1.token ≡ token_of result.0 (log_in (world_book self.new)) }
         ensures stays { StaysUnlessKept result.0 self.old self.new }
-        ensures follows { Follows (option_copied last.entry) (log_in (page self.old)) (length (flat self.old.acked)) }
+        ensures follows { Follows (option_copied last.entry) (log_in (world_book self.old)) (length (flat self.old.acked)) }
         ensures base { self.new.base ≡ self.old.base }
-        ensures setting { (page self.new).setting ≡ (page self.old).setting }
+        ensures setting { (world_book self.new).setting ≡ (world_book self.old).setting }
     {
         self.look_at(last);
         let (reply, change) = self.call(command);
@@ -85,16 +85,16 @@ impl<D: Disk + Drop, J: Chapter, R: Wait + Drop> Book<D, J, R> {
         commands: &[Command],
         last: Option<&Receipt<J>>,
     ) -> Result<Vec<(Reply, Receipt<J>)>, Refusal>
-        ensures leads { (h : Held) → IsAt h (page self.old) → LeadsGroup h (page self.new) commands.now (replies_of (told result))
+        ensures leads { (h : CurrentOpening) → IsAt h (world_book self.old) → LeadsGroup h (world_book self.new) commands.now (replies_of (told result))
             (upshot self.new.shown (nat_lt (D.fault_count self.old.disk) (D.fault_count self.new.disk))) }
-        ensures any_moment { (h : Held) → IsAt h (page self.old)
+        ensures any_moment { (h : CurrentOpening) → IsAt h (world_book self.old)
             → EachMoment D.moment D.left_since self.old.disk self.new.disk (HoldsLeft h (grouping commands.now)) }
-        ensures receipts { (h : Held) → IsAt h (page self.old) → HasReceipts h (log_in (page self.new)) commands.now (told result) }
+        ensures receipts { (h : CurrentOpening) → IsAt h (world_book self.old) → HasReceipts h (log_in (world_book self.new)) commands.now (told result) }
         ensures openable { StaysOpenable D.moment D.left_since self.old self.new }
         ensures stays { StaysUnlessAnyKept (replies_of (told result)) self.old self.new }
-        ensures follows { Follows (option_copied last.entry) (log_in (page self.old)) (length (flat self.old.acked)) }
+        ensures follows { Follows (option_copied last.entry) (log_in (world_book self.old)) (length (flat self.old.acked)) }
         ensures base { self.new.base ≡ self.old.base }
-        ensures setting { (page self.new).setting ≡ (page self.old).setting }
+        ensures setting { (world_book self.new).setting ≡ (world_book self.old).setting }
     {
         self.look_at(last);
         self.answer_each(commands)
@@ -102,15 +102,15 @@ impl<D: Disk + Drop, J: Chapter, R: Wait + Drop> Book<D, J, R> {
 
     // The same, with no receipt handed in. The places for the answers are made before any change is.
     fn answer_each(&mut self, commands: &[Command]) -> Result<Vec<(Reply, Receipt<J>)>, Refusal>
-        ensures leads { (h : Held) → IsAt h (page self.old) → LeadsGroup h (page self.new) commands.now (replies_of (told result))
+        ensures leads { (h : CurrentOpening) → IsAt h (world_book self.old) → LeadsGroup h (world_book self.new) commands.now (replies_of (told result))
             (upshot self.new.shown (nat_lt (D.fault_count self.old.disk) (D.fault_count self.new.disk))) }
-        ensures any_moment { (h : Held) → IsAt h (page self.old)
+        ensures any_moment { (h : CurrentOpening) → IsAt h (world_book self.old)
             → EachMoment D.moment D.left_since self.old.disk self.new.disk (HoldsLeft h (grouping commands.now)) }
-        ensures receipts { (h : Held) → IsAt h (page self.old) → HasReceipts h (log_in (page self.new)) commands.now (told result) }
+        ensures receipts { (h : CurrentOpening) → IsAt h (world_book self.old) → HasReceipts h (log_in (world_book self.new)) commands.now (told result) }
         ensures openable { StaysOpenable D.moment D.left_since self.old self.new }
         ensures stays { StaysUnlessAnyKept (replies_of (told result)) self.old self.new }
         ensures base { self.new.base ≡ self.old.base }
-        ensures setting { (page self.new).setting ≡ (page self.old).setting }
+        ensures setting { (world_book self.new).setting ≡ (world_book self.old).setting }
     {
         self.check_all(commands)?;
         let answers = Vec::with_capacity(self.alloc, commands.len())?;
@@ -124,7 +124,7 @@ impl<D: Disk + Drop, J: Chapter, R: Wait + Drop> Book<D, J, R> {
     // What a receipt that is handed in says of the history, if there is one.
     fn look_at(&mut self, last: Option<&Receipt<J>>)
         ensures same { self.new ≡ self.old }
-        ensures follows { Follows (option_copied last.entry) (log_in (page self.old)) (length (flat self.old.acked)) }
+        ensures follows { Follows (option_copied last.entry) (log_in (world_book self.old)) (length (flat self.old.acked)) }
     {
         if let Some(last) = last {
             self.begins_with(last);
@@ -134,7 +134,7 @@ impl<D: Disk + Drop, J: Chapter, R: Wait + Drop> Book<D, J, R> {
     // The history begins with the front of each receipt, and what was acknowledged at its reply is, its change too.
     fn begins_with(&mut self, receipt: &Receipt<J>)
         ensures same { self.new ≡ self.old }
-        ensures begins { IsPrefix receipt.now.front (log_in (page self.old)) }
+        ensures begins { IsPrefix receipt.now.front (log_in (world_book self.old)) }
         ensures acked { receipt.now.acked ≤ length (flat self.old.acked) }
         ensures change { ForSome receipt.now.change (λ e. length receipt.now.front ≤ length (flat self.old.acked)) }
     {
@@ -145,13 +145,13 @@ impl<D: Disk + Drop, J: Chapter, R: Wait + Drop> Book<D, J, R> {
 
     // The receipt of a reply that was given just now, and of the change that was made with it.
     fn receipt(&self, reply: &Reply, change: Option<Arc<Change>>) -> Receipt<J>
-        requires last { ForSome (option_map arc_value change) (λ e. EndsIn (log_in (page self.now)) e
-            × (length (log_in (page self.now)) ≤ length (flat self.now.acked))) }
-        requires shown { ShownFits reply.now self.now.shown (length (log_in (page self.now))) }
-        ensures front { result.front ≡ log_in (page self.now) }
+        requires last { ForSome (option_map arc_value change) (λ e. EndsIn (log_in (world_book self.now)) e
+            × (length (log_in (world_book self.now)) ≤ length (flat self.now.acked))) }
+        requires shown { ShownFits reply.now self.now.shown (length (log_in (world_book self.now))) }
+        ensures front { result.front ≡ log_in (world_book self.now) }
         ensures acked { result.acked ≡ length (flat self.now.acked) }
         ensures change { result.change ≡ option_map arc_value change }
-        ensures token { result.token ≡ token_of reply.now (log_in (page self.now)) }
+        ensures token { result.token ≡ token_of reply.now (log_in (world_book self.now)) }
     {
         Receipt {
             front: self.tip.front(),
@@ -165,10 +165,10 @@ impl<D: Disk + Drop, J: Chapter, R: Wait + Drop> Book<D, J, R> {
     // was kept with it.
     fn receipt_at(&self, seq: usize, reply: &Reply, change: Option<Arc<Change>>) -> Receipt<J>
         requires calm { self.now.pending ≡ [] }
-        requires within { seq ≤ length (log_in (page self.now)) }
-        requires last { ForSome (option_map arc_value change) (λ e. EndsIn (take seq (log_in (page self.now))) e) }
-        requires shown { ShownFits reply.now self.now.shown (length (log_in (page self.now))) }
-        ensures { result ≡ slip_at (log_in (page self.now)) seq (option_map arc_value change) reply.now }
+        requires within { seq ≤ length (log_in (world_book self.now)) }
+        requires last { ForSome (option_map arc_value change) (λ e. EndsIn (take seq (log_in (world_book self.now))) e) }
+        requires shown { ShownFits reply.now self.now.shown (length (log_in (world_book self.now))) }
+        ensures { result ≡ slip_at (log_in (world_book self.now)) seq (option_map arc_value change) reply.now }
     {
         Receipt {
             front: self.tip.front(),
@@ -189,11 +189,11 @@ impl<D: Disk + Drop, J: Chapter, R: Wait + Drop> Book<D, J, R> {
         requires calm { self.now.pending ≡ [] }
         requires empty { answers.items ≡ [] }
         requires room { length replies.items ≤ vec_capacity answers }
-        requires given { drop before (log_in (page self.now)) ≡ map arc_value given.items }
-        requires within { before ≤ length (log_in (page self.now)) }
+        requires given { drop before (log_in (world_book self.now)) ≡ map arc_value given.items }
+        requires within { before ≤ length (log_in (world_book self.now)) }
         requires kept { kept_count replies.items ≡ length (map arc_value given.items) }
-        requires shown { AllByRecursion (λ r. ShownFits r self.now.shown (length (log_in (page self.now)))) replies.items }
-        ensures { result.items ≡ paired (log_in (page self.now)) before replies.items (map arc_value given.items) }
+        requires shown { AllByRecursion (λ r. ShownFits r self.now.shown (length (log_in (world_book self.now)))) replies.items }
+        ensures { result.items ≡ paired (log_in (world_book self.now)) before replies.items (map arc_value given.items) }
     {
         // looked at, so that what a Book keeps is known here
         let _ = &self.core;
@@ -210,11 +210,11 @@ impl<D: Disk + Drop, J: Chapter, R: Wait + Drop> Book<D, J, R> {
 
     /// Whether the history has at least as many changes as the receipt's number says, and under this number the receipt's change, where it
     /// has one. So it is for each receipt of this opening, while the Book lay under its lock and afterwards. Only the number is compared: that
-    /// the history begins with what a receipt saw is known of their types. Memory is never refused for it. Own.
+    /// the history begins with what a receipt saw is known of their types. Memory is never refused for it.
     pub fn confirm(&mut self, receipt: &Receipt<J>) -> bool
-        ensures exact { IsTrue result ↔ Confirms (log_in (page self.old)) receipt.now }
+        ensures exact { IsTrue result ↔ Confirms (log_in (world_book self.old)) receipt.now }
         ensures yes { IsTrue result }
-        ensures begins { IsPrefix receipt.now.front (log_in (page self.old)) }
+        ensures begins { IsPrefix receipt.now.front (log_in (world_book self.old)) }
         ensures same { self.new ≡ self.old }
     {
         self.begins_with(receipt);
@@ -222,10 +222,10 @@ impl<D: Disk + Drop, J: Chapter, R: Wait + Drop> Book<D, J, R> {
     }
 
     /// The history begins with all that a seer of this opening saw and with all that it learnt, and all of this is acknowledged. So it is for
-    /// each seer at any time, while the Book lay under its lock and afterwards: this is known of their types, and nothing is compared. Own.
+    /// each seer at any time, while the Book lay under its lock and afterwards: this is known of their types, and nothing is compared.
     pub fn covers(&mut self, seer: &Seer<J>)
-        ensures seen { IsPrefix seer.now.seen (log_in (page self.old)) }
-        ensures learnt { IsPrefix seer.now.learnt (log_in (page self.old)) }
+        ensures seen { IsPrefix seer.now.seen (log_in (world_book self.old)) }
+        ensures learnt { IsPrefix seer.now.learnt (log_in (world_book self.old)) }
         ensures seen_acked { length seer.now.seen ≤ length (flat self.old.acked) }
         ensures learnt_acked { length seer.now.learnt ≤ length (flat self.old.acked) }
         ensures same { self.new ≡ self.old }
@@ -236,7 +236,7 @@ impl<D: Disk + Drop, J: Chapter, R: Wait + Drop> Book<D, J, R> {
 
     // It begins with each front of its history, of which no more was acknowledged.
     fn contains(&mut self, front: &Front<J>)
-        ensures begins { IsPrefix front.now.front (log_in (page self.old)) }
+        ensures begins { IsPrefix front.now.front (log_in (world_book self.old)) }
         ensures acked { front.now.acked ≤ length (flat self.old.acked) }
         ensures same { self.new ≡ self.old }
     {

@@ -1,15 +1,15 @@
 -- What follows from the definitions, as law functions promise it.
 use Rattle.std.specs.{Prelude.{◌≡◌, ◌≢◌, ◌⊎◌, ℕ, ◌≤◌, List, [], length, Ok}, List.AllByRecursion}
-use Rattle.pf_table.specs.{Edits.{added, deleted, replaced}, Entries.Row, Tables.AreEntries}
+use Rattle.pf_table.specs.{Edits.{added, deleted, replaced}, Entries.PlainEntry, Tables.AreEntries}
 use Rattle.pf_map.specs.ListMaps.{list_by}
 use Rattle.pf_anchor.specs.declared.limits.TheConstants.{RULE_LIMIT, RULESET_LIMIT, TABLE_COUNT_LIMIT}
 use Rattle.pf_anchor.specs.{Configurations.IsConfiguration, Laws.Configurations.rules_by, Rulesets.rules_at, Tables.{table_order, IsTableMap}}
-use Rattle.pf_state.specs.{declared.{state.StateName.StateName, step.Step.Step}, States.{Stated, IsStates}, Steps.{after as stepped_on, without_state}}
+use Rattle.pf_state.specs.{declared.{state.StateName.StateName, step.Step.Step}, States.{PlainState, IsStates}, Steps.{after as stepped_on, without_state}}
 use Rattle.pf_core.specs.declared.durable.change.Item.{Item}
-use Rattle.pf_core.specs.Durable.Edits.{Kept, commits, adds, deletes, sets, acts, removes, rulesets_in, tables_in, entries_at, applied, fits}
+use Rattle.pf_core.specs.Durable.Changes.{PlainDurable, commits, adds, deletes, sets, acts, removes, rulesets_in, tables_in, entries_at, applied, fits}
 
 -- what is kept after a commit, whole
-pub record IsReplaced (d : Kept) (items : List Item) (new : Kept) : Type 0 where
+pub record IsReplaced (d : PlainDurable) (items : List Item) (new : PlainDurable) : Type 0 where
   pub epoch : new.epoch ≡ d.epoch
   pub states : new.states ≡ d.states
   pub maps : IsConfiguration new.config
@@ -17,12 +17,12 @@ pub record IsReplaced (d : Kept) (items : List Item) (new : Kept) : Type 0 where
   pub tables : (p name : List ℕ) → entries_at new p name ≡ list_by table_order (tables_in items) (p, name) (entries_at d p name)
 
 abbrev pub ReplacesExactly : Type 0
-ReplacesExactly = (d : Kept) (items : List Item) → IsConfiguration d.config → IsReplaced d items (applied d (commits items))
+ReplacesExactly = (d : PlainDurable) (items : List Item) → IsConfiguration d.config → IsReplaced d items (applied d (commits items))
 
 -- ---- edits of tables
 
 -- the table at this path under this name has these entries, and all else is as before
-pub record IsEdited (d : Kept) (p name : List ℕ) (es : List Row) (new : Kept) : Type 0 where
+pub record IsEdited (d : PlainDurable) (p name : List ℕ) (es : List PlainEntry) (new : PlainDurable) : Type 0 where
   pub epoch : new.epoch ≡ d.epoch
   pub rulesets : new.config.rulesets ≡ d.config.rulesets
   pub states : new.states ≡ d.states
@@ -32,36 +32,36 @@ pub record IsEdited (d : Kept) (p name : List ℕ) (es : List Row) (new : Kept) 
 
 -- an edit changes exactly the table at its path under its name
 pub record EditsExactly : Type 0 where
-  pub by_add : (d : Kept) (p name : List ℕ) (xs : List Row) →
+  pub by_add : (d : PlainDurable) (p name : List ℕ) (xs : List PlainEntry) →
       IsEdited d p name (added (entries_at d p name) xs) (applied d (adds p name xs))
-  pub by_delete : (d : Kept) (p name : List ℕ) (xs : List Row) →
+  pub by_delete : (d : PlainDurable) (p name : List ℕ) (xs : List PlainEntry) →
       IsEdited d p name (deleted (entries_at d p name) xs) (applied d (deletes p name xs))
-  pub by_set : (d : Kept) (p name : List ℕ) (xs : List Row) → IsEdited d p name (replaced xs) (applied d (sets p name xs))
+  pub by_set : (d : PlainDurable) (p name : List ℕ) (xs : List PlainEntry) → IsEdited d p name (replaced xs) (applied d (sets p name xs))
   -- so a table that is killed is there no more
-  pub by_kill : (d : Kept) (p name : List ℕ) → IsEdited d p name [] (applied d (sets p name []))
+  pub by_kill : (d : PlainDurable) (p name : List ℕ) → IsEdited d p name [] (applied d (sets p name []))
 
 -- to delete entries from a table that isn't there makes none
 abbrev pub DeletesNothing : Type 0
-DeletesNothing = (d : Kept) (p name : List ℕ) (xs : List Row) → entries_at d p name ≡ [] →
+DeletesNothing = (d : PlainDurable) (p name : List ℕ) (xs : List PlainEntry) → entries_at d p name ≡ [] →
     entries_at (applied d (deletes p name xs)) p name ≡ []
 
 -- ---- changes of states
 
 -- the states are these, and all else is as before: no ruleset and no table changes with a peer's records
-pub record IsStepped (d : Kept) (ss : List Stated) (new : Kept) : Type 0 where
+pub record IsStepped (d : PlainDurable) (ss : List PlainState) (new : PlainDurable) : Type 0 where
   pub epoch : new.epoch ≡ d.epoch
   pub config : new.config ≡ d.config
   pub states : new.states ≡ ss
 
 -- a change of states changes states alone
 pub record StepsExactly : Type 0 where
-  pub by_steps : (d : Kept) (steps : List Step) → IsStepped d (stepped_on d.states steps) (applied d (acts steps))
-  pub by_removal : (d : Kept) (name : StateName) → IsStepped d (without_state d.states name) (applied d (removes name))
+  pub by_steps : (d : PlainDurable) (steps : List Step) → IsStepped d (stepped_on d.states steps) (applied d (acts steps))
+  pub by_removal : (d : PlainDurable) (name : StateName) → IsStepped d (without_state d.states name) (applied d (removes name))
 
 -- ---- limits
 
 -- what is kept is a configuration, tables and states in which nothing stands twice, all within the limits
-pub record IsWithin (d : Kept) : Type 0 where
+pub record IsWithin (d : PlainDurable) : Type 0 where
   pub maps : IsConfiguration d.config
   pub rulesets : length d.config.rulesets ≤ RULESET_LIMIT
   pub rules : (p : List ℕ) → length (rules_at p d.config.rulesets) ≤ RULE_LIMIT
@@ -75,13 +75,13 @@ pub record AreFew (items : List Item) : Type 0 where
   pub entries : AllByRecursion (λ t. AreEntries t.1) (tables_in items)
 
 -- a change that fits leaves what is kept within the limits
-pub record StaysWithin (d : Kept) : Type 0 where
+pub record StaysWithin (d : PlainDurable) : Type 0 where
   pub by_commit : (items : List Item) → AreFew items → fits d (commits items) ≡ Ok tt → IsWithin (applied d (commits items))
-  pub by_add : (p name : List ℕ) (xs : List Row) → fits d (adds p name xs) ≡ Ok tt → IsWithin (applied d (adds p name xs))
-  pub by_delete : (p name : List ℕ) (xs : List Row) → IsWithin (applied d (deletes p name xs))
-  pub by_set : (p name : List ℕ) (xs : List Row) → fits d (sets p name xs) ≡ Ok tt → IsWithin (applied d (sets p name xs))
+  pub by_add : (p name : List ℕ) (xs : List PlainEntry) → fits d (adds p name xs) ≡ Ok tt → IsWithin (applied d (adds p name xs))
+  pub by_delete : (p name : List ℕ) (xs : List PlainEntry) → IsWithin (applied d (deletes p name xs))
+  pub by_set : (p name : List ℕ) (xs : List PlainEntry) → fits d (sets p name xs) ≡ Ok tt → IsWithin (applied d (sets p name xs))
   pub by_steps : (steps : List Step) → fits d (acts steps) ≡ Ok tt → IsWithin (applied d (acts steps))
   pub by_removal : (name : StateName) → IsWithin (applied d (removes name))
 
 abbrev pub KeepsWithin : Type 0
-KeepsWithin = (d : Kept) → IsWithin d → StaysWithin d
+KeepsWithin = (d : PlainDurable) → IsWithin d → StaysWithin d

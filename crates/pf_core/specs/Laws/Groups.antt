@@ -1,17 +1,17 @@
 -- What a group of commands comes to, beside the same commands one by one.
 use Rattle.std.specs.{Prelude.{◌≡◌, Bool, true, false, not, List, [], ◌∷◌, ◌++◌}, List.AllByRecursion}
-use Rattle.pf_core.specs.{declared.{command.Command.Command, reply.Refusal.Refusal, reply.Refusal.TheVariants.HistoryFull, reply.Refusal.TheVariants.Full, reply.Reply.Reply, reply.Reply.TheVariants.Answer, reply.Reply.TheVariants.Applied, reply.Reply.TheVariants.Stored, reply.Reply.TheVariants.Refused}, Calls.call, Commands.may_be_grouped, Worlds.{Held, flat, due, amid, changes_due, replies_due, upshot, heard, shown_by}}
+use Rattle.pf_core.specs.{declared.{command.Command.Command, reply.Refusal.Refusal, reply.Refusal.TheVariants.HistoryFull, reply.Refusal.TheVariants.Full, reply.Reply.Reply, reply.Reply.TheVariants.Answer, reply.Reply.TheVariants.Applied, reply.Reply.TheVariants.Stored, reply.Reply.TheVariants.Refused}, Calls.call, Commands.may_be_grouped, Worlds.{CurrentOpening, flat, due, amid, changes_due, replies_due, upshot, heard, shown_by}}
 
 -- the opening once a command got the reply that it is due
-abbrev pub heard_due : Held → Command → Held
+abbrev pub heard_due : CurrentOpening → Command → CurrentOpening
 heard_due h c = heard h (call c (due h c)) (upshot (shown_by (due h c) h.shown) false)
 
 -- the replies that commands are due one by one, each as a call of its own, and the opening behind them
-abbrev pub dues_one_by_one : Held → List Command → List Reply
+abbrev pub dues_one_by_one : CurrentOpening → List Command → List Reply
 dues_one_by_one h [] = []
 dues_one_by_one h (c ∷ commands) = due h c ∷ dues_one_by_one (heard_due h c) commands
 
-abbrev pub one_by_one : Held → List Command → Held
+abbrev pub one_by_one : CurrentOpening → List Command → CurrentOpening
 one_by_one h [] = h
 one_by_one h (c ∷ commands) = one_by_one (heard_due h c) commands
 
@@ -28,11 +28,11 @@ has_room (Refused e) = not (is_want_of_room e)
 
 -- A group's commands are due the replies that they would be due one by one, and its changes, and the tickets that these void, are those of
 -- these calls.
-pub record AreInTurn (h : Held) (commands : List Command) : Type 0 where
+pub record AreInTurn (h : CurrentOpening) (commands : List Command) : Type 0 where
   pub replies : replies_due h [] commands ≡ dues_one_by_one h commands
   pub changes : flat h.acked ++ changes_due h [] commands ≡ flat (one_by_one h commands).acked
   pub tickets : (amid h (changes_due h [] commands)).tickets ≡ (one_by_one h commands).tickets
 
 abbrev pub GroupsAreInTurn : Type 0
-GroupsAreInTurn = (h : Held) (commands : List Command) → h.pending ≡ [] → AllByRecursion (λ c. may_be_grouped c ≡ true) commands →
+GroupsAreInTurn = (h : CurrentOpening) (commands : List Command) → h.pending ≡ [] → AllByRecursion (λ c. may_be_grouped c ≡ true) commands →
     AllByRecursion (λ r. has_room r ≡ true) (dues_one_by_one h commands) → AreInTurn h commands

@@ -5,9 +5,9 @@ use Rattle.pf_addr.specs.{Path.Paths.main, Path.References.PlainReference}
 use Rattle.pf_rule.specs.Packets.{PlainPacket}
 use Rattle.pf_table.specs.{Laws.Tables.DecidesAbout, Tables.deciding}
 use Rattle.pf_anchor.specs.{Evaluation.judged, Laws.Evaluation.{decides, IsToldOfMain, LeadsThere}, Rulesets.rules_at}
-use Rattle.pf_state.specs.{Flows.flow_of, Laws.States.IsStateOf, States.Stated}
-use Rattle.pf_ticket.specs.{declared.{entry.Entry.Entry, ticket.Ticket.Ticket}, Replies.commit_check, Tickets.content, Laws.Tickets.{AreOnce, IsWithin as AreTicketsWithin}, Mentions.{Mention, opened as left_by}, Names.tickets_from}
-use Rattle.pf_core.specs.{declared.{command.Command.TheVariants.Ask, command.Question.TheVariants.Judge, command.Question.TheVariants.Test, durable.verdict.Verdict.TheVariants.State as Stateful, durable.verdict.Verdict.TheVariants.Rules as ByRules, reply.Reply.Reply, reply.Reply.TheVariants.Answer as Answered, reply.Reply.TheVariants.Applied, reply.Reply.TheVariants.Stored}, Calls.{mentions_of, replies_in, mentions_of_group}, Commands.items, Durable.Edits.{Kept, named_again, entries_at, verdict}, History.tickets_in, Laws.Durable.IsWithin, Worlds.{Held, up, down, Event, called, called_group, opened, flat, log_of, durable_of, LegalReply, state_after, IsWorld}}
+use Rattle.pf_state.specs.{Flows.flow_of, Laws.States.IsStateOf, States.PlainState}
+use Rattle.pf_ticket.specs.{declared.{entry.RulesetTicket.RulesetTicket, ticket.Ticket.Ticket}, Replies.commit_check, Tickets.content, Laws.Tickets.{AreOnce, IsWithin as AreTicketsWithin}, Mentions.{Mention, opened as left_by}, Names.tickets_from}
+use Rattle.pf_core.specs.{declared.{command.Command.TheVariants.Ask, command.Question.TheVariants.Judge, command.Question.TheVariants.Test, durable.verdict.Verdict.TheVariants.State as Stateful, durable.verdict.Verdict.TheVariants.Rules as ByRules, reply.Reply.Reply, reply.Reply.TheVariants.Answer as Answered, reply.Reply.TheVariants.Applied, reply.Reply.TheVariants.Stored}, Calls.{mentions_of, replies_in, mentions_of_group}, Commands.items, Durable.Changes.{PlainDurable, named_again, entries_at, verdict}, History.tickets_in, Laws.Durable.IsWithin, Worlds.{CurrentOpening, up, down, Event, called, called_group, opened, flat, log_of, durable_of, LegalReply, state_after, IsWorld}}
 use Rattle.pf_core.specs.declared.reply.Answer.TheVariants as answer
 
 -- ---- tickets
@@ -34,7 +34,7 @@ mentions_since world = fold mentions_by [] world
 
 -- the transactions of the opening that a world comes to are what the mentions since it leave
 abbrev pub TicketsAreOfTheCalls : Type 0
-TicketsAreOfTheCalls = (first : Kept) (world : List Event) (h : Held) → IsWorld first world → state_after (down first) world ≡ up h →
+TicketsAreOfTheCalls = (first : PlainDurable) (world : List Event) (h : CurrentOpening) → IsWorld first world → state_after (down first) world ≡ up h →
     h.tickets ≡ left_by h.base.epoch (mentions_since world)
 
 -- tickets are numbered from 1 on, and so none is given twice
@@ -44,25 +44,25 @@ pub record AreGivenOnce (epoch : ℕ) (ts : List Ticket) : Type 0 where
 
 -- of the opening that a world comes to
 abbrev pub GivesEachOnce : Type 0
-GivesEachOnce = (first : Kept) (world : List Event) (h : Held) → IsWorld first world → state_after (down first) world ≡ up h →
+GivesEachOnce = (first : PlainDurable) (world : List Event) (h : CurrentOpening) → IsWorld first world → state_after (down first) world ≡ up h →
     AreGivenOnce h.base.epoch (tickets_since world)
 
 -- ---- limits
 
 -- an opening's transactions are within the limits, and so is what it kept
-pub record AreWithin (h : Held) : Type 0 where
+pub record AreWithin (h : CurrentOpening) : Type 0 where
   pub tickets : AreTicketsWithin h.tickets
   pub log : length (log_of h) ≤ h.setting.limit
   pub kept : IsWithin (durable_of h)
 
 abbrev pub KeepsTheLimits : Type 0
-KeepsTheLimits = (first : Kept) (world : List Event) (h : Held) → IsWithin first → IsWorld first world →
+KeepsTheLimits = (first : PlainDurable) (world : List Event) (h : CurrentOpening) → IsWithin first → IsWorld first world →
     state_after (down first) world ≡ up h → AreWithin h
 
 -- where the tickets of a commit are valid it names nothing twice, and is refused for limits alone
 abbrev pub CommitsNameOnce : Type 0
-CommitsNameOnce = (first : Kept) (world : List Event) (h : Held) → IsWorld first world → state_after (down first) world ≡ up h →
-    (entries : List Entry) → commit_check h.tickets entries ≡ Ok tt → named_again (items (content h.tickets) entries) ≡ None
+CommitsNameOnce = (first : PlainDurable) (world : List Event) (h : CurrentOpening) → IsWorld first world → state_after (down first) world ≡ up h →
+    (entries : List RulesetTicket) → commit_check h.tickets entries ≡ Ok tt → named_again (items (content h.tickets) entries) ≡ None
 
 abbrev pub failed_by : Bool → Event → Bool
 failed_by failed (called c t) = failed || t.failed
@@ -92,45 +92,45 @@ hidden_since world = fold hidden_by false world
 
 -- No change is shown that wasn't acknowledged, and every one is that was, but where some were stored and not shown since. One group at
 -- most isn't acknowledged, and none where the device didn't fail.
-pub record AllIsShown (world : List Event) (h : Held) : Type 0 where
+pub record AllIsShown (world : List Event) (h : CurrentOpening) : Type 0 where
   pub within : h.shown ≤ length (flat h.acked)
   pub all : hidden_since world ≡ false → h.shown ≡ length (flat h.acked)
   pub one : length h.pending ≤ 1
   pub none : failed_since world ≡ false → h.pending ≡ []
 
 abbrev pub ShowsAll : Type 0
-ShowsAll = (first : Kept) (world : List Event) (h : Held) → IsWorld first world → state_after (down first) world ≡ up h → AllIsShown world h
+ShowsAll = (first : PlainDurable) (world : List Event) (h : CurrentOpening) → IsWorld first world → state_after (down first) world ≡ up h → AllIsShown world h
 
 -- ---- answers
 
 -- A test is told the entry that decides in the table at that path under that name: the one that contains the address and whose network
 -- is the most specific of those that do; none where none contains it.
-pub record TellsTheEntry (h : Held) (p name : List ℕ) (a : Addr) : Type 0 where
+pub record TellsTheEntry (h : CurrentOpening) (p name : List ℕ) (a : Addr) : Type 0 where
   pub told : (r : Reply) (failed : Bool) → LegalReply h (Ask (Test p name a)) r failed →
       r ≡ Answered (answer.Tested (deciding (entries_at (durable_of h) p name) a))
   pub decides : DecidesAbout (entries_at (durable_of h) p name) a
 
 abbrev pub TestsTellTheEntry : Type 0
-TestsTellTheEntry = (first : Kept) (world : List Event) (h : Held) → IsWithin first → IsWorld first world →
+TestsTellTheEntry = (first : PlainDurable) (world : List Event) (h : CurrentOpening) → IsWithin first → IsWorld first world →
     state_after (down first) world ≡ up h →
     (p name : List ℕ) (a : Addr) → TellsTheEntry h p name a
 
 -- the one state of its flow decides about a packet, and where there is none the rules do
-pub record IsDecided (d : Kept) (packet : PlainPacket) : Type 0 where
-  pub by_state : (s : Stated) → IsStateOf d.states (flow_of packet) s → verdict d packet ≡ Stateful s.0
-  pub one : (s t : Stated) → IsStateOf d.states (flow_of packet) s → IsStateOf d.states (flow_of packet) t → s ≡ t
-  pub by_rules : ((s : Stated) → IsStateOf d.states (flow_of packet) s → ⊥) → verdict d packet ≡ ByRules (judged d.config packet)
+pub record IsDecided (d : PlainDurable) (packet : PlainPacket) : Type 0 where
+  pub by_state : (s : PlainState) → IsStateOf d.states (flow_of packet) s → verdict d packet ≡ Stateful s.0
+  pub one : (s t : PlainState) → IsStateOf d.states (flow_of packet) s → IsStateOf d.states (flow_of packet) t → s ≡ t
+  pub by_rules : ((s : PlainState) → IsStateOf d.states (flow_of packet) s → ⊥) → verdict d packet ≡ ByRules (judged d.config packet)
   -- of rules that all decide the last one that matches, or the first quick one
   pub last : list_all decides (rules_at main d.config.rulesets) ≡ true → IsToldOfMain d.config packet
   -- an anchor rule leads to the rulesets that there are, in their order
   pub leads : (p : List ℕ) (s : PlainReference) → LeadsThere d.config.rulesets p s
 
-pub record TellsTheVerdict (h : Held) (packet : PlainPacket) : Type 0 where
+pub record TellsTheVerdict (h : CurrentOpening) (packet : PlainPacket) : Type 0 where
   pub told : (r : Reply) (failed : Bool) → LegalReply h (Ask (Judge packet)) r failed →
       r ≡ Answered (answer.Judged (verdict (durable_of h) packet))
   pub decided : IsDecided (durable_of h) packet
 
 abbrev pub JudgesTellTheVerdict : Type 0
-JudgesTellTheVerdict = (first : Kept) (world : List Event) (h : Held) → IsWithin first → IsWorld first world →
+JudgesTellTheVerdict = (first : PlainDurable) (world : List Event) (h : CurrentOpening) → IsWithin first → IsWorld first world →
     state_after (down first) world ≡ up h →
     (packet : PlainPacket) → TellsTheVerdict h packet

@@ -1,7 +1,7 @@
 //! A change of what is kept.
 ghost use Rattle.std.specs.Prelude.{◌≡◌, map, IfOk};
-ghost use Rattle.pf_core.specs.Durable.Edits.{commits, adds, deletes, sets, acts, removes, name_of, voided_by};
-ghost use Rattle.pf_core.specs.Durable.EditViews.{edit_of};
+ghost use Rattle.pf_core.specs.Durable.Changes.{commits, adds, deletes, sets, acts, removes, name_of, voided_by};
+ghost use Rattle.pf_core.specs.Durable.ChangeViews.{change_of};
 
 use crate::durable::entry_list::EntryList;
 use pf_addr::path::TableName;
@@ -49,20 +49,20 @@ pub enum ChangeKind {
     Remove(StateName),
 }
 
-/// What is to be kept. Contracts see it as an `Edit`.
+/// What is to be kept. Contracts see it as an `PlainChange`.
 #[derive(Drop)]
 pub struct Change {
     pub(crate) kind: ChangeKind,
 }
 
 impl Model for Change {
-    ghost use Rattle.pf_core.specs.Durable.Edits.{Edit};
+    ghost use Rattle.pf_core.specs.Durable.Changes.{PlainChange};
 
-    ghost Value = { Edit };
+    ghost Value = { PlainChange };
 
-    ghost use Rattle.pf_core.specs.Durable.EditViews.{edit_of};
+    ghost use Rattle.pf_core.specs.Durable.ChangeViews.{change_of};
 
-    ghost view = { λ c. edit_of c.kind };
+    ghost view = { λ c. change_of c.kind };
 }
 
 impl Change {
@@ -134,7 +134,7 @@ impl Change {
 
     /// What it keeps, by its kind.
     pub fn kind(&self) -> &ChangeKind
-        ensures { edit_of result.now ≡ self.now }
+        ensures { change_of result.now ≡ self.now }
     {
         &self.kind
     }

@@ -7,7 +7,7 @@ ghost use Rattle.pf_state.specs.Steps.{after, counts, without_state};
 ghost use Rattle.pf_ticket.specs.Replies.{twice_behind};
 ghost use Rattle.pf_core.specs.declared.durable.refusal.ChangeRefusal.TheVariants.{Twice, Memory};
 ghost use Rattle.pf_core.specs.Durable.Forms.{durable_length};
-ghost use Rattle.pf_core.specs.Durable.Edits.{is_in_order, name_of, kept, kept_nothing, commits, adds, deletes, sets, acts, rulesets_in, replaces_main, placed, tables_in, entries_at, sum_of, main_sum, with_entries, with_states, in_epoch, room_for_table, fits, applied, changed, verdict};
+ghost use Rattle.pf_core.specs.Durable.Changes.{is_in_order, name_of, durable_with, kept_nothing, commits, adds, deletes, sets, acts, rulesets_in, replaces_main, placed, tables_in, entries_at, sum_of, main_sum, with_entries, with_states, in_epoch, room_for_table, fits, applied, changed, verdict};
 
 use crate::durable::change::{Change, ChangeKind, Item, names_of};
 use crate::durable::refusal::ChangeRefusal;
@@ -25,7 +25,7 @@ use std::alloc::{AllocError, Global};
 use std::marker::Model;
 use std::sync::Arc;
 
-/// What is kept: the epoch of the opening, the active rulesets and tables, and the states. Contracts see it as a `Kept`.
+/// What is kept: the epoch of the opening, the active rulesets and tables, and the states. Contracts see it as a `PlainDurable`.
 #[derive(Drop)]
 pub struct Durable {
     epoch: u32,
@@ -38,11 +38,11 @@ pub struct Durable {
 impl Model for Durable {
     ghost use Rattle.std.specs.Prelude.{◌≡◌};
     ghost use Rattle.std.specs.Arc.{arc_value};
-    ghost use Rattle.pf_core.specs.Durable.Edits.{Kept, kept, sum_of};
+    ghost use Rattle.pf_core.specs.Durable.Changes.{PlainDurable, durable_with, sum_of};
 
-    ghost Value = { Kept };
+    ghost Value = { PlainDurable };
 
-    ghost view = { λ d. kept d.epoch (arc_value d.config) (arc_value d.states) };
+    ghost view = { λ d. durable_with d.epoch (arc_value d.config) (arc_value d.states) };
 
     ghost invariant = { λ d. d.sum ≡ sum_of (arc_value d.config) };
 }
@@ -137,7 +137,7 @@ impl Durable {
         config: Config,
         states: StateTable,
     ) -> Result<Durable, AllocError>
-        ensures { IfOk result (λ d. d ≡ kept opening config states) }
+        ensures { IfOk result (λ d. d ≡ durable_with opening config states) }
     {
         Ok(Durable {
             epoch: opening,

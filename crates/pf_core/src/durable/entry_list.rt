@@ -14,9 +14,9 @@ pub struct EntryList {
 
 impl Model for EntryList {
     ghost use Rattle.std.specs.Prelude.{List};
-    ghost use Rattle.pf_table.specs.Entries.{Row};
+    ghost use Rattle.pf_table.specs.Entries.{PlainEntry};
 
-    ghost Value = { List Row };
+    ghost Value = { List PlainEntry };
 
     ghost view = { λ e. e.entries.items };
 }

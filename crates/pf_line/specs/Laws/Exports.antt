@@ -1,11 +1,11 @@
--- What a peer reads in the lines of an export. Own.
+-- What a peer reads in the lines of an export.
 use Rattle.std.specs.Prelude.{◌≡◌, ◌≤◌, ℕ, List, [], length, map, Some, Ok}
 use Rattle.hex.specs.Hex.{IsBytes}
 pub use Rattle.pf_state.specs.declared.peer.message.Message.{Message}
 pub use Rattle.pf_state.specs.declared.step.Step.{Step}
-use Rattle.pf_state.specs.{Peer.Written.{Each, message_bytes}, States.{Stated, IsStates}, Failover.Outgoing.exported_messages, Laws.Failover.{IsState, state_there}}
+use Rattle.pf_state.specs.{Peer.Written.{Each, message_bytes}, States.{PlainState, IsStates}, Failover.Outgoing.exported_messages, Laws.Failover.{IsState, state_there}}
 use Rattle.pf_anchor.specs.Rulesets.{rules_at}
-use Rattle.pf_core.specs.Durable.Edits.{Kept, main_sum}
+use Rattle.pf_core.specs.Durable.Changes.{PlainDurable, main_sum}
 use Rattle.pf_core.specs.declared.{command.Command.TheVariants.States, command.StateCommand.TheVariants.Peer}
 use Rattle.pf_line.specs.declared.line.TheConstants.{LINE_LIMIT}
 use Rattle.pf_line.specs.{Lines.{line_at, Means}, Reply.StateTexts.message_line}
@@ -15,7 +15,7 @@ abbrev pub message_text : Message → List ℕ
 message_text m = message_line (message_bytes m)
 
 -- the lines of an export of these states, where the main rules have this checksum
-abbrev pub exported_lines : List ℕ → List Stated → List (List ℕ)
+abbrev pub exported_lines : List ℕ → List PlainState → List (List ℕ)
 exported_lines current es = map message_text (exported_messages current es)
 
 -- a line that is no longer than a line may be, and means to act on this message
@@ -24,7 +24,7 @@ pub record TellsOf (m : Message) (line : List ℕ) : Type 0 where
   pub means : Means (line_at line) (Ok (Some (States (Peer m))))
 
 -- what can be exported: a checksum, and a table's states, each number of which is within its width
-pub record CanBeExported (current : List ℕ) (es : List Stated) : Type 0 where
+pub record CanBeExported (current : List ℕ) (es : List PlainState) : Type 0 where
   pub sum : length current ≡ 16
   pub bytes : IsBytes current
   pub table : IsStates es
@@ -32,15 +32,15 @@ pub record CanBeExported (current : List ℕ) (es : List Stated) : Type 0 where
 
 -- the line that an export gives for each of its messages tells of that message
 abbrev pub ExportsAreRead : Type 0
-ExportsAreRead = (current : List ℕ) (es : List Stated) → length current ≡ 16 → IsBytes current → Each IsState es
+ExportsAreRead = (current : List ℕ) (es : List PlainState) → length current ≡ 16 → IsBytes current → Each IsState es
     → Each (λ m. TellsOf m (message_text m)) (exported_messages current es)
 
 -- ---- where it is read
 
 -- how many main rules there are
-abbrev pub main_count : Kept → ℕ
+abbrev pub main_count : PlainDurable → ℕ
 main_count d = length (rules_at [] d.config.rulesets)
 
 -- these states of ours, as they are where this is kept: each is bound to its rule only where the checksums agree
-abbrev pub states_there : Kept → List ℕ → List Stated → List Stated
+abbrev pub states_there : PlainDurable → List ℕ → List PlainState → List PlainState
 states_there d ours es = map (state_there ours (main_sum d) (main_count d)) es

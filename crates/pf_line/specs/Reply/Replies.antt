@@ -1,19 +1,19 @@
 -- The text of each reply: one line, before which a shown ruleset has a line for each rule, shown tables and states one for each of them,
--- and an export one for each message. Own; rules and entries as pfctl(8) shows them.
+-- and an export one for each message. Rules and entries stand as pfctl(8) shows them.
 use Rattle.std.specs.Prelude.{ℕ, ◌+◌, ◌==◌, Bool, true, false, List, [], ◌∷◌, ◌++◌, length, map, codes, decimal, if◌then◌else◌, Option, Some, None}
 use Rattle.pf_rule.specs.declared.{rule.Action.Action, rule.Action.TheVariants.{Pass, Block}}
 use Rattle.pf_rule.specs.{Rules.PlainRule, RuleText.rule_text}
-use Rattle.pf_table.specs.Entries.{Row}
+use Rattle.pf_table.specs.Entries.{PlainEntry}
 use Rattle.pf_core.specs.declared.{reply.Answer.Answer, reply.Outcome.Outcome, reply.Refusal.Refusal, reply.Reply.Reply, durable.verdict.Verdict.Verdict, durable.verdict.Verdict.TheVariants.{State, Rules}}
 use Rattle.pf_core.specs.declared.reply.Answer.TheVariants as answers
 use Rattle.pf_core.specs.declared.reply.Outcome.TheVariants as outcomes
 use Rattle.pf_core.specs.declared.reply.Refusal.TheVariants as refusals
 use Rattle.pf_core.specs.declared.reply.Reply.TheVariants as replies
-use Rattle.pf_anchor.specs.Tables.{Tabled}
+use Rattle.pf_anchor.specs.Tables.{PlainPlacedTable}
 use Rattle.pf_anchor.specs.declared.{verdict.RuleVerdict.RuleVerdict, verdict.RuleVerdict.TheVariants.{Rule, Default}}
 use Rattle.hex.specs.Hex.{encode_lower}
 use Rattle.pf_ticket.specs.Names.{tickets_of}
-use Rattle.pf_line.specs.{Reply.Parts.lines_text, Reply.Texts.{tickets_text, entry_text, entries_text}, Reply.StateTexts.{name_text, state_lines, message_lines, counts_text, fault_text}}
+use Rattle.pf_line.specs.{Reply.TextLines.lines_text, Reply.Texts.{tickets_text, entry_text, entries_text}, Reply.StateTexts.{name_text, state_lines, message_lines, counts_text, fault_text}}
 
 -- ---- verdicts
 
@@ -41,7 +41,7 @@ sign_word true = codes "nomatch "
 sign_word false = codes "match "
 
 -- by the entry that decides, if one does
-abbrev pub tested_text : Option Row → List ℕ
+abbrev pub tested_text : Option PlainEntry → List ℕ
 tested_text (Some row) = sign_word row.1 ++ entry_text row
 tested_text None = codes "nomatch"
 
@@ -120,10 +120,10 @@ rule_lines n [] = []
 rule_lines n (r ∷ rs) = rule_line n r ∷ rule_lines (n + 1) rs
 
 -- a table's name, and each of its entries behind a space
-abbrev pub table_line : Tabled → List ℕ
+abbrev pub table_line : PlainPlacedTable → List ℕ
 table_line t = t.0.1 ++ entries_text t.1
 
-abbrev pub table_lines : List Tabled → List (List ℕ)
+abbrev pub table_lines : List PlainPlacedTable → List (List ℕ)
 table_lines tables = map table_line tables
 
 -- the lines before the last

@@ -1,4 +1,4 @@
--- The texts of states, of checksums and of messages for a peer. Own; a protocol, an address and a direction as a rule's text has them.
+-- The texts of states, of checksums and of messages for a peer. A protocol, an address and a direction as a rule's text has them.
 use Rattle.std.specs.Prelude.{ℕ, List, ◌∷◌, ◌++◌, codes, decimal, map}
 use Rattle.hex.specs.Hex.{encode_lower}
 use Rattle.pf_addr.specs.declared.addr.Addr.{Addr}
@@ -6,7 +6,7 @@ use Rattle.pf_addr.specs.Spelling.{addr_text}
 use Rattle.pf_rule.specs.declared.{value.direction.Direction.Direction, value.direction.Direction.TheVariants.{In, Out}}
 use Rattle.pf_rule.specs.Value.Tests.{protocol_word}
 use Rattle.pf_state.specs.declared.{peer.fault.PeerFault.PeerFault, peer.fault.PeerFault.TheVariants.{BadVersion, BadLength, BadAction, BadRecord, Ended}, counts.Counts.Counts, state.Bound.Bound, state.Bound.TheVariants.{Rule, Default}, state.StateName.StateName}
-use Rattle.pf_state.specs.{Flows.PlainFlow, States.Stated}
+use Rattle.pf_state.specs.{Flows.PlainFlow, States.PlainState}
 
 -- a state's number, and its creator's behind a space (32)
 abbrev pub name_text : StateName → List ℕ
@@ -31,10 +31,10 @@ bound_text (Rule number sum) = codes " rule " ++ decimal number ++ 32 ∷ encode
 bound_text Default = codes " default"
 
 -- its name, its generation, its flow and what it is bound to
-abbrev pub state_line : Stated → List ℕ
+abbrev pub state_line : PlainState → List ℕ
 state_line s = name_text s.0 ++ (32 ∷ decimal s.1.generation ++ (flow_text s.1.flow ++ bound_text s.1.bound))
 
-abbrev pub state_lines : List Stated → List (List ℕ)
+abbrev pub state_lines : List PlainState → List (List ℕ)
 state_lines ss = map state_line ss
 
 -- a message in hexadecimal, as the line that a peer is given

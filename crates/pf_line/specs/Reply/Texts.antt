@@ -1,7 +1,7 @@
--- The texts of tickets and of a table's entries. Own.
+-- The texts of tickets and of a table's entries.
 use Rattle.std.specs.Prelude.{ℕ, Bool, true, false, List, [], ◌∷◌, ◌++◌, decimal}
 use Rattle.pf_addr.specs.Spelling.{net_text}
-use Rattle.pf_table.specs.Entries.{Row}
+use Rattle.pf_table.specs.Entries.{PlainEntry}
 use Rattle.pf_ticket.specs.declared.ticket.Ticket.{Ticket}
 
 -- A ticket is written without leading zeros: its epoch, a dot (46) and its count.
@@ -19,10 +19,10 @@ sign_text true = 33 ∷ []
 sign_text false = []
 
 -- an entry of a table, as pfctl(8) shows it: its network, behind its sign
-abbrev pub entry_text : Row → List ℕ
+abbrev pub entry_text : PlainEntry → List ℕ
 entry_text row = sign_text row.1 ++ net_text row.0
 
 -- each entry behind a space (32)
-abbrev pub entries_text : List Row → List ℕ
+abbrev pub entries_text : List PlainEntry → List ℕ
 entries_text [] = []
 entries_text (row ∷ rows) = 32 ∷ entry_text row ++ entries_text rows

@@ -1,7 +1,7 @@
 //! Texts of answers, and of what is told of a change.
 ghost use Rattle.std.specs.Prelude.{◌≡◌, ◌∷◌, ◌++◌, codes, decimal};
 ghost use Rattle.pf_core.specs.declared.{reply.Answer.TheVariants.Logged, reply.Outcome.TheVariants.{Added, Deleted}, reply.Reply.TheVariants.{Applied, Stored}};
-ghost use Rattle.pf_line.specs.{Reply.Parts.GoesOn, Reply.Replies.{rule_verdict_text, answer_text, outcome_text, last_line}};
+ghost use Rattle.pf_line.specs.{Reply.TextLines.GoesOn, Reply.Replies.{rule_verdict_text, answer_text, outcome_text, last_line}};
 
 use crate::reply::part::{write_numbered, write_part};
 use crate::reply::state_line::{write_counts, write_hex};

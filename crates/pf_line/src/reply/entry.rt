@@ -1,7 +1,7 @@
 //! Texts of a table's entries.
 ghost use Rattle.std.specs.Prelude.{◌≡◌, ◌∷◌};
 ghost use Rattle.pf_addr.specs.Spelling.{net_text};
-ghost use Rattle.pf_line.specs.{Reply.Parts.{newlines, GoesOn}, Reply.Texts.{sign_text, entry_text, entries_text}};
+ghost use Rattle.pf_line.specs.{Reply.TextLines.{newlines, GoesOn}, Reply.Texts.{sign_text, entry_text, entries_text}};
 
 use crate::reply::part::write_part;
 use pf_addr::{Net, net_text_is_one_word, write_more_net};

@@ -3,7 +3,7 @@
 //! Each call is given what became of the writes so far, and writes behind them. It has no allocator.
 ghost use Rattle.std.specs.Prelude.{◌≡◌, [], ◌∷◌, ◌++◌, decimal};
 ghost use Rattle.pf_addr.specs.Writing.{Continues};
-ghost use Rattle.pf_line.specs.Reply.Parts.{newlines, GoesOn};
+ghost use Rattle.pf_line.specs.Reply.TextLines.{newlines, GoesOn};
 
 use pf_addr::{write_more, write_more_number};
 use std::io::{self, Write};

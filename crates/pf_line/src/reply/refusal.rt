@@ -1,6 +1,6 @@
 //! Texts of refusals.
 ghost use Rattle.std.specs.Prelude.{◌≡◌};
-ghost use Rattle.pf_line.specs.{Reply.Parts.GoesOn, Reply.Replies.refusal_text};
+ghost use Rattle.pf_line.specs.{Reply.TextLines.GoesOn, Reply.Replies.refusal_text};
 
 use crate::reply::part::{write_numbered, write_part};
 use crate::reply::state_line::fault_text;

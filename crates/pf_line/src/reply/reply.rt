@@ -5,7 +5,7 @@ ghost use Rattle.std.specs.{Prelude.{◌≡◌, ◌≢◌, IfErr}, IoError.error
 ghost use Rattle.pf_addr.specs.Writing.{Writes};
 ghost use Rattle.pf_core.specs.declared.reply.Answer.TheVariants as answers;
 ghost use Rattle.pf_core.specs.declared.reply.Reply.TheVariants as replies;
-ghost use Rattle.pf_line.specs.{Reply.Parts.{HasLines, GoesOn, WroteLines}, Reply.Replies.{last_line, shown_lines, reply_text, line_count}};
+ghost use Rattle.pf_line.specs.{Reply.TextLines.{HasLines, GoesOn, WroteLines}, Reply.Replies.{last_line, shown_lines, reply_text, line_count}};
 
 use crate::reply::answer::{write_answer, write_applied, write_stored};
 use crate::reply::part::end_line;

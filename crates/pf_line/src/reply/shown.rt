@@ -1,7 +1,7 @@
 //! The lines of what is shown.
 ghost use Rattle.std.specs.Prelude.{◌≡◌, []};
 ghost use Rattle.pf_rule.specs.RuleText.{rule_text};
-ghost use Rattle.pf_line.specs.{Reply.Parts.{GoesOn, WroteLines}, Reply.Replies.{rule_line, rule_lines, table_line, table_lines}};
+ghost use Rattle.pf_line.specs.{Reply.TextLines.{GoesOn, WroteLines}, Reply.Replies.{rule_line, rule_lines, table_line, table_lines}};
 
 use crate::reply::entry::write_entries;
 use crate::reply::part::{end_line, write_numbered, write_part};

@@ -3,7 +3,7 @@ ghost use Rattle.std.specs.Prelude.{◌≡◌, ◌∷◌, ◌++◌, [], codes, d
 ghost use Rattle.hex.specs.Hex.{encode_lower};
 ghost use Rattle.pf_addr.specs.Spelling.{addr_text};
 ghost use Rattle.pf_rule.specs.Value.Tests.{protocol_word};
-ghost use Rattle.pf_line.specs.{Reply.Parts.{newlines, GoesOn, WroteLines}, Reply.StateTexts.{name_text, way_text, end_text, flow_text, bound_text, state_line, state_lines, message_line, message_lines, counts_text, fault_text}};
+ghost use Rattle.pf_line.specs.{Reply.TextLines.{newlines, GoesOn, WroteLines}, Reply.StateTexts.{name_text, way_text, end_text, flow_text, bound_text, state_line, state_lines, message_line, message_lines, counts_text, fault_text}};
 
 use crate::reply::entry::write_network;
 use crate::reply::part::{end_line, write_number, write_numbered, write_part};

@@ -1,7 +1,7 @@
 //! Texts of tickets.
 ghost use Rattle.std.specs.Prelude.{◌≡◌, ◌+◌, ◌∷◌, ◌++◌, codes};
 ghost use Rattle.pf_ticket.specs.Names.{ticket as the_ticket, tickets_from, tickets_of};
-ghost use Rattle.pf_line.specs.{Reply.Parts.GoesOn, Reply.Texts.{ticket_text, tickets_text}};
+ghost use Rattle.pf_line.specs.{Reply.TextLines.GoesOn, Reply.Texts.{ticket_text, tickets_text}};
 
 use crate::reply::part::{write_numbered, write_part};
 use pf_ticket::TicketRange;

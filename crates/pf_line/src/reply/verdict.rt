@@ -1,6 +1,6 @@
 //! Texts of verdicts.
 ghost use Rattle.std.specs.Prelude.{◌≡◌, ◌++◌, codes, decimal};
-ghost use Rattle.pf_line.specs.{Reply.Parts.{newlines, GoesOn}, Reply.Replies.{place_text, action_text, rule_verdict_text, verdict_text, sign_word, tested_text}, Reply.StateTexts.name_text};
+ghost use Rattle.pf_line.specs.{Reply.TextLines.{newlines, GoesOn}, Reply.Replies.{place_text, action_text, rule_verdict_text, verdict_text, sign_word, tested_text}, Reply.StateTexts.name_text};
 
 use crate::reply::entry::write_entry;
 use crate::reply::part::{write_numbered, write_part};

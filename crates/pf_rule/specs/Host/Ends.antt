@@ -1,7 +1,7 @@
 -- The two ends of a packet's way, the source and the destination: how they are spelled (pf.conf(5), GRAMMAR), and the words that
 -- they are written as.
 use Rattle.std.specs.Prelude.{List, [], ◌∷◌, ◌++◌, Option, None, IfSome, codes}
-use Rattle.pf_addr.specs.{Form.Words.Word, Form.Forms.{Form, nothing, or, pair, making}}
+use Rattle.pf_form.specs.{Form.Words.Word, Form.Forms.{Form, nothing, or, pair, making}}
 use Rattle.pf_rule.specs.declared.{value.ports.PortTest.PortTest, host.host.Host.Host, host.host.Host.TheVariants.Any}
 use Rattle.pf_rule.specs.{Value.Ports.{IsPortTest, port, port_words}, Host.Hosts.{IsHost, host, host_words}}
 

@@ -2,8 +2,10 @@
 -- is one word is own.
 use Rattle.std.specs.{Prelude.{ℕ, ◌++◌, not, Bool, true, false, List, [], ◌∷◌, drop, codes, Option, Some, None, Result, Ok, if◌then◌else◌}, Option.{option_and_then, option_map_or}}
 use Rattle.std.proofs.Common.{◌≡◌, refl}
-use Rattle.pf_addr.specs.declared.{form.fault.Kind.Kind, addr.Addr.Addr, addr.Family.Family}
-use Rattle.pf_addr.specs.{Form.Words.Word, Form.Forms.{Form, nothing, word, or, ◌>>=◌}, Address.{Network, IsNetwork, network_of, contains}, Spelling.net_text, Grammar.SpellsNet, Reading.{part_at, pieces_at, v4_at, address_at, net_at}, Path.Names.{IsTableName, table_name_of}, Path.References.{behind, before}}
+use Rattle.pf_addr.specs.declared.addr.{Addr.Addr, Family.Family}
+use Rattle.pf_form.specs.declared.form.fault.Kind.{Kind}
+use Rattle.pf_addr.specs.{Address.{PlainNet, IsNetwork, network_of, contains}, Spelling.net_text, Grammar.SpellsNet, Reading.{part_at, pieces_at, v4_at, address_at, net_at}, Path.{Names.{IsTableName, table_name_of}, References.{behind, before}}}
+use Rattle.pf_form.specs.Form.{Words.Word, Forms.{Form, nothing, word, or, ◌>>=◌}}
 use Rattle.pf_addr.specs.declared.addr.Addr.TheVariants as addr
 use Rattle.pf_rule.specs.Value.Values.{begins_with, as_word}
 use Rattle.pf_rule.specs.declared.{host.host.Host.Host, host.host.Host.TheVariants.{Any, Net, Table}}
@@ -77,7 +79,7 @@ SpellsHost w h = SpellsMarked (is_negated h) w h
 abbrev pub bracketed : Word → Option Word
 bracketed w = option_and_then (before (codes ">")) (behind (codes "<") w)
 
-abbrev pub net_of : Word → Result Network Kind
+abbrev pub net_of : Word → Result PlainNet Kind
 net_of w = as_word (net_at w)
 
 -- a table, or else a network, negated or not

@@ -1,17 +1,19 @@
 -- The canonical words of a rule spell it, and they are the words of its text.
 use Rattle.std.proofs.{Common.{◌≡◌, ℕ, Bool, true, false, List, [], ◌∷◌, length, Option, Some, Result, Ok, inl, inr, refl, sym, ap, ◌∙◌, arith}, lemmas.Bool.lt-ltb}
 use Rattle.std.specs.{Prelude.{codes, nat_lt}, List.list_all}
-use Rattle.pf_addr.specs.declared.{form.fault.Kind.Kind, addr.Family.Family}
-use Rattle.pf_addr.specs.{Form.Words.{Word, words_of}, Form.Forms.{Spells, read_all}, Form.Readers.if_there, Laws.Form.Texts.only, Path.References.{PlainReference, reference_of, reference_text, quoted}, Path.ReferenceGrammar.IsReference}
+use Rattle.pf_addr.specs.declared.addr.Family.{Family}
+use Rattle.pf_form.specs.declared.form.fault.Kind.{Kind}
+use Rattle.pf_addr.specs.Path.{References.{PlainReference, reference_of, reference_text, quoted}, ReferenceGrammar.IsReference}
+use Rattle.pf_form.specs.{Form.{Words.{Word, words_of}, Forms.{Spells, read_all}, Readers.if_there}, Laws.Form.Texts.only}
 use Rattle.pf_addr.proofs.ReferencesRead.{spelled_is_read, quoted_bytes}
-use Rattle.pf_rule.specs.declared.{rule.Effect.Effect, rule.Effect.TheVariants.{Decide, Evaluate}, rule.Opening.Opening, rule.Action.TheVariants.{Pass, Block}, host.host.Host.Host, host.host.Host.TheVariants.{Any, Net, Table}, fault.Mistake.Mistake}
-use Rattle.pf_rule.specs.declared.rule.Opening.TheVariants as openings
+use Rattle.pf_rule.specs.declared.{rule.Effect.Effect, rule.Effect.TheVariants.{Decide, Evaluate}, rule.RuleStart.RuleStart, rule.Action.TheVariants.{Pass, Block}, host.host.Host.Host, host.host.Host.TheVariants.{Any, Net, Table}, fault.Mistake.Mistake}
+use Rattle.pf_rule.specs.declared.rule.RuleStart.TheVariants as openings
 use Rattle.pf_rule.specs.{Host.Hosts.{IsHost, host_family}, Laws.Host.Ends.ends_written, Rules.{PlainRule, IsEffect, IsRule, HostFits}, RuleGrammar.{opening, state, passes, effect_of, agreed, agreeing, rule, rule_decided}, RuleText.{effect_word, reference_words, quick_words, state_words, canonical, rule_text}, Value.Spacing.{is_word, words_of-join, join_bytes}, Value.Written.{Written, all_words, both}, Laws.Value.Tests.{direction_written, interface_written, family_written, protocol_written}}
 
 -- ---- keywords
 
 -- how a rule with this effect begins, and whether it keeps state
-abbrev opening_of : Effect → Opening
+abbrev opening_of : Effect → RuleStart
 opening_of (Decide (Pass k)) = openings.Pass
 opening_of (Decide Block) = openings.Block
 opening_of (Evaluate r) = openings.Anchor r

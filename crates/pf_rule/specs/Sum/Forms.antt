@@ -1,4 +1,4 @@
--- A rule's form: the 204 bytes that checksums are taken of. Own. Numbers have their highest byte first, and what doesn't apply is 0.
+-- A rule's form: the 204 bytes that checksums are taken of. Numbers have their highest byte first, and what doesn't apply is 0.
 --
 --   place width field
 --       0     1 0 block, 1 pass, 2 anchor
@@ -30,7 +30,8 @@ use Rattle.std.specs.{Prelude.{ℕ, ◌-◌, Bool, false, List, [], ◌∷◌, �
 use Rattle.byteorder.specs.Endian.{big_bytes}
 use Rattle.md5.specs.Md5.{md5}
 use Rattle.pf_addr.specs.declared.addr.Family.{Family}
-use Rattle.pf_addr.specs.{Bytes.Codes.flag_byte, Spelling.first_addr}
+use Rattle.pf_addr.specs.Spelling.{first_addr}
+use Rattle.pf_form.specs.Bytes.Codes.{flag_byte}
 use Rattle.pf_rule.specs.{declared.{value.direction.Direction.Direction, value.ports.Comparison.Comparison, value.ports.Comparison.TheVariants.Equal, value.ports.Comparison.TheVariants.NotEqual, value.ports.Comparison.TheVariants.Less, value.ports.Comparison.TheVariants.AtMost, value.ports.Comparison.TheVariants.Greater, value.ports.Comparison.TheVariants.AtLeast, value.ports.PortRange.PortRange, value.ports.PortRange.TheVariants.Including, value.ports.PortRange.TheVariants.Excluding, value.ports.PortRange.TheVariants.Except, value.ports.PortTest.PortTest, value.ports.PortTest.TheVariants.Compared, value.ports.PortTest.TheVariants.Ranged, host.host.Host.Host, host.host.Host.TheVariants.Any, host.host.Host.TheVariants.Net, host.host.Host.TheVariants.Table, rule.Effect.Effect, rule.Effect.TheVariants.Decide, rule.Effect.TheVariants.Evaluate, rule.Action.TheVariants.Pass, rule.Action.TheVariants.Block}, Bytes.addr_bytes, Host.Hosts.is_negated, Rules.PlainRule}
 use Rattle.pf_rule.specs.Bytes as bytes
 

@@ -1,9 +1,10 @@
--- The layout of a rule's form: which 204 bytes are some rule's, and what they say. Own, as the places in `Forms` are. A test of ports stands
+-- The layout of a rule's form: which 204 bytes are some rule's, and what they say. A test of ports stands
 -- only with a protocol that has ports, a network only with a family, which it is of, and state is kept only by a rule that passes.
 use Rattle.std.specs.Prelude.{ℕ, ◌==◌, nat_lt, Bool, false, List, [], ◌∷◌, replicate, Option, Some, None, unwrap_or, if◌then◌else◌}
 use Rattle.std.proofs.Common.{inl, inr}
 use Rattle.pf_addr.specs.declared.{addr.Family.Family, path.limits.TheConstants.TABLE_NAME_LIMIT}
-use Rattle.pf_addr.specs.{Bytes.Forms.{Shape, unit, nat, both, either, list, Value, Form, nothing, number, front, back, or, pair, pair_by, that}, Bytes.Codes.{below, flag, flag_byte}, Bytes.Names.filled, NetForms.{family, family_byte, address_in, first_number, is_network}, Path.PathForms.{name_field, ReferenceShape, reference_form, plain_reference}}
+use Rattle.pf_addr.specs.{NetForms.{family, family_byte, address_in, first_number, is_network}, Path.PathForms.{name_field, ReferenceShape, reference_form, plain_reference}}
+use Rattle.pf_form.specs.Bytes.{Forms.{Shape, unit, nat, both, either, list, Value, Form, nothing, number, front, back, or, pair, pair_by, that}, Codes.{below, flag, flag_byte}, Names.filled}
 use Rattle.pf_rule.specs.declared.{value.interface.TheConstants.INTERFACE_LIMIT, value.ports.PortTest.PortTest, host.host.Host.{Host, TheVariants.Any, TheVariants.Net, TheVariants.Table}, rule.Effect.{Effect, TheVariants.Decide, TheVariants.Evaluate}}
 use Rattle.pf_rule.specs.{Value.Values.has_ports, Rules.PlainRule, Sum.Forms.{test_byte, first_port, second_port, effect_byte, keeps_state, direction_byte}}
 

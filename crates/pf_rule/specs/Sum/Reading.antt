@@ -1,7 +1,8 @@
--- What the data of a rule's layout say. Own. Of data that no rule has nothing is said.
+-- What the data of a rule's layout say. Of data that no rule has nothing is said.
 use Rattle.std.specs.Prelude.{ℕ, ◌==◌, List, Option, Some, None, if◌then◌else◌}
 use Rattle.std.proofs.Common.{inl, inr}
-use Rattle.pf_addr.specs.{declared.addr.Family.Family, Bytes.Forms.Value, Bytes.Names.before_zero, NetForms.{family_of_byte, network_at}, Path.PathForms.{ReferenceShape, reference_of_plain}}
+use Rattle.pf_addr.specs.{declared.addr.Family.Family, NetForms.{family_of_byte, network_at}, Path.PathForms.{ReferenceShape, reference_of_plain}}
+use Rattle.pf_form.specs.Bytes.{Forms.Value, Names.before_zero}
 use Rattle.pf_rule.specs.declared.{value.direction.Direction.{Direction, TheVariants.In, TheVariants.Out}, value.ports.{Comparison.TheVariants.{Equal, NotEqual, Less, AtMost, Greater, AtLeast}, PortRange.TheVariants.{Including, Excluding, Except}, PortTest.{PortTest, TheVariants.Compared, TheVariants.Ranged}}, host.host.Host.{Host, TheVariants.Any, TheVariants.Net, TheVariants.Table}, rule.{Effect.{Effect, TheVariants.Decide, TheVariants.Evaluate}, Action.TheVariants.{Pass, Block}}}
 use Rattle.pf_rule.specs.{Rules.PlainRule, Sum.Layouts.{TestShape, EndShape, FamilyShape, InterfaceShape, RuleShape}}
 

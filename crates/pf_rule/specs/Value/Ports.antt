@@ -1,8 +1,8 @@
 -- Tests of ports: which ports they take, and how they are spelled (pf.conf(5), PARAMETERS and GRAMMAR).
 use Rattle.std.specs.{Prelude.{ℕ, ◌+◌, ◌<◌, ◌==◌, ◌&&◌, ◌||◌, not, nat_lt, nat_le, Bool, true, false, List, [], ◌∷◌, ◌++◌, take, drop, length, codes, decimal, Option, Some, None, is_none, Result, Ok, Err, if◌then◌else◌}, List.position}
 use Rattle.std.proofs.Common.{◌≡◌, refl}
-use Rattle.pf_addr.specs.declared.{form.fault.Kind.Kind, form.fault.Kind.TheVariants.BadWord}
-use Rattle.pf_addr.specs.{Form.Words.Word, Form.Forms.{Form, nothing, word, or, pair_by, making, ◌>>=◌}, Form.Numbers.IsNumber}
+use Rattle.pf_form.specs.declared.{form.fault.Kind.Kind, form.fault.Kind.TheVariants.BadWord}
+use Rattle.pf_form.specs.{Form.Words.Word, Form.Forms.{Form, nothing, word, or, pair_by, making, ◌>>=◌}, Form.Numbers.IsNumber}
 use Rattle.pf_rule.specs.declared.{value.values.TheConstants.PORT_DIGITS, value.ports.Comparison.Comparison, value.ports.Comparison.TheVariants.{Equal, NotEqual, Less, AtMost, Greater, AtLeast}, value.ports.PortRange.PortRange, value.ports.PortRange.TheVariants.{Including, Excluding, Except}, value.ports.PortTest.PortTest, value.ports.PortTest.TheVariants.{Compared, Ranged}, value.port_words.PortStart.PortStart, value.port_words.PortStart.TheVariants.{Test, Number}}
 use Rattle.pf_rule.specs.Value.Values.{has_ports, begins_with, port_of, a_port}
 

@@ -1,7 +1,8 @@
 -- Words with spaces between them.
 use Rattle.std.proofs.{Common.{◌≡◌, ℕ, true, false, List, [], ◌∷◌, ◌++◌, length, refl, sym, ap, ◌∙◌, append_assoc, append-nil, arith}, lemmas.Bool.and_parts, lemmas.Bool.Decides.nat_tests, lemmas.List.Splits.{slice_split_none, slice_split_at}, lemmas.List.Sums.{AllPass-from_list_all, list_all-from_AllPass}, lemmas.List.Folds.list_all-append}
 use Rattle.std.specs.{Prelude.{Bool, ◌&&◌, filter, nat_lt}, List.{join_with_byte, list_all, slice_index_or, All}}
-use Rattle.pf_addr.specs.{Form.Words.{Word, is_blank, words_of}, Writing.Continues-then}
+use Rattle.pf_addr.specs.Writing.{Continues-then}
+use Rattle.pf_form.specs.Form.Words.{Word, is_blank, words_of}
 
 -- words with a space before each
 abbrev pub spaced : List Word → List ℕ

@@ -1,7 +1,7 @@
 -- A rule's tests of the direction, the interface, the family and the protocol: what they mean, how they are spelled (pf.conf(5),
 -- PARAMETERS and GRAMMAR), and the words that they are written as.
 use Rattle.std.specs.Prelude.{ℕ, ◌==◌, Bool, true, false, List, [], ◌∷◌, Option, Some, None, codes, decimal, if◌then◌else◌}
-use Rattle.pf_addr.specs.{Form.Words.Word, Form.Forms.{Form, nothing, or, making}}
+use Rattle.pf_form.specs.{Form.Words.Word, Form.Forms.{Form, nothing, or, making}}
 use Rattle.pf_addr.specs.declared.{addr.Family.Family, addr.Family.TheVariants.{V4, V6}}
 use Rattle.pf_rule.specs.declared.{value.direction.Direction.Direction, value.direction.Direction.TheVariants.{In, Out}}
 use Rattle.pf_rule.specs.declared.value.protocol.TheConstants.Protocol as protocols

@@ -1,8 +1,10 @@
 -- The words that stand for values: names of interfaces, protocols, addresses and ports. Each is a test of a word, and a form.
 use Rattle.std.specs.{Prelude.{ℕ, ◌<◌, ◌==◌, ◌⊎◌, ◌&&◌, ◌||◌, nat_lt, Bool, true, false, List, [], ◌∷◌, take, length, codes, Option, Some, None, Result, Ok, Err, if◌then◌else◌}, Str.bytes_eq}
 use Rattle.std.proofs.Common.{◌≡◌, refl}
-use Rattle.pf_addr.specs.declared.{form.fault.Kind.Kind, form.fault.Kind.TheVariants.{BadWord, BadProto}, addr.Addr.Addr, fault.AddrFault.AddrFault}
-use Rattle.pf_addr.specs.{Form.Words.Word, Form.Forms.{Form, word}, Form.Numbers.{IsNumber, number_of}, Reading.{part_at, pieces_at, v4_at, address_at, addr_at}, Path.Names.{IsName, name_of}}
+use Rattle.pf_addr.specs.declared.{addr.Addr.Addr, fault.AddrFault.AddrFault}
+use Rattle.pf_form.specs.declared.form.fault.Kind.{Kind, TheVariants.{BadWord, BadProto}}
+use Rattle.pf_addr.specs.{Reading.{part_at, pieces_at, v4_at, address_at, addr_at}, Path.Names.{IsName, name_of}}
+use Rattle.pf_form.specs.Form.{Words.Word, Forms.{Form, word}, Numbers.{IsNumber, number_of}}
 use Rattle.pf_addr.specs.declared.addr.Addr.TheVariants as addr
 use Rattle.pf_rule.specs.declared.{value.interface.TheConstants.INTERFACE_LIMIT, value.values.TheConstants.{PROTOCOL_DIGITS, PORT_DIGITS}}
 use Rattle.pf_rule.specs.declared.value.protocol.TheConstants.Protocol as protocols

@@ -1,7 +1,7 @@
--- Words that spell a value and stand in a text. Own.
+-- Words that spell a value and stand in a text.
 use Rattle.std.proofs.{Common.{◌≡◌, ℕ, Bool, true, List, ◌++◌, length, Some, refl, arith}, lemmas.Bool.and_parts, lemmas.Bool.Decides.nat_tests, lemmas.List.Folds.list_all-append, lemmas.List.Sums.{AllPass-from_list_all, list_all-from_AllPass}}
 use Rattle.std.specs.{Prelude.nat_lt, List.{list_all, slice_index_or}}
-use Rattle.pf_addr.specs.{Form.Numbers.{is_digit, number_of}, Form.Words.Word, Form.Forms.{Form, pair, Spells}}
+use Rattle.pf_form.specs.{Form.Numbers.{is_digit, number_of}, Form.Words.Word, Form.Forms.{Form, pair, Spells}}
 use Rattle.pf_rule.specs.Value.Spacing.{is_word}
 
 -- words that spell a value, each of which is a word of a line

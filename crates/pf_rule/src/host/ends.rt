@@ -1,11 +1,11 @@
 //! Reading the two ends of a packet's way.
-ghost use Rattle.pf_addr.specs.Form.Readers.{Moves};
+ghost use Rattle.pf_form.specs.Form.Readers.{Moves};
 ghost use Rattle.pf_rule.specs.Host.Ends.{end, destination, ends};
 
 use crate::host::host::Host;
 use crate::host::host_words::read_host;
 use crate::value::{PortTest, read_port};
-use pf_addr::form::{Stop, Words, takes};
+use pf_form::form::{Stop, Words, takes};
 
 /// One end of a packet's way: its host, and a test of its port.
 pub type End = (Host, Option<PortTest>);

@@ -1,13 +1,13 @@
 //! Reading the words that stand for hosts.
 ghost use Rattle.std.specs.{Prelude.◌≡◌, Option.option_map};
-ghost use Rattle.pf_addr.specs.Form.Readers.{Moves};
+ghost use Rattle.pf_form.specs.Form.Readers.{Moves};
 ghost use Rattle.pf_rule.specs.Host.Hosts.{bracketed, marked, host_of, a_negated_host, a_host, host};
 
 use crate::host::host::Host;
 use crate::take_word;
 use pf_addr::Net;
-use pf_addr::form::{Kind, Stop, Words, takes};
 use pf_addr::path::TableName;
+use pf_form::form::{Kind, Stop, Words, takes};
 
 /// What stands between `<` and `>`.
 fn bracketed(word: &[u8]) -> Option<&[u8]>

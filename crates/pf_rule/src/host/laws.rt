@@ -1,6 +1,6 @@
 //! Laws of hosts. Each function does nothing; its clauses are what is proved.
 ghost use Rattle.std.specs.Prelude.{◌≡◌, Ok};
-ghost use Rattle.pf_addr.specs.Form.Words.{Word};
+ghost use Rattle.pf_form.specs.Form.Words.{Word};
 ghost use Rattle.pf_rule.specs.declared.host.host.Host.{Host};
 ghost use Rattle.pf_rule.specs.Host.Hosts.{SpellsHost, host_of};
 

@@ -1,14 +1,15 @@
 //! Reading the forms of hosts with the tests of their ports. Each fails where bytes are missing or can't stand where they stand.
 ghost use Rattle.std.specs.Prelude.{◌≡◌, ◌<◌, ◌≤◌, false, IfOk, IfSome, Some, None};
-ghost use Rattle.pf_addr.specs.{Address.IsNetwork, Bytes.Codes.flag_byte, Bytes.Names.filled, Bytes.Readers.Reads, NetForms.first_number, Path.Names.IsTableName};
+ghost use Rattle.pf_addr.specs.{Address.IsNetwork, NetForms.first_number, Path.Names.IsTableName};
+ghost use Rattle.pf_form.specs.Bytes.{Codes.flag_byte, Names.filled, Readers.Reads};
 ghost use Rattle.pf_rule.specs.{Value.Ports.IsPortTest, Rules.HostFits, Sum.Forms.{comparison_byte, range_byte}, Sum.Layouts.{port_test, plain_test, network_end, table_end, end, plain_end, plain_family}};
 
 use crate::host::End;
 use crate::sum::host_form::TABLE_FIELD;
 use crate::{Comparison, Host, PortRange, PortTest, TableName};
-use pf_addr::bytes::{Fault, Rest, Stop, expect, read_below, read_flag, read_u8, read_u16, takes};
 use pf_addr::path::read_name;
 use pf_addr::{Family, Net, read_addr};
+use pf_form::bytes::{Fault, Rest, Stop, expect, read_below, read_flag, read_u8, read_u16, takes};
 
 /// The operator of a number below 7, which isn't 0.
 fn comparison_of(test: u8) -> Comparison

@@ -1,6 +1,6 @@
 //! The forms of rules in bytes.
 ghost use Rattle.std.specs.Prelude.{◌≡◌, ◌≤◌, ◌∷◌, [], length, unwrap_or};
-ghost use Rattle.pf_addr.specs.Bytes.Codes.{flag_byte};
+ghost use Rattle.pf_form.specs.Bytes.Codes.{flag_byte};
 ghost use Rattle.pf_rule.specs.Sum.Forms.{filled, heading, effect_byte, keeps_state, direction_byte, family_byte, names, wildcard, rule_form};
 
 use crate::sum::host_form::{HOST_FORM, host_bytes};

@@ -1,7 +1,7 @@
 //! The forms of hosts with the tests of their ports, which are parts of the forms of rules.
 ghost use Rattle.std.specs.Prelude.{◌≡◌, ◌∷◌, ◌++◌, []};
 ghost use Rattle.byteorder.specs.Endian.{big_bytes};
-ghost use Rattle.pf_addr.specs.Bytes.Codes.{flag_byte};
+ghost use Rattle.pf_form.specs.Bytes.Codes.{flag_byte};
 ghost use Rattle.pf_rule.specs.{Bytes.addr_bytes, Host.Hosts.is_negated, Sum.Forms.{address_bytes, comparison_byte, filled, first_port, host_form, kind_byte, length_byte, range_byte, second_port, table_name, test_byte}};
 
 use crate::sum::form::filled;

@@ -1,7 +1,7 @@
 //! Laws of forms. Each function does nothing; its clauses are what is proved.
 ghost use Rattle.std.specs.Prelude.{◌≡◌, ℕ, [], ◌∷◌, codes, length, map, Ok};
 ghost use Rattle.pf_rule.specs.{Rules.{PlainRule, IsRule}, RuleGrammar.rule, Sum.Forms.{host_form, rule_form, ruleset_sum}, Sum.Layouts.{rule_layout, plain_rule}, Sum.Reading.rule_of};
-ghost use Rattle.pf_addr.specs.{Bytes.Forms.{Fits, writes, length_of}, Form.Words.words_of, Form.Forms.read_all};
+ghost use Rattle.pf_form.specs.{Bytes.Forms.{Fits, writes, length_of}, Form.Words.words_of, Form.Forms.read_all};
 ghost use Rattle.pf_rule.specs.declared.{host.host.Host.TheVariants.Any, sum.form.TheConstants.RULE_FORM};
 ghost use Rattle.pf_rule.specs.Laws.Sums as example;
 

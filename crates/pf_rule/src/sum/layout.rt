@@ -1,17 +1,17 @@
 //! Rules in bytes, and read from them.
 ghost use Rattle.std.specs.Prelude.{◌≡◌, ◌<◌, ◌==◌, false, IfOk, IfSome, unwrap_or};
-ghost use Rattle.pf_addr.specs.{Bytes.Forms.Form, Bytes.Codes.below, Bytes.Readers.Reads};
+ghost use Rattle.pf_form.specs.{Bytes.Forms.Form, Bytes.Codes.below, Bytes.Readers.Reads};
 ghost use Rattle.pf_rule.specs.{Value.Values.{IsInterfaceName, IsProtocol, has_ports}, Value.Ports.has_ports_of, Rules.{IsEffect, IsRule}, Sum.Forms.{direction_byte, effect_byte, keeps_state}, Sum.Layouts.{some_family, plain_family, interface, plain_interface, named, plain_named}};
 
 use crate::rule::RuleParts;
 use crate::sum::end_layout::read_end;
 use crate::sum::form::{INTERFACE_FIELD, rule_bytes};
 use crate::{Action, Direction, Effect, Interface, Protocol, Rule};
-use pf_addr::bytes::{
-    Fitting, Layout, Rest, Stop, expect, push_bytes, read_below, read_flag, read_u8, takes,
-};
 use pf_addr::path::{Reference, read_name};
 use pf_addr::{Family, read_family};
+use pf_form::bytes::{
+    Fitting, Layout, Rest, Stop, expect, push_bytes, read_below, read_flag, read_u8, takes,
+};
 use std::alloc::{AllocError, Global};
 
 /// The number of an effect that passes, and that of an anchor's.

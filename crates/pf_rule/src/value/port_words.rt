@@ -1,13 +1,13 @@
 //! Reading tests of ports (pf.conf(5), GRAMMAR).
 ghost use Rattle.std.specs.{Prelude.{◌≡◌, ◌<◌, length, IfSome}, List.position, Option.option_map};
-ghost use Rattle.pf_addr.specs.Form.Readers.{Moves};
+ghost use Rattle.pf_form.specs.Form.Readers.{Moves};
 ghost use Rattle.pf_rule.specs.Value.Ports.{split_operator, is_colon, start_of, a_start, compared, range_end, ranged, order_or_range, port_test, port};
 
 use crate::take_word;
 use crate::value::ports::{Comparison, PortRange, PortTest};
 use crate::value::value_words::port_word;
 use crate::value::values::port_of;
-use pf_addr::form::{Kind, Stop, Words, takes};
+use pf_form::form::{Kind, Stop, Words, takes};
 
 /// What the first word of a test says: the whole test, or its first number.
 #[derive(Clone, Copy)]

@@ -1,6 +1,6 @@
 //! Reading a rule's tests of the direction, the interface, the family and the protocol.
 ghost use Rattle.std.specs.Prelude.{◌≡◌, Ok};
-ghost use Rattle.pf_addr.specs.{Form.Forms.reads, Form.Readers.Moves, Form.Words.texts};
+ghost use Rattle.pf_form.specs.{Form.Forms.reads, Form.Readers.Moves, Form.Words.texts};
 ghost use Rattle.pf_rule.specs.Value.Tests.{direction, interface, family, protocol};
 
 use crate::value::direction::Direction;
@@ -8,7 +8,7 @@ use crate::value::interface::Interface;
 use crate::value::protocol::Protocol;
 use crate::value::value_words::{interface_word, protocol_word};
 use pf_addr::Family;
-use pf_addr::form::{Stop, Words, takes};
+use pf_form::form::{Stop, Words, takes};
 
 /// The test of the direction, where there is one.
 #[tactic(auto, unfolding(crate::specs::Value::Tests::direction))]

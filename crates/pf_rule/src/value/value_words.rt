@@ -1,12 +1,12 @@
 //! Reading the words that stand for values, each from the front of those that are left.
-ghost use Rattle.pf_addr.specs.Form.Readers.{Moves};
+ghost use Rattle.pf_form.specs.Form.Readers.{Moves};
 ghost use Rattle.pf_rule.specs.Value.Values.{an_interface, a_protocol, an_address, a_port};
 
 use crate::value::interface::Interface;
 use crate::value::protocol::Protocol;
 use crate::value::values::{address_of, port_of, protocol_of};
 use pf_addr::Addr;
-use pf_addr::form::{Stop, Words};
+use pf_form::form::{Stop, Words};
 
 /// Takes the first word where it reads as a value.
 #[macro_export]
@@ -18,9 +18,9 @@ macro_rules! take_word {
                     *$words = rest;
                     Ok(value)
                 }
-                Err(kind) => Err(pf_addr::form::stop(kind, $words)),
+                Err(kind) => Err(pf_form::form::stop(kind, $words)),
             },
-            [] => Err(pf_addr::form::bad_word($words)),
+            [] => Err(pf_form::form::bad_word($words)),
         }
     };
 }

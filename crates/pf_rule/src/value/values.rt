@@ -1,11 +1,11 @@
 //! Words that stand for values.
 ghost use Rattle.std.specs.Prelude.{◌≡◌};
-ghost use Rattle.pf_addr.specs.Form.Numbers.{number_of};
+ghost use Rattle.pf_form.specs.Form.Numbers.{number_of};
 ghost use Rattle.pf_rule.specs.Value.Values.{protocol_of, port_of, address_of};
 
 use crate::value::protocol::Protocol;
 use pf_addr::Addr;
-use pf_addr::form::{Kind, read_number};
+use pf_form::form::{Kind, read_number};
 
 /// How many digits a protocol's number may have, leading zeros among them.
 pub(crate) const PROTOCOL_DIGITS: usize = 3;

@@ -1,8 +1,8 @@
 -- Sessions over a shared Book, one part after another, and what is looked at of a line.
 use Rattle.std.proofs.Common.{ℕ, List, [], ◌∷◌, ◌++◌, refl, sym, ap, ◌∙◌, subst, append_assoc, append-nil}
-use Rattle.pf_core.specs.{Durable.Edits.Kept, Worlds.Setting}
+use Rattle.pf_core.specs.{Durable.Changes.PlainDurable, Worlds.Setting}
 use Rattle.pf_session.specs.declared.server.session.Session.{Session}
-use Rattle.pf_session.specs.{LineEngine.Lines.seen, Laws.Seeing.seen-told, Server.Chains.Chain, Server.Sittings.{Rests, Runs, TakesLine, at_next_line}, Server.Attending.{Attends, sitting}}
+use Rattle.pf_session.specs.{LineEngine.Lines.seen, Laws.Seeing.seen-told, Server.Chains.Chain, Server.Sittings.{RunsNothing, Runs, TakesLine, at_next_line}, Server.SessionRuns.{RunsSession, sitting}}
 
 -- ---- one after the other
 
@@ -18,21 +18,21 @@ chain-one Step a b x s step = (b, s, [], step, (refl, refl), sym (append-nil s))
 
 -- ---- sessions
 
-module _ {W D J H G : Type 0} (passed : G → ℕ → ℕ → Type 0) (base : Kept) (setting : Setting) where
-  pub attends-none : (s : Session W D J H G) → Attends passed base setting s s [] []
+module _ {W D J H G : Type 0} (passed : G → ℕ → ℕ → Type 0) (base : PlainDurable) (setting : Setting) where
+  pub attends-none : (s : Session W D J H G) → RunsSession passed base setting s s [] []
   attends-none s = record { same = record { seer = refl; last = refl; number = refl; gate = refl }; sits = (refl, refl) }
 
-  pub attends-then : (old mid new : Session W D J H G) (lines others : List (List ℕ)) (text more : List ℕ) → Attends passed base setting old mid lines text → Attends passed base setting mid new others more → Attends passed base setting old new (lines ++ others) (text ++ more)
+  pub attends-then : (old mid new : Session W D J H G) (lines others : List (List ℕ)) (text more : List ℕ) → RunsSession passed base setting old mid lines text → RunsSession passed base setting mid new others more → RunsSession passed base setting old new (lines ++ others) (text ++ more)
   attends-then old mid new lines others text more p q = record {
     same = record { seer = q.same.seer ∙ p.same.seer; last = q.same.last ∙ p.same.last; number = q.same.number ∙ p.same.number; gate = q.same.gate ∙ p.same.gate };
     sits = chain-then (TakesLine (passed old.gate.now old.number) base setting) (sitting old) (sitting mid) (sitting new) lines others text more p.sits
         (rw (sym p.same.gate, sym p.same.number) q.sits);
   }
 
-  pub attends-seen : (old new : Session W D J H G) (line text : List ℕ) → Attends passed base setting old new (seen line ∷ []) text → Attends passed base setting old new (line ∷ []) text
+  pub attends-seen : (old new : Session W D J H G) (line text : List ℕ) → RunsSession passed base setting old new (seen line ∷ []) text → RunsSession passed base setting old new (line ∷ []) text
   attends-seen old new line text p =
       let (mid, first, rest, step, more, is) = p.sits in
       record {
         same = p.same;
-        sits = (mid, first, rest, record { gate = step.gate; told = seen-told Rests (Runs base setting) line (at_next_line (sitting old), mid) first step.told }, more, is);
+        sits = (mid, first, rest, record { gate = step.gate; told = seen-told RunsNothing (Runs base setting) line (at_next_line (sitting old), mid) first step.told }, more, is);
       }

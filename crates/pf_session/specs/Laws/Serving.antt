@@ -1,8 +1,8 @@
 -- Lines that were served one list after another.
 use Rattle.std.proofs.{Common.{◌≡◌, ℕ, ◌+◌, List, [], ◌∷◌, ◌++◌, Option, refl, sym, ap, ◌∙◌, subst, append_assoc, arith}, lemmas.List.append-nil}
 use Rattle.pf_core.specs.declared.reply.Reply.{Reply}
-use Rattle.pf_core.specs.{Pages.StandsFor, Worlds.{Event, called, called_group, entered, learned, crashed, opened, refused_opening}}
-use Rattle.pf_book.specs.Books.{Ledger, page}
+use Rattle.pf_core.specs.{WorldBooks.StandsFor, Worlds.{Event, called, called_group, entered, learned, crashed, opened, refused_opening}}
+use Rattle.pf_book.specs.Books.{PlainBook, world_book}
 use Rattle.pf_session.specs.{Laws.Seeing.seen-told, LineEngine.Lines.seen, Serving.{NoCall, CallsBook, Served, failures, Continues, Serves, Told, text_of}}
 
 failures-append : (xs ys : List Event) → failures (xs ++ ys) ≡ failures xs + failures ys
@@ -15,16 +15,16 @@ failures-append (crashed doing n ∷ xs) ys = failures-append xs ys
 failures-append (opened setting ∷ xs) ys = failures-append xs ys
 failures-append (refused_opening rose ∷ xs) ys = failures-append xs ys
 
-pub continues-still : {D : Type 0} (faults : D → ℕ) (book : Ledger D) → Continues faults book book []
+pub continues-still : {D : Type 0} (faults : D → ℕ) (book : PlainBook D) → Continues faults book book []
 continues-still faults book = record {
-  worlds = λ first world stands. subst (λ (w : List Event). StandsFor first (page book) w) (sym (append-nil world)) stands;
+  worlds = λ first world stands. subst (λ (w : List Event). StandsFor first (world_book book) w) (sym (append-nil world)) stands;
   setting = refl;
   failed = omega arith;
 }
 
-continues-then : {D : Type 0} (faults : D → ℕ) (a b c : Ledger D) (x y : List Event) → Continues faults a b x → Continues faults b c y → Continues faults a c (x ++ y)
+continues-then : {D : Type 0} (faults : D → ℕ) (a b c : PlainBook D) (x y : List Event) → Continues faults a b x → Continues faults b c y → Continues faults a c (x ++ y)
 continues-then faults a b c x y p q = record {
-  worlds = λ first world stands. subst (λ (w : List Event). StandsFor first (page c) w) (append_assoc world x y) (q.worlds first (world ++ x) (p.worlds first world stands));
+  worlds = λ first world stands. subst (λ (w : List Event). StandsFor first (world_book c) w) (append_assoc world x y) (q.worlds first (world ++ x) (p.worlds first world stands));
   setting = q.setting ∙ p.setting;
   failed = omega (arith, p.failed, q.failed, failures-append x y);
 }
@@ -46,25 +46,25 @@ served-then (x ∷ xs) ys cs ds s t (first, rest, reply, replies, says, more, ev
 )
 
 module _ {D : Type 0} (faults : D → ℕ) where
-  pub serves-none : (book : Ledger D) → Serves faults book book [] []
+  pub serves-none : (book : PlainBook D) → Serves faults book book [] []
   serves-none book = record { events = []; served = (refl, refl); book = continues-still faults book }
 
   -- one line and what it was told
-  pub serves-one : (line : List ℕ) (told : Option Reply) (old new : Ledger D) → Told faults line told old new → Serves faults old new (line ∷ []) (text_of told)
+  pub serves-one : (line : List ℕ) (told : Option Reply) (old new : PlainBook D) → Told faults line told old new → Serves faults old new (line ∷ []) (text_of told)
   serves-one line told old new (events, says, book) = record {
     events = events;
     served = (events, [], text_of told, [], says, (refl, refl), sym (append-nil events), sym (append-nil (text_of told)));
     book = book;
   }
 
-  pub serves-then : (old mid new : Ledger D) (lines others : List (List ℕ)) (text more : List ℕ) → Serves faults old mid lines text → Serves faults mid new others more → Serves faults old new (lines ++ others) (text ++ more)
+  pub serves-then : (old mid new : PlainBook D) (lines others : List (List ℕ)) (text more : List ℕ) → Serves faults old mid lines text → Serves faults mid new others more → Serves faults old new (lines ++ others) (text ++ more)
   serves-then old mid new lines others text more p q = record {
     events = p.events ++ q.events;
     served = served-then lines others p.events q.events text more p.served q.served;
     book = continues-then faults old mid new p.events q.events p.book q.book;
   }
 
-  pub serves-seen : (old new : Ledger D) (line text : List ℕ) → Serves faults old new (seen line ∷ []) text → Serves faults old new (line ∷ []) text
+  pub serves-seen : (old new : PlainBook D) (line text : List ℕ) → Serves faults old new (seen line ∷ []) text → Serves faults old new (line ∷ []) text
   serves-seen old new line text p =
       let (first, rest, reply, replies, says, more, c, t) = p.served in
       record { events = p.events; served = (first, rest, reply, replies, seen-told NoCall CallsBook line first reply says, more, c, t); book = p.book }

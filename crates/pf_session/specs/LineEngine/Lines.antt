@@ -1,4 +1,4 @@
--- The lines of a text. A line ends at a newline, and the last one also at the end of the text. Own.
+-- The lines of a text. A line ends at a newline, and the last one also at the end of the text.
 use Rattle.std.specs.{Prelude.{◌≡◌, ◌≢◌, ℕ, List, [], ◌∷◌, ◌++◌, take, All}, List.flat_map}
 use Rattle.pf_session.specs.declared.line_engine.answer_line.TheConstants.{LOOKED_AT}
 

@@ -43,10 +43,10 @@ Ends Serves (Err fault.Memory) input lines rest unread old new held held' = (inp
 
 -- What was read, and what was done for it.
 pub record IsSession {S : Type 0} (Serves : S → S → List (List ℕ) → List ℕ → Type 0)
-    (result : Result (Unit {0}) EngineFault) (unread unread' : Option (List ℕ)) (old new : S) (held held' : Option (List ℕ)) : Type 0 where
+    (result : Result (Unit {0}) EngineFault) (unread still_unread : Option (List ℕ)) (old new : S) (held held' : Option (List ℕ)) : Type 0 where
   pub input : List ℕ
   pub lines : List (List ℕ)
   pub rest : List ℕ
-  pub read : Consumes unread unread' input
+  pub read : Consumes unread still_unread input
   pub cut : IsCut input lines rest
-  pub ends : Ends Serves result input lines rest unread' old new held held'
+  pub ends : Ends Serves result input lines rest still_unread old new held held'

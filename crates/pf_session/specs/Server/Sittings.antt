@@ -1,24 +1,24 @@
--- A session over a Book that others use too: which lines come to which calls, and what they are told. Own.
+-- A session over a Book that others use too: which lines come to which calls, and what they are told.
 use Rattle.std.specs.{Prelude.{◌≡◌, ℕ, ◌+◌, List, [], ◌∷◌, ◌++◌, codes, min, Option, Some, None, Result, ◌⊎◌}, Option.ForSome}
 use mathlib.Core.List.{IsPrefix}
 use Rattle.pf_rule.specs.Packets.{PlainPacket}
 use Rattle.pf_core.specs.declared.{command.Command.Command, command.Command.TheVariants.Ask, command.Question.TheVariants.Judge, reply.Answer.TheVariants.Judged, reply.Reply.Reply, reply.Reply.TheVariants.Answer}
-use Rattle.pf_core.specs.{Durable.Edits.{Kept, after, verdict}, Worlds.Setting}
-use Rattle.pf_view.specs.Known.{Known}
+use Rattle.pf_core.specs.{Durable.Changes.{PlainDurable, after, verdict}, Worlds.Setting}
+use Rattle.pf_view.specs.Seers.{PlainSeer}
 use Rattle.pf_line.specs.Reply.Replies.{reply_text}
-use Rattle.pf_book.specs.Receipts.{Slip, IsAnswered, learns_from}
+use Rattle.pf_book.specs.Receipts.{PlainReceipt, IsAnswered, learns_from}
 use Rattle.pf_session.specs.declared.line_engine.fault.EngineFault.{EngineFault}
 use Rattle.pf_session.specs.{LineEngine.Sessions.IsSession, Server.Chains.Chain, Telling.IsToldBy}
 
 -- Where a session has come to: the number of its last line, the receipt of its last call, and what its seer saw and learnt.
 pub record Sitting : Type 0 where
   pub line : ℕ
-  pub last : Option Slip
-  pub seer : Known
+  pub last : Option PlainReceipt
+  pub seer : PlainSeer
 
 -- before its first line, with the receipt of an earlier call, if it has one
-abbrev pub seated : Option Slip → Known → Sitting
-seated last known = record { line = 0; last = last; seer = known }
+abbrev pub at_start : Option PlainReceipt → PlainSeer → Sitting
+at_start last known = record { line = 0; last = last; seer = known }
 
 -- Lines are numbered from 1 on, and the number stays at its last value.
 abbrev pub next_line : ℕ → ℕ
@@ -36,27 +36,27 @@ gone_text = codes "err gone" ++ 10 ∷ []
 
 -- The packet was judged by a published copy that this seer saw, whose changes begin with all that it learnt; or none was found that could,
 -- and the seer saw nothing new.
-abbrev pub IsVerdict : Kept → PlainPacket → Known → Known → List ℕ → Type 0
+abbrev pub IsVerdict : PlainDurable → PlainPacket → PlainSeer → PlainSeer → List ℕ → Type 0
 IsVerdict base packet old new text =
     (IsPrefix old.learnt new.seen × (text ≡ reply_text (Answer (Judged (verdict (after base new.seen) packet)))))
     ⊎ ((new.seen ≡ old.seen) × (text ≡ gone_text))
 
 -- A seer judged the packet, and learnt nothing by it.
-pub record HasJudged (base : Kept) (packet : PlainPacket) (old new : Known) (text : List ℕ) : Type 0 where
+pub record HasJudged (base : PlainDurable) (packet : PlainPacket) (old new : PlainSeer) (text : List ℕ) : Type 0 where
   pub sees : IsPrefix old.seen new.seen
   pub learnt : new.learnt ≡ old.learnt
   pub verdict : IsVerdict base packet old new text
 
 -- The session's seer judged the packet, without the Book.
-pub record IsJudged (base : Kept) (packet : PlainPacket) (old new : Sitting) (text : List ℕ) : Type 0 where
+pub record IsJudged (base : PlainDurable) (packet : PlainPacket) (old new : Sitting) (text : List ℕ) : Type 0 where
   pub seer : HasJudged base packet old.seer new.seer text
   pub same : new ≡ record old { seer = new.seer }
 
 -- The Book ran the command, with the receipt of the session's last call handed in. The session keeps the receipt that it got, and its seer
 -- learns the token in it, if there is one: what it learnt then begins with the token, and with all that it had learnt.
-pub record IsRun (base : Kept) (setting : Setting) (c : Command) (old new : Sitting) (text : List ℕ) : Type 0 where
+pub record IsCommandRun (base : PlainDurable) (setting : Setting) (c : Command) (old new : Sitting) (text : List ℕ) : Type 0 where
   pub reply : Reply
-  pub slip : Slip
+  pub slip : PlainReceipt
   pub answered : IsAnswered base setting c reply slip old.last
   pub told : text ≡ reply_text reply
   pub kept : new ≡ record old { last = Some slip; seer = learns_from slip.token old.seer }
@@ -68,33 +68,33 @@ abbrev pub packet_in : Command → Option PlainPacket
 packet_in (Ask (Judge packet)) = Some packet
 packet_in c = None
 
-abbrev pub RunsBy : Option PlainPacket → Kept → Setting → Command → Sitting → Sitting → List ℕ → Type 0
+abbrev pub RunsBy : Option PlainPacket → PlainDurable → Setting → Command → Sitting → Sitting → List ℕ → Type 0
 RunsBy (Some packet) base setting c old new text = IsJudged base packet old new text
-RunsBy None base setting c old new text = IsRun base setting c old new text
+RunsBy None base setting c old new text = IsCommandRun base setting c old new text
 
 -- a packet is judged by the session's seer, any other command is run by the Book: from where the session was to where it then is
-abbrev pub Runs : Kept → Setting → Command → Sitting × Sitting → List ℕ → Type 0
+abbrev pub Runs : PlainDurable → Setting → Command → Sitting × Sitting → List ℕ → Type 0
 Runs base setting c moved text = RunsBy (packet_in c) base setting c moved.0 moved.1 text
 
 -- nothing was run
-abbrev pub Rests : Sitting × Sitting → Type 0
-Rests moved = moved.1 ≡ moved.0
+abbrev pub RunsNothing : Sitting × Sitting → Type 0
+RunsNothing moved = moved.1 ≡ moved.0
 
 -- ---- lines
 
 -- A line passed the gate with its number, and was told this.
-pub record TakesLine (passed : ℕ → Type 0) (base : Kept) (setting : Setting) (line : List ℕ) (old new : Sitting) (text : List ℕ) : Type 0 where
+pub record TakesLine (passed : ℕ → Type 0) (base : PlainDurable) (setting : Setting) (line : List ℕ) (old new : Sitting) (text : List ℕ) : Type 0 where
   pub gate : passed (next_line old.line)
-  pub told : IsToldBy Rests (Runs base setting) line (at_next_line old, new) text
+  pub told : IsToldBy RunsNothing (Runs base setting) line (at_next_line old, new) text
 
 -- These lines passed the gate one after the other, and were told this.
-abbrev pub Sits : (ℕ → Type 0) → Kept → Setting → Sitting → Sitting → List (List ℕ) → List ℕ → Type 0
-Sits passed base setting old new lines text = Chain (TakesLine passed base setting) old new lines text
+abbrev pub TakesLines : (ℕ → Type 0) → PlainDurable → Setting → Sitting → Sitting → List (List ℕ) → List ℕ → Type 0
+TakesLines passed base setting old new lines text = Chain (TakesLine passed base setting) old new lines text
 
 -- What was done for what was read, by a session that had one receipt and then has the other, and whose seer knew the one and then knows the
 -- other.
-pub record IsSat (passed : ℕ → Type 0) (base : Kept) (setting : Setting) (result : Result (Unit {0}) EngineFault)
-    (unread unread' : Option (List ℕ)) (last last' : Option Slip) (known known' : Known) (held held' : Option (List ℕ)) : Type 0 where
+pub record IsSharedSession (passed : ℕ → Type 0) (base : PlainDurable) (setting : Setting) (result : Result (Unit {0}) EngineFault)
+    (unread still_unread : Option (List ℕ)) (last last' : Option PlainReceipt) (known known' : PlainSeer) (held held' : Option (List ℕ)) : Type 0 where
   -- the number of its last line
   pub line : ℕ
-  pub session : IsSession (Sits passed base setting) result unread unread' (seated last known) (record { line = line; last = last'; seer = known' }) held held'
+  pub session : IsSession (TakesLines passed base setting) result unread still_unread (at_start last known) (record { line = line; last = last'; seer = known' }) held held'

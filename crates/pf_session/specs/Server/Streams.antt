@@ -1,13 +1,13 @@
--- A peer's stream over a Book that others use too: its messages are given to it in groups. Own.
+-- A peer's stream over a Book that others use too: its messages are given to it in groups.
 use Rattle.std.specs.{Prelude.{◌≡◌, ℕ, ◌<◌, ◌≤◌, length, List, [], ◌∷◌, ◌++◌, map, flat_map, fold, Option, Some, None, Result, Ok, Err, ◌⊎◌, ⊤}, Io.KnownBytes.{Appends, Consumes, IsAtEnd}}
 use Rattle.pf_addr.specs.Writing.{WritesFront}
 use Rattle.pf_state.specs.declared.{peer.fault.FeedError.FeedError, peer.fault.PeerFault.PeerFault, peer.fault.PeerFault.TheVariants.Ended, peer.message.Message.Message}
 use Rattle.pf_state.specs.Peer.{Outcomes.TakenAs, Streams.{Ending, Unfinished, Faulty, Reads}}
 use Rattle.pf_core.specs.declared.{command.Command.Command, command.Command.TheVariants.States, command.StateCommand.TheVariants.Peer, group.TheConstants.GROUP_LIMIT, reply.Refusal.Refusal, reply.Refusal.TheVariants.BadPeer, reply.Reply.TheVariants.Refused}
-use Rattle.pf_core.specs.{Durable.Edits.Kept, Worlds.Setting}
+use Rattle.pf_core.specs.{Durable.Changes.PlainDurable, Worlds.Setting}
 use Rattle.pf_line.specs.Reply.Replies.{reply_text}
-use Rattle.pf_book.specs.{Groups.{Answered as Receipted, IsGroupAnswered}, Receipts.Slip}
-use Rattle.pf_session.specs.declared.{line_engine.fault.EngineFault.EngineFault, server.stream.Goes.Goes, server.stream.Goes.TheVariants.{On, Over}}
+use Rattle.pf_book.specs.{Groups.{Answered as Receipted, IsGroupAnswered}, Receipts.PlainReceipt}
+use Rattle.pf_session.specs.declared.{line_engine.fault.EngineFault.EngineFault, server.stream.Progress.Progress, server.stream.Progress.TheVariants.{On, Over}}
 use Rattle.pf_session.specs.declared.line_engine.fault.EngineFault.TheVariants as fault
 use Rattle.pf_session.specs.{LineEngine.Sessions.{Answered, CutOff}, Server.Chains.Chain}
 
@@ -44,12 +44,12 @@ group_text ms (Ok answers) = flat_map (λ a. reply_text a.0) answers
 group_text ms (Err e) = flat_map (λ m. reply_text (Refused e)) ms
 
 -- the receipt that there is behind a group: that of its last message, or the old one where it was refused whole
-abbrev pub last_receipt : Option Slip → Result (List Receipted) Refusal → Option Slip
+abbrev pub last_receipt : Option PlainReceipt → Result (List Receipted) Refusal → Option PlainReceipt
 last_receipt old (Ok answers) = fold (λ last a. Some a.1) old answers
 last_receipt old (Err e) = old
 
 -- The Book ran these messages as one group, with the receipt of the last call handed in.
-pub record RunsGroup (base : Kept) (setting : Setting) (ms : List Message) (old new : Option Slip) (text : List ℕ) : Type 0 where
+pub record RunsGroup (base : PlainDurable) (setting : Setting) (ms : List Message) (old new : Option PlainReceipt) (text : List ℕ) : Type 0 where
   pub some : 0 < length ms
   pub few : length ms ≤ GROUP_LIMIT
   pub result : Result (List Receipted) Refusal
@@ -58,12 +58,12 @@ pub record RunsGroup (base : Kept) (setting : Setting) (ms : List Message) (old 
   pub kept : new ≡ last_receipt old result
 
 -- A group was run, or a fault was told.
-abbrev pub TakesPart : Kept → Setting → Part → Option Slip → Option Slip → List ℕ → Type 0
+abbrev pub TakesPart : PlainDurable → Setting → Part → Option PlainReceipt → Option PlainReceipt → List ℕ → Type 0
 TakesPart base setting (Ok ms) old new text = RunsGroup base setting ms old new text
 TakesPart base setting (Err f) old new text = (new ≡ old) × (text ≡ reply_text (Refused (BadPeer f)))
 
 -- These parts, one after the other, took the receipt of the last call from the one to the other, and were told this.
-abbrev pub Takes : Kept → Setting → Option Slip → Option Slip → List Part → List ℕ → Type 0
+abbrev pub Takes : PlainDurable → Setting → Option PlainReceipt → Option PlainReceipt → List Part → List ℕ → Type 0
 Takes base setting old new parts text = Chain (TakesPart base setting) old new parts text
 
 -- All of this was taken, part by part, and all that was told was written.
@@ -106,10 +106,10 @@ Ends Serves (Err fault.Memory) input unread old new held held' =
 
 -- What was read, and what was done for it.
 pub record IsStream {S : Type 0} (Serves : S → S → List Part → List ℕ → Type 0)
-    (result : Result (Unit {0}) EngineFault) (unread unread' : Option (List ℕ)) (old new : S) (held held' : Option (List ℕ)) : Type 0 where
+    (result : Result (Unit {0}) EngineFault) (unread still_unread : Option (List ℕ)) (old new : S) (held held' : Option (List ℕ)) : Type 0 where
   pub input : List ℕ
-  pub read : Consumes unread unread' input
-  pub ends : Ends Serves result input unread' old new held held'
+  pub read : Consumes unread still_unread input
+  pub ends : Ends Serves result input still_unread old new held held'
 
 -- ---- a piece
 
@@ -128,12 +128,12 @@ end_text (Ok fault) = told_text fault
 end_text (Err e) = []
 
 -- how the stream goes on behind this fault, if it is one
-abbrev pub IsGoing : Goes → Option PeerFault → Type 0
+abbrev pub IsGoing : Progress → Option PeerFault → Type 0
 IsGoing On fault = fault ≡ None
 IsGoing Over fault = (f : PeerFault) × (fault ≡ Some f)
 
 -- a fault was told, if there was one
-abbrev pub TellsFault : Result Goes EngineFault → Option PeerFault → Option (List ℕ) → Option (List ℕ) → Type 0
+abbrev pub TellsFault : Result Progress EngineFault → Option PeerFault → Option (List ℕ) → Option (List ℕ) → Type 0
 TellsFault (Ok goes) fault held held' = IsGoing goes fault × Appends held held' (told_text fault)
 TellsFault (Err fault.Read) fault held held' = ⊥
 TellsFault (Err fault.Write) fault held held' = WritesFront held held' (told_text fault)
@@ -154,7 +154,7 @@ RunsAll Serves (Err e) ms old new held held' = CutShort Serves (items ms) old ne
 
 -- messages were run, and a fault was told behind them, if there was one; or a failed write cut that short
 abbrev pub RunsFed : {S : Type 0} → (S → S → List Part → List ℕ → Type 0)
-    → Result Goes EngineFault → List Message → Option PeerFault → S → S → Option (List ℕ) → Option (List ℕ) → Type 0
+    → Result Progress EngineFault → List Message → Option PeerFault → S → S → Option (List ℕ) → Option (List ℕ) → Type 0
 RunsFed Serves (Ok goes) ms fault old new held held' = IsGoing goes fault × Taken Serves (items ms ++ told fault) old new held held'
 RunsFed Serves (Err fault.Read) ms fault old new held held' = ⊥
 RunsFed Serves (Err fault.Write) ms fault old new held held' = CutShort Serves (items ms ++ told fault) old new held held'
@@ -167,7 +167,7 @@ pub record Waits {S : Type 0} (old new : S) (held held' : Option (List ℕ)) : T
 
 -- what a piece brought was run; or memory was refused for it
 abbrev pub TakesPiece : {S : Type 0} → (S → S → List Part → List ℕ → Type 0)
-    → Result Goes EngineFault → List ℕ → Option (List ℕ) → Option (List ℕ) → S → S → Option (List ℕ) → Option (List ℕ) → Type 0
+    → Result Progress EngineFault → List ℕ → Option (List ℕ) → Option (List ℕ) → S → S → Option (List ℕ) → Option (List ℕ) → Type 0
 TakesPiece Serves result piece kept kept' old new held held' =
     ((ms : List Message) × (fault : Option PeerFault) × TakenAs kept piece kept' ms fault × RunsFed Serves result ms fault old new held held')
     ⊎ ((result ≡ Err fault.Memory) × Waits old new held held')

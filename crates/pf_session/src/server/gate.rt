@@ -2,7 +2,7 @@
 ghost use Rattle.std.specs.Prelude.{ℕ, ⊤};
 
 /// What a session passes before each of its lines, outside the Book's lock: a place to hold a session at a line, to count, or to slow down.
-/// The line is answered once `pass` returns. Own.
+/// The line is answered once `pass` returns.
 pub trait Gate {
     /// What a pass shows of the gate, a session and a line.
     ghost passed: { Self → ℕ → ℕ → Type 0 } = { λ gate session line. ⊤ };

@@ -2,8 +2,8 @@
 ghost use Rattle.std.specs.Prelude.{◌≡◌, ℕ, List, None, Option, option_map};
 ghost use Rattle.pf_addr.specs.Writing.{Writes};
 ghost use Rattle.pf_line.specs.Reply.Replies.{reply_text};
-ghost use Rattle.pf_book.specs.Receipts.{Slip};
-ghost use Rattle.pf_session.specs.{LineEngine.Sessions.IsSession, Telling.IsToldBy, Server.{Sittings.{HasJudged, IsJudged, IsRun, IsSat, Rests, Runs, Sits, packet_in}, Attending.{Attends, IsSame, sitting}}, Laws.Server.{attends-none, attends-then, attends-seen}};
+ghost use Rattle.pf_book.specs.Receipts.{PlainReceipt};
+ghost use Rattle.pf_session.specs.{LineEngine.Sessions.IsSession, Telling.IsToldBy, Server.{Sittings.{HasJudged, IsJudged, IsCommandRun, IsSharedSession, RunsNothing, Runs, TakesLines, packet_in}, SessionRuns.{RunsSession, IsSame, sitting}}, Laws.Server.{attends-none, attends-then, attends-seen}};
 
 use crate::line_engine::{self, AnswerLine, EngineFault};
 use crate::server::gate::Gate;
@@ -59,7 +59,7 @@ impl<'a, W: Wait, D: Disk + Drop, J: Chapter, H: Wait + Drop, G: Gate> Session<'
     // The Book's reply to a command.
     fn run(&mut self, command: Command) -> Reply
         ensures same { IsSame self.old self.new }
-        ensures run { IsRun J.base J.setting command (sitting self.old) (sitting self.new) (reply_text result) }
+        ensures run { IsCommandRun J.base J.setting command (sitting self.old) (sitting self.new) (reply_text result) }
     {
         let (reply, receipt) = self.shared.run(self.rt, command, self.last.as_ref());
         learn_from(self.seer, &receipt);
@@ -92,7 +92,7 @@ impl<'a, W: Wait, D: Disk + Drop, J: Chapter, H: Wait + Drop, G: Gate> Session<'
     // A line is answered, whatever it is.
     fn answer<O: Write>(&mut self, alloc: Global, line: &[u8], writer: &mut O) -> io::Result<()>
         ensures same { IsSame self.old self.new }
-        ensures told { (text : List ℕ) × IsToldBy Rests (Runs J.base J.setting) line.now (sitting self.old, sitting self.new) text ×
+        ensures told { (text : List ℕ) × IsToldBy RunsNothing (Runs J.base J.setting) line.now (sitting self.old, sitting self.new) text ×
             Writes result (O.contents writer.old) (O.contents writer.new) text }
     {
         match parse_line(alloc, line) {
@@ -110,7 +110,7 @@ impl<'a, W: Wait, D: Disk + Drop, J: Chapter, H: Wait + Drop, G: Gate> Session<'
         writer: &mut O,
     ) -> io::Result<()>
         ensures same { IsSame self.old self.new }
-        ensures told { (text : List ℕ) × IsToldBy Rests (Runs J.base J.setting) line.now (sitting self.old, sitting self.new) text ×
+        ensures told { (text : List ℕ) × IsToldBy RunsNothing (Runs J.base J.setting) line.now (sitting self.old, sitting self.new) text ×
             Writes result (O.contents writer.old) (O.contents writer.new) text }
     {
         match parse_judge(line) {
@@ -123,7 +123,7 @@ impl<'a, W: Wait, D: Disk + Drop, J: Chapter, H: Wait + Drop, G: Gate> Session<'
 
 impl<'a, W: Wait, D: Disk + Drop, J: Chapter, H: Wait + Drop, G: Gate> AnswerLine
     for Session<'a, W, D, J, H, G> {
-    ghost Serves = { Attends G.passed J.base J.setting };
+    ghost Serves = { RunsSession G.passed J.base J.setting };
 
     fn answer_line<O: Write>(
         &mut self,
@@ -148,21 +148,21 @@ impl<'a, W: Wait, D: Disk + Drop, J: Chapter, H: Wait + Drop, G: Gate> AnswerLin
 }
 
 // A session to the reader's end.
-fn attend<W: Wait, D: Disk + Drop, J: Chapter, H: Wait + Drop, G: Gate, R: Read, O: Write>(
+fn run_session<W: Wait, D: Disk + Drop, J: Chapter, H: Wait + Drop, G: Gate, R: Read, O: Write>(
     alloc: Global,
     reader: &mut R,
     writer: &mut O,
     session: &mut Session<'_, W, D, J, H, G>,
 ) -> Result<(), EngineFault>
     ensures same { IsSame session.old session.new }
-    ensures session { IsSession (Sits (G.passed session.old.gate.now session.old.number) J.base J.setting) result
+    ensures session { IsSession (TakesLines (G.passed session.old.gate.now session.old.number) J.base J.setting) result
         (R.remaining reader.old) (R.remaining reader.new) (sitting session.old) (sitting session.new)
         (O.contents writer.old) (O.contents writer.new) }
 {
     line_engine::serve(alloc, reader, writer, session)
 }
 
-/// Answers the lines of a reader, as `serve_alone` does, by a Book that other sessions use too, until the reader is at its end. Own.
+/// Answers the lines of a reader, as `serve_alone` does, by a Book that other sessions use too, until the reader is at its end.
 ///
 /// Before each line it passes the gate, with the number of the session and that of the line. A `judge` is answered by the session's seer,
 /// with no lock; where no published copy could judge, the reply is `err gone`. Every other command goes through `Shared::run` with the
@@ -181,7 +181,7 @@ pub fn serve<W: Wait, D: Disk + Drop, J: Chapter, H: Wait + Drop, G: Gate, R: Re
     gate: &G,
     session: u32,
 ) -> Result<(), EngineFault>
-    ensures { (last : Option Slip) × IsSat (G.passed gate.now session) J.base J.setting result (R.remaining reader.old) (R.remaining reader.new)
+    ensures { (last : Option PlainReceipt) × IsSharedSession (G.passed gate.now session) J.base J.setting result (R.remaining reader.old) (R.remaining reader.new)
         None last seer.old seer.new (O.contents writer.old) (O.contents writer.new) }
 {
     let mut last = None;
@@ -191,7 +191,7 @@ pub fn serve<W: Wait, D: Disk + Drop, J: Chapter, H: Wait + Drop, G: Gate, R: Re
 }
 
 /// The same, where the session's first call hands in the receipt that the caller has, if it has one. Behind it the caller has that of the
-/// session's last call, or its own where there was none. Own.
+/// session's last call, or its own where there was none.
 ///
 /// The front of the receipt that the caller then has begins with what each reply was answered by, as
 /// [`the_last_receipt_has_all`](crate::laws::the_last_receipt_has_all) says. So does the history of the Book that confirms it.
@@ -206,7 +206,7 @@ pub fn serve_from<W: Wait, D: Disk + Drop, J: Chapter, H: Wait + Drop, G: Gate, 
     session: u32,
     last: &mut Option<Receipt<J>>,
 ) -> Result<(), EngineFault>
-    ensures { IsSat (G.passed gate.now session) J.base J.setting result (R.remaining reader.old) (R.remaining reader.new)
+    ensures { IsSharedSession (G.passed gate.now session) J.base J.setting result (R.remaining reader.old) (R.remaining reader.new)
         last.old last.new seer.old seer.new (O.contents writer.old) (O.contents writer.new) }
 {
     let mut session = Session {
@@ -218,5 +218,5 @@ pub fn serve_from<W: Wait, D: Disk + Drop, J: Chapter, H: Wait + Drop, G: Gate, 
         line: 0,
         last,
     };
-    attend(alloc, reader, writer, &mut session)
+    run_session(alloc, reader, writer, &mut session)
 }

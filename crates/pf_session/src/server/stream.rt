@@ -5,7 +5,7 @@ ghost use Rattle.pf_state.specs.declared.peer.message.Message.{Message};
 ghost use Rattle.pf_state.specs.Peer.Outcomes.{finished};
 ghost use Rattle.pf_core.specs.declared.{reply.Refusal.TheVariants.BadPeer, reply.Reply.TheVariants.Refused};
 ghost use Rattle.pf_line.specs.Reply.Replies.{reply_text};
-ghost use Rattle.pf_book.specs.Receipts.{Slip};
+ghost use Rattle.pf_book.specs.Receipts.{PlainReceipt};
 ghost use Rattle.pf_session.specs.Server.Streams.{IsStream, RunsAll, RunsFed, RunsGroup, Takes, TakesPiece, TellsEnd, TellsFault, asked, last_receipt};
 
 use crate::line_engine::EngineFault;
@@ -34,7 +34,7 @@ pub(crate) struct Follower<'a, W: Wait, D: Disk + Drop, J: Chapter, H: Wait + Dr
 
 /// How a stream goes on behind a piece.
 #[derive(Clone, Copy, Debug, PartialEq, Eq)]
-pub(crate) enum Goes {
+pub(crate) enum Progress {
     /// More may come.
     On,
     /// It had a fault.
@@ -49,7 +49,7 @@ impl<'a, W: Wait, D: Disk + Drop, J: Chapter, H: Wait + Drop> Follower<'a, W, D,
         piece: &[u8],
         peer: &mut PeerReader,
         writer: &mut O,
-    ) -> Result<Goes, EngineFault>
+    ) -> Result<Progress, EngineFault>
         ensures { TakesPiece (Takes J.base J.setting) result piece.now peer.old peer.new self.old.last self.new.last
             (O.contents writer.old) (O.contents writer.new) }
     {
@@ -68,7 +68,7 @@ impl<'a, W: Wait, D: Disk + Drop, J: Chapter, H: Wait + Drop> Follower<'a, W, D,
         commands: &[Command],
         fault: Option<PeerFault>,
         writer: &mut O,
-    ) -> Result<Goes, EngineFault>
+    ) -> Result<Progress, EngineFault>
         ensures { (messages : List Message) → commands.now ≡ asked messages
             → RunsFed (Takes J.base J.setting) result messages fault self.old.last self.new.last (O.contents writer.old) (O.contents writer.new) }
     {
@@ -151,14 +151,14 @@ fn refuse_each<O: Write>(commands: &[Command], refusal: Refusal, writer: &mut O)
 }
 
 // Tells what is wrong with the stream, if anything is, behind which nothing more is told.
-fn tell_fault<O: Write>(fault: Option<PeerFault>, writer: &mut O) -> Result<Goes, EngineFault>
+fn tell_fault<O: Write>(fault: Option<PeerFault>, writer: &mut O) -> Result<Progress, EngineFault>
     ensures { TellsFault result fault (O.contents writer.old) (O.contents writer.new) }
 {
     let Some(fault) = fault else {
-        return Ok(Goes::On);
+        return Ok(Progress::On);
     };
     match tell(fault, writer) {
-        Ok(()) => Ok(Goes::Over),
+        Ok(()) => Ok(Progress::Over),
         Err(_) => Err(EngineFault::Write),
     }
 }
@@ -188,7 +188,7 @@ fn tell_end<O: Write>(peer: &mut PeerReader, writer: &mut O) -> Result<(), Engin
 /// Has the messages of a peer's stream run by a Book that sessions use too, and writes a reply line for each, until the reader is at its
 /// end. The messages that one read makes whole are given to `Shared::group` in groups of 64 and a last one of what is left, each with the
 /// receipt of the last message before that has one. Where a group is refused whole, each of its messages is told that refusal, and those behind it are run
-/// all the same. Own.
+/// all the same.
 ///
 /// A fault of the stream, or its end within a message, is told in a line, as a `peer` line with such bytes is, and nothing is told behind
 /// it. The writer is flushed before each read and at the end. A read that was interrupted is made again; there are fewer than 2^62 reads.
@@ -204,7 +204,7 @@ pub fn serve_peer<W: Wait, D: Disk + Drop, J: Chapter, H: Wait + Drop, R: Read, 
     writer: &mut O,
     shared: &Shared<D, J, H>,
 ) -> Result<(), EngineFault>
-    ensures { (last : Option Slip) × IsStream (Takes J.base J.setting) result (R.remaining reader.old) (R.remaining reader.new)
+    ensures { (last : Option PlainReceipt) × IsStream (Takes J.base J.setting) result (R.remaining reader.old) (R.remaining reader.new)
         None last (O.contents writer.old) (O.contents writer.new) }
 {
     let mut last = None;
@@ -212,7 +212,7 @@ pub fn serve_peer<W: Wait, D: Disk + Drop, J: Chapter, H: Wait + Drop, R: Read, 
 }
 
 /// The same, where the first call hands in the receipt that the caller has, if it has one. Behind it the caller has that of the last message
-/// whose group wasn't refused whole, or its own where there was none. Own.
+/// whose group wasn't refused whole, or its own where there was none.
 ///
 /// The front of the receipt that the caller then has begins with what each reply that has a receipt was answered by, as
 /// [`the_last_receipt_has_all`](crate::laws::the_last_receipt_has_all) says. So does the history of the Book that confirms it.
@@ -290,8 +290,8 @@ fn follow<W: Wait, D: Disk + Drop, J: Chapter, H: Wait + Drop, R: Read, O: Write
                     return tell_end(&mut peer, writer);
                 }
                 match follower.take(alloc, &piece[..n], &mut peer, writer) {
-                    Ok(Goes::On) => {}
-                    Ok(Goes::Over) => return Ok(()),
+                    Ok(Progress::On) => {}
+                    Ok(Progress::Over) => return Ok(()),
                     Err(fault) => return Err(fault),
                 }
             }

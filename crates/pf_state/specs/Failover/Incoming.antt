@@ -1,10 +1,10 @@
--- What a peer's message means for the states here: a step for each record. Own; the messages are pf_state::peer's, after pfsync(4).
+-- What a peer's message means for the states here: a step for each record. The messages are pf_state::peer's, after pfsync(4).
 use Rattle.std.specs.{Prelude.{ℕ, List, map}, List.flat_map}
-use Rattle.pf_state.specs.{declared.{peer.message.Group.Group, peer.message.Group.TheVariants.Inserts, peer.message.Group.TheVariants.Deletes, peer.message.Group.TheVariants.Clears, peer.message.Message.Message, step.Step.Step, step.Step.TheVariants.Insert, step.Step.TheVariants.Delete, step.Step.TheVariants.Clear}, Peer.Records.{PlainInsert, told_flow}, Bindings.bound, States.Stated}
+use Rattle.pf_state.specs.{declared.{peer.message.Group.Group, peer.message.Group.TheVariants.Inserts, peer.message.Group.TheVariants.Deletes, peer.message.Group.TheVariants.Clears, peer.message.Message.Message, step.Step.Step, step.Step.TheVariants.Insert, step.Step.TheVariants.Delete, step.Step.TheVariants.Clear}, Peer.Records.{PlainInsert, told_flow}, Bindings.bound, States.PlainState}
 use Rattle.pf_state.specs.declared.{peer.record.Clear.Clear as ClearRecord, peer.record.Delete.Delete as DeleteRecord}
 
 -- The state itself, in a message with this checksum: it is bound by the checksum of the main rules here and by their number.
-abbrev pub told_state : List ℕ → List ℕ → ℕ → PlainInsert → Stated
+abbrev pub told_state : List ℕ → List ℕ → ℕ → PlainInsert → PlainState
 told_state sum current count i = (
   record { id = i.id; creator = i.creator },
   record { generation = i.generation; flow = told_flow i; bound = bound sum i.rule i.anchor current count },

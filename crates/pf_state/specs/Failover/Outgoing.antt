@@ -1,10 +1,10 @@
--- The messages that tell a peer of the states here. Own; the messages are pf_state::peer's, after pfsync(4).
+-- The messages that tell a peer of the states here. The messages are pf_state::peer's, after pfsync(4).
 use Rattle.std.specs.{Prelude.{ℕ, List, [], ◌∷◌, length, map}, Simd.first_chunks, Slice.Iter.chunk_count}
-use Rattle.pf_state.specs.{declared.{peer.message.Group.TheVariants.Inserts, peer.message.Message.Message, binding.TheConstants.ALL_ONES, failover.outgoing.TheConstants.EXPORT_RECORDS}, Peer.Records.PlainInsert, Bindings.exported, States.Stated}
+use Rattle.pf_state.specs.{declared.{peer.message.Group.TheVariants.Inserts, peer.message.Message.Message, binding.TheConstants.ALL_ONES, failover.outgoing.TheConstants.EXPORT_RECORDS}, Peer.Records.PlainInsert, Bindings.exported, States.PlainState}
 
 -- The insert that tells of a state where the main rules have this checksum: it names the state's main rule while they are the rules
 -- that it was bound by, and no anchor.
-abbrev pub exported_insert : List ℕ → Stated → PlainInsert
+abbrev pub exported_insert : List ℕ → PlainState → PlainInsert
 exported_insert current s = record {
   id = s.0.id;
   creator = s.0.creator;
@@ -20,13 +20,13 @@ exported_insert current s = record {
 }
 
 -- a message of one group, which tells of these states
-abbrev pub exported_message : List ℕ → List Stated → Message
+abbrev pub exported_message : List ℕ → List PlainState → Message
 exported_message current es = record { checksum = current; groups = Inserts (map (exported_insert current) es) ∷ [] }
 
 -- the states in parts of 31, the last of what is left
-abbrev pub parts : List Stated → List (List Stated)
+abbrev pub parts : List PlainState → List (List PlainState)
 parts es = first_chunks EXPORT_RECORDS (chunk_count (length es) EXPORT_RECORDS) es
 
 -- a message for each part
-abbrev pub exported_messages : List ℕ → List Stated → List Message
+abbrev pub exported_messages : List ℕ → List PlainState → List Message
 exported_messages current es = map (exported_message current) (parts es)

@@ -1,6 +1,6 @@
--- What follows from the definitions of what a message asks for and of an export, as law functions promise it. Own.
+-- What follows from the definitions of what a message asks for and of an export, as law functions promise it.
 use Rattle.std.specs.{Prelude.{◌≡◌, ℕ, ◌<◌, ◌≤◌, ◌^◌, ◌&&◌, false, nat_lt, cond, List, [], ◌∷◌, length, map}, List.{concat, flat_map, sum_by}, Str.bytes_eq}
-use Rattle.pf_state.specs.{declared.{peer.message.Group.Group, peer.message.Group.TheVariants.Inserts, peer.message.Group.TheVariants.Deletes, peer.message.Group.TheVariants.Clears, peer.message.Message.Message, peer.message.TheConstants.MESSAGE_LIMIT, binding.TheConstants.ALL_ONES, state.Bound.Bound, state.Bound.TheVariants.Rule, state.Bound.TheVariants.Default, step.Step.Step, step.Step.TheVariants.Insert, failover.outgoing.TheConstants.EXPORT_RECORDS}, Peer.Records.PlainInsert, Peer.Streams.{Reads, Unfinished}, Peer.Written.{Each, message_length, message_bytes}, Flows.IsFlow, States.{Stated, IsStates}, Steps.{after, passes_limit}, Failover.Incoming.steps_of, Failover.Outgoing.{parts, exported_messages}}
+use Rattle.pf_state.specs.{declared.{peer.message.Group.Group, peer.message.Group.TheVariants.Inserts, peer.message.Group.TheVariants.Deletes, peer.message.Group.TheVariants.Clears, peer.message.Message.Message, peer.message.TheConstants.MESSAGE_LIMIT, binding.TheConstants.ALL_ONES, state.Bound.Bound, state.Bound.TheVariants.Rule, state.Bound.TheVariants.Default, step.Step.Step, step.Step.TheVariants.Insert, failover.outgoing.TheConstants.EXPORT_RECORDS}, Peer.Records.PlainInsert, Peer.Streams.{Reads, Unfinished}, Peer.Written.{Each, message_length, message_bytes}, Flows.IsFlow, States.{PlainState, IsStates}, Steps.{after, passes_limit}, Failover.Incoming.steps_of, Failover.Outgoing.{parts, exported_messages}}
 
 -- ---- a step for each record
 
@@ -16,18 +16,18 @@ OneStepForEach = (m : Message) (current : List ℕ) (count : ℕ) → length (st
 -- ---- what an export has
 
 -- each part but the last has 31 states, and the last one 1 to 31
-abbrev pub AreFullButLast : List (List Stated) → Type 0
+abbrev pub AreFullButLast : List (List PlainState) → Type 0
 AreFullButLast [] = Unit {0}
 AreFullButLast (p ∷ []) = (1 ≤ length p) × (length p ≤ EXPORT_RECORDS)
 AreFullButLast (p ∷ q ∷ ps) = (length p ≡ EXPORT_RECORDS) × AreFullButLast (q ∷ ps)
 
 -- the parts of some states are these states, cut so
-pub record AreParts (es : List Stated) (ps : List (List Stated)) : Type 0 where
+pub record AreParts (es : List PlainState) (ps : List (List PlainState)) : Type 0 where
   pub joined : flat_map (λ p. p) ps ≡ es
   pub full : AreFullButLast ps
 
 abbrev pub CutsIntoParts : Type 0
-CutsIntoParts = (es : List Stated) → AreParts es (parts es)
+CutsIntoParts = (es : List PlainState) → AreParts es (parts es)
 
 -- a message of an export: the checksum of the rules here, and one group of 1 to 31 inserts, in no more bytes than a message may have
 pub record IsExported (current : List ℕ) (m : Message) : Type 0 where
@@ -39,7 +39,7 @@ pub record IsExported (current : List ℕ) (m : Message) : Type 0 where
   pub fits : message_length m ≤ MESSAGE_LIMIT
 
 abbrev pub ExportsMessages : Type 0
-ExportsMessages = (current : List ℕ) (es : List Stated) → Each (IsExported current) (exported_messages current es)
+ExportsMessages = (current : List ℕ) (es : List PlainState) → Each (IsExported current) (exported_messages current es)
 
 -- ---- what a peer makes of it
 
@@ -51,7 +51,7 @@ bound_there ours theirs count (Rule number sum) =
 bound_there ours theirs count Default = Default
 
 -- the state at a peer: all of it but the rule that it is bound to
-abbrev pub state_there : List ℕ → List ℕ → ℕ → Stated → Stated
+abbrev pub state_there : List ℕ → List ℕ → ℕ → PlainState → PlainState
 state_there ours theirs count s = (
   s.0,
   record { generation = s.1.generation; flow = s.1.flow; bound = bound_there ours theirs count s.1.bound },
@@ -59,18 +59,18 @@ state_there ours theirs count s = (
 
 -- an export asks a peer for an insert of each state, in order, and for nothing else
 abbrev pub TellsTheStates : Type 0
-TellsTheStates = (ours theirs : List ℕ) (count : ℕ) (es : List Stated) → count ≤ ALL_ONES
+TellsTheStates = (ours theirs : List ℕ) (count : ℕ) (es : List PlainState) → count ≤ ALL_ONES
     → flat_map (λ m. steps_of m theirs count) (exported_messages ours es) ≡ map (λ s. Insert (state_there ours theirs count s)) es
 
 -- these steps are taken where there are no states, at no step there are more states than there may be, and these are left
-pub record MakesStates (steps : List Step) (es : List Stated) : Type 0 where
+pub record MakesStates (steps : List Step) (es : List PlainState) : Type 0 where
   pub left : after [] steps ≡ es
   pub fits : passes_limit [] steps ≡ false
 
 -- A peer that has no states acts on all that an export of a table asks for, in turn: at no step it has more states than there may be,
 -- and then it has these states and no other.
 abbrev pub TakesOver : Type 0
-TakesOver = (ours theirs : List ℕ) (count : ℕ) (es : List Stated) → IsStates es → count ≤ ALL_ONES
+TakesOver = (ours theirs : List ℕ) (count : ℕ) (es : List PlainState) → IsStates es → count ≤ ALL_ONES
     → MakesStates (flat_map (λ m. steps_of m theirs count) (exported_messages ours es)) (map (state_there ours theirs count) es)
 
 -- ---- its bytes
@@ -80,7 +80,7 @@ IsBound (Rule number sum) = number < 2 ^ 32
 IsBound Default = Unit {0}
 
 -- each number of a state is within its width
-pub record IsState (s : Stated) : Type 0 where
+pub record IsState (s : PlainState) : Type 0 where
   pub id : s.0.id < 2 ^ 64
   pub creator : s.0.creator < 2 ^ 32
   pub generation : s.1.generation < 2 ^ 32
@@ -89,5 +89,5 @@ pub record IsState (s : Stated) : Type 0 where
 
 -- the bytes of an export, one message after the other, are read as these messages, and nothing is left
 abbrev pub IsReadBack : Type 0
-IsReadBack = (current : List ℕ) (es : List Stated) → length current ≡ 16 → Each IsState es
+IsReadBack = (current : List ℕ) (es : List PlainState) → length current ≡ 16 → Each IsState es
     → Reads (concat (map message_bytes (exported_messages current es))) (exported_messages current es) (Unfinished [])

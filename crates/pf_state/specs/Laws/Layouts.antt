@@ -1,7 +1,8 @@
--- What follows from the layouts of flows, states and steps. Own.
+-- What follows from the layouts of flows, states and steps.
 use Rattle.std.proofs.{Common.{◌≡◌, ◌<◌, ◌==◌, ◌&&◌, ◌||◌, ℕ, Bool, true, false, List, [], ◌∷◌, suc, slice_index, refl, sym, subst, arith}, lemmas.Bool.Decides.nat_tests}
 use Rattle.std.specs.List.{AllByRecursion}
-use Rattle.pf_addr.specs.{Address.{IsAddr, family_of}, Bytes.Forms.{Fits, number}, declared.{addr.Addr.Addr, addr.Addr.TheVariants.V4, addr.Addr.TheVariants.V6, addr.Family.Family}}
+use Rattle.pf_addr.specs.{Address.{IsAddr, family_of}, declared.addr.{Addr.{Addr, TheVariants.{V4, V6}}, Family.Family}}
+use Rattle.pf_form.specs.Bytes.Forms.{Fits, number}
 use Rattle.pf_rule.specs.{Bytes.{direction_byte, family_byte}, Value.Values.{IsProtocol, has_ports}, declared.{value.direction.Direction.Direction, value.direction.Direction.TheVariants.In, value.direction.Direction.TheVariants.Out}}
 use Rattle.pf_state.specs.{Flows.{PlainFlow, IsFlow}, Layouts.Flows.{direction_form, family_form, protocol_form, addr_form, ports_form, flow_form, plain_addr, plain_flow}}
 

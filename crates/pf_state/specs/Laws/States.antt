@@ -1,7 +1,7 @@
 -- What follows from the definitions of flows, states, steps and bindings, as law functions promise it.
 use Rattle.std.specs.{Prelude.{◌≡◌, ◌≢◌, ℕ, ◌+◌, ◌<◌, ◌≤◌, ◌==◌, ◌&&◌, ◌↔◌, Bool, true, false, cond, List, [], ◌∷◌, length, take, Option, Some, None}, List.count_by, Ordering.eq_by_cmp}
 use Rattle.pf_rule.specs.Packets.{PlainPacket}
-use Rattle.pf_state.specs.{declared.{binding.TheConstants.ALL_ONES, limits.TheConstants.STATE_LIMIT, state.Bound.TheVariants.Rule, state.Bound.TheVariants.Default, state.Held.Held, state.StateName.StateName, step.Insertion.TheVariants.Stale, step.Step.Step, step.Step.TheVariants.Insert, step.Step.TheVariants.Delete, step.Step.TheVariants.Clear}, Flows.{PlainFlow, is_equal, turned, same_flow, flow_of}, States.{Stated, name_order, held_at, state_of, NamesFlows, IsStates}, Steps.{insertion, has_effect, stepped, after, counts, passes_limit}, Bindings.{bound, exported}}
+use Rattle.pf_state.specs.{declared.{binding.TheConstants.ALL_ONES, limits.TheConstants.STATE_LIMIT, state.Bound.TheVariants.Rule, state.Bound.TheVariants.Default, state.Held.Held, state.StateName.StateName, step.Insertion.TheVariants.Stale, step.Step.Step, step.Step.TheVariants.Insert, step.Step.TheVariants.Delete, step.Step.TheVariants.Clear}, Flows.{PlainFlow, is_equal, turned, same_flow, flow_of}, States.{PlainState, name_order, held_at, state_of, NamesFlows, IsStates}, Steps.{insertion, has_effect, stepped, after, counts, passes_limit}, Bindings.{bound, exported}}
 
 -- ---- flows
 
@@ -25,38 +25,38 @@ InterfaceIsNoPart = (p q : PlainPacket) → p.direction ≡ q.direction → p.pr
 -- ---- the state of a flow
 
 -- the state is held under its name, and has the flow
-pub record IsStateOf (es : List Stated) (f : PlainFlow) (s : Stated) : Type 0 where
+pub record IsStateOf (es : List PlainState) (f : PlainFlow) (s : PlainState) : Type 0 where
   pub held : held_at s.0 es ≡ Some s.1
   pub flow : same_flow s.1.flow f ≡ true
 
 -- in a table at most one state has a flow, and it is the one that is found
-pub record FindsTheState (es : List Stated) (f : PlainFlow) : Type 0 where
-  pub found : (s : Stated) → (state_of f es ≡ Some s) ↔ IsStateOf es f s
-  pub one : (s t : Stated) → IsStateOf es f s → IsStateOf es f t → s ≡ t
+pub record FindsTheState (es : List PlainState) (f : PlainFlow) : Type 0 where
+  pub found : (s : PlainState) → (state_of f es ≡ Some s) ↔ IsStateOf es f s
+  pub one : (s t : PlainState) → IsStateOf es f s → IsStateOf es f t → s ≡ t
 
 abbrev pub OneStateAFlow : Type 0
-OneStateAFlow = (es : List Stated) (f : PlainFlow) → NamesFlows es → FindsTheState es f
+OneStateAFlow = (es : List PlainState) (f : PlainFlow) → NamesFlows es → FindsTheState es f
 
 -- ---- what a step changes
 
 -- an insert that is stale or clashes changes nothing
 abbrev pub KeepsWhatIsThere : Type 0
-KeepsWhatIsThere = (es : List Stated) (s : Stated) → has_effect (insertion es s) ≡ false → stepped es (Insert s) ≡ es
+KeepsWhatIsThere = (es : List PlainState) (s : PlainState) → has_effect (insertion es s) ≡ false → stepped es (Insert s) ≡ es
 
 -- an insert of a known name is stale exactly where its generation isn't greater, whatever its flow
 abbrev pub StaleByGeneration : Type 0
-StaleByGeneration = (es : List Stated) (s : Stated) (there : Held) → held_at s.0 es ≡ Some there
+StaleByGeneration = (es : List PlainState) (s : PlainState) (there : Held) → held_at s.0 es ≡ Some there
     → (insertion es s ≡ Stale) ↔ (s.1.generation ≤ there.generation)
 
 -- under each name what a step leaves: an insert that has effect what it holds, a delete and a clear nothing, whatever the generation
-pub record StepsRead (es : List Stated) (q : StateName) : Type 0 where
-  pub insert : (s : Stated)
+pub record StepsRead (es : List PlainState) (q : StateName) : Type 0 where
+  pub insert : (s : PlainState)
       → held_at q (stepped es (Insert s)) ≡ cond (has_effect (insertion es s) && eq_by_cmp name_order q s.0) (Some s.1) (held_at q es)
   pub delete : (n : StateName) → held_at q (stepped es (Delete n)) ≡ cond (eq_by_cmp name_order q n) None (held_at q es)
   pub clear : (creator : ℕ) → held_at q (stepped es (Clear creator)) ≡ cond (q.creator == creator) None (held_at q es)
 
 abbrev pub ReadsWhatStepsLeave : Type 0
-ReadsWhatStepsLeave = (es : List Stated) (q : StateName) → StepsRead es q
+ReadsWhatStepsLeave = (es : List PlainState) (q : StateName) → StepsRead es q
 
 -- only a name ties with itself
 abbrev pub NamesAlike : Type 0
@@ -65,30 +65,30 @@ NamesAlike = (a b : StateName) → (eq_by_cmp name_order a b ≡ true) ↔ (a �
 -- ---- what a batch changes
 
 -- what a step leaves under a name where this was held
-abbrev pub left_by : List Stated → Step → StateName → Option Held → Option Held
+abbrev pub left_by : List PlainState → Step → StateName → Option Held → Option Held
 left_by es (Insert s) q old = cond (has_effect (insertion es s) && eq_by_cmp name_order q s.0) (Some s.1) old
 left_by es (Delete n) q old = cond (eq_by_cmp name_order q n) None old
 left_by es (Clear creator) q old = cond (q.creator == creator) None old
 
 -- what steps in turn leave there: what the last of them that has effect on the name does
-abbrev pub left_behind : List Stated → List Step → StateName → Option Held → Option Held
+abbrev pub left_behind : List PlainState → List Step → StateName → Option Held → Option Held
 left_behind es [] q old = old
 left_behind es (x ∷ xs) q old = left_behind (stepped es x) xs q (left_by es x q old)
 
 abbrev pub LastStepStands : Type 0
-LastStepStands = (es : List Stated) (steps : List Step) (q : StateName) → held_at q (after es steps) ≡ left_behind es steps q (held_at q es)
+LastStepStands = (es : List PlainState) (steps : List Step) (q : StateName) → held_at q (after es steps) ≡ left_behind es steps q (held_at q es)
 
 -- the order stays, and so do names and flows that stand once; and the limit, where the batch isn't refused
-pub record LeavesStates (es : List Stated) (steps : List Step) : Type 0 where
+pub record LeavesStates (es : List PlainState) (steps : List Step) : Type 0 where
   pub names : NamesFlows es → NamesFlows (after es steps)
   pub table : IsStates es → passes_limit es steps ≡ false → IsStates (after es steps)
 
 abbrev pub StaysStates : Type 0
-StaysStates = (es : List Stated) (steps : List Step) → LeavesStates es steps
+StaysStates = (es : List PlainState) (steps : List Step) → LeavesStates es steps
 
 -- a batch isn't refused exactly where, behind each front of it, there are no more states than there may be
 abbrev pub RefusedByAnyStep : Type 0
-RefusedByAnyStep = (es : List Stated) (steps : List Step) → IsStates es
+RefusedByAnyStep = (es : List PlainState) (steps : List Step) → IsStates es
     → (passes_limit es steps ≡ false) ↔ ((k : ℕ) → length (after es (take k steps)) ≤ STATE_LIMIT)
 
 -- ---- what is counted
@@ -99,12 +99,12 @@ is_insert (Delete n) = false
 is_insert (Clear creator) = false
 
 -- each insert is counted once, and the states grow and shrink as is counted
-pub record AddsUp (es : List Stated) (steps : List Step) : Type 0 where
+pub record AddsUp (es : List PlainState) (steps : List Step) : Type 0 where
   pub inserts : let c = counts es steps in c.inserted + (c.replaced + (c.stale + c.clash)) ≡ count_by is_insert steps
   pub states : length (after es steps) + (counts es steps).deleted ≡ length es + (counts es steps).inserted
 
 abbrev pub CountsAddUp : Type 0
-CountsAddUp = (es : List Stated) (steps : List Step) → NamesFlows es → AddsUp es steps
+CountsAddUp = (es : List PlainState) (steps : List Step) → NamesFlows es → AddsUp es steps
 
 -- ---- bindings
 

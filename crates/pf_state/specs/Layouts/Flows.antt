@@ -1,4 +1,4 @@
--- A flow in 40 bytes, as it stands in a peer's record and in what is kept of a state. Own.
+-- A flow in 40 bytes, as it stands in a peer's record and in what is kept of a state.
 --
 --   place width field                place width field
 --       0     1 direction, 1 or 2        4    16 source, IPv4 in the first four
@@ -6,7 +6,8 @@
 --       2     1 protocol                36     2 source port
 --       3     1 zero                    38     2 destination port
 use Rattle.std.specs.Prelude.{ℕ, ◌==◌, ◌&&◌, ◌||◌, not, [], ◌∷◌, replicate, if◌then◌else◌}
-use Rattle.pf_addr.specs.{Address.{family_of, number_in}, Bytes.Forms.{Shape, nat, both, Value, Form, nothing, number, front, back, pair, pair_by, that}, declared.{addr.Addr.Addr, addr.Addr.TheVariants.V4, addr.Addr.TheVariants.V6}}
+use Rattle.pf_addr.specs.{Address.{family_of, number_in}, declared.addr.Addr.{Addr, TheVariants.{V4, V6}}}
+use Rattle.pf_form.specs.Bytes.Forms.{Shape, nat, both, Value, Form, nothing, number, front, back, pair, pair_by, that}
 use Rattle.pf_rule.specs.{Bytes.{direction_byte, family_byte}, Value.Values.has_ports, declared.{value.direction.Direction.Direction, value.direction.Direction.TheVariants.In, value.direction.Direction.TheVariants.Out}}
 use Rattle.pf_state.specs.Flows.{PlainFlow}
 

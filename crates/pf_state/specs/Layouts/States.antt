@@ -1,4 +1,4 @@
--- A state in 96 bytes, as what is kept has it, in each version; and such states in the order of their names. Own.
+-- A state in 96 bytes, as what is kept has it, in each version; and such states in the order of their names.
 --
 --   place width field
 --       0     8 id
@@ -12,8 +12,8 @@
 --      88     8 zeros
 use Rattle.std.specs.{Prelude.{ℕ, ◌&&◌, nat_le, Bool, true, not, List, [], ◌∷◌, length, map, replicate}, List.list_any, Ordering.is_lt}
 use Rattle.std.proofs.Common.{inl, inr}
-use Rattle.pf_addr.specs.Bytes.{Forms.{Shape, unit, nat, both, either, list, Value, Form, nothing, number, front, back, or, times, counted, that, pair}, Lists.in_order}
-use Rattle.pf_state.specs.{declared.{limits.TheConstants.STATE_LIMIT, state.Bound.Bound, state.Bound.TheVariants.Rule, state.Bound.TheVariants.Default, state.Held.Held, state.StateName.StateName}, Flows.same_flow, Layouts.Flows.{FlowShape, flow_form, plain_flow, flow_in}, States.{Stated, name_order}}
+use Rattle.pf_form.specs.Bytes.{Forms.{Shape, unit, nat, both, either, list, Value, Form, nothing, number, front, back, or, times, counted, that, pair}, Lists.in_order}
+use Rattle.pf_state.specs.{declared.{limits.TheConstants.STATE_LIMIT, state.Bound.Bound, state.Bound.TheVariants.Rule, state.Bound.TheVariants.Default, state.Held.Held, state.StateName.StateName}, Flows.same_flow, Layouts.Flows.{FlowShape, flow_form, plain_flow, flow_in}, States.{PlainState, name_order}}
 
 -- ---- names
 
@@ -66,11 +66,11 @@ StateShape = both NameShape HeldShape
 unfoldable pub state_form : ℕ → Form StateShape
 state_form version = pair name_form (held_form version)
 
-abbrev pub plain_state : Stated → Value StateShape
+abbrev pub plain_state : PlainState → Value StateShape
 plain_state s = (plain_name s.0, plain_held s.1)
 
 -- of plain data the state that they are the data of
-abbrev pub state_in : Value StateShape → Stated
+abbrev pub state_in : Value StateShape → PlainState
 state_in v = (name_in v.0, held_in v.1)
 
 -- ---- many
@@ -80,7 +80,7 @@ abbrev pub state_before : Value StateShape → Value StateShape → Bool
 state_before a b = is_lt (name_order (name_in a.0) (name_in b.0))
 
 -- no two have one flow
-abbrev pub no_flow_twice : List Stated → Bool
+abbrev pub no_flow_twice : List PlainState → Bool
 no_flow_twice [] = true
 no_flow_twice (s ∷ es) = not (list_any (λ t. same_flow s.1.flow t.1.flow) es) && no_flow_twice es
 
@@ -92,5 +92,5 @@ are_a_table vs = nat_le (length vs) STATE_LIMIT && (in_order state_before vs && 
 abbrev pub states_form : ℕ → Form (list StateShape)
 states_form version = that are_a_table (counted 4 (state_form version))
 
-abbrev pub plain_states : List Stated → List (Value StateShape)
+abbrev pub plain_states : List PlainState → List (Value StateShape)
 plain_states es = map plain_state es

@@ -1,11 +1,11 @@
--- A step in bytes, as what is kept has it, in each version; and steps in their order. Own.
+-- A step in bytes, as what is kept has it, in each version; and steps in their order.
 --
 --   1 and a state of 96 bytes                   insert
 --   2 and an id of 8 bytes, a creator of 4      delete
 --   3 and a creator of 4 bytes                  clear
 use Rattle.std.specs.Prelude.{ℕ, List, [], ◌∷◌, map}
 use Rattle.std.proofs.Common.{inl, inr}
-use Rattle.pf_addr.specs.Bytes.Forms.{Shape, nat, either, list, Value, Form, number, front, or, counted}
+use Rattle.pf_form.specs.Bytes.Forms.{Shape, nat, either, list, Value, Form, number, front, or, counted}
 use Rattle.pf_state.specs.{declared.{step.Step.Step, step.Step.TheVariants.Insert, step.Step.TheVariants.Delete, step.Step.TheVariants.Clear}, Layouts.States.{NameShape, name_form, plain_name, name_in, StateShape, state_form, plain_state, state_in}}
 
 abbrev pub StepShape : Shape

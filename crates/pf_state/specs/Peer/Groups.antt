@@ -1,5 +1,5 @@
 -- A message's groups, in order, and the fault of the first that is none. A group is an action, a zero byte, a count in two bytes, and
--- that many records of 64 bytes. Own.
+-- that many records of 64 bytes.
 use Rattle.std.specs.Prelude.{◌≡◌, ◌≢◌, ◌*◌, ◌==◌, ◌&&◌, ◌||◌, nat_lt, ℕ, zero, suc, Bool, List, [], ◌∷◌, length, take, drop, Option, Some, None, Result, Ok, Err, if◌then◌else◌}
 use Rattle.pf_state.specs.{declared.{peer.fault.PeerFault.PeerFault, peer.fault.PeerFault.TheVariants.BadLength, peer.fault.PeerFault.TheVariants.BadAction, peer.fault.PeerFault.TheVariants.BadRecord, peer.message.Group.Group, peer.message.Group.TheVariants.Inserts, peer.message.Group.TheVariants.Deletes, peer.message.Group.TheVariants.Clears, peer.message.TheConstants.INSERT, peer.message.TheConstants.DELETE, peer.message.TheConstants.CLEAR, peer.record.TheConstants.RECORD}, Peer.Records.{insert_of, delete_of, clear_of}}
 use Rattle.pf_rule.specs.Bytes.{byte_at, number_at}

@@ -1,4 +1,4 @@
--- A message: a header of 20 bytes, and groups to its end. Own.
+-- A message: a header of 20 bytes, and groups to its end.
 --
 --   place width field
 --       0     1 version, 5
@@ -6,7 +6,7 @@
 --       2     2 length of the whole message
 --       4    16 checksum
 use Rattle.std.specs.Prelude.{◌≡◌, ◌≤◌, ℕ, List, length, take, drop, Result, Ok, Err}
-use Rattle.pf_state.specs.{declared.{peer.fault.PeerFault.PeerFault, peer.message.Group.Group, peer.message.Message.Message, peer.message.TheConstants.VERSION, peer.stream.TheConstants.HEADER}, Peer.Groups.{AreGroups, BreakBehind}}
+use Rattle.pf_state.specs.{declared.{peer.fault.PeerFault.PeerFault, peer.message.Group.Group, peer.message.Message.Message, peer.message.TheConstants.VERSION, peer.stream.TheConstants.MESSAGE_HEADER}, Peer.Groups.{AreGroups, BreakBehind}}
 use Rattle.pf_rule.specs.Bytes.{byte_at, number_at}
 
 -- the bytes have the header of a message that is as long as they are
@@ -14,19 +14,19 @@ pub record IsWhole (bytes : List ℕ) : Type 0 where
   pub version : byte_at 0 bytes ≡ VERSION
   pub zero : byte_at 1 bytes ≡ 0
   pub measured : number_at 2 2 bytes ≡ length bytes
-  pub enough : HEADER ≤ length bytes
+  pub enough : MESSAGE_HEADER ≤ length bytes
 
 -- the bytes are this message
 pub record IsMessage (bytes : List ℕ) (m : Message) : Type 0 where
   pub whole : IsWhole bytes
   pub checksum : m.checksum ≡ take 16 (drop 4 bytes)
-  pub groups : AreGroups (drop HEADER bytes) m.groups
+  pub groups : AreGroups (drop MESSAGE_HEADER bytes) m.groups
 
 -- the bytes would be a message by their header, and the first of their groups that is none has this fault
 pub record IsBroken (bytes : List ℕ) (f : PeerFault) : Type 0 where
   pub whole : IsWhole bytes
   pub before : List Group
-  pub breaks : BreakBehind before (drop HEADER bytes) f
+  pub breaks : BreakBehind before (drop MESSAGE_HEADER bytes) f
 
 -- which of both it is
 abbrev pub IsJudged : List ℕ → Result Message PeerFault → Type 0

@@ -1,4 +1,4 @@
--- A run of bytes that has to be one whole message, and nothing else. It is read as a stream that ends where they do. Own.
+-- A run of bytes that has to be one whole message, and nothing else. It is read as a stream that ends where they do.
 use Rattle.std.specs.Prelude.{◌≡◌, ℕ, List, [], ◌∷◌, Result, Ok, Err}
 use Rattle.pf_state.specs.{declared.{peer.fault.PeerFault.TheVariants.Ended, peer.fault.OneFault.OneFault, peer.fault.OneFault.TheVariants.Fault, peer.fault.OneFault.TheVariants.Count, peer.message.Message.Message}, Peer.Streams.{Ending, Unfinished, Faulty, Reads}}
 

@@ -6,8 +6,9 @@
 --      12     4 generation        60     4 anchor
 use Rattle.std.specs.Prelude.{◌≡◌, ◌<◌, ◌^◌, ℕ, false, List, ◌∷◌, ◌++◌, replicate, Option, Some, None, Result, Ok, Err}
 use Rattle.byteorder.specs.Endian.{big_bytes}
-use Rattle.pf_addr.specs.{declared.{bytes.fault.Fault.Fault, bytes.fault.Stop.Stop}, Address.{IsAddr, family_of}, Bytes.{Forms.{Shape, nat, both, Value, Form, number, pair}, Readers.read_all}}
-use Rattle.pf_addr.specs.declared.bytes.fault.Stop.TheVariants as stop
+use Rattle.pf_addr.specs.Address.{IsAddr, family_of}
+use Rattle.pf_form.specs.{declared.bytes.fault.{Fault.Fault, Stop.Stop}, Bytes.{Forms.{Shape, nat, both, Value, Form, number, pair}, Readers.read_all}}
+use Rattle.pf_form.specs.declared.bytes.fault.Stop.TheVariants as stop
 use Rattle.pf_rule.specs.{Bytes.{number_at, addr_bytes, direction_byte, family_byte}, Value.Values.{IsProtocol, has_ports}}
 use Rattle.pf_state.specs.{declared.{peer.record.InsertFields.InsertFields, peer.record.Delete.Delete, peer.record.Clear.Clear}, Flows.PlainFlow, Layouts.Flows.{FlowShape, flow_form, plain_flow, flow_in}}
 

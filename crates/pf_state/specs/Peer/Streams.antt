@@ -1,6 +1,6 @@
--- A stream: messages one after the other, and then a message that isn't whole yet, or a fault. Own.
+-- A stream: messages one after the other, and then a message that isn't whole yet, or a fault.
 use Rattle.std.specs.Prelude.{◌≡◌, ◌≢◌, ◌⊎◌, ◌+◌, ◌*◌, ◌≤◌, ◌<◌, ℕ, List, [], ◌∷◌, ◌++◌, length, take}
-use Rattle.pf_state.specs.{declared.{peer.fault.PeerFault.PeerFault, peer.fault.PeerFault.TheVariants.BadVersion, peer.fault.PeerFault.TheVariants.BadLength, peer.message.Message.Message, peer.message.TheConstants.VERSION, peer.stream.TheConstants.HEADER, peer.stream.Front.Front, peer.stream.Front.TheVariants.Partial, peer.stream.Front.TheVariants.Whole, peer.stream.Front.TheVariants.Bad}, Peer.Messages.{IsWhole, IsMessage, IsBroken}}
+use Rattle.pf_state.specs.{declared.{peer.fault.PeerFault.PeerFault, peer.fault.PeerFault.TheVariants.BadVersion, peer.fault.PeerFault.TheVariants.BadLength, peer.message.Message.Message, peer.message.TheConstants.VERSION, peer.stream.TheConstants.MESSAGE_HEADER, peer.stream.MessageStart.MessageStart, peer.stream.MessageStart.TheVariants.Partial, peer.stream.MessageStart.TheVariants.Whole, peer.stream.MessageStart.TheVariants.Bad}, Peer.Messages.{IsWhole, IsMessage, IsBroken}}
 
 -- how it ends so far
 pub data Ending : Type 0 where
@@ -15,7 +15,7 @@ IsUnfinished [] = Unit {0}
 IsUnfinished (v ∷ []) = v ≡ VERSION
 IsUnfinished (v ∷ z ∷ []) = (v ≡ VERSION) × (z ≡ 0)
 IsUnfinished (v ∷ z ∷ a ∷ []) = (v ≡ VERSION) × (z ≡ 0)
-IsUnfinished (v ∷ z ∷ a ∷ b ∷ bytes) = (v ≡ VERSION) × (z ≡ 0) × (HEADER ≤ a * 256 + b) × (length bytes + 4 < a * 256 + b)
+IsUnfinished (v ∷ z ∷ a ∷ b ∷ bytes) = (v ≡ VERSION) × (z ≡ 0) × (MESSAGE_HEADER ≤ a * 256 + b) × (length bytes + 4 < a * 256 + b)
 
 -- the version is wrong, as soon as a byte of it is there
 abbrev pub HasBadVersion : List ℕ → Type 0
@@ -25,7 +25,7 @@ HasBadVersion (v ∷ z ∷ bytes) = (v ≢ VERSION) ⊎ ((v ≡ VERSION) × (z �
 
 -- the length is below that of the header, as soon as its two bytes are there
 abbrev pub HasShortLength : List ℕ → Type 0
-HasShortLength (v ∷ z ∷ a ∷ b ∷ bytes) = (v ≡ VERSION) × (z ≡ 0) × (a * 256 + b < HEADER)
+HasShortLength (v ∷ z ∷ a ∷ b ∷ bytes) = (v ≡ VERSION) × (z ≡ 0) × (a * 256 + b < MESSAGE_HEADER)
 HasShortLength bytes = ⊥
 
 -- the bytes begin with a whole message that is broken so
@@ -48,7 +48,7 @@ Ends bytes (Unfinished rest) = (bytes ≡ rest) × IsUnfinished bytes
 Ends bytes (Faulty f) = IsFaulty bytes f
 
 -- what stands where a message begins
-abbrev pub IsFront : List ℕ → Front → Type 0
+abbrev pub IsFront : List ℕ → MessageStart → Type 0
 IsFront bytes Partial = IsUnfinished bytes
 IsFront bytes (Whole size) = (size ≤ length bytes) × IsWhole (take size bytes)
 IsFront bytes (Bad f) = IsBadHeader bytes f

@@ -1,15 +1,16 @@
 //! Flows in bytes.
 ghost use Rattle.std.specs.Prelude.{◌≡◌, ◌++◌, ◌∷◌, [], ◌==◌, ◌&&◌, ◌||◌, true, replicate, IfOk, OnOk};
-ghost use Rattle.pf_addr.specs.{Address.family_of, Bytes.Forms.{Form, Fits, back, number, onto}, Bytes.Readers.Reads};
+ghost use Rattle.pf_addr.specs.Address.{family_of};
+ghost use Rattle.pf_form.specs.Bytes.{Forms.{Form, Fits, back, number, onto}, Readers.Reads};
 ghost use Rattle.pf_rule.specs.{Bytes.{direction_byte, family_byte}, Value.Values.has_ports};
 ghost use Rattle.pf_state.specs.Layouts.Flows.{direction_form, family_form, protocol_form, addr_form, PortsShape, ports_form, plain_addr, flow_form, plain_flow};
 
 use crate::flow::Flow;
-use pf_addr::bytes::{
+use pf_addr::{Addr, Family};
+use pf_form::bytes::{
     Fault, Layout, Rest, Stop, expect, push_bytes, push_u128, read_u8, read_u16, read_u32,
     read_u128,
 };
-use pf_addr::{Addr, Family};
 use pf_rule::value::{Direction, Protocol};
 use std::alloc::{AllocError, Global};
 
@@ -85,7 +86,7 @@ fn push_front(out: &mut Vec<u8>, direction: u8, family: u8, protocol: u8) -> Res
     push_bytes(out, &[direction, family, protocol, 0])
 }
 
-#[tactic(auto, unfolding(pf_addr::specs::Bytes::Parts::number_bytes), using(crate::proofs::Pieced::two_pushed))]
+#[tactic(auto, unfolding(pf_form::specs::Bytes::BasicForms::number_bytes), using(crate::proofs::Pieced::two_pushed))]
 fn push_ports(out: &mut Vec<u8>, source: u16, destination: u16) -> Result<(), AllocError>
     ensures { OnOk result (out.new.items ≡ onto (number 2) destination (onto (number 2) source out.old.items)) }
 {
@@ -188,7 +189,7 @@ fn push_addr(out: &mut Vec<u8>, addr: Addr) -> Result<(), AllocError>
     }
 }
 
-#[tactic(auto, unfolding(pf_addr::specs::Bytes::Parts::number_bytes), using(crate::proofs::Pieced::two_pushed))]
+#[tactic(auto, unfolding(pf_form::specs::Bytes::BasicForms::number_bytes), using(crate::proofs::Pieced::two_pushed))]
 fn push_v4(out: &mut Vec<u8>, address: u32) -> Result<(), AllocError>
     ensures { OnOk result (out.new.items ≡ onto (back (number 4) (replicate 12 0)) address out.old.items) }
 {

@@ -1,6 +1,6 @@
 //! States and steps in bytes, many at a time, behind their number in four bytes.
 ghost use Rattle.std.specs.Prelude.{◌≡◌, ◌<◌, ◌^◌, ◌++◌, ℕ, true, length, map, IfOk, OnOk};
-ghost use Rattle.pf_addr.specs.{Bytes.Forms.{Form, Fits, onto, length_of}, Bytes.Readers.Reads};
+ghost use Rattle.pf_form.specs.{Bytes.Forms.{Form, Fits, onto, length_of}, Bytes.Readers.Reads};
 ghost use Rattle.pf_state.specs.{Layouts.{Rows.IsTableOf, States.{states_form, plain_states}, Steps.{steps_form, plain_steps}}, States.are_whole};
 
 use crate::keys::States;
@@ -10,7 +10,7 @@ use crate::limits::STATE_LIMIT;
 use crate::state::{State, tell_whole};
 use crate::step::{Step, StepList};
 use crate::table::StateTable;
-use pf_addr::bytes::{Fault, Rest, Stop, are_in_order, push_u32, read_list};
+use pf_form::bytes::{Fault, Rest, Stop, are_in_order, push_u32, read_list};
 use std::alloc::{AllocError, Global};
 
 /// Puts a table's states behind the bytes, as this version has them, in the order of their names; they fit their form. Fails only where

@@ -1,13 +1,13 @@
 //! States in bytes, as a store keeps them.
 ghost use Rattle.std.specs.Prelude.{◌≡◌, ◌++◌, ◌∷◌, [], replicate, OnOk};
-ghost use Rattle.pf_addr.specs.{Bytes.Forms.{Form, Fits, back, front, times, onto}, Bytes.Readers.Reads};
+ghost use Rattle.pf_form.specs.{Bytes.Forms.{Form, Fits, back, front, times, onto}, Bytes.Readers.Reads};
 ghost use Rattle.pf_state.specs.Layouts.{Flows.{flow_form, plain_flow}, States.{name_form, plain_name, bound_form, plain_bound, held_form, plain_held, state_form, plain_state}};
 
 use crate::flow::Flow;
 use crate::layouts::flow::{direction_byte, push_flow};
 use crate::state::{Bound, Held, State, StateName};
 use pf_addr::Addr;
-use pf_addr::bytes::{
+use pf_form::bytes::{
     Layout, Ordered, Rest, Stop, expect, push_bytes, push_u32, push_u64, read_array, read_u32,
     read_u64, takes,
 };
@@ -220,7 +220,7 @@ fn push_default(out: &mut Vec<u8>) -> Result<(), AllocError>
     )
 }
 
-#[tactic(auto, unfolding(pf_addr::specs::Bytes::Parts::number_bytes), using(crate::proofs::Pieced::three_pushed))]
+#[tactic(auto, unfolding(pf_form::specs::Bytes::BasicForms::number_bytes), using(crate::proofs::Pieced::three_pushed))]
 fn push_rule(out: &mut Vec<u8>, number: u32) -> Result<(), AllocError>
     ensures { OnOk result
         (out.new.items ≡ onto (Form.number 4) number ((out.old.items ++ replicate 8 255) ++ 1 ∷ 0 ∷ 0 ∷ 0 ∷ [])) }

@@ -1,12 +1,12 @@
 //! Steps in bytes, as a store keeps them.
 ghost use Rattle.std.specs.Prelude.{◌≡◌, ◌++◌, ℕ, OnOk};
-ghost use Rattle.pf_addr.specs.{Bytes.Forms.{Form, Fits, onto, length_of}, Bytes.Readers.Reads};
+ghost use Rattle.pf_form.specs.{Bytes.Forms.{Form, Fits, onto, length_of}, Bytes.Readers.Reads};
 ghost use Rattle.pf_state.specs.Layouts.Steps.{step_form, plain_step};
 
 use crate::layouts::state::{STATE_BYTES, push_name, push_state, read_name, read_state};
 use crate::state::tell_whole;
 use crate::step::Step;
-use pf_addr::bytes::{Layout, Rest, Stop, expect, push_bytes, push_key, push_u32, read_u32, takes};
+use pf_form::bytes::{Layout, Rest, Stop, expect, push_bytes, push_key, push_u32, read_u32, takes};
 use std::alloc::{AllocError, Global};
 
 const INSERT: u8 = 1;

@@ -5,7 +5,7 @@ ghost use Rattle.pf_state.specs.declared.peer.fault.ReadError.TheVariants as rea
 
 use std::alloc::{AllocError, AllocFailed};
 
-/// What is wrong with a peer's stream. Which of them it is, and with which byte it comes, depends on the bytes so far alone. Own.
+/// What is wrong with a peer's stream. Which of them it is, and with which byte it comes, depends on the bytes so far alone.
 #[derive(Clone, Copy, Debug, PartialEq, Eq)]
 pub enum PeerFault {
     /// A message's first byte isn't its version, or its second isn't 0. It comes with that byte.
@@ -23,7 +23,7 @@ pub enum PeerFault {
     Ended,
 }
 
-/// Why bytes aren't one whole message. Own.
+/// Why bytes aren't one whole message.
 #[derive(Clone, Copy, Debug, PartialEq, Eq)]
 pub enum OneFault {
     /// As a stream that ends where they do they have this fault.
@@ -32,7 +32,7 @@ pub enum OneFault {
     Count,
 }
 
-/// Why a piece wasn't taken, or the end not told. Own.
+/// Why a piece wasn't taken, or the end not told.
 #[derive(Clone, Copy, Debug, PartialEq, Eq)]
 pub enum FeedError {
     /// Memory was refused, and the reader is as before.

@@ -7,8 +7,8 @@ use crate::peer::fault::{PeerFault, ReadError};
 use crate::peer::fields::u16_at;
 use crate::peer::message::{CLEAR, DELETE, Group, INSERT, Message, Records};
 use crate::peer::record::{RECORD, Record};
-use crate::peer::stream::HEADER;
-use pf_addr::bytes::Stop;
+use crate::peer::stream::MESSAGE_HEADER;
+use pf_form::bytes::Stop;
 use std::alloc::{AllocError, Global};
 
 /// How many bytes the header of a group has.
@@ -23,8 +23,8 @@ pub(crate) fn message_of(
     ensures { IfOk result (IsJudged bytes.now) }
 {
     let mut checksum = [0; 16];
-    checksum.copy_from_slice(&bytes[4..HEADER]);
-    match groups_of(alloc, &bytes[HEADER..]) {
+    checksum.copy_from_slice(&bytes[4..MESSAGE_HEADER]);
+    match groups_of(alloc, &bytes[MESSAGE_HEADER..]) {
         Ok(groups) => Ok(Ok(Message { checksum, groups })),
         Err(ReadError::Memory) => Err(AllocError),
         Err(ReadError::Fault(fault)) => Ok(Err(fault)),

@@ -3,7 +3,7 @@
 use crate::flow::Flow;
 use crate::layouts::push_flow;
 use crate::peer::record::{Insert, InsertFields};
-use pf_addr::bytes::{Layout, Rest, Stop, push_u32, push_u64, read_u32, read_u64};
+use pf_form::bytes::{Layout, Rest, Stop, push_u32, push_u64, read_u32, read_u64};
 use std::alloc::{AllocError, Global};
 
 impl Layout for Insert {

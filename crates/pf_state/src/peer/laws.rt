@@ -1,14 +1,14 @@
 //! Laws of streams. Each function does nothing; its clauses are what is proved.
 ghost use Rattle.std.specs.{Prelude.{◌≡◌, ◌++◌, ◌↔◌, [], ℕ, List, Result, Ok}, List.concat};
 ghost use Rattle.pf_state.specs.declared.{peer.fault.OneFault.OneFault, peer.fault.PeerFault.PeerFault, peer.message.Message.Message};
-ghost use Rattle.pf_addr.specs.Bytes.Forms.{Spells};
+ghost use Rattle.pf_form.specs.Bytes.Forms.{Spells};
 ghost use Rattle.pf_state.specs.Laws.Messages as example;
 ghost use Rattle.pf_state.specs.Peer.Records.{PlainInsert, IsInsert, insert_form, plain_insert, insert_in, insert_bytes};
 ghost use Rattle.pf_state.specs.{Peer.Messages.IsMessage, Peer.One.IsOne, Peer.Streams.{Ending, Faulty, Reads, Feeds}, Peer.Written.{message_bytes, CanBeWritten}};
 
 use crate::peer::message::{CLEAR, DELETE, INSERT, MESSAGE_LIMIT, VERSION};
 use crate::peer::record::RECORD;
-use crate::peer::stream::HEADER;
+use crate::peer::stream::MESSAGE_HEADER;
 
 /// The bytes so far are one list of messages, and end in one way.
 #[tactic(auto, using(crate::proofs::OneReading::one_reading))]
@@ -56,7 +56,7 @@ pub fn one_message_has_one_answer()
 /// The numbers of a message's form that definitions and code cite by name.
 pub fn numbers_of_messages_are_these()
     ensures limit { MESSAGE_LIMIT ≡ 65_535 }
-    ensures header { HEADER ≡ 20 }
+    ensures header { MESSAGE_HEADER ≡ 20 }
     ensures record { RECORD ≡ 64 }
     ensures version { VERSION ≡ 5 }
     ensures actions { (INSERT ≡ 1) × (DELETE ≡ 6) × (CLEAR ≡ 0) }

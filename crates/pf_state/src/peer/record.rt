@@ -7,7 +7,7 @@ use crate::peer::fields::{u32_at, u64_at};
 use crate::peer::message::VERSION;
 use crate::peer::writing::{push_u32, push_u64};
 use pf_addr::Addr;
-use pf_addr::bytes::{Layout, Stop, decode};
+use pf_form::bytes::{Layout, Stop, decode};
 use pf_rule::value::{Direction, Protocol};
 use std::alloc::{AllocError, Global};
 use std::marker::Model;

@@ -8,11 +8,11 @@ use crate::peer::message::{Message, VERSION};
 use std::alloc::{AllocError, Global};
 
 /// How many bytes the header of a message has.
-pub const HEADER: usize = 20;
+pub const MESSAGE_HEADER: usize = 20;
 
 /// What stands where a message begins.
 #[derive(Clone, Copy)]
-pub(crate) enum Front {
+pub(crate) enum MessageStart {
     /// Less than a message, as yet without fault.
     Partial,
     /// A header with which a message has so many bytes, all of which are there.
@@ -54,9 +54,9 @@ pub(crate) fn read_stream(alloc: Global, bytes: &[u8]) -> Result<Read<'_>, Alloc
     let mut rest = bytes;
     loop {
         let size = match front_of(rest) {
-            Front::Whole(size) => size,
-            Front::Partial => return Ok(Read::new(messages, None, rest)),
-            Front::Bad(fault) => return Ok(Read::new(messages, Some(fault), rest)),
+            MessageStart::Whole(size) => size,
+            MessageStart::Partial => return Ok(Read::new(messages, None, rest)),
+            MessageStart::Bad(fault) => return Ok(Read::new(messages, Some(fault), rest)),
         };
         let (front, behind) = rest.split_at(size);
         match message_of(alloc, front)? {
@@ -69,24 +69,24 @@ pub(crate) fn read_stream(alloc: Global, bytes: &[u8]) -> Result<Read<'_>, Alloc
 
 // What stands at the front.
 #[tactic(auto, unfolding(pf_rule::specs::Bytes::number_at))]
-fn front_of(bytes: &[u8]) -> Front
+fn front_of(bytes: &[u8]) -> MessageStart
     ensures { IsFront bytes.now result }
 {
     if bytes.is_empty() {
-        return Front::Partial;
+        return MessageStart::Partial;
     }
     if bytes[0] != VERSION || (bytes.len() > 1 && bytes[1] != 0) {
-        return Front::Bad(PeerFault::BadVersion);
+        return MessageStart::Bad(PeerFault::BadVersion);
     }
     if bytes.len() < 4 {
-        return Front::Partial;
+        return MessageStart::Partial;
     }
     let size = bytes[2] as usize * 256 + bytes[3] as usize;
-    if size < HEADER {
-        return Front::Bad(PeerFault::BadLength);
+    if size < MESSAGE_HEADER {
+        return MessageStart::Bad(PeerFault::BadLength);
     }
     if bytes.len() < size {
-        return Front::Partial;
+        return MessageStart::Partial;
     }
-    Front::Whole(size)
+    MessageStart::Whole(size)
 }

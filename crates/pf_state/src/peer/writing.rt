@@ -5,7 +5,7 @@ ghost use Rattle.pf_state.specs.{Peer.Messages.IsMessage, Peer.Written.{message_
 
 use crate::peer::message::{CLEAR, DELETE, Group, INSERT, MESSAGE_LIMIT, Message, VERSION};
 use crate::peer::record::Record;
-use crate::peer::stream::HEADER;
+use crate::peer::stream::MESSAGE_HEADER;
 use byteorder::{BigEndian, ByteOrder};
 use std::alloc::{AllocError, Global};
 
@@ -21,7 +21,7 @@ pub fn write_peer(alloc: Global, message: &Message) -> Result<Vec<u8>, AllocErro
     push_groups(&mut groups, message.groups.as_slice())?;
     let mut out = Vec::new(alloc);
     out.extend_from_slice(&[VERSION, 0])?;
-    push_u16(&mut out, (HEADER + groups.len()) as u16)?;
+    push_u16(&mut out, (MESSAGE_HEADER + groups.len()) as u16)?;
     out.extend_from_slice(&message.checksum)?;
     out.extend_from_slice(&groups)?;
     Ok(out)

@@ -6,16 +6,16 @@ use std::sync::Arc;
 
 /// A change, as it is or shared.
 pub trait AsChange {
-    ghost use Rattle.pf_core.specs.Durable.Edits.{Edit};
+    ghost use Rattle.pf_core.specs.Durable.Changes.{PlainChange};
 
-    ghost edit: { Self → Edit };
+    ghost as_plain: { Self → PlainChange };
 
     fn as_change(&self) -> &Change
-        ensures { result.now ≡ edit self.now };
+        ensures { result.now ≡ as_plain self.now };
 }
 
 impl AsChange for Change {
-    ghost edit = { λ change. change };
+    ghost as_plain = { λ change. change };
 
     fn as_change(&self) -> &Change {
         self
@@ -25,7 +25,7 @@ impl AsChange for Change {
 impl AsChange for Arc<Change> {
     ghost use Rattle.std.specs.Arc.{arc_value};
 
-    ghost edit = { arc_value };
+    ghost as_plain = { arc_value };
 
     fn as_change(&self) -> &Change {
         self

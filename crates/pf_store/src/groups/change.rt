@@ -1,17 +1,17 @@
 //! Changes.
 ghost use Rattle.std.specs.Prelude.{◌≡◌, ◌<◌, ◌^◌, true, length, OnOk};
-ghost use Rattle.pf_addr.specs.{Bytes.Forms.{onto, Fits}, Bytes.Readers.Reads};
+ghost use Rattle.pf_form.specs.{Bytes.Forms.{onto, Fits}, Bytes.Readers.Reads};
 ghost use Rattle.pf_anchor.specs.Forms.{plain_entries};
 ghost use Rattle.pf_store.specs.Groups.{EditShape, edit_form, change_form, plain_record, has_form};
 
 use crate::groups::items::{have_form, push_items, read_items};
 use crate::groups::tables::{push_entries, read_entries};
 use crate::groups::telling::tells;
-use pf_addr::bytes::{
-    Layout, Rest, Stop, expect, push_bytes, push_fitting, push_key, push_u32, read_u32, takes,
-};
 use pf_addr::path::{Path, TableName};
 use pf_core::{Change, ChangeKind, EntryList};
+use pf_form::bytes::{
+    Layout, Rest, Stop, expect, push_bytes, push_fitting, push_key, push_u32, read_u32, takes,
+};
 use pf_state::layouts::{push_name, push_steps, read_name, read_steps};
 use pf_table::Entry;
 use std::alloc::{AllocError, Global};
@@ -59,7 +59,7 @@ impl Layout for Recorded {
         read_record(alloc, version, from)
     }
 
-    #[tactic(auto, using(crate::proofs::Told::formed))]
+    #[tactic(auto, using(crate::proofs::RecordedForms::formed))]
     fn write(&self, version: u8, out: &mut Vec<u8>) -> Result<(), AllocError> {
         tells(self);
         push_record(out, version, self)

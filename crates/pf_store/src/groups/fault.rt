@@ -4,7 +4,7 @@ ghost use Rattle.pf_store.specs.declared.groups.fault.GroupFault.TheVariants.{Me
 
 use std::alloc::{AllocError, AllocFailed};
 
-/// Why a change wasn't written or read. Own.
+/// Why a change wasn't written or read.
 #[derive(Clone, Copy, Debug)]
 pub enum GroupFault {
     /// Memory was refused.

@@ -1,6 +1,6 @@
 //! Groups: what one record keeps.
 ghost use Rattle.std.specs.{Prelude.{◌≡◌, ◌+◌, ◌^◌, ◌<◌, ◌≤◌, ◌&&◌, ◌++◌, [], ◌∷◌, true, false, length, map, List, ℕ, IfOk, IfErr, OnOk}, List.list_all};
-ghost use Rattle.pf_addr.specs.{Bytes.Forms.{counted, onto, Fits}, Bytes.Readers.Reads};
+ghost use Rattle.pf_form.specs.{Bytes.Forms.{counted, onto, Fits}, Bytes.Readers.Reads};
 ghost use Rattle.pf_store.specs.declared.limits.TheConstants.{AROUND, OPENING_RECORD};
 ghost use Rattle.pf_store.specs.{Groups.{change_form, group_form, have_form, has_form, is_group, made_all, plain_record, record_in, IsRecorded, IsRecordOf}, Lengths.payload_length};
 
@@ -8,10 +8,10 @@ use crate::groups::as_change::AsChange;
 use crate::groups::change::{OPEN, Recorded, has_change_form, push_change, push_record};
 use crate::groups::fault::GroupFault;
 use crate::groups::telling::{tell_change, tells};
-use pf_addr::bytes::{
+use pf_core::GROUP_LIMIT;
+use pf_form::bytes::{
     Fault, Layout, Rest, Stop, decode, push_bytes, push_u8, push_u32, read_times, read_u8,
 };
-use pf_core::GROUP_LIMIT;
 use pf_journal::Record;
 use std::alloc::{AllocError, Global};
 
@@ -23,7 +23,7 @@ struct StoredGroup {
 
 impl Layout for StoredGroup {
     ghost use Rattle.std.specs.Prelude.{map, true};
-    ghost use Rattle.pf_addr.specs.Bytes.Forms.{list};
+    ghost use Rattle.pf_form.specs.Bytes.Forms.{list};
     ghost use Rattle.pf_store.specs.Groups.{ChangeShape, group_form, plain_record};
 
     ghost shape = { list ChangeShape };
@@ -44,7 +44,7 @@ impl Layout for StoredGroup {
         Ok(StoredGroup { records })
     }
 
-    #[tactic(auto, using(crate::proofs::Told::group_formed))]
+    #[tactic(auto, using(crate::proofs::RecordedForms::group_formed))]
     fn write(&self, version: u8, out: &mut Vec<u8>) -> Result<(), AllocError> {
         tell_records(self.records.as_slice());
         push_records(out, version, self.records.as_slice())
@@ -87,7 +87,7 @@ fn push_records(out: &mut Vec<u8>, version: u8, records: &[Recorded]) -> Result<
 }
 
 fn tell_changes<C: AsChange>(changes: &[C])
-    ensures { map record_in (map plain_record (made_all (map C.edit changes.now))) ≡ made_all (map C.edit changes.now) }
+    ensures { map record_in (map plain_record (made_all (map C.as_plain changes.now))) ≡ made_all (map C.as_plain changes.now) }
 {
     for change in changes {
         tell_change(change.as_change());
@@ -101,10 +101,10 @@ fn push_changes<C: AsChange>(
     changes: &[C],
 ) -> Result<(), AllocError>
     requires many { is_group changes.now ≡ true }
-    requires formed { list_all (λ c. has_form (Recorded.Made (C.edit c))) changes.now ≡ true }
+    requires formed { list_all (λ c. has_form (Recorded.Made (C.as_plain c))) changes.now ≡ true }
     ensures written { OnOk result
-        (out.new.items ≡ onto (group_form version) (map (λ c. plain_record (Recorded.Made (C.edit c))) changes.now) out.old.items) }
-    ensures fits { OnOk result (Fits (group_form version) (map (λ c. plain_record (Recorded.Made (C.edit c))) changes.now)) }
+        (out.new.items ≡ onto (group_form version) (map (λ c. plain_record (Recorded.Made (C.as_plain c))) changes.now) out.old.items) }
+    ensures fits { OnOk result (Fits (group_form version) (map (λ c. plain_record (Recorded.Made (C.as_plain c))) changes.now)) }
 {
     push_u8(out, changes.len() as u8)?;
     for change in changes {
@@ -115,19 +115,19 @@ fn push_changes<C: AsChange>(
 
 /// Whether a group of these has bytes: there are 1 to 64, and each has some.
 pub(crate) fn have_form<C: AsChange>(changes: &[C]) -> bool
-    ensures { result ≡ have_form (made_all (map C.edit changes.now)) }
+    ensures { result ≡ have_form (made_all (map C.as_plain changes.now)) }
 {
     is_group(changes) && all_have_form(changes)
 }
 
 fn all_have_form<C: AsChange>(changes: &[C]) -> bool
-    ensures { result ≡ list_all (λ c. has_form (Recorded.Made (C.edit c))) changes.now }
+    ensures { result ≡ list_all (λ c. has_form (Recorded.Made (C.as_plain c))) changes.now }
 {
     changes.iter().all(has_bytes)
 }
 
 fn has_bytes<C: AsChange>(change: &C) -> bool
-    ensures { result ≡ has_form (Recorded.Made (C.edit change.now)) }
+    ensures { result ≡ has_form (Recorded.Made (C.as_plain change.now)) }
 {
     has_change_form(change.as_change())
 }
@@ -135,17 +135,17 @@ fn has_bytes<C: AsChange>(change: &C) -> bool
 /// The bytes of a group of changes in a version, 2 and more.
 ///
 /// `NoForm`: it has none. There are none or more than 64, or one of them has none, as a commit of nothing, of more than 64 rulesets, or of
-/// more tables at a path than a ticket takes. `Memory`: it has some, and a growth was refused. Own.
+/// more tables at a path than a ticket takes. `Memory`: it has some, and a growth was refused.
 pub fn write_group<C: AsChange>(
     alloc: Global,
     version: u8,
     changes: &[C],
 ) -> Result<Vec<u8>, GroupFault>
-    ensures written { IfOk result (λ v. IsRecorded version (made_all (map C.edit changes.now)) v.items) }
-    ensures length { IfOk result (λ v. length v.items ≡ payload_length (made_all (map C.edit changes.now))) }
-    ensures formed { OnOk result (have_form (made_all (map C.edit changes.now)) ≡ true) }
-    ensures formless { IfErr result (λ e. e ≡ GroupFault.NoForm → have_form (made_all (map C.edit changes.now)) ≡ false) }
-    ensures memory { IfErr result (λ e. e ≡ GroupFault.Memory → have_form (made_all (map C.edit changes.now)) ≡ true) }
+    ensures written { IfOk result (λ v. IsRecorded version (made_all (map C.as_plain changes.now)) v.items) }
+    ensures length { IfOk result (λ v. length v.items ≡ payload_length (made_all (map C.as_plain changes.now))) }
+    ensures formed { OnOk result (have_form (made_all (map C.as_plain changes.now)) ≡ true) }
+    ensures formless { IfErr result (λ e. e ≡ GroupFault.NoForm → have_form (made_all (map C.as_plain changes.now)) ≡ false) }
+    ensures memory { IfErr result (λ e. e ≡ GroupFault.Memory → have_form (made_all (map C.as_plain changes.now)) ≡ true) }
 {
     if !have_form(changes) {
         return Err(GroupFault::NoForm);
@@ -157,9 +157,9 @@ pub fn write_group<C: AsChange>(
 
 // Puts the bytes of a group of changes behind others.
 fn push_group<C: AsChange>(out: &mut Vec<u8>, version: u8, changes: &[C]) -> Result<(), AllocError>
-    requires { have_form (made_all (map C.edit changes.now)) ≡ true }
+    requires { have_form (made_all (map C.as_plain changes.now)) ≡ true }
     ensures { OnOk result ((payload : List ℕ) × (out.new.items ≡ out.old.items ++ payload)
-        × IsRecorded version (made_all (map C.edit changes.now)) payload) }
+        × IsRecorded version (made_all (map C.as_plain changes.now)) payload) }
 {
     tell_changes(changes);
     push_changes(out, version, changes)
@@ -171,10 +171,10 @@ pub(crate) fn record_group<C: AsChange>(
     version: u8,
     changes: &[C],
 ) -> Result<Record, AllocError>
-    requires formed { have_form (made_all (map C.edit changes.now)) ≡ true }
-    requires short { payload_length (made_all (map C.edit changes.now)) < 2 ^ 32 }
-    ensures made { IfOk result (λ made. IsRecordOf version (made_all (map C.edit changes.now)) made) }
-    ensures long { IfOk result (λ made. length made.behind.items + 1 ≡ payload_length (made_all (map C.edit changes.now)) + AROUND) }
+    requires formed { have_form (made_all (map C.as_plain changes.now)) ≡ true }
+    requires short { payload_length (made_all (map C.as_plain changes.now)) < 2 ^ 32 }
+    ensures made { IfOk result (λ made. IsRecordOf version (made_all (map C.as_plain changes.now)) made) }
+    ensures long { IfOk result (λ made. length made.behind.items + 1 ≡ payload_length (made_all (map C.as_plain changes.now)) + AROUND) }
 {
     let mut record = Record::begin(alloc)?;
     push_group(&mut record.behind, version, changes)?;
@@ -195,7 +195,7 @@ pub(crate) fn record_opening(alloc: Global, epoch: u32) -> Result<Record, AllocE
 }
 
 /// What these bytes record in a version: 1 to 64 changes and openings. `NoForm`: they are nothing's. `Memory`: a growth was refused.
-#[tactic(auto, using(crate::proofs::Told::spelled, crate::proofs::Told::none_told))]
+#[tactic(auto, using(crate::proofs::RecordedForms::spelled, crate::proofs::RecordedForms::none_told))]
 pub fn read_group(alloc: Global, version: u8, bytes: &[u8]) -> Result<Vec<Recorded>, GroupFault>
     ensures found { IfOk result (λ v. IsRecorded version v.items bytes.now) }
     ensures none { IfErr result (λ e. e ≡ GroupFault.NoForm → (rs : List Recorded) → ¬ IsRecorded version rs bytes.now) }

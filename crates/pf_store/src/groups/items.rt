@@ -1,19 +1,19 @@
 //! What a commit replaces.
 ghost use Rattle.std.specs.{Prelude.{◌≡◌, ◌≤◌, ◌&&◌, true, length, map, IfOk, OnOk}, List.list_all};
-ghost use Rattle.pf_addr.specs.{Bytes.Forms.{counted, onto, Fits}, Bytes.Readers.Reads};
+ghost use Rattle.pf_form.specs.{Bytes.Forms.{counted, onto, Fits}, Bytes.Readers.Reads};
 ghost use Rattle.pf_rule.specs.Sum.Layouts.{plain_rule};
 ghost use Rattle.pf_ticket.specs.declared.limits.TheConstants.{OFFERED_TABLE_LIMIT};
 ghost use Rattle.pf_anchor.specs.Forms.{RulesShape, rules_form, rule_list_form, plain_named};
 ghost use Rattle.pf_store.specs.Groups.{TablesShape, tables_form, defined_form, item_form, items_form, plain_item, is_commit, has_item_form};
 
 use crate::groups::tables::{StoredTable, push_named};
-use pf_addr::bytes::{
-    Fault, Layout, Rest, Stop, expect, push_bytes, push_fitting, push_key, push_list, push_u8,
-    push_u32, read_list, read_ordered_list, read_times, read_u8, takes,
-};
 use pf_addr::path::Path;
 use pf_anchor::{Placed, RULE_LIMIT, RuleList};
 use pf_core::Item;
+use pf_form::bytes::{
+    Fault, Layout, Rest, Stop, expect, push_bytes, push_fitting, push_key, push_list, push_u8,
+    push_u32, read_list, read_ordered_list, read_times, read_u8, takes,
+};
 use pf_rule::Rule;
 use pf_ticket::{Defined, DefinedTable, ENTRY_LIMIT, OFFERED_TABLE_LIMIT};
 use std::alloc::{AllocError, Global};

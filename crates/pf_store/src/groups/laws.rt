@@ -5,7 +5,7 @@ ghost use Rattle.pf_store.specs.{Groups.{have_form, IsRecorded}, Lengths.payload
 
 /// In each version a payload is that of one group at most. This one has a form, and the payload as many bytes as the kinds and the lengths
 /// of its changes tell.
-#[tactic(auto, using(crate::proofs::Told::one_group, crate::proofs::Told::recorded_formed, crate::proofs::Sized::payload_long))]
+#[tactic(auto, using(crate::proofs::RecordedForms::one_group, crate::proofs::RecordedForms::recorded_formed, crate::proofs::Sized::payload_long))]
 pub fn payloads_tell_one_group()
     ensures one { (version : ℕ) (rs ss : List Recorded) (payload : List ℕ)
         → IsRecorded version rs payload → IsRecorded version ss payload → rs ≡ ss }

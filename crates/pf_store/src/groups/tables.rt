@@ -1,14 +1,14 @@
 //! Tables and entries.
 ghost use Rattle.std.specs.Prelude.{◌≡◌, ◌<◌, ◌^◌, length, IfOk, OnOk};
-ghost use Rattle.pf_addr.specs.{Bytes.Forms.{counted, onto, Fits}, Bytes.Readers.Reads};
+ghost use Rattle.pf_form.specs.{Bytes.Forms.{counted, onto, Fits}, Bytes.Readers.Reads};
 ghost use Rattle.pf_table.specs.EntryForms.{entry};
 ghost use Rattle.pf_anchor.specs.Forms.{plain_entries, entries_form, named_form, plain_named};
 
-use pf_addr::bytes::{
+use pf_addr::path::TableName;
+use pf_form::bytes::{
     Fault, Layout, Ordered, Rest, Stop, push_fitting, push_list, push_u32, read_list,
     read_ordered_list,
 };
-use pf_addr::path::TableName;
 use pf_table::{Entry, TABLE_LIMIT, Table};
 use pf_ticket::DefinedTable;
 use std::alloc::{AllocError, Global};

@@ -17,7 +17,7 @@ pub(crate) fn tells(recorded: &Recorded)
     }
 }
 
-#[tactic(auto, using(crate::proofs::Told::entries_told, crate::proofs::Told::steps_told))]
+#[tactic(auto, using(crate::proofs::RecordedForms::entries_told, crate::proofs::RecordedForms::steps_told))]
 pub(crate) fn tell_change(change: &Change)
     ensures { record_in (plain_record (Recorded.Made change.now)) ≡ Recorded.Made change.now }
 {
@@ -39,7 +39,7 @@ fn tell_items(items: &[Item])
     }
 }
 
-#[tactic(auto, using(crate::proofs::Told::tables_told))]
+#[tactic(auto, using(crate::proofs::RecordedForms::tables_told))]
 fn tell_item(item: &Item)
     ensures { item_in (plain_item item.now) ≡ item.now }
 {

@@ -1,8 +1,9 @@
 //! Snapshots.
 ghost use Rattle.std.specs.{Prelude.{◌≡◌, ℕ, true, false, T, List, length, IfOk, IfErr, OnOk}, FinMap.is_sorted, List.list_all};
-ghost use Rattle.pf_addr.specs.{Bytes.Forms.{onto, Fits}, Path.Paths.path_order};
+ghost use Rattle.pf_addr.specs.Path.Paths.{path_order};
+ghost use Rattle.pf_form.specs.Bytes.Forms.{onto, Fits};
 ghost use Rattle.pf_anchor.specs.Tables.{table_order};
-ghost use Rattle.pf_core.specs.Durable.Edits.{Kept};
+ghost use Rattle.pf_core.specs.Durable.Changes.{PlainDurable};
 ghost use Rattle.pf_anchor.specs.Forms.{has_some, configured};
 ghost use Rattle.pf_core.specs.Durable.Forms.{durable_form, plain_durable};
 ghost use Rattle.pf_store.specs.{Durables.{durable_has_form, IsDurable}, Lengths.snapshot_length, Snapshots.EndsInSnapshot};
@@ -11,9 +12,9 @@ use crate::groups::GroupFault;
 use crate::snapshots::rulesets::{push_rulesets, read_rulesets};
 use crate::snapshots::tables::{push_tables, read_tables};
 use crate::snapshots::telling::tell_durable;
-use pf_addr::bytes::{Layout, Rest, Stop, decode, push_u32, read_u32};
 use pf_anchor::{Config, Placed, PlacedTable};
 use pf_core::Durable;
+use pf_form::bytes::{Layout, Rest, Stop, decode, push_u32, read_u32};
 use pf_state::layouts::{push_states, read_states};
 use std::alloc::{AllocError, Global};
 
@@ -107,7 +108,7 @@ pub(crate) fn push_snapshot(
 
 /// The bytes of a snapshot of what is kept in a version, 16 and more.
 ///
-/// `NoForm`: it has none, since there are more than 1,024 rulesets or tables. `Memory`: a growth was refused. Own.
+/// `NoForm`: it has none, since there are more than 1,024 rulesets or tables. `Memory`: a growth was refused.
 pub fn write_durable(alloc: Global, version: u8, durable: &Durable) -> Result<Vec<u8>, GroupFault>
     ensures written { IfOk result (λ v. IsDurable version durable.now v.items) }
     ensures length { IfOk result (λ v. length v.items ≡ snapshot_length durable.now) }
@@ -129,7 +130,7 @@ pub fn write_durable(alloc: Global, version: u8, durable: &Durable) -> Result<Ve
 #[tactic(auto, using(crate::proofs::Durables::durable_spelled, crate::proofs::Durables::none_told))]
 pub fn read_durable(alloc: Global, version: u8, bytes: &[u8]) -> Result<Durable, GroupFault>
     ensures found { IfOk result (λ d. IsDurable version d bytes.now) }
-    ensures none { IfErr result (λ e. e ≡ GroupFault.NoForm → (d : Kept) → ¬ IsDurable version d bytes.now) }
+    ensures none { IfErr result (λ e. e ≡ GroupFault.NoForm → (d : PlainDurable) → ¬ IsDurable version d bytes.now) }
 {
     match decode::<Snapshot>(alloc, version, bytes) {
         Ok(snapshot) => {

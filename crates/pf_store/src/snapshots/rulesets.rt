@@ -1,12 +1,13 @@
 //! Rulesets.
 ghost use Rattle.std.specs.{Prelude.{◌≡◌, ◌≤◌, ◌&&◌, nat_le, true, T, length, map, IfOk, OnOk}, FinMap.is_sorted, List.list_all};
-ghost use Rattle.pf_addr.specs.{Bytes.Forms.{onto, Fits}, Bytes.Readers.Reads, Path.Paths.path_order};
+ghost use Rattle.pf_addr.specs.Path.Paths.{path_order};
+ghost use Rattle.pf_form.specs.Bytes.{Forms.{onto, Fits}, Readers.Reads};
 ghost use Rattle.pf_anchor.specs.{declared.limits.TheConstants.RULESET_LIMIT, Rulesets.IsMap};
 ghost use Rattle.pf_anchor.specs.Forms.{has_some, rulesets_form, plain_ruled};
 
 use crate::groups::{push_rules, read_rules};
-use pf_addr::bytes::{Fault, Layout, Ordered, Rest, Stop, push_u32, read_ordered_list};
 use pf_anchor::{Config, Path, Placed, RULESET_LIMIT};
+use pf_form::bytes::{Fault, Layout, Ordered, Rest, Stop, push_u32, read_ordered_list};
 use std::alloc::{AllocError, Global};
 
 // A ruleset, as a snapshot has it.

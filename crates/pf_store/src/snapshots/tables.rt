@@ -1,15 +1,15 @@
 //! Tables at their places.
 ghost use Rattle.std.specs.{Prelude.{◌≡◌, ◌≤◌, ◌&&◌, nat_le, true, T, length, map, IfOk, OnOk}, FinMap.is_sorted, List.list_all};
-ghost use Rattle.pf_addr.specs.{Bytes.Forms.{onto, Fits}, Bytes.Readers.Reads};
+ghost use Rattle.pf_form.specs.{Bytes.Forms.{onto, Fits}, Bytes.Readers.Reads};
 ghost use Rattle.pf_anchor.specs.{declared.limits.TheConstants.TABLE_COUNT_LIMIT, Tables.{IsTableMap, table_order}};
 ghost use Rattle.pf_anchor.specs.Forms.{has_some, kept_tables_form, placed_form, plain_tabled};
 
 use crate::groups::{push_table, read_table};
-use pf_addr::bytes::{
-    Fault, Layout, Ordered, Rest, Stop, push_fitting, push_u32, read_ordered_list,
-};
 use pf_addr::path::TableName;
 use pf_anchor::{Config, Path, PlacedTable, TABLE_COUNT_LIMIT};
+use pf_form::bytes::{
+    Fault, Layout, Ordered, Rest, Stop, push_fitting, push_u32, read_ordered_list,
+};
 use std::alloc::{AllocError, Global};
 
 // A table at its path and under its name, as a snapshot has it.

@@ -3,7 +3,7 @@ ghost use Rattle.std.specs.Prelude.{◌≡◌, ◌↔◌, ◌+◌, ◌^◌, ◌<
 ghost use Rattle.pf_disk.specs.Disk.{EachMoment};
 ghost use Rattle.pf_journal.specs.Journal.{IsOf};
 ghost use Rattle.pf_snap.specs.{Banks.bank_size, Faults.is_switch_fault, Ready.IsReady};
-ghost use Rattle.pf_core.specs.Durable.Edits.{Kept};
+ghost use Rattle.pf_core.specs.Durable.Changes.{PlainDurable};
 ghost use Rattle.pf_store.specs.declared.groups.change.Recorded.{Recorded};
 ghost use Rattle.pf_store.specs.{Durables.durable_has_form, Groups.IsRecordOf, Lengths.snapshot_length, Snapshots.IsBankOf, StoreFaults.is_add_fault, StoreKept.HaveKept, Openings.{IsAsLongAs, IsNoLaterThan}, Stores.{FollowInTurn, left_by_all, Holds, HoldsEither}};
 
@@ -13,7 +13,7 @@ use crate::store::lengths::has_room;
 use pf_core::Durable;
 use pf_disk::Disk;
 use pf_journal::Record;
-use pf_snap::{Banks, HEADER, NEWEST, NextBank, SwitchFault};
+use pf_snap::{BANK_HEADER, Banks, NEWEST, NextBank, SwitchFault};
 use std::alloc::AllocError;
 
 /// Adds this record of a group that follows what is kept, in ten moments of the device at most. Where the bank that counts has no room for
@@ -44,7 +44,7 @@ pub(crate) fn add<D: Disk>(
         → HaveKept D.seen banks.new (left_by_all durable.now xs)) }
     ensures ready { OnOk result (IsReady D.seen D.unsynced banks.new) }
     ensures full { IsErrOf result AddFault.Full ↔ ((banks.old.journal.end < banks.old.journal.gate + (length added.now.behind.items + 1))
-        × (bank_size (length (D.seen banks.old.journal.disk)) < HEADER + snapshot_length durable.now + (length added.now.behind.items + 1))) }
+        × (bank_size (length (D.seen banks.old.journal.disk)) < BANK_HEADER + snapshot_length durable.now + (length added.now.behind.items + 1))) }
     ensures unchanged_where_full { IsErrOf result AddFault.Full → banks.new ≡ banks.old }
     ensures unchanged_without_memory { IsErrOf result AddFault.Memory → banks.new ≡ banks.old }
     ensures generation { banks.new.generation ≤ banks.old.generation + 1 }
@@ -81,7 +81,7 @@ fn switch<D: Disk>(
 ) -> Result<(), SwitchFault>
     requires ready { IsReady D.seen D.unsynced banks.old }
     requires kept { HaveKept D.seen banks.old durable.now }
-    requires fits { HEADER + snapshot_length durable.now + 1 ≤ bank_size (length (D.seen banks.old.journal.disk)) }
+    requires fits { BANK_HEADER + snapshot_length durable.now + 1 ≤ bank_size (length (D.seen banks.old.journal.disk)) }
     requires early { banks.old.generation + 1 < 2 ^ 64 }
     requires few { D.fault_count banks.old.journal.disk < 2 ^ 63 }
     ensures any_moment { EachMoment D.moment D.left_since banks.old.journal.disk banks.new.journal.disk (λ image. Holds image durable.now) }
@@ -91,7 +91,7 @@ fn switch<D: Disk>(
         (IsAsLongAs (D.seen banks.old.journal.disk)) }
     ensures kept { OnOk result (HaveKept D.seen banks.new durable.now) }
     ensures ready { OnOk result (IsReady D.seen D.unsynced banks.new) }
-    ensures gate { OnOk result (banks.new.journal.gate ≡ banks.new.at + HEADER + snapshot_length durable.now) }
+    ensures gate { OnOk result (banks.new.journal.gate ≡ banks.new.at + BANK_HEADER + snapshot_length durable.now) }
     ensures generation { OnOk result (banks.new.generation ≡ banks.old.generation + 1) }
     ensures same_generation { OnErr result (banks.new.generation ≡ banks.old.generation) }
     ensures unchanged_without_memory { IsErrOf result SwitchFault.Memory → banks.new ≡ banks.old }
@@ -108,11 +108,11 @@ fn switch<D: Disk>(
 // Makes the bank that follows one of this generation, with a snapshot of what is kept.
 fn prepare(next: &mut NextBank, generation: u64, durable: &Durable) -> Result<(), AllocError>
     requires formed { durable_has_form durable.now ≡ true }
-    requires fits { HEADER + snapshot_length durable.now + 1 < 2 ^ 32 }
+    requires fits { BANK_HEADER + snapshot_length durable.now + 1 < 2 ^ 32 }
     requires early { generation + 1 < 2 ^ 64 }
     ensures made { OnOk result (IsBankOf generation next.new durable.now) }
     ensures long { OnOk result (next.new.length ≡ snapshot_length durable.now) }
-    ensures all { OnOk result (length next.new.behind.items ≡ HEADER + snapshot_length durable.now) }
+    ensures all { OnOk result (length next.new.behind.items ≡ BANK_HEADER + snapshot_length durable.now) }
 {
     let length = durable.byte_length() as usize;
     next.start(NEWEST, generation + 1, length)?;

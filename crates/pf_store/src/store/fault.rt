@@ -8,7 +8,7 @@ use pf_disk::DiskFault;
 use pf_snap::{LookFault, SwitchFault};
 use std::alloc::AllocError;
 
-/// Why a change wasn't saved. Own.
+/// Why a change wasn't saved.
 #[derive(Clone, Copy, Debug, PartialEq, Eq)]
 pub enum SaveFault {
     /// Memory was refused, and there is room for the change. All is as before, and the device wasn't called.
@@ -22,7 +22,7 @@ pub enum SaveFault {
 }
 
 /// Why a device wasn't opened, or no history was begun over one that was. Of a store's: after each of these but `Fault` the device reads as
-/// before, and nothing was written. Own.
+/// before, and nothing was written.
 #[derive(Clone, Copy, Debug, PartialEq, Eq)]
 pub enum OpenFault {
     /// The device has an odd number of bytes, or fewer than 256 or more than 2^30. No call was made.

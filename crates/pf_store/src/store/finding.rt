@@ -15,7 +15,7 @@ use std::alloc::Global;
 
 impl<D: Disk> Store<D> {
     /// What a device holds, as it reads, in four moments of the device at most. It writes and syncs nothing. It is never `EpochsExhausted` or
-    /// `Full`. Own.
+    /// `Full`.
     pub fn peek(alloc: Global, disk: &mut D) -> Result<Durable, OpenFault>
         requires few { D.fault_count disk.old < 2 ^ 63 }
         ensures held { IfOk result (λ d. (held : Holds (D.seen disk.old) d) × (generation_of (D.seen disk.old) d held < 2 ^ 63)) }

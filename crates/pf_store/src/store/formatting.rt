@@ -2,7 +2,7 @@
 ghost use Rattle.std.specs.Prelude.{◌≡◌, ◌↔◌, ◌+◌, ◌^◌, ◌<◌, ◌≤◌, ◌≢◌, ℕ, List, length, replicate, slice_index, OnOk, IsErrOf, if◌then◌else◌};
 ghost use Rattle.pf_disk.specs.{Disk.{EachMoment, IsImage, IsSynced}, declared.image.TheConstants.OPEN_GATE};
 ghost use Rattle.pf_snap.specs.{Banks.{IsSize, bank_size, IsOfFormat}, Faults.is_format_fault};
-ghost use Rattle.pf_core.specs.Durable.Edits.{kept_nothing};
+ghost use Rattle.pf_core.specs.Durable.Changes.{kept_nothing};
 ghost use Rattle.pf_store.specs.{declared.limits.TheConstants.EMPTY_LENGTH, Openings.{generation_of, LeavesRoom}, Stores.Holds};
 
 use crate::limits::EMPTY_LENGTH;
@@ -14,7 +14,7 @@ use std::alloc::Global;
 const EMPTY_SNAPSHOT: [u8; EMPTY_LENGTH] = [0; EMPTY_LENGTH];
 
 /// Makes a device hold nothing but the epoch 0, whatever it held, in seven moments of the device at most. `Err`: the device is as before,
-/// or a call of it failed. Own.
+/// or a call of it failed.
 pub fn format<D: Disk>(alloc: Global, disk: &mut D) -> Result<(), FormatFault>
     requires few { D.fault_count disk.old < 2 ^ 63 }
     ensures holds { OnOk result ((c : List ℕ) → IsImage (D.seen disk.new) (D.unsynced disk.new) c → Holds c (kept_nothing 0)) }

@@ -3,7 +3,7 @@ ghost use Rattle.std.specs.List.{list_all};
 ghost use Rattle.std.specs.Prelude.{◌≡◌, ◌⊎◌, ◌↔◌, ◌+◌, ◌^◌, ◌<◌, ◌≤◌, true, false, ℕ, List, [], ◌∷◌, length, map, IfOk, IfErr, IsTrue, OnOk, OnErr, IsErrOf, Ok, if◌then◌else◌};
 ghost use Rattle.pf_disk.specs.Disk.{EachMoment, IsImage};
 ghost use Rattle.pf_snap.specs.{Banks.bank_size, Ready.IsReady};
-ghost use Rattle.pf_core.specs.{Durable.Edits.Kept, Laws.Durable.IsWithin, Worlds.{last_epoch, raised}};
+ghost use Rattle.pf_core.specs.{Durable.Changes.PlainDurable, Laws.Durable.IsWithin, Worlds.{last_epoch, raised}};
 ghost use Rattle.pf_store.specs.declared.store.fault.SaveFault.TheVariants as saving;
 ghost use Rattle.pf_store.specs.declared.store.fault.OpenFault.TheVariants as opening;
 ghost use Rattle.pf_store.specs.declared.limits.TheConstants.{AROUND, OPENING_RECORD};
@@ -22,7 +22,7 @@ use pf_snap::{Banks, NextBank};
 use std::alloc::Global;
 use std::marker::Model;
 
-/// A device that holds what is kept. It lives here, and `into_disk` hands it back. Contracts see it as a `Storage`. Own.
+/// A device that holds what is kept. It lives here, and `into_disk` hands it back. Contracts see it as a `PlainStore`.
 #[derive(Drop)]
 pub struct Store<D: Disk> {
     banks: Banks<D>,
@@ -34,11 +34,11 @@ pub struct Store<D: Disk> {
 
 impl<D: Disk> Model for Store<D> {
     ghost use Rattle.std.specs.Prelude.{◌≡◌, false};
-    ghost use Rattle.pf_store.specs.StoreKept.{Storage, storage, IsStore};
+    ghost use Rattle.pf_store.specs.StoreKept.{PlainStore, store_with, IsStore};
 
-    ghost Value = { Storage D };
+    ghost Value = { PlainStore D };
 
-    ghost view = { λ s. storage D.seen s.banks s.halted };
+    ghost view = { λ s. store_with D.seen s.banks s.halted };
 
     ghost invariant = { λ s. s.halted ≡ false → IsStore D.seen D.unsynced D.fault_count s.banks };
 }
@@ -46,13 +46,13 @@ impl<D: Disk> Model for Store<D> {
 impl<D: Disk> Store<D> {
     /// Whether changes that leave this find room as one group. They don't where the store is halted. It takes no memory.
     ///
-    /// Of 1 to 64 changes that commands can want that is exactly whether their payload has room: it has bytes where it has room. Own.
+    /// Of 1 to 64 changes that commands can want that is exactly whether their payload has room: it has bytes where it has room.
     pub fn has_room<C: AsChange>(&self, before: &Durable, changes: &[C], after: &Durable) -> bool
         ensures found { IsTrue result ↔ ((self.now.halted ≡ false)
-            × FindsRoom self.now.size before.now after.now (map C.edit changes.now)) }
-        ensures exact { is_group changes.now ≡ true → list_all can_be_wanted (map C.edit changes.now) ≡ true
+            × FindsRoom self.now.size before.now after.now (map C.as_plain changes.now)) }
+        ensures exact { is_group changes.now ≡ true → list_all can_be_wanted (map C.as_plain changes.now) ≡ true
             → IsTrue result ↔ ((self.now.halted ≡ false)
-            × HasRoom self.now.size before.now after.now (payload_length (made_all (map C.edit changes.now)))) }
+            × HasRoom self.now.size before.now after.now (payload_length (made_all (map C.as_plain changes.now)))) }
     {
         !self.halted && find_room(before, changes, after, self.banks.size())
     }
@@ -64,7 +64,7 @@ impl<D: Disk> Store<D> {
     /// of them leave. Where their record has no room in the bank that counts, the other one is begun first, with a snapshot of what was kept
     /// before. `Full` comes exactly where they have no bytes as one group, where a bank has no room for their record behind a snapshot of
     /// what was kept before, or where one behind a snapshot of what is kept then has less than 64 bytes left. So `Memory` comes only where
-    /// they find room. Own.
+    /// they find room.
     pub fn save<C: AsChange>(
         &mut self,
         alloc: Global,
@@ -73,8 +73,8 @@ impl<D: Disk> Store<D> {
         after: &Durable,
     ) -> Result<(), SaveFault>
         requires stands { self.old.halted ≡ false → Stands D.seen D.unsynced self.old before.now }
-        requires fit { FollowInTurn before.now (made_all (map C.edit changes.now)) }
-        requires leads { after.now ≡ left_by_all before.now (made_all (map C.edit changes.now)) }
+        requires fit { FollowInTurn before.now (made_all (map C.as_plain changes.now)) }
+        requires leads { after.now ≡ left_by_all before.now (made_all (map C.as_plain changes.now)) }
         requires early { self.old.halted ≡ false → self.old.generation + 1 < 2 ^ 64 }
 
         // At each moment an image holds what was kept before or what is kept after all of them.
@@ -98,15 +98,15 @@ impl<D: Disk> Store<D> {
         ensures halted { IsErrOf result saving.Halted ↔ (self.old.halted ≡ true) }
         ensures halts { IsErrOf result saving.Fault → self.new.halted ≡ true }
 
-        ensures room { TellsRoom result (FindsRoom self.old.size before.now after.now (map C.edit changes.now)) }
+        ensures room { TellsRoom result (FindsRoom self.old.size before.now after.now (map C.as_plain changes.now)) }
         ensures unchanged { OnErr result ((IsErrOf result saving.Fault → ⊥) → self.new ≡ self.old) }
         ensures generation { self.new.generation ≤ self.old.generation + 1 }
         ensures generation_stays { self.old.generation ≤ self.new.generation }
 
         // It switches where their record has no room in the bank that counts, and there alone.
-        ensures here { OnOk result (payload_length (made_all (map C.edit changes.now)) + AROUND ≤ self.old.room
+        ensures here { OnOk result (payload_length (made_all (map C.as_plain changes.now)) + AROUND ≤ self.old.room
             → self.new.generation ≡ self.old.generation) }
-        ensures there { OnOk result (self.old.room < payload_length (made_all (map C.edit changes.now)) + AROUND
+        ensures there { OnOk result (self.old.room < payload_length (made_all (map C.as_plain changes.now)) + AROUND
             → self.new.generation ≡ self.old.generation + 1) }
 
         ensures size { self.new.size ≡ self.old.size }
@@ -137,21 +137,21 @@ impl<D: Disk> Store<D> {
 
     /// Opens a device, whatever a crash or a fault made of it, in fifteen moments of the device at most. What was read gets the next epoch,
     /// which is on the device before this returns: by a record more, behind a switch to the other bank where it has no room. `Err` hands the
-    /// device back. Own.
+    /// device back.
     pub fn open(alloc: Global, disk: D) -> Result<(Durable, Store<D>), (OpenFault, D)>
         requires few { D.fault_count disk < 2 ^ 63 }
 
         // What the device held, with the next epoch: the store stands for it, and each image holds it.
-        ensures opened { IfOk result (λ r. (d : Kept) × (held : Holds (D.seen disk) d) × (r.0 ≡ raised d) × (d.epoch < last_epoch)
+        ensures opened { IfOk result (λ r. (d : PlainDurable) × (held : Holds (D.seen disk) d) × (r.0 ≡ raised d) × (d.epoch < last_epoch)
             × (r.1.generation ≤ generation_of (D.seen disk) d held + 1) × (generation_of (D.seen disk) d held < 2 ^ 63)) }
         ensures stands { IfOk result (λ r. Stands D.seen D.unsynced r.1 r.0) }
         ensures images { IfOk result (λ r. (c : List ℕ) → IsImage (D.seen r.1.disk) (D.unsynced r.1.disk) c → Holds c r.0) }
         ensures fresh { IfOk result (λ r. r.1.halted ≡ false) }
 
         // It switches to the other bank exactly where its record has no room behind the others.
-        ensures here { IfOk result (λ r. (d : Kept) (held : Holds (D.seen disk) d) → HasRoomHere (D.seen disk) d held
+        ensures here { IfOk result (λ r. (d : PlainDurable) (held : Holds (D.seen disk) d) → HasRoomHere (D.seen disk) d held
             → r.1.generation ≡ generation_of (D.seen disk) d held) }
-        ensures there { IfOk result (λ r. (d : Kept) (held : Holds (D.seen disk) d) → ¬ HasRoomHere (D.seen disk) d held
+        ensures there { IfOk result (λ r. (d : PlainDurable) (held : Holds (D.seen disk) d) → ¬ HasRoomHere (D.seen disk) d held
             → r.1.generation ≡ generation_of (D.seen disk) d held + 1) }
 
         // By the generation that was found, which is below 2^63, or the next one.
@@ -160,7 +160,7 @@ impl<D: Disk> Store<D> {
             → IsNoLaterThan r.1.generation c) }
 
         ensures within { IfOk result (λ r. IsWithin r.0) }
-        ensures room { IfOk result (λ r. (d : Kept) → ¬ IsFull (D.seen disk) d) }
+        ensures room { IfOk result (λ r. (d : PlainDurable) → ¬ IsFull (D.seen disk) d) }
 
         // At each moment an image is one from the start, or holds what was read, its epoch perhaps one greater: by the generation that was
         // found or the next one, and with room for another opening where there was room.
@@ -188,14 +188,14 @@ impl<D: Disk> Store<D> {
         }
     }
 
-    /// The device. Own.
+    /// The device.
     pub fn disk(&self) -> &D
         ensures { result.now ≡ self.now.disk }
     {
         &self.banks.journal.disk
     }
 
-    /// The device as it stands. Own.
+    /// The device as it stands.
     pub fn into_disk(self) -> D
         ensures { result ≡ self.disk }
     {
@@ -219,13 +219,13 @@ fn raise_on<D: Disk>(
     requires early { banks.generation < 2 ^ 63 }
     requires few { D.fault_count banks.journal.disk < 2 ^ 63 }
     ensures raised { IfOk result (λ r. (r.0 ≡ raised durable.now) × (durable.now.epoch < last_epoch)) }
-    ensures room { IfOk result (λ r. (d : Kept) → ¬ IsFull (D.seen banks.journal.disk) d) }
+    ensures room { IfOk result (λ r. (d : PlainDurable) → ¬ IsFull (D.seen banks.journal.disk) d) }
     ensures stands { IfOk result (λ r. Stands D.seen D.unsynced r.1 r.0) }
     ensures fresh { IfOk result (λ r. r.1.halted ≡ false) }
     ensures generation { IfOk result (λ r. r.1.generation ≤ banks.generation + 1) }
-    ensures here { IfOk result (λ r. (d : Kept) (held : Holds (D.seen banks.journal.disk) d)
+    ensures here { IfOk result (λ r. (d : PlainDurable) (held : Holds (D.seen banks.journal.disk) d)
         → HasRoomHere (D.seen banks.journal.disk) d held → r.1.generation ≡ generation_of (D.seen banks.journal.disk) d held) }
-    ensures there { IfOk result (λ r. (d : Kept) (held : Holds (D.seen banks.journal.disk) d)
+    ensures there { IfOk result (λ r. (d : PlainDurable) (held : Holds (D.seen banks.journal.disk) d)
         → ¬ HasRoomHere (D.seen banks.journal.disk) d held → r.1.generation ≡ generation_of (D.seen banks.journal.disk) d held + 1) }
     ensures generations { IfOk result (λ r. (c : List ℕ) → IsImage (D.seen r.1.disk) (D.unsynced r.1.disk) c
         → IsNoLaterThan r.1.generation c) }

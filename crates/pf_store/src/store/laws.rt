@@ -2,49 +2,49 @@
 ghost use Rattle.std.specs.Prelude.{◌≡◌, ◌⊎◌, ◌↔◌, ◌^◌, ◌<◌, true, List, ℕ, length};
 ghost use Rattle.std.specs.List.{list_all};
 ghost use Rattle.pf_snap.specs.Banks.{bank_size};
-ghost use Rattle.pf_core.specs.{Durable.Edits.{Kept, Edit, after}, Laws.Durable.IsWithin, Worlds.{last_epoch, raised}};
+ghost use Rattle.pf_core.specs.{Durable.Changes.{PlainDurable, PlainChange, after}, Laws.Durable.IsWithin, Worlds.{last_epoch, raised}};
 ghost use Rattle.pf_store.specs.declared.store.fault.{OpenFault.OpenFault, OpenFault.TheVariants.{Memory, Fault}};
 ghost use Rattle.pf_store.specs.{Groups.{can_be_wanted, is_group, made_all}, Lengths.payload_length, Rooms.group_fits, Stores.{FindsRoom, HasRoom, Holds, IsRoomy, left_by_all}, StoreFaults.SaysNone, Openings.{IsFull, IsUnopened, generation_of}};
 
-/// An image holds one state of what is kept at most. Own.
+/// An image holds one state of what is kept at most.
 pub fn image_holds_one_state()
-    ensures { (image : List ℕ) (d e : Kept) → Holds image d → Holds image e → d ≡ e }
+    ensures { (image : List ℕ) (d e : PlainDurable) → Holds image d → Holds image e → d ≡ e }
 {}
 
-/// What holds a state by a generation below 2^63 is never refused as one that holds none. Own.
+/// What holds a state by a generation below 2^63 is never refused as one that holds none.
 pub fn held_state_is_found()
-    ensures { (image : List ℕ) (fault : OpenFault) (d : Kept) (held : Holds image d) → generation_of image d held < 2 ^ 63
+    ensures { (image : List ℕ) (fault : OpenFault) (d : PlainDurable) (held : Holds image d) → generation_of image d held < 2 ^ 63
         → IsUnopened fault image → ¬ SaysNone fault }
 {}
 
 /// Where the epoch isn't the last one, and an opening's record has room here or in the other bank, only want of memory or a fault of the
 /// device keeps a state from being opened that is held by a generation below 2^63. It has room where a bank has 64 bytes left behind a
-/// snapshot of that state, and the next epoch takes no more of them. Own.
+/// snapshot of that state, and the next epoch takes no more of them.
 pub fn state_with_room_is_refused_by_chance_alone()
-    ensures chance { (image : List ℕ) (fault : OpenFault) (d : Kept) (held : Holds image d) → generation_of image d held < 2 ^ 63
+    ensures chance { (image : List ℕ) (fault : OpenFault) (d : PlainDurable) (held : Holds image d) → generation_of image d held < 2 ^ 63
         → d.epoch < last_epoch → ¬ IsFull image d → IsUnopened fault image → (fault ≡ Memory) ⊎ (fault ≡ Fault) }
-    ensures room { (image : List ℕ) (d : Kept) → IsRoomy (bank_size (length image)) d → ¬ IsFull image d }
-    ensures next { (size : ℕ) (d : Kept) → IsRoomy size d → IsRoomy size (raised d) }
+    ensures room { (image : List ℕ) (d : PlainDurable) → IsRoomy (bank_size (length image)) d → ¬ IsFull image d }
+    ensures next { (size : ℕ) (d : PlainDurable) → IsRoomy size d → IsRoomy size (raised d) }
 {}
 
-/// What is held is within all limits, whatever bytes hold it. Own.
+/// What is held is within all limits, whatever bytes hold it.
 pub fn held_state_is_within_limits()
-    ensures { (image : List ℕ) (d : Kept) → Holds image d → IsWithin d }
+    ensures { (image : List ℕ) (d : PlainDurable) → Holds image d → IsWithin d }
 {}
 
-/// A group fits exactly where its payload has room. Own.
+/// A group fits exactly where its payload has room.
 pub fn group_fits_where_its_record_does()
-    ensures { (size : ℕ) (before next : Kept) (es : List Edit)
+    ensures { (size : ℕ) (before next : PlainDurable) (es : List PlainChange)
         → (group_fits size before next es ≡ true) ↔ HasRoom size before next (payload_length (made_all es)) }
 {}
 
-/// A group of changes leaves what they leave one after the other. Own.
+/// A group of changes leaves what they leave one after the other.
 pub fn group_of_changes_leaves_what_they_do()
-    ensures { (d : Kept) (es : List Edit) → left_by_all d (made_all es) ≡ after d es }
+    ensures { (d : PlainDurable) (es : List PlainChange) → left_by_all d (made_all es) ≡ after d es }
 {}
 
-/// A group of changes that commands can want has bytes where banks of a size that a device may have have room for so many. Own.
+/// A group of changes that commands can want has bytes where banks of a size that a device may have have room for so many.
 pub fn what_can_be_wanted_has_bytes()
-    ensures { (size : ℕ) (before next : Kept) (es : List Edit) → size < 2 ^ 32 → is_group es ≡ true → list_all can_be_wanted es ≡ true
+    ensures { (size : ℕ) (before next : PlainDurable) (es : List PlainChange) → size < 2 ^ 32 → is_group es ≡ true → list_all can_be_wanted es ≡ true
         → HasRoom size before next (payload_length (made_all es)) → FindsRoom size before next es }
 {}

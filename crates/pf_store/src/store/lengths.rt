@@ -9,7 +9,7 @@ use crate::limits::{AROUND, ROOM_TO_OPEN};
 use pf_addr::path::{Path, TableName};
 use pf_anchor::{named_table_length, ruleset_length};
 use pf_core::{Change, ChangeKind, Durable, Item};
-use pf_snap::HEADER;
+use pf_snap::BANK_HEADER;
 use pf_state::Step;
 use pf_state::layouts::step_length;
 use pf_table::Entry;
@@ -22,7 +22,7 @@ pub(crate) fn find_room<C: AsChange>(
     after: &Durable,
     size: usize,
 ) -> bool
-    ensures { IsTrue result ↔ FindsRoom size before.now after.now (map C.edit changes.now) }
+    ensures { IsTrue result ↔ FindsRoom size before.now after.now (map C.as_plain changes.now) }
 {
     have_form(changes)
         && has_room(after, size, ROOM_TO_OPEN)
@@ -37,15 +37,15 @@ pub(crate) fn find_room<C: AsChange>(
 
 // The bytes that are left of so many behind a group's payload.
 fn behind_group<C: AsChange>(changes: &[C], room: usize) -> Option<usize>
-    ensures { MatchOption result (room < payload_length (made_all (map C.edit changes.now)))
-        (λ left. room ≡ payload_length (made_all (map C.edit changes.now)) + left) }
+    ensures { MatchOption result (room < payload_length (made_all (map C.as_plain changes.now)))
+        (λ left. room ≡ payload_length (made_all (map C.as_plain changes.now)) + left) }
 {
     behind_changes(changes, room.checked_sub(1)?)
 }
 
 fn behind_changes<C: AsChange>(changes: &[C], room: usize) -> Option<usize>
-    ensures { MatchOption result (room < total recorded_length (made_all (map C.edit changes.now)))
-        (λ left. room ≡ total recorded_length (made_all (map C.edit changes.now)) + left) }
+    ensures { MatchOption result (room < total recorded_length (made_all (map C.as_plain changes.now)))
+        (λ left. room ≡ total recorded_length (made_all (map C.as_plain changes.now)) + left) }
 {
     let mut left = room;
     for change in changes {
@@ -56,7 +56,7 @@ fn behind_changes<C: AsChange>(changes: &[C], room: usize) -> Option<usize>
 
 /// Whether a bank of so many bytes has room for so many more behind a snapshot of what is kept.
 pub(crate) fn has_room(durable: &Durable, size: usize, more: usize) -> bool
-    ensures { IsTrue result ↔ (HEADER + snapshot_length durable.now + more ≤ size) }
+    ensures { IsTrue result ↔ (BANK_HEADER + snapshot_length durable.now + more ≤ size) }
 {
     match behind_snapshot(durable, size) {
         Some(room) => more <= room,
@@ -66,10 +66,10 @@ pub(crate) fn has_room(durable: &Durable, size: usize, more: usize) -> bool
 
 // The bytes that such a bank has left behind the snapshot.
 fn behind_snapshot(durable: &Durable, size: usize) -> Option<usize>
-    ensures { MatchOption result (size < HEADER + snapshot_length durable.now)
-        (λ room. size ≡ HEADER + snapshot_length durable.now + room) }
+    ensures { MatchOption result (size < BANK_HEADER + snapshot_length durable.now)
+        (λ room. size ≡ BANK_HEADER + snapshot_length durable.now + room) }
 {
-    let taken = HEADER as u128 + durable.byte_length();
+    let taken = BANK_HEADER as u128 + durable.byte_length();
     let room = (size as u128).checked_sub(taken)?;
     Some(room as usize)
 }

@@ -2,7 +2,7 @@
 ghost use Rattle.std.specs.Prelude.{◌≡◌, ◌↔◌, ◌+◌, ◌^◌, ◌<◌, true, false, ℕ, List, length, IfOk, IfErr};
 ghost use Rattle.pf_journal.specs.Records.{records, contents};
 ghost use Rattle.pf_snap.specs.{Banks.records_start, Looked.content_of};
-ghost use Rattle.pf_core.specs.Durable.Edits.{Kept};
+ghost use Rattle.pf_core.specs.Durable.Changes.{PlainDurable};
 ghost use Rattle.pf_core.specs.declared.durable.refusal.ChangeRefusal.TheVariants as refusing;
 ghost use Rattle.pf_store.specs.declared.groups.fault.GroupFault.TheVariants as group;
 ghost use Rattle.pf_store.specs.declared.groups.change.Recorded.{Recorded};
@@ -12,7 +12,7 @@ use crate::groups::{GroupFault, Recorded, read_group};
 use crate::snapshots::read_durable;
 use crate::store::fault::OpenFault;
 use pf_core::{ChangeRefusal, Durable};
-use pf_snap::{HEADER, Looked};
+use pf_snap::{BANK_HEADER, Looked};
 use std::alloc::Global;
 
 /// Bytes in front of a record's payload: its gate and the length.
@@ -66,14 +66,16 @@ fn first_kept(
     bank: usize,
     snapshot: &[u8],
 ) -> Result<Durable, OpenFault>
-    requires { bank + HEADER < 2 ^ 64 }
+    requires { bank + BANK_HEADER < 2 ^ 64 }
     ensures kept { IfOk result (λ d. IsDurable version d snapshot.now) }
     ensures refused { IfErr result (λ e. BreaksOff e (BreaksInSnapshot version bank snapshot.now)) }
 {
     match read_durable(alloc, version, snapshot) {
         Ok(durable) => Ok(durable),
         Err(GroupFault::Memory) => Err(OpenFault::Memory),
-        Err(GroupFault::NoForm) => Err(OpenFault::Corrupt { at: bank + HEADER }),
+        Err(GroupFault::NoForm) => Err(OpenFault::Corrupt {
+            at: bank + BANK_HEADER,
+        }),
     }
 }
 

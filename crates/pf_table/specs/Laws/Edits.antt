@@ -1,9 +1,9 @@
 -- What edits leave: the sign that each network then has, and that the table stays in order.
 use Rattle.std.proofs.{Common.{◌≡◌, ◌≤◌, T, Bool, true, false, not, cond, ◌&&◌, ◌||◌, List, [], ◌∷◌, ◌++◌, length, Option, Some, None, is_some, refl, sym, ap, ◌∙◌, true≢false, arith}, lemmas.List.Folds.list_any-append}
 use Rattle.std.specs.{Bool.beq, Cmp.{alike_right, eq_by_cmp_equiv}, FinMap.{put, is_sorted}, FinMap.Entries.{by_order, where_key, below_all, find-put, find-where_key, find_tied, is_sorted-put, is_sorted-where_key, same_entries}, List.{list_any, AllByRecursion}, Option.option_or, Ordering.{eq_by_cmp, is_eq, is_lt}, declared.{cmp.Ordering.Ordering, cmp.Ordering.TheVariants.Less, cmp.Ordering.TheVariants.Equal, cmp.Ordering.TheVariants.Greater}}
-use Rattle.pf_addr.specs.Address.{Network}
-use Rattle.pf_table.specs.{Entries.Row, Tables.sign_of, Edits.{with_entry, added, is_sign, has_entry, without_entry, deleted, same_entry, is_opposite}}
-use Rattle.pf_map.specs.{Networks.net_order, NetworkLaws.{net_total, net_same}}
+use Rattle.pf_addr.specs.Address.{PlainNet}
+use Rattle.pf_table.specs.{Entries.PlainEntry, Tables.sign_of, Edits.{with_entry, added, is_sign, has_entry, without_entry, deleted, same_entry, is_opposite}}
+use Rattle.pf_addr.specs.{NetOrder.net_order, Laws.NetOrder.{net_total, net_same}}
 
 tied_of : (r : Ordering) → is_eq r ≡ true → r ≡ Equal
 tied_of Less e = absurd (true≢false (sym e))
@@ -12,7 +12,7 @@ tied_of Greater e = absurd (true≢false (sym e))
 
 -- ---- adding
 
-sign_with : (es : List Row) (x : Row) (q : Network) → sign_of q (with_entry es x) ≡ option_or (sign_of q es) (cond (eq_by_cmp net_order q x.0) (Some x.1) None)
+sign_with : (es : List PlainEntry) (x : PlainEntry) (q : PlainNet) → sign_of q (with_entry es x) ≡ option_or (sign_of q es) (cond (eq_by_cmp net_order q x.0) (Some x.1) None)
 sign_with es x q = by (sign_of x.0 es) refl (eq_by_cmp net_order q x.0) refl where
   by : (o : Option Bool) → sign_of x.0 es ≡ o → (t : Bool) → eq_by_cmp net_order q x.0 ≡ t → sign_of q (with_entry es x) ≡ option_or (sign_of q es) (cond t (Some x.1) None)
   by (Some s) is true tied = let here : sign_of q es ≡ Some s = sym (find_tied net_order net_total q x.0 (tied_of _ tied) es) ∙ is in rw (is, here) refl
@@ -34,7 +34,7 @@ or_or None true s c = refl
 or_or None false s c = refl
 
 -- a network has the sign that it had, or else that of the first entry that names it
-pub sign_added : (es xs : List Row) (q : Network) → sign_of q (added es xs) ≡ option_or (sign_of q es) (sign_of q xs)
+pub sign_added : (es xs : List PlainEntry) (q : PlainNet) → sign_of q (added es xs) ≡ option_or (sign_of q es) (sign_of q xs)
 unfolding added
 sign_added es [] q = own (sign_of q es) where
   own : (o : Option Bool) → o ≡ option_or o None
@@ -42,7 +42,7 @@ sign_added es [] q = own (sign_of q es) where
   own (Some t) = refl
 sign_added es (x ∷ xs) q = sign_added (with_entry es x) xs q ∙ ap (λ o. option_or o (sign_of q xs)) (sign_with es x q) ∙ or_or (sign_of q es) (eq_by_cmp net_order q x.0) x.1 (sign_of q xs)
 
-pub sorted_added : (es xs : List Row) → T (is_sorted net_order es) → T (is_sorted net_order (added es xs))
+pub sorted_added : (es xs : List PlainEntry) → T (is_sorted net_order es) → T (is_sorted net_order (added es xs))
 unfolding added
 sorted_added es [] is = is
 sorted_added es (x ∷ xs) is = sorted_added (with_entry es x) xs (by (is_some (sign_of x.0 es))) where
@@ -51,10 +51,10 @@ sorted_added es (x ∷ xs) is = sorted_added (with_entry es x) xs (by (is_some (
   by false = is_sorted-put net_order net_total x.0 x.1 es is
 
 -- two tables in order in which each network has the same sign are one
-pub one_table : (es fs : List Row) → T (is_sorted net_order es) → T (is_sorted net_order fs) → ((q : Network) → sign_of q es ≡ sign_of q fs) → es ≡ fs
+pub one_table : (es fs : List PlainEntry) → T (is_sorted net_order es) → T (is_sorted net_order fs) → ((q : PlainNet) → sign_of q es ≡ sign_of q fs) → es ≡ fs
 one_table es fs = same_entries net_order net_total net_same es fs
 
-put_all : (P : Network → Type 0) (es : List Row) (k : Network) (s : Bool) → AllByRecursion (λ e. P e.0) es → P k → AllByRecursion (λ e. P e.0) (put net_order k s es)
+put_all : (P : PlainNet → Type 0) (es : List PlainEntry) (k : PlainNet) (s : Bool) → AllByRecursion (λ e. P e.0) es → P k → AllByRecursion (λ e. P e.0) (put net_order k s es)
 put_all P [] k s all this = (this, tt)
 put_all P (e ∷ es) k s all this = by (put_all P es k s all.1 this) (net_order k e.0) where
   by : AllByRecursion (λ e. P e.0) (put net_order k s es) → (r : Ordering) → AllByRecursion (λ e. P e.0) (by_order r ((k, s) ∷ e ∷ es) ((e.0, s) ∷ es) (e ∷ put net_order k s es))
@@ -62,29 +62,29 @@ put_all P (e ∷ es) k s all this = by (put_all P es k s all.1 this) (net_order 
   by rest Equal = all
   by rest Greater = (all.0, rest)
 
-pub with_all : (P : Network → Type 0) (es : List Row) (x : Row) → AllByRecursion (λ e. P e.0) es → P x.0 → AllByRecursion (λ e. P e.0) (with_entry es x)
+pub with_all : (P : PlainNet → Type 0) (es : List PlainEntry) (x : PlainEntry) → AllByRecursion (λ e. P e.0) es → P x.0 → AllByRecursion (λ e. P e.0) (with_entry es x)
 with_all P es x all this = by (is_some (sign_of x.0 es)) where
   by : (t : Bool) → AllByRecursion (λ e. P e.0) (cond t es (put net_order x.0 x.1 es))
   by true = all
   by false = put_all P es x.0 x.1 all this
 
-pub added_all : (P : Network → Type 0) (es xs : List Row) → AllByRecursion (λ e. P e.0) es → AllByRecursion (λ e. P e.0) xs → AllByRecursion (λ e. P e.0) (added es xs)
+pub added_all : (P : PlainNet → Type 0) (es xs : List PlainEntry) → AllByRecursion (λ e. P e.0) es → AllByRecursion (λ e. P e.0) xs → AllByRecursion (λ e. P e.0) (added es xs)
 unfolding added
 added_all P es [] all more = all
 added_all P es (x ∷ xs) all more = added_all P (with_entry es x) xs (with_all P es x all more.0) more.1
 
 -- ---- networks with one sign alone
 
-abbrev pub Agree : List Row → Type 0
+abbrev pub Agree : List PlainEntry → Type 0
 Agree [] = Unit {0}
 Agree (e ∷ es) = (list_any (is_opposite e) es ≡ false) × Agree es
 
-any_tied : (q p : Network) (s : Bool) (es : List Row) → net_order q p ≡ Equal → list_any (same_entry (q, s)) es ≡ list_any (same_entry (p, s)) es
+any_tied : (q p : PlainNet) (s : Bool) (es : List PlainEntry) → net_order q p ≡ Equal → list_any (same_entry (q, s)) es ≡ list_any (same_entry (p, s)) es
 any_tied q p s [] tied = refl
 any_tied q p s (e ∷ es) tied = λ i. (is_eq (net_total.congr q p e.0 tied i) && beq s e.1) || any_tied q p s es tied i
 
 -- such a list names an entry exactly where it is the sign that its network has
-pub any_is_sign : (es : List Row) → Agree es → (q : Network) (s : Bool) → list_any (same_entry (q, s)) es ≡ is_sign s (sign_of q es)
+pub any_is_sign : (es : List PlainEntry) → Agree es → (q : PlainNet) (s : Bool) → list_any (same_entry (q, s)) es ≡ is_sign s (sign_of q es)
 any_is_sign [] agree q s = refl
 any_is_sign (e ∷ es) agree q s = by (eq_by_cmp net_order q e.0) refl (any_is_sign es agree.1 q s) where
   other : (a b : Bool) → beq a b ≡ false → a ≡ not b
@@ -101,7 +101,7 @@ any_is_sign (e ∷ es) agree q s = by (eq_by_cmp net_order q e.0) refl (any_is_s
   by true is rest = rw is (sign (beq s e.1) refl is)
   by false is rest = rw is rest
 
-opposite_back : (x e : Row) → is_opposite x e ≡ is_opposite e x
+opposite_back : (x e : PlainEntry) → is_opposite x e ≡ is_opposite e x
 opposite_back x e = λ i. (eq_by_cmp_equiv net_total).symm x.0 e.0 i && turned x.1 e.1 i where
   turned : (a b : Bool) → beq (not a) b ≡ beq (not b) a
   turned true true = refl
@@ -109,7 +109,7 @@ opposite_back x e = λ i. (eq_by_cmp_equiv net_total).symm x.0 e.0 i && turned x
   turned false true = refl
   turned false false = refl
 
-pub agree_push : (es : List Row) (x : Row) → Agree es → list_any (is_opposite x) es ≡ false → Agree (es ++ x ∷ [])
+pub agree_push : (es : List PlainEntry) (x : PlainEntry) → Agree es → list_any (is_opposite x) es ≡ false → Agree (es ++ x ∷ [])
 agree_push [] x agree none = (refl, tt)
 agree_push (e ∷ es) x agree none = (any, agree_push es x agree.1 (or_right _ _ none)) where
   or_right : (a b : Bool) → (a || b) ≡ false → b ≡ false
@@ -123,7 +123,7 @@ agree_push (e ∷ es) x agree none = (any, agree_push es x agree.1 (or_right _ _
   any : list_any (is_opposite e) (es ++ x ∷ []) ≡ false
   any = list_any-append (is_opposite e) es (x ∷ []) ∙ ap (λ b. b || (is_opposite e x || false)) agree.0 ∙ ap (λ b. b || false) (opposite_back e x ∙ or_left _ _ none)
 
-none_opposite : (e : Row) (es : List Row) → T (below_all net_order e.0 es) → list_any (is_opposite e) es ≡ false
+none_opposite : (e : PlainEntry) (es : List PlainEntry) → T (below_all net_order e.0 es) → list_any (is_opposite e) es ≡ false
 none_opposite e [] h = refl
 none_opposite e (f ∷ es) h = by (net_order e.0 f.0) h (none_opposite e es) where
   by : (r : Ordering) → T (is_lt r && below_all net_order e.0 es) → (T (below_all net_order e.0 es) → list_any (is_opposite e) es ≡ false) → ((is_eq r && beq (not e.1) f.1) || list_any (is_opposite e) es) ≡ false
@@ -132,7 +132,7 @@ none_opposite e (f ∷ es) h = by (net_order e.0 f.0) h (none_opposite e es) whe
   by Greater h rest = absurd h
 
 -- in a table no network has both signs
-pub sorted_agree : (es : List Row) → T (is_sorted net_order es) → Agree es
+pub sorted_agree : (es : List PlainEntry) → T (is_sorted net_order es) → Agree es
 sorted_agree [] is = tt
 sorted_agree (e ∷ es) is = (none_opposite e es (left _ _ is), sorted_agree es (right _ _ is)) where
   left : (a b : Bool) → T (a && b) → T a
@@ -146,11 +146,11 @@ sorted_agree (e ∷ es) is = (none_opposite e es (left _ _ is), sorted_agree es 
 -- ---- deleting
 
 -- a sign is taken away where the list names the network with it
-abbrev pub sign_left : List Row → Network → Option Bool → Option Bool
+abbrev pub sign_left : List PlainEntry → PlainNet → Option Bool → Option Bool
 sign_left xs q None = None
 sign_left xs q (Some s) = cond (list_any (same_entry (q, s)) xs) None (Some s)
 
-sign_without : (es : List Row) (x : Row) (q : Network) → sign_of q (without_entry es x) ≡ sign_left (x ∷ []) q (sign_of q es)
+sign_without : (es : List PlainEntry) (x : PlainEntry) (q : PlainNet) → sign_of q (without_entry es x) ≡ sign_left (x ∷ []) q (sign_of q es)
 sign_without es x q = by (eq_by_cmp net_order x.0 q) refl where
   gone : sign_of q (where_key net_order (λ n. not (eq_by_cmp net_order x.0 n)) es) ≡ cond (not (eq_by_cmp net_order x.0 q)) (sign_of q es) None
   gone = find-where_key net_order (λ n. not (eq_by_cmp net_order x.0 n)) q (λ n tied. ap (λ r. not (is_eq r)) (sym (alike_right net_total q n x.0 tied))) es
@@ -183,7 +183,7 @@ sign_without es x q = by (eq_by_cmp net_order x.0 q) refl where
   by true tied = both (sign_of q es) refl (find_tied net_order net_total q x.0 (tied_of _ (back ∙ tied)) es) tied
   by false other = apart (has_entry es x) other ∙ own (sign_of q es) (back ∙ other)
 
-left_twice : (x : Row) (xs : List Row) (q : Network) (o : Option Bool) → sign_left xs q (sign_left (x ∷ []) q o) ≡ sign_left (x ∷ xs) q o
+left_twice : (x : PlainEntry) (xs : List PlainEntry) (q : PlainNet) (o : Option Bool) → sign_left xs q (sign_left (x ∷ []) q o) ≡ sign_left (x ∷ xs) q o
 left_twice x xs q None = refl
 left_twice x xs q (Some s) = by (same_entry (q, s) x) where
   by : (b : Bool) → sign_left xs q (cond (b || false) None (Some s)) ≡ cond (b || list_any (same_entry (q, s)) xs) None (Some s)
@@ -191,7 +191,7 @@ left_twice x xs q (Some s) = by (same_entry (q, s) x) where
   by false = refl
 
 -- a network loses its sign where the list names it with that sign
-pub sign_deleted : (es xs : List Row) (q : Network) → sign_of q (deleted es xs) ≡ sign_left xs q (sign_of q es)
+pub sign_deleted : (es xs : List PlainEntry) (q : PlainNet) → sign_of q (deleted es xs) ≡ sign_left xs q (sign_of q es)
 unfolding deleted
 sign_deleted es [] q = own (sign_of q es) where
   own : (o : Option Bool) → o ≡ sign_left [] q o
@@ -199,7 +199,7 @@ sign_deleted es [] q = own (sign_of q es) where
   own (Some t) = refl
 sign_deleted es (x ∷ xs) q = sign_deleted (without_entry es x) xs q ∙ ap (sign_left xs q) (sign_without es x q) ∙ left_twice x xs q (sign_of q es)
 
-pub sorted_deleted : (es xs : List Row) → T (is_sorted net_order es) → T (is_sorted net_order (deleted es xs))
+pub sorted_deleted : (es xs : List PlainEntry) → T (is_sorted net_order es) → T (is_sorted net_order (deleted es xs))
 unfolding deleted
 sorted_deleted es [] is = is
 sorted_deleted es (x ∷ xs) is = sorted_deleted (without_entry es x) xs (by (has_entry es x)) where
@@ -207,14 +207,14 @@ sorted_deleted es (x ∷ xs) is = sorted_deleted (without_entry es x) xs (by (ha
   by true = is_sorted-where_key net_order (λ n. not (eq_by_cmp net_order x.0 n)) es is
   by false = is
 
-kept_all : (P : Network → Type 0) (p : Network → Bool) (es : List Row) → AllByRecursion (λ e. P e.0) es → AllByRecursion (λ e. P e.0) (where_key net_order p es)
+kept_all : (P : PlainNet → Type 0) (p : PlainNet → Bool) (es : List PlainEntry) → AllByRecursion (λ e. P e.0) es → AllByRecursion (λ e. P e.0) (where_key net_order p es)
 kept_all P p [] all = tt
 kept_all P p (e ∷ es) all = by (p e.0) (kept_all P p es all.1) where
   by : (t : Bool) → AllByRecursion (λ e. P e.0) (where_key net_order p es) → AllByRecursion (λ e. P e.0) (cond t (e ∷ where_key net_order p es) (where_key net_order p es))
   by true rest = (all.0, rest)
   by false rest = rest
 
-pub deleted_all : (P : Network → Type 0) (es xs : List Row) → AllByRecursion (λ e. P e.0) es → AllByRecursion (λ e. P e.0) (deleted es xs)
+pub deleted_all : (P : PlainNet → Type 0) (es xs : List PlainEntry) → AllByRecursion (λ e. P e.0) es → AllByRecursion (λ e. P e.0) (deleted es xs)
 unfolding deleted
 deleted_all P es [] all = all
 deleted_all P es (x ∷ xs) all = deleted_all P (without_entry es x) xs (by (has_entry es x)) where
@@ -222,14 +222,14 @@ deleted_all P es (x ∷ xs) all = deleted_all P (without_entry es x) xs (by (has
   by true = kept_all P (λ n. not (eq_by_cmp net_order x.0 n)) es all
   by false = all
 
-kept_fewer : (p : Network → Bool) (es : List Row) → length (where_key net_order p es) ≤ length es
+kept_fewer : (p : PlainNet → Bool) (es : List PlainEntry) → length (where_key net_order p es) ≤ length es
 kept_fewer p [] = omega arith
 kept_fewer p (e ∷ es) = by (p e.0) (kept_fewer p es) where
   by : (t : Bool) → length (where_key net_order p es) ≤ length es → length (cond t (e ∷ where_key net_order p es) (where_key net_order p es)) ≤ length (e ∷ es)
   by true rest = omega arith
   by false rest = omega arith
 
-pub deleted_fewer : (es xs : List Row) → length (deleted es xs) ≤ length es
+pub deleted_fewer : (es xs : List PlainEntry) → length (deleted es xs) ≤ length es
 unfolding deleted
 deleted_fewer es [] = omega arith
 deleted_fewer es (x ∷ xs) = by (has_entry es x) (deleted_fewer (without_entry es x) xs) where

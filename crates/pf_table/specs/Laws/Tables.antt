@@ -1,71 +1,71 @@
 -- What follows from the definitions of tables, as law functions promise it.
 use Rattle.std.specs.{Prelude.{◌≡◌, ◌≢◌, ℕ, ◌+◌, ◌<◌, ◌≤◌, ◌↔◌, T, Bool, true, false, not, List, length, slice_get, take, filter, Some, None, All, Contains}, FinMap.is_sorted, List.list_any, Option.option_or}
 use Rattle.pf_addr.specs.declared.addr.Addr.{Addr}
-use Rattle.pf_addr.specs.Address.{Network, contains, family_of, IsNetwork}
-use Rattle.pf_table.specs.{declared.{answer.{Addition.{Addition, TheVariants.{Added, Same, Conflict}}, Deletion.{Deletion, TheVariants.{Deleted, Absent}}}, limits.TheConstants.TABLE_LIMIT}, Entries.Row, Tables.{IsTable, sign_of, Decides, deciding, table_holds}, Edits.{added, addition, additions, with_entry, replaced, has_entry, without_entry, deleted, deletions, is_opposite, conflict_in}, Laws.Edits.sign_left}
-use Rattle.pf_map.specs.Networks.{net_order}
+use Rattle.pf_addr.specs.Address.{PlainNet, contains, family_of, IsNetwork}
+use Rattle.pf_table.specs.{declared.{answer.{Addition.{Addition, TheVariants.{Added, Same, Conflict}}, Deletion.{Deletion, TheVariants.{Deleted, Absent}}}, limits.TheConstants.TABLE_LIMIT}, Entries.PlainEntry, Tables.{IsTable, sign_of, Decides, deciding, table_holds}, Edits.{added, addition, additions, with_entry, replaced, has_entry, without_entry, deleted, deletions, is_opposite, conflict_in}, Laws.Edits.sign_left}
+use Rattle.pf_addr.specs.NetOrder.{net_order}
 
 -- ---- which entry decides
 
 -- what decides in a list in order, so one that has no network twice, is what the relation says, and there is none exactly where no entry
 -- contains the address
-pub record DecidesAbout (es : List Row) (a : Addr) : Type 0 where
-  pub decides : (e : Row) → (deciding es a ≡ Some e) ↔ Decides es a e
-  pub none : (deciding es a ≡ None) ↔ ((e : Row) → Contains es e → contains e.0 a ≡ false)
-  pub one : (e f : Row) → Decides es a e → Decides es a f → e ≡ f
+pub record DecidesAbout (es : List PlainEntry) (a : Addr) : Type 0 where
+  pub decides : (e : PlainEntry) → (deciding es a ≡ Some e) ↔ Decides es a e
+  pub none : (deciding es a ≡ None) ↔ ((e : PlainEntry) → Contains es e → contains e.0 a ≡ false)
+  pub one : (e f : PlainEntry) → Decides es a e → Decides es a f → e ≡ f
 
 abbrev pub TableDecides : Type 0
-TableDecides = (es : List Row) (a : Addr) → T (is_sorted net_order es) → DecidesAbout es a
+TableDecides = (es : List PlainEntry) (a : Addr) → T (is_sorted net_order es) → DecidesAbout es a
 
 -- a table matches an address exactly where an entry decides about it that isn't negated
 abbrev pub TableMatches : Type 0
-TableMatches = (es : List Row) (a : Addr) → T (is_sorted net_order es) →
-    (table_holds es a ≡ true) ↔ ((e : Row) × Decides es a e × (e.1 ≡ false))
+TableMatches = (es : List PlainEntry) (a : Addr) → T (is_sorted net_order es) →
+    (table_holds es a ≡ true) ↔ ((e : PlainEntry) × Decides es a e × (e.1 ≡ false))
 
 -- an entry contains addresses of its own family alone
 abbrev pub FamiliesApart : Type 0
-FamiliesApart = (e : Row) (a : Addr) → contains e.0 a ≡ true → e.0.family ≡ family_of a
+FamiliesApart = (e : PlainEntry) (a : Addr) → contains e.0 a ≡ true → e.0.family ≡ family_of a
 
 -- two lists in order in which each network has the same sign are one
 abbrev pub OneTable : Type 0
-OneTable = (es fs : List Row) → T (is_sorted net_order es) → T (is_sorted net_order fs) → ((q : Network) → sign_of q es ≡ sign_of q fs) →
+OneTable = (es fs : List PlainEntry) → T (is_sorted net_order es) → T (is_sorted net_order fs) → ((q : PlainNet) → sign_of q es ≡ sign_of q fs) →
     es ≡ fs
 
 -- ---- what an edit leaves
 
 -- adding gives a network that had no sign that of the first entry that names it; a sign that was there stays
 abbrev pub AddsWhatIsNamed : Type 0
-AddsWhatIsNamed = (es xs : List Row) (q : Network) → sign_of q (added es xs) ≡ option_or (sign_of q es) (sign_of q xs)
+AddsWhatIsNamed = (es xs : List PlainEntry) (q : PlainNet) → sign_of q (added es xs) ≡ option_or (sign_of q es) (sign_of q xs)
 
 -- deleting takes a network's sign away where the list names the network with it
 abbrev pub DeletesWhatIsNamed : Type 0
-DeletesWhatIsNamed = (es xs : List Row) (q : Network) → sign_of q (deleted es xs) ≡ sign_left xs q (sign_of q es)
+DeletesWhatIsNamed = (es xs : List PlainEntry) (q : PlainNet) → sign_of q (deleted es xs) ≡ sign_left xs q (sign_of q es)
 
 -- a table that is replaced holds what the list says
 abbrev pub HoldsTheList : Type 0
-HoldsTheList = (xs : List Row) (q : Network) → sign_of q (replaced xs) ≡ sign_of q xs
+HoldsTheList = (xs : List PlainEntry) (q : PlainNet) → sign_of q (replaced xs) ≡ sign_of q xs
 
 -- a network that the list doesn't name stays as it is
 abbrev pub AllElseStays : Type 0
-AllElseStays = (es xs : List Row) (q : Network) → sign_of q xs ≡ None →
+AllElseStays = (es xs : List PlainEntry) (q : PlainNet) → sign_of q xs ≡ None →
     (sign_of q (added es xs) ≡ sign_of q es) × (sign_of q (deleted es xs) ≡ sign_of q es)
 
 -- a table stays one, but for the number of its entries
-pub record LeavesTables (es xs : List Row) : Type 0 where
+pub record LeavesTables (es xs : List PlainEntry) : Type 0 where
   pub added : All (λ x. IsNetwork x.0) xs → length (added es xs) ≤ TABLE_LIMIT → IsTable (added es xs)
   pub deleted : IsTable (deleted es xs)
 
 abbrev pub StaysTable : Type 0
-StaysTable = (es xs : List Row) → IsTable es → LeavesTables es xs
+StaysTable = (es xs : List PlainEntry) → IsTable es → LeavesTables es xs
 
 -- ---- what an edit answers
 
 abbrev pub OneAnswerEach : Type 0
-OneAnswerEach = (es xs : List Row) → (length (additions es xs) ≡ length xs) × (length (deletions es xs) ≡ length xs)
+OneAnswerEach = (es xs : List PlainEntry) → (length (additions es xs) ≡ length xs) × (length (deletions es xs) ≡ length xs)
 
 -- The answer to the entry at a place goes by the sign that its network has in the table before the edit, and by whether an entry
 -- before it in the list names its network.
-pub record AnswersEntry (es xs : List Row) (i : ℕ) (x : Row) : Type 0 where
+pub record AnswersEntry (es xs : List PlainEntry) (i : ℕ) (x : PlainEntry) : Type 0 where
   pub added : sign_of x.0 es ≡ None → sign_of x.0 (take i xs) ≡ None → slice_get (additions es xs) i ≡ Some Added
   pub added_before : sign_of x.0 es ≡ None → sign_of x.0 (take i xs) ≢ None → slice_get (additions es xs) i ≡ Some Same
   pub same : sign_of x.0 es ≡ Some x.1 → slice_get (additions es xs) i ≡ Some Same
@@ -76,7 +76,7 @@ pub record AnswersEntry (es xs : List Row) (i : ℕ) (x : Row) : Type 0 where
 
 -- in a list that names no network with both signs
 abbrev pub AnswersInOrder : Type 0
-AnswersInOrder = (es xs : List Row) → conflict_in xs ≡ None → (i : ℕ) (x : Row) → slice_get xs i ≡ Some x → AnswersEntry es xs i x
+AnswersInOrder = (es xs : List PlainEntry) → conflict_in xs ≡ None → (i : ℕ) (x : PlainEntry) → slice_get xs i ≡ Some x → AnswersEntry es xs i x
 
 abbrev pub is_added : Addition → Bool
 is_added Added = true
@@ -89,32 +89,32 @@ is_deleted Absent = false
 
 -- the table grows by as many entries as are answered Added, and shrinks by as many as are answered Deleted
 abbrev pub CountsWhatChanged : Type 0
-CountsWhatChanged = (es xs : List Row) → T (is_sorted net_order es) →
+CountsWhatChanged = (es xs : List PlainEntry) → T (is_sorted net_order es) →
     (length (added es xs) ≡ length es + length (filter is_added (additions es xs)))
     × (length (deleted es xs) + length (filter is_deleted (deletions es xs)) ≡ length es)
 
 -- An entry that was just added is Same, unless its network is there with the other sign, and one that was just deleted is Absent;
 -- the table stays.
-pub record AnswersRepeats (es : List Row) (x : Row) : Type 0 where
+pub record AnswersRepeats (es : List PlainEntry) (x : PlainEntry) : Type 0 where
   pub same : sign_of x.0 es ≢ Some (not x.1) → addition (sign_of x.0 (with_entry es x)) x.1 ≡ Same
   pub absent : has_entry (without_entry es x) x ≡ false
   pub added : with_entry (with_entry es x) x ≡ with_entry es x
   pub deleted : without_entry (without_entry es x) x ≡ without_entry es x
 
 abbrev pub RepeatsChangeNothing : Type 0
-RepeatsChangeNothing = (es : List Row) (x : Row) → AnswersRepeats es x
+RepeatsChangeNothing = (es : List PlainEntry) (x : PlainEntry) → AnswersRepeats es x
 
 -- ---- when it is refused for its list
 
 -- the network of the entry at a place stood before it with the other sign
-abbrev pub Conflicts : List Row → ℕ → Bool → Type 0
-Conflicts xs i answer = (x : Row) → slice_get xs i ≡ Some x → list_any (is_opposite x) (take i xs) ≡ answer
+abbrev pub Conflicts : List PlainEntry → ℕ → Bool → Type 0
+Conflicts xs i answer = (x : PlainEntry) → slice_get xs i ≡ Some x → list_any (is_opposite x) (take i xs) ≡ answer
 
-pub record IsFirstConflict (xs : List Row) (i : ℕ) : Type 0 where
+pub record IsFirstConflict (xs : List PlainEntry) (i : ℕ) : Type 0 where
   pub within : i < length xs
   pub here : Conflicts xs i true
   pub before : (j : ℕ) → j < i → Conflicts xs j false
 
 abbrev pub TellsTheFirstConflict : Type 0
-TellsTheFirstConflict = (xs : List Row) → ((i : ℕ) → conflict_in xs ≡ Some i → IsFirstConflict xs i)
+TellsTheFirstConflict = (xs : List PlainEntry) → ((i : ℕ) → conflict_in xs ≡ Some i → IsFirstConflict xs i)
     × (conflict_in xs ≡ None → (j : ℕ) → Conflicts xs j false)

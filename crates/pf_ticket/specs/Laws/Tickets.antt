@@ -1,10 +1,10 @@
 -- What follows from the definitions, as law functions promise it.
 use Rattle.std.specs.{Prelude.{◌≡◌, T, ℕ, ◌+◌, ◌≤◌, ◌&&◌, Bool, true, false, cond, List, [], ◌∷◌, ◌++◌, length, map, flat_map, is_some, Some, None, Ok}, FinMap.{find, is_sorted}, List.{AllByRecursion, list_any, slice_get, last_or}}
 use Rattle.pf_addr.specs.Path.Names.{name_order, same_name as same_table}
-use Rattle.pf_table.specs.{Edits.replaced, Entries.Row, Tables.AreEntries}
+use Rattle.pf_table.specs.{Edits.replaced, Entries.PlainEntry, Tables.AreEntries}
 use Rattle.pf_rule.specs.Rules.{PlainRule}
 use Rattle.pf_anchor.specs.declared.limits.TheConstants.{RULE_LIMIT, RULESET_LIMIT}
-use Rattle.pf_ticket.specs.{declared.{entry.Entry.Entry, limits.TheConstants.LAST_COUNT, limits.TheConstants.OFFERED_TABLE_LIMIT, offered.Offered.Offered, name.RulesetName.RulesetName, ticket.Ticket.Ticket, ticket.TicketRange.TicketRange}, Names.{filter_at, table_ruleset_at, same_name, same_ticket, is_named, names_of, tickets_from, tickets_of, IsDistinct}, NamedTables.Named, Tickets.{nothing_for, rules_in, tables_in, offer_at, Open, fresh, next_ticket, open_rulesets, valid_ticket, content, is_valid}, Mentions.{Mention, gave, added, defined, switched, dropped, named_in, moved, after, opened, gives, switches, drops}, Replies.{twice_in, begin_reply, add_reply, define_reply}}
+use Rattle.pf_ticket.specs.{declared.{entry.RulesetTicket.RulesetTicket, limits.TheConstants.LAST_COUNT, limits.TheConstants.OFFERED_TABLE_LIMIT, offered.Offered.Offered, name.RulesetName.RulesetName, ticket.Ticket.Ticket, ticket.TicketRange.TicketRange}, Names.{filter_at, table_ruleset_at, same_name, same_ticket, is_named, names_of, tickets_from, tickets_of, IsDistinct}, NamedTables.PlainDefinedTable, Tickets.{nothing_for, rules_in, tables_in, offer_at, PlainTickets, fresh, next_ticket, open_rulesets, valid_ticket, content, is_valid}, Mentions.{Mention, gave, added, defined, switched, dropped, named_in, moved, after, opened, gives, switches, drops}, Replies.{twice_in, begin_reply, add_reply, define_reply}}
 
 -- ---- which ticket is valid, and what is offered with it
 
@@ -21,7 +21,7 @@ AreQuiet name t [] = Unit {0}
 AreQuiet name t (m ∷ ms) = (touches name t m ≡ false) × AreQuiet name t ms
 
 -- of the mentions since this, the latest that touched a ruleset is a begin's, which gave it this ticket
-pub record IsGivenLast (first : Open) (ms : List Mention) (name : RulesetName) (t : Ticket) : Type 0 where
+pub record IsGivenLast (first : PlainTickets) (ms : List Mention) (name : RulesetName) (t : Ticket) : Type 0 where
   pub before : List Mention
   pub given : RulesetName
   pub behind : List Mention
@@ -41,7 +41,7 @@ GivenLastIsValid = (epoch : ℕ) (ms : List Mention) (name : RulesetName) (t : T
 
 -- with a new ticket nothing is offered yet
 abbrev pub StartsWithNothing : Type 0
-StartsWithNothing = (t : Open) (names : List RulesetName) (name : RulesetName) → is_named names name ≡ true →
+StartsWithNothing = (t : PlainTickets) (names : List RulesetName) (name : RulesetName) → is_named names name ≡ true →
     content (after t (gives names)) name ≡ nothing_for name.kind
 
 -- the rule that a mention adds for a ruleset with a ticket
@@ -55,14 +55,14 @@ OffersTheAdded = (epoch : ℕ) (ms : List Mention) (path : List ℕ) (t : Ticket
     rules_in (content (opened epoch ms) (filter_at path)) ≡ flat_map (rules_added (filter_at path) t) given.behind
 
 -- the table that a mention defines under a name, for a ruleset with a ticket
-abbrev pub tables_defined : RulesetName → Ticket → List ℕ → Mention → List (List Row)
+abbrev pub tables_defined : RulesetName → Ticket → List ℕ → Mention → List (List PlainEntry)
 tables_defined name t table (defined n u other xs) =
     cond (same_name n name && same_ticket t u && same_table table other) (replaced xs ∷ []) []
 tables_defined name t table m = []
 
 -- under each name there is the table of the last of these mentions that defines one, and none where none does; and the tables stand
 -- in the order of their names, each name once
-pub record AreDefined (name : RulesetName) (t : Ticket) (ms : List Mention) (tables : List Named) : Type 0 where
+pub record AreDefined (name : RulesetName) (t : Ticket) (ms : List Mention) (tables : List PlainDefinedTable) : Type 0 where
   pub last : (table : List ℕ) → find name_order table tables ≡ last_or None (flat_map (tables_defined name t table) ms)
   pub order : T (is_sorted name_order tables)
 
@@ -74,38 +74,38 @@ OffersTheDefined = (epoch : ℕ) (ms : List Mention) (path : List ℕ) (t : Tick
 
 -- a mention leaves the offers of the rulesets that it doesn't name
 abbrev pub LeavesTheOthers : Type 0
-LeavesTheOthers = (t : Open) (ms : List Mention) (name : RulesetName) → is_named (map named_in ms) name ≡ false →
+LeavesTheOthers = (t : PlainTickets) (ms : List Mention) (name : RulesetName) → is_named (map named_in ms) name ≡ false →
     offer_at (after t ms).offers name ≡ offer_at t.offers name
 
 -- a commit takes out what is offered for the rulesets that it names, and nothing else
 abbrev pub CommitTakesOut : Type 0
-CommitTakesOut = (t : Open) (names : List RulesetName) (name : RulesetName) →
+CommitTakesOut = (t : PlainTickets) (names : List RulesetName) (name : RulesetName) →
     offer_at (after t (switches names)).offers name ≡ cond (is_named names name) None (offer_at t.offers name)
 
 -- whether one of these entries names the ruleset with its valid ticket
-abbrev pub is_named_validly : Open → List Entry → RulesetName → Bool
+abbrev pub is_named_validly : PlainTickets → List RulesetTicket → RulesetName → Bool
 is_named_validly t entries name = list_any (λ e. same_name e.name name && is_valid t name e.ticket) entries
 
 -- a rollback drops what is offered for the rulesets that it names with their valid tickets, and nothing else
 abbrev pub RollbackDropsExactly : Type 0
-RollbackDropsExactly = (t : Open) (entries : List Entry) (name : RulesetName) →
+RollbackDropsExactly = (t : PlainTickets) (entries : List RulesetTicket) (name : RulesetName) →
     offer_at (after t (drops entries)).offers name ≡ cond (is_named_validly t entries name) None (offer_at t.offers name)
 
 -- ---- the transactions, and what was mentioned since the opening
 
 -- the transactions are what these mentions leave
-abbrev pub Agrees : Open → List Mention → Type 0
+abbrev pub Agrees : PlainTickets → List Mention → Type 0
 Agrees t ms = t ≡ opened t.epoch ms
 
 -- they agree with no mention at first, and go on so with each list of mentions
 pub record GoesOnAgreeing : Type 0 where
   pub first : (epoch : ℕ) → Agrees (fresh epoch) []
-  pub on : (t : Open) (ms more : List Mention) → Agrees t ms → Agrees (after t more) (ms ++ more)
+  pub on : (t : PlainTickets) (ms more : List Mention) → Agrees t ms → Agrees (after t more) (ms ++ more)
 
 -- ---- how many tickets and rulesets
 
 -- each ruleset with a valid ticket stands once among the open ones, and no other does
-pub record AreCounted (t : Open) : Type 0 where
+pub record AreCounted (t : PlainTickets) : Type 0 where
   pub once : IsDistinct (open_rulesets t)
   pub valid : (name : RulesetName) → is_named (open_rulesets t) name ≡ is_some (valid_ticket t name)
 
@@ -123,24 +123,24 @@ GivesEachOnce = (epoch count number : ℕ) → AreOnce (tickets_from epoch count
 
 -- a begin tells at each ruleset's place the ticket that is then valid for it, where it isn't named again behind
 abbrev pub TellsWhatIsGiven : Type 0
-TellsWhatIsGiven = (t : Open) (range : TicketRange) (before : List RulesetName) (name : RulesetName) (behind : List RulesetName) →
+TellsWhatIsGiven = (t : PlainTickets) (range : TicketRange) (before : List RulesetName) (name : RulesetName) (behind : List RulesetName) →
     begin_reply t (before ++ name ∷ behind) ≡ Ok range → is_named behind name ≡ false
     → valid_ticket (after t (gives (before ++ name ∷ behind))) name ≡ slice_get (tickets_of range) (length before)
 
 -- so many tickets were given
-pub record AreGiven (number : ℕ) (t new : Open) : Type 0 where
+pub record AreGiven (number : ℕ) (t new : PlainTickets) : Type 0 where
   pub epoch : new.epoch ≡ t.epoch
   pub next : new.next ≡ t.next + number
 
 -- a begin gives as many as it names rulesets, and tells them; no other step gives one
 pub record BeginsGive : Type 0 where
-  pub told : (t : Open) (names : List RulesetName) (range : TicketRange) → begin_reply t names ≡ Ok range →
+  pub told : (t : PlainTickets) (names : List RulesetName) (range : TicketRange) → begin_reply t names ≡ Ok range →
       tickets_of range ≡ tickets_from t.epoch t.next (length names)
-  pub begin : (t : Open) (names : List RulesetName) → AreGiven (length names) t (after t (gives names))
-  pub add : (t : Open) (n : RulesetName) (u : Ticket) (r : PlainRule) → AreGiven 0 t (moved t (added n u r))
-  pub define : (t : Open) (n : RulesetName) (u : Ticket) (name : List ℕ) (xs : List Row) → AreGiven 0 t (moved t (defined n u name xs))
-  pub commit : (t : Open) (names : List RulesetName) → AreGiven 0 t (after t (switches names))
-  pub rollback : (t : Open) (entries : List Entry) → AreGiven 0 t (after t (drops entries))
+  pub begin : (t : PlainTickets) (names : List RulesetName) → AreGiven (length names) t (after t (gives names))
+  pub add : (t : PlainTickets) (n : RulesetName) (u : Ticket) (r : PlainRule) → AreGiven 0 t (moved t (added n u r))
+  pub define : (t : PlainTickets) (n : RulesetName) (u : Ticket) (name : List ℕ) (xs : List PlainEntry) → AreGiven 0 t (moved t (defined n u name xs))
+  pub commit : (t : PlainTickets) (names : List RulesetName) → AreGiven 0 t (after t (switches names))
+  pub rollback : (t : PlainTickets) (entries : List RulesetTicket) → AreGiven 0 t (after t (drops entries))
 
 -- ---- the limits
 
@@ -152,7 +152,7 @@ pub record IsFew (o : Offered) : Type 0 where
   pub order : T (is_sorted name_order (tables_in o))
 
 -- as many rulesets of both kinds at most as there may be, and as much offered for each
-pub record IsWithin (t : Open) : Type 0 where
+pub record IsWithin (t : PlainTickets) : Type 0 where
   pub given : t.next ≤ LAST_COUNT + 1
   pub opened : length t.offers ≤ RULESET_LIMIT
   pub offered : (name : RulesetName) → IsFew (content t name)
@@ -160,14 +160,14 @@ pub record IsWithin (t : Open) : Type 0 where
 -- they hold at first, and after each step that isn't refused
 pub record KeepsTheLimits : Type 0 where
   pub first : (epoch : ℕ) → IsWithin (fresh epoch)
-  pub begin : (t : Open) (names : List RulesetName) (range : TicketRange) → begin_reply t names ≡ Ok range → IsWithin t →
+  pub begin : (t : PlainTickets) (names : List RulesetName) (range : TicketRange) → begin_reply t names ≡ Ok range → IsWithin t →
       IsWithin (after t (gives names))
-  pub add : (t : Open) (p : List ℕ) (u : Ticket) (r : PlainRule) → add_reply t (filter_at p) u ≡ Ok tt → IsWithin t →
+  pub add : (t : PlainTickets) (p : List ℕ) (u : Ticket) (r : PlainRule) → add_reply t (filter_at p) u ≡ Ok tt → IsWithin t →
       IsWithin (moved t (added (filter_at p) u r))
-  pub define : (t : Open) (p : List ℕ) (u : Ticket) (name : List ℕ) (xs : List Row) →
+  pub define : (t : PlainTickets) (p : List ℕ) (u : Ticket) (name : List ℕ) (xs : List PlainEntry) →
       define_reply t (table_ruleset_at p) u name xs ≡ Ok tt → IsWithin t → IsWithin (moved t (defined (table_ruleset_at p) u name xs))
-  pub commit : (t : Open) (names : List RulesetName) → IsWithin t → IsWithin (after t (switches names))
-  pub rollback : (t : Open) (entries : List Entry) → IsWithin t → IsWithin (after t (drops entries))
+  pub commit : (t : PlainTickets) (names : List RulesetName) → IsWithin t → IsWithin (after t (switches names))
+  pub rollback : (t : PlainTickets) (entries : List RulesetTicket) → IsWithin t → IsWithin (after t (drops entries))
 
 -- ---- names
 
@@ -187,8 +187,8 @@ pub record IsFirstAgain (names : List RulesetName) (place : ℕ) : Type 0 where
 
 -- where a ruleset is named twice, that place is the first at which one is named again
 abbrev pub TwiceIsFirstAgain : Type 0
-TwiceIsFirstAgain = (entries : List Entry) (place : ℕ) → twice_in entries ≡ Some place → IsFirstAgain (names_of entries) place
+TwiceIsFirstAgain = (entries : List RulesetTicket) (place : ℕ) → twice_in entries ≡ Some place → IsFirstAgain (names_of entries) place
 
 -- and otherwise each ruleset is named once
 abbrev pub OtherwiseOnce : Type 0
-OtherwiseOnce = (entries : List Entry) → twice_in entries ≡ None → IsDistinct (names_of entries)
+OtherwiseOnce = (entries : List RulesetTicket) → twice_in entries ≡ None → IsDistinct (names_of entries)

@@ -11,7 +11,7 @@ pub overflow_mul-value : goal.overflow_mul-value
 overflow_mul-value c = omega (arith, fits c.args.digits.now c.loop-digit.digit-index c.loop-digit.value c.requires.digits c.requires.few c.loop-digit-test.true c.loop-digit.invariant)
 
 pub overflow_add-value : goal.overflow_add-value
-overflow_add-value c = omega (arith, c.figure.ensures, fits c.args.digits.now c.loop-digit.digit-index c.loop-digit.value c.requires.digits c.requires.few c.loop-digit-test.true c.loop-digit.invariant)
+overflow_add-value c = omega (arith, c.digit_value.ensures, fits c.args.digits.now c.loop-digit.digit-index c.loop-digit.value c.requires.digits c.requires.few c.loop-digit-test.true c.loop-digit.invariant)
 
 pub loop-digit-preserved : goal.loop-digit-preserved
-loop-digit-preserved c = let more = digits_value_more 16 c.args.digits.now c.loop-digit.digit-index c.loop-digit-test.true in rw (more, c.figure.ensures, c.loop-digit.invariant) refl
+loop-digit-preserved c = let more = digits_value_more 16 c.args.digits.now c.loop-digit.digit-index c.loop-digit-test.true in rw (more, c.digit_value.ensures, c.loop-digit.invariant) refl

@@ -1,6 +1,7 @@
 -- What follows from the definitions of names, as law functions promise it.
 use Rattle.std.specs.Prelude.{◌≡◌, ℕ, List, Ok}
-use Rattle.pf_addr.specs.{Form.Words.Word, Path.Names.{IsName, name_of}}
+use Rattle.pf_addr.specs.Path.Names.{IsName, name_of}
+use Rattle.pf_form.specs.Form.Words.{Word}
 
 -- what is read is the word, and is a name
 abbrev pub ReadsANameAlone : Type 0

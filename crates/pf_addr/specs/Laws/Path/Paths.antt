@@ -1,6 +1,7 @@
 -- What follows from the definitions of paths, as law functions promise it.
 use Rattle.std.specs.Prelude.{◌≡◌, ℕ, true, List, Ok}
-use Rattle.pf_addr.specs.{Form.Words.Word, Path.Paths.{path_of, path_text, is_path, same_path}, Path.PathGrammar.SpellsPath}
+use Rattle.pf_addr.specs.Path.{Paths.{path_of, path_text, is_path, same_path}, PathGrammar.SpellsPath}
+use Rattle.pf_form.specs.Form.Words.{Word}
 
 -- what is read is what the word spells
 abbrev pub ReadsWhatIsSpelled : Type 0

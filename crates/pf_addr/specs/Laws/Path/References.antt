@@ -1,6 +1,7 @@
 -- What follows from the definitions of references, as law functions promise it.
 use Rattle.std.specs.Prelude.{◌≡◌, Ok}
-use Rattle.pf_addr.specs.{Form.Words.Word, Path.References.{PlainReference, reference_of}, Path.ReferenceGrammar.SpellsReference}
+use Rattle.pf_addr.specs.Path.{References.{PlainReference, reference_of}, ReferenceGrammar.SpellsReference}
+use Rattle.pf_form.specs.Form.Words.{Word}
 
 -- what is read is what the word spells
 abbrev pub ReferenceIsSpelled : Type 0

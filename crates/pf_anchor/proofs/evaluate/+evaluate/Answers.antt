@@ -5,14 +5,14 @@ use Rattle.std.specs.Prelude.{filter}
 use Rattle.pf_addr.specs.Path.Nested.{depth, path_within, is_child}
 use Rattle.pf_addr.proofs.Nesting.{leads_deeper}
 use Rattle.pf_rule.specs.{Packets.PlainPacket, Rules.PlainRule}
-use Rattle.pf_anchor.specs.{declared.{evaluated.Evaluated.Evaluated, evaluated.Evaluated.TheVariants.Open, evaluated.Evaluated.TheVariants.Ended}, Matches.PlainMatch, Rulesets.{Ruled, ruled}, Tables.{Tabled, tables_say}, Blocks.NoneBetween, Evaluation.{and_then, settled, rules_give, rules_at_path, effected, in_turn, evaluation, evaluate_with, matching}}
+use Rattle.pf_anchor.specs.{declared.{evaluated.Evaluated.Evaluated, evaluated.Evaluated.TheVariants.Open, evaluated.Evaluated.TheVariants.Ended}, Matches.PlainMatch, Rulesets.{PlainPlaced, ruled}, Tables.{PlainPlacedTable, tables_say}, Blocks.NoneBetween, Evaluation.{and_then, settled, rules_give, rules_at_path, effected, in_turn, evaluation, evaluate_with, matching}}
 use Rattle.pf_anchor.proofs.{Evaluations.{unrolled, none_and_then, no_rules}, Turns.{rule_goes_on, rule_passed, child_deeper, then_open, child_step, no_child_step, no_targets, targets_from, plain_turn}}
 use Rattle.pf_anchor.proofs.Blocks.{block_goes_on, block_ends, rule_ends, none_stops, lane_says, blocks_passed}
 use Rattle.pf_anchor.proofs.evaluate.+evaluate.Goals.{evaluate-then-stopping-eq0, evaluate-else-stopping-eq0+in-Open, each_match-then-is_set+in-Open, each_match-else-is_set}
 use Rattle.pf_anchor.proofs.evaluate.+evaluate.Goals as goal
 
 -- the blocks that a step passes over
-passes : (rulesets : List Ruled) (tables : List Tabled) (packet : PlainPacket) (placed : Ruled) (last : Option PlainMatch) (from to : ℕ) → from ≤ to → NoneBetween (asked placed.1 packet) from to →
+passes : (rulesets : List PlainPlaced) (tables : List PlainPlacedTable) (packet : PlainPacket) (placed : PlainPlaced) (last : Option PlainMatch) (from to : ℕ) → from ≤ to → NoneBetween (asked placed.1 packet) from to →
     and_then (Open last) (rules_at_path (evaluation rulesets (matching tables packet)) rulesets (matching tables packet) placed.0 (8 * from) (drop (8 * from) placed.1))
     ≡ and_then (Open last) (rules_at_path (evaluation rulesets (matching tables packet)) rulesets (matching tables packet) placed.0 (8 * to) (drop (8 * to) placed.1))
 passes rulesets tables packet placed last from to le none =
@@ -134,7 +134,7 @@ pub evaluate_targets-evaluate-requires : goal.evaluate_targets-evaluate-requires
 evaluate_targets-evaluate-requires t c =
     let at = sym (ap (path_within c.args.path.now) c.names.ensures.value) ∙ sym c.joined-reached.ensures ∙ c.in-Some.is in
     let deeper = leads_deeper c.args.path.now c.args.reference.now.names c.in-Some.base at in
-    let same = ap (λ (e : Ruled). depth e.0) c.in-Some-placed_at.ensures.rules in
+    let same = ap (λ (e : PlainPlaced). depth e.0) c.in-Some-placed_at.ensures.rules in
     (omega (arith, c.decreases, deeper.0, deeper.1, same), tt)
 
 pub evaluate_targets-returns-in-Some-placed_at : goal.evaluate_targets-returns-in-Some-placed_at
@@ -164,9 +164,9 @@ evaluate_children-evaluate-requires t c =
 pub evaluate_children-loop-placed-preserved-in-Open : goal.evaluate_children-loop-placed-preserved-in-Open
 evaluate_children-loop-placed-preserved-in-Open t c =
     let f = evaluation c.args.config.now.rulesets (matching c.args.config.now.tables c.args.packet.now) in
-    let test : Ruled → Bool = λ e. is_child c.args.path.now e.0 in
+    let test : PlainPlaced → Bool = λ e. is_child c.args.path.now e.0 in
     let left : c.loop-placed.placed-iterator ≡ c.in-Some.placed.now ∷ c.next.new.self = c.in-Some.ensures.steps in
-    c.loop-placed.invariant ∙ ap (λ (es : List Ruled). and_then (Open c.loop-placed.last) (in_turn f (filter test es))) left
+    c.loop-placed.invariant ∙ ap (λ (es : List PlainPlaced). and_then (Open c.loop-placed.last) (in_turn f (filter test es))) left
     ∙ child_step f test c.loop-placed.last c.in-Some.placed.now c.next.new.self (Open c.in-Open.found) (rw c.key.ensures at (sym c.if-is_child_of.ensures.value)) c.in-Open.ensures
     ∙ then_open c.loop-placed.last c.in-Open.found (in_turn f (filter test c.next.new.self))
     ∙ ap (λ (o : Option PlainMatch). and_then (Open o) (in_turn f (filter test c.next.new.self))) (sym c.or-last.ensures)
@@ -174,15 +174,15 @@ evaluate_children-loop-placed-preserved-in-Open t c =
 pub evaluate_children-returns-in-Ended : goal.evaluate_children-returns-in-Ended
 evaluate_children-returns-in-Ended t c =
     let f = evaluation c.args.config.now.rulesets (matching c.args.config.now.tables c.args.packet.now) in
-    let test : Ruled → Bool = λ e. is_child c.args.path.now e.0 in
+    let test : PlainPlaced → Bool = λ e. is_child c.args.path.now e.0 in
     let left : c.loop-placed.placed-iterator ≡ c.in-Some.placed.now ∷ c.next.new.self = c.in-Some.ensures.steps in
-    sym (c.loop-placed.invariant ∙ ap (λ (es : List Ruled). and_then (Open c.loop-placed.last) (in_turn f (filter test es))) left
+    sym (c.loop-placed.invariant ∙ ap (λ (es : List PlainPlaced). and_then (Open c.loop-placed.last) (in_turn f (filter test es))) left
     ∙ child_step f test c.loop-placed.last c.in-Some.placed.now c.next.new.self (Ended c.in-Ended.end) (rw c.key.ensures at (sym c.if-is_child_of.ensures.value)) c.in-Ended.ensures)
 
 pub evaluate_children-loop-placed-preserved : goal.evaluate_children-loop-placed-preserved
 evaluate_children-loop-placed-preserved t c =
     let f = evaluation c.args.config.now.rulesets (matching c.args.config.now.tables c.args.packet.now) in
-    let test : Ruled → Bool = λ e. is_child c.args.path.now e.0 in
+    let test : PlainPlaced → Bool = λ e. is_child c.args.path.now e.0 in
     let left : c.loop-placed.placed-iterator ≡ c.in-Some.placed.now ∷ c.next.new.self = c.in-Some.ensures.steps in
-    c.loop-placed.invariant ∙ ap (λ (es : List Ruled). and_then (Open c.loop-placed.last) (in_turn f (filter test es))) left
+    c.loop-placed.invariant ∙ ap (λ (es : List PlainPlaced). and_then (Open c.loop-placed.last) (in_turn f (filter test es))) left
     ∙ no_child_step f test c.loop-placed.last c.in-Some.placed.now c.next.new.self (rw c.key.ensures at (sym c.if-is_child_of.ensures.value))

@@ -1,8 +1,8 @@
 use Rattle.std.proofs.{Common.{◌≡◌, ◌≢◌, ◌+◌, ◌<◌, ◌≤◌, ℕ, [], List, ◌∷◌, ◌++◌, drop, length, Ok, Err, Option, Result, refl, sym, ap, ◌∙◌, subst, arith}, lemmas.List.drop_more}
 use Rattle.std.specs.Prelude.{flat_map}
-use Rattle.pf_ticket.proofs.Keeping.{keeps_the_limits}
+use Rattle.pf_ticket.proofs.TicketLimits.{keeps_the_limits}
 use Rattle.pf_core.specs.declared.{command.Command.Command, reply.Refusal.Refusal, reply.Refusal.TheVariants.Memory, reply.Reply.Reply, step.Step.Step}
-use Rattle.pf_core.specs.{Commands.{step_by}, Durable.Edits.{Edit, after, voided_by}, Nexts.Ready, Wholes.{Whole, plain, IsMadeFrom}, Worlds.{amid, changes_of, changes_due, replies_due}}
+use Rattle.pf_core.specs.{Commands.{step_by}, Durable.Changes.{PlainChange, after, voided_by}, Nexts.PlainNext, Cores.{PlainCore, plain, IsMadeFrom}, Worlds.{amid, changes_of, changes_due, replies_due}}
 use Rattle.pf_book.specs.Courses.{ready_of, found_by}
 use Rattle.pf_book.proofs.Coursing.{Steps, tickets_there, step-behind, step-amidst, number-amidst, replies-on, changes-on, fit-on, wanted-on, few-on, left-on}
 use Rattle.pf_book.proofs.course.course_of.Goals as goal
@@ -11,18 +11,18 @@ pub loop-command-preserved : goal.loop-command-preserved
 loop-command-preserved c =
     let at = c.loop-command in
     let inv = at.invariant in
-    let w : Whole = c.args.core.now in
+    let w : PlainCore = c.args.core.now in
     let i : ℕ = at.command-index in
     let commands : List Command = c.args.commands.now in
     let k : Command = c.command-item.result in
     let s : Result Step Refusal = plain c.step-step.result in
-    let before : Option Ready = at.course.next in
-    let changes : List Edit = at.course.changes.items in
+    let before : Option PlainNext = at.course.next in
+    let changes : List PlainChange = at.course.changes.items in
     let new = c.take.new.self in
     let low : i < length commands = c.loop-command-test.true in
-    let steps : Steps w before k s = subst (λ (x : Whole). Steps x before k s) inv.core c.step-step.ensures.reply in
+    let steps : Steps w before k s = subst (λ (x : PlainCore). Steps x before k s) inv.core c.step-step.ensures.reply in
     let is : s ≡ step_by (tickets_there w changes) (after w.durable changes) k = step-behind w changes k before s inv.next steps c.in_ok-take.ensures.known in
-    let from : IsMadeFrom (found_by w.durable before) c.step-step.result = subst (λ (x : Whole). IsMadeFrom (found_by x.durable before) c.step-step.result) inv.core c.step-step.ensures.made in
+    let from : IsMadeFrom (found_by w.durable before) c.step-step.result = subst (λ (x : PlainCore). IsMadeFrom (found_by x.durable before) c.step-step.result) inv.core c.step-step.ensures.made in
     let wants : new.changes.items ≡ changes ++ changes_of s = c.in_ok-take.ensures.changes in
     let left : drop i commands ≡ k ∷ drop (i + 1) commands = drop_more commands i k low ∙ ap (λ (x : Command). x ∷ drop (i + 1) commands) (sym c.command-item.is) in
     record {

@@ -1,6 +1,6 @@
 use Rattle.std.proofs.Common.{◌≡◌, ◌≤◌, ◌++◌, true, [], length, drop}
 use Rattle.std.specs.List.{list_all}
-use Rattle.pf_core.specs.Worlds.{Held, changes_due, replies_due}
+use Rattle.pf_core.specs.Worlds.{CurrentOpening, changes_due, replies_due}
 use Rattle.pf_store.specs.{Groups.{can_be_wanted, made_all}, Stores.FollowInTurn}
 use Rattle.pf_book.specs.Courses.{IsCalm, ready_of}
 use Rattle.pf_book.proofs.course.course_of.Given as goal
@@ -10,8 +10,8 @@ abbrev pub invariant-loop-command : goal.invariant-loop-command
 invariant-loop-command l = record {
   core : l.core ≡ l.fn.core;
   next : l.course.next ≡ ready_of l.fn.core.durable l.course.changes.items;
-  replies : (h : Held) → IsCalm h l.fn.core l.acked → l.course.replies.items ++ replies_due h l.course.changes.items (drop l.command-index l.commands) ≡ replies_due h [] l.commands;
-  changes : (h : Held) → IsCalm h l.fn.core l.acked → changes_due h l.course.changes.items (drop l.command-index l.commands) ≡ changes_due h [] l.commands;
+  replies : (h : CurrentOpening) → IsCalm h l.fn.core l.acked → l.course.replies.items ++ replies_due h l.course.changes.items (drop l.command-index l.commands) ≡ replies_due h [] l.commands;
+  changes : (h : CurrentOpening) → IsCalm h l.fn.core l.acked → changes_due h l.course.changes.items (drop l.command-index l.commands) ≡ changes_due h [] l.commands;
   fit : FollowInTurn l.fn.core.durable (made_all l.course.changes.items);
   wanted : list_all can_be_wanted l.course.changes.items ≡ true;
   few : length l.course.changes.items ≤ l.command-index;

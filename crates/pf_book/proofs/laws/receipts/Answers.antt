@@ -1,5 +1,5 @@
 use Rattle.std.proofs.Common.{Some, refl}
-use Rattle.pf_book.proofs.Answering.{front-begins, change-longer, applied-is, applied-acked, stored-is, stored-acked, still-acked}
+use Rattle.pf_book.proofs.LockedCalls.{front-begins, change-longer, applied-is, applied-acked, stored-is, stored-acked, still-acked}
 use Rattle.pf_book.proofs.laws.receipts.Goals as goal
 
 pub returns-clause-begins : goal.returns-clause-begins

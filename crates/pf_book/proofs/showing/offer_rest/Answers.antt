@@ -1,8 +1,8 @@
 use Rattle.std.proofs.Common.{◌≡◌, ◌-◌, ◌++◌, map, take, ap, sym, ◌∙◌, arith}
 use Rattle.std.specs.Arc.{arc_value}
-use Rattle.pf_core.specs.Durable.Edits.{after}
+use Rattle.pf_core.specs.Durable.Changes.{after}
 use Rattle.pf_past.specs.Pasts.{all_acked}
-use Rattle.pf_book.proofs.Parts.{seam}
+use Rattle.pf_book.proofs.HistoryGroups.{seam}
 use Rattle.pf_book.proofs.showing.offer_rest.Goals as goal
 
 pub offer-requires-clause-chain : goal.offer-requires-clause-chain

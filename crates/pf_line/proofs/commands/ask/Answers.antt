@@ -1,7 +1,7 @@
 use Rattle.std.proofs.Common.{sym, subst, ◌∙◌}
 use Rattle.std.specs.Prelude.{codes, Result, List}
-use Rattle.pf_addr.specs.{Form.Words.{Word, texts}, Form.Forms.or, Form.Readers.GivesWhole}
-use Rattle.pf_addr.specs.declared.form.fault.Kind.{Kind}
+use Rattle.pf_form.specs.{Form.Words.{Word, texts}, Form.Forms.or, Form.Readers.GivesWhole}
+use Rattle.pf_form.specs.declared.form.fault.Kind.{Kind}
 use Rattle.pf_core.specs.declared.command.Command.{Command}
 use Rattle.pf_rule.specs.declared.fault.Mistake.{Mistake}
 use Rattle.pf_line.specs.Grammar.{judged, tested, overview, question}

@@ -1,5 +1,5 @@
 use Rattle.std.proofs.Common.{Ok, Err, refl, Vec, Global}
-use Rattle.pf_addr.specs.{Form.Words.texts, Form.Forms.{reads, read_all}, Form.Lists.{shrinks, listed, handed_on}}
+use Rattle.pf_form.specs.{Form.Words.texts, Form.Forms.{reads, read_all}, Form.Lists.{shrinks, listed, handed_on}}
 use Rattle.pf_ticket.specs.declared.name.RulesetName.{RulesetName}
 use Rattle.pf_line.specs.Grammar.{name, begin_of, begun}
 use Rattle.pf_line.proofs.commands.begin.Goals as goal

@@ -1,5 +1,5 @@
 use Rattle.std.proofs.Common.{◌≡◌, ◌+◌, ◌++◌, List, length, take, drop, get_or, sym, ap, ◌∙◌, arith}
-use Rattle.pf_addr.specs.Form.Words.{Word, words_of, texts}
+use Rattle.pf_form.specs.Form.Words.{Word, words_of, texts}
 use Rattle.pf_line.proofs.{Cutting.{word_more, no_word, bytes_more, bytes_all, bad_byte, blank_is_byte, words_more, words_all}, cut.cut.Goals.{then-is_blank+in-Some, else-is_blank+else-not-line_byte}}
 use Rattle.pf_line.proofs.cut.cut.Goals as goal
 

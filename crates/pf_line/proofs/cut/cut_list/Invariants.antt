@@ -1,6 +1,6 @@
 use Rattle.std.proofs.Common.{◌≡◌, ◌≤◌, ◌++◌, true, take, drop}
 use Rattle.std.specs.List.{list_all, slice_range}
-use Rattle.pf_addr.specs.Form.Words.{words_of, texts}
+use Rattle.pf_form.specs.Form.Words.{words_of, texts}
 use Rattle.pf_line.specs.Lines.{is_line_byte}
 use Rattle.pf_line.proofs.Cutting.{Inked}
 use Rattle.pf_line.proofs.cut.cut_list.Given as goal

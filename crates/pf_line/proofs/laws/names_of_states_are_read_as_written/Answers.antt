@@ -1,4 +1,4 @@
-use Rattle.pf_addr.specs.Laws.Form.Numbers.{number_in_found, number_in_only}
+use Rattle.pf_form.specs.Laws.Form.Numbers.{number_in_found, number_in_only}
 use Rattle.pf_line.proofs.laws.names_of_states_are_read_as_written.Goals as goal
 
 pub returns-clause-id : goal.returns-clause-id

@@ -1,6 +1,6 @@
 use Rattle.std.proofs.Common.{◌≡◌, length}
 use Rattle.std.specs.Ordering.{is_lt}
-use Rattle.pf_addr.specs.Bytes.Lists.{in_order}
+use Rattle.pf_map.specs.InOrder.{in_order}
 use Rattle.pf_map.proofs.by_flow.are_apart.Given as goal
 
 abbrev pub invariant-loop-rest : goal.invariant-loop-rest

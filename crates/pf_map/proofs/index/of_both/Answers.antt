@@ -1,6 +1,6 @@
 use Rattle.std.proofs.Common.{◌≡◌, Bool, T, sym, subst, ap, ◌∙◌}
 use Rattle.std.specs.{FinMap.{is_sorted}, Ordering.is_lt}
-use Rattle.pf_addr.specs.Bytes.Lists.{in_order}
+use Rattle.pf_map.specs.InOrder.{in_order}
 use Rattle.pf_map.proofs.Gathered.{map_same, apart, not_apart, flows_sorted, index_of}
 use Rattle.pf_map.proofs.index.of_both.Goals as goal
 use Rattle.pf_map.proofs.index.of_both.Given.{Over}

@@ -1,4 +1,4 @@
-use Rattle.pf_map.proofs.Parts.{halves}
+use Rattle.pf_map.proofs.MapParts.{halves}
 use Rattle.pf_map.proofs.level.cut.Goals as goal
 
 pub returns-in_ok-new-2 : goal.returns-in_ok-new-2

@@ -1,6 +1,6 @@
 use Rattle.std.proofs.Common.{◌<◌, ◌-◌, ap, ◌∙◌, length, arith}
 use Rattle.pf_map.specs.Maps.{entry_at}
-use Rattle.pf_map.proofs.Parts.{read_at, sorted_at}
+use Rattle.pf_map.proofs.MapParts.{read_at, sorted_at}
 use Rattle.pf_map.proofs.level.find_in.Goals as goal
 
 pub find-requires-clause-sorted : goal.find-requires-clause-sorted

@@ -1,6 +1,6 @@
 use Rattle.std.proofs.Common.{◌<◌, ◌-◌, ap, ◌∙◌, length, arith}
 use Rattle.pf_map.specs.Maps.{at_or_before}
-use Rattle.pf_map.proofs.Parts.{last_at, sorted_at}
+use Rattle.pf_map.proofs.MapParts.{last_at, sorted_at}
 use Rattle.pf_map.proofs.level.last_up_to_in.Goals as goal
 
 pub last_up_to-requires-clause-sorted : goal.last_up_to-requires-clause-sorted

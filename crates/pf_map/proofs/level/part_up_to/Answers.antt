@@ -1,6 +1,6 @@
 use Rattle.std.proofs.Common.{◌≡◌, ◌<◌, ◌-◌, ◌∙◌, suc, sym, subst, length, arith}
-use Rattle.pf_map.specs.Parts.{IsPlace}
-use Rattle.pf_map.proofs.Parts.{none_up_to, up_to_here}
+use Rattle.pf_map.specs.MapParts.{IsPlace}
+use Rattle.pf_map.proofs.MapParts.{none_up_to, up_to_here}
 use Rattle.pf_map.proofs.level.part_up_to.Goals as goal
 
 pub returns-then-starts_behind : goal.returns-then-starts_behind

@@ -1,5 +1,5 @@
 use Rattle.std.proofs.Common.{◌-◌}
-use Rattle.pf_map.proofs.Parts.{IsBetween}
+use Rattle.pf_map.proofs.MapParts.{IsBetween}
 use Rattle.pf_map.proofs.level.place_in.Given as goal
 
 abbrev pub invariant-halving : goal.invariant-halving

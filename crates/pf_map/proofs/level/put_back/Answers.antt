@@ -1,5 +1,5 @@
 use Rattle.std.proofs.Common.{sym}
-use Rattle.pf_map.proofs.Parts.{halves}
+use Rattle.pf_map.proofs.MapParts.{halves}
 use Rattle.pf_map.proofs.level.put_back.Goals as goal
 
 pub returns-in-Gone : goal.returns-in-Gone

@@ -1,6 +1,6 @@
 use Rattle.std.proofs.Common.{◌≡◌, ◌<◌, ◌-◌, suc, length, sym, subst, ◌∙◌, arith}
-use Rattle.pf_map.specs.Parts.{IsPlace}
-use Rattle.pf_map.proofs.Parts.{sorted_at, replaced_at, around_removed}
+use Rattle.pf_map.specs.MapParts.{IsPlace}
+use Rattle.pf_map.proofs.MapParts.{sorted_at, replaced_at, around_removed}
 use Rattle.pf_map.proofs.level.replaced_in.Goals as goal
 
 pub replaced-requires-clause-sorted : goal.replaced-requires-clause-sorted

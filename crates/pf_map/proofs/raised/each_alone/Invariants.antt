@@ -1,5 +1,5 @@
 use Rattle.std.proofs.Common.{◌≡◌, take, map}
-use Rattle.pf_map.specs.Parts.{joined}
+use Rattle.pf_map.specs.MapParts.{joined}
 use Rattle.pf_map.proofs.raised.each_alone.Given as goal
 
 abbrev pub invariant-loop-entry : goal.invariant-loop-entry

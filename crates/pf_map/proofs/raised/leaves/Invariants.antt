@@ -1,5 +1,5 @@
 use Rattle.std.proofs.Common.{◌≡◌, ◌++◌, length, map}
-use Rattle.pf_map.specs.Parts.{joined}
+use Rattle.pf_map.specs.MapParts.{joined}
 use Rattle.pf_map.proofs.raised.leaves.Given as goal
 
 abbrev pub invariant-loop-rest : goal.invariant-loop-rest

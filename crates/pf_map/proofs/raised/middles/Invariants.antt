@@ -1,5 +1,5 @@
 use Rattle.std.proofs.Common.{◌≡◌, ◌++◌}
-use Rattle.pf_map.specs.Parts.{joined}
+use Rattle.pf_map.specs.MapParts.{joined}
 use Rattle.pf_map.proofs.raised.middles.Given as goal
 
 abbrev pub invariant-loop-part : goal.invariant-loop-part

@@ -1,4 +1,4 @@
-use Rattle.pf_addr.specs.Laws.Form.Texts.{one_refusal}
+use Rattle.pf_form.specs.Laws.Form.Texts.{one_refusal}
 use Rattle.pf_rule.proofs.laws.a_refusal_is_one.Goals as goal
 
 pub returns-clause-rules : goal.returns-clause-rules

@@ -1,4 +1,4 @@
-use Rattle.pf_addr.specs.Laws.Form.Texts.{found, only}
+use Rattle.pf_form.specs.Laws.Form.Texts.{found, only}
 use Rattle.pf_rule.specs.{RuleGrammar.{rule, rule_decided}, PacketGrammar.{packet, packet_decided}}
 use Rattle.pf_rule.proofs.laws.rules_and_packets_are_read_as_spelled.Goals as goal
 

@@ -1,7 +1,8 @@
 -- A host's word is read exactly where it spells a host, and the words that a host is written as spell it.
 use Rattle.std.proofs.{Common.{◌≡◌, ℕ, ◌==◌, Bool, true, false, [], ◌∷◌, ◌++◌, length, drop, Option, Some, None, Result, Ok, Err, inl, inr, refl, sym, ap, ◌∙◌, subst, arith}, lemmas.Bool.lt-ltb, lemmas.List.Elements.All-head, lemmas.List.Folds.list_all-append, lemmas.List.Sums.list_all-from_AllPass}
 use Rattle.std.specs.{Prelude.{codes, nat_lt, if◌then◌else◌}, List.slice_index_or, Option.option_and_then}
-use Rattle.pf_addr.specs.{Form.Words.Word, Laws.Form.Decided.bind_ok, Address.{Network, IsNetwork}, Grammar.SpellsNet, Reading.net_at, Laws.Reading.{net_found, net_only, net_without}, Laws.Places.without, Spelling.net_text, Laws.Spelling.{IsNetByte, net_text_spells, net_text_is_word}, Path.Names.{IsTableName, table_name_of}, Path.References.{behind, before}}
+use Rattle.pf_addr.specs.{Address.{PlainNet, IsNetwork}, Grammar.SpellsNet, Reading.net_at, Laws.{Reading.{net_found, net_only, net_without}, Places.without, Spelling.{IsNetByte, net_text_spells, net_text_is_word}}, Spelling.net_text, Path.{Names.{IsTableName, table_name_of}, References.{behind, before}}}
+use Rattle.pf_form.specs.{Form.Words.Word, Laws.Form.Decided.bind_ok}
 use Rattle.pf_addr.specs.declared.{fault.AddrFault.AddrFault, path.limits.TheConstants.TABLE_NAME_LIMIT}
 use Rattle.pf_addr.proofs.{NamesRead.{name_found, name_only, name_bytes}, ReferencesRead.{behind_is, before_is, before_end}}
 use Rattle.pf_rule.specs.{Value.Values.{begins_with, as_word}, Laws.Value.Reading.front_is, Value.Spacing.is_word, Value.Written.Written, Host.Hosts.{in_brackets, is_negated, SpellsUnmarked, SpellsMarked, SpellsHost, bracketed, net_of, marked_by, marked, a_negated_host, host_of, a_host, IsHost, host, host_words}}
@@ -20,22 +21,22 @@ brackets_taken name = before_end name (codes ">")
 
 -- ---- a network
 
-net_given : (r : Result Network AddrFault) (n : Network) → as_word r ≡ Ok n → r ≡ Ok n
+net_given : (r : Result PlainNet AddrFault) (n : PlainNet) → as_word r ≡ Ok n → r ≡ Ok n
 net_given (Ok m) n e = cc
 net_given (Err f) n e = absurd cc
 
-net_found_of : (w : Word) (n : Network) → net_of w ≡ Ok n → SpellsNet w n
+net_found_of : (w : Word) (n : PlainNet) → net_of w ≡ Ok n → SpellsNet w n
 net_found_of w n e = net_found w n (net_given (net_at w) n e)
 
 -- no network's text begins so
-net_without_front : (b : ℕ) (w : Word) (n : Network) → without b w → begins_with (b ∷ []) w ≡ false
+net_without_front : (b : ℕ) (w : Word) (n : PlainNet) → without b w → begins_with (b ∷ []) w ≡ false
 net_without_front b [] n all = refl
 net_without_front b (c ∷ cs) n all = let other : (c == b) ≡ false = All-head (λ c. (c == b) ≡ false) c cs all in rw other refl
 
-net_unmarked : (w : Word) (n : Network) → SpellsNet w n → begins_with (codes "!") w ≡ false
+net_unmarked : (w : Word) (n : PlainNet) → SpellsNet w n → begins_with (codes "!") w ≡ false
 net_unmarked w n is = net_without_front 33 w n (net_without 33 w n (record { digit = omega arith; dot = refl; colon = refl }) refl is)
 
-net_unbracketed : (w : Word) (n : Network) → SpellsNet w n → bracketed w ≡ None
+net_unbracketed : (w : Word) (n : PlainNet) → SpellsNet w n → bracketed w ≡ None
 net_unbracketed w n is =
     let other : begins_with (codes "<") w ≡ false = net_without_front 60 w n (net_without 60 w n (record { digit = omega arith; dot = refl; colon = refl }) refl is) in
     rw other refl
@@ -89,7 +90,7 @@ net_byte : (b : ℕ) → IsNetByte b → nat_lt 32 b ≡ true
 net_byte b (inl is) = lt-ltb 32 b (omega (arith, is.0))
 net_byte b (inr is) = lt-ltb 32 b (omega (arith, is.0))
 
-net_good : (n : Network) → IsNetwork n → is_word (net_text n) ≡ true
+net_good : (n : PlainNet) → IsNetwork n → is_word (net_text n) ≡ true
 net_good n is = let w = net_text_is_word n is in rw (lt-ltb 0 (length (net_text n)) w.some, list_all-from_AllPass (nat_lt 32) (net_text n) (λ k d lt. net_byte (slice_index_or (net_text n) k d) (w.bytes k d lt))) refl
 
 brackets_good : (name : Word) → IsTableName name → is_word (in_brackets name) ≡ true

@@ -1,7 +1,7 @@
 -- The words that a port test is written as spell it.
 use Rattle.std.proofs.{Common.{◌≡◌, ℕ, ◌<◌, true, List, [], ◌∷◌, ◌++◌, length, decimal, Option, Some, None, Ok, inl, inr, refl, arith}, lemmas.Bool.{and_parts, lt-ltb}, lemmas.Fmt.{decimal_is_IsNumeral, length-decimal-le}, lemmas.List.length-append, lemmas.List.Folds.list_all-append}
 use Rattle.std.specs.{Prelude.{IfSome, nat_lt}, List.list_all}
-use Rattle.pf_addr.specs.{Form.Words.Word, Form.Forms.Spells, Laws.Form.Numbers.number_only}
+use Rattle.pf_form.specs.{Form.Words.Word, Form.Forms.Spells, Laws.Form.Numbers.number_only}
 use Rattle.pf_rule.specs.declared.{value.ports.Comparison.Comparison, value.ports.Comparison.TheVariants.{Equal, NotEqual, Less, AtMost, Greater, AtLeast}, value.ports.PortRange.TheVariants.{Including, Excluding, Except}, value.ports.PortTest.PortTest, value.ports.PortTest.TheVariants.{Compared, Ranged}, value.port_words.PortStart.TheVariants.{Test, Number}}
 use Rattle.pf_rule.specs.{Value.Values.port_of, Laws.Value.Reading.{port_read, start_only}, Value.Ports.{IsPort, IsPortTest, start_of, range_end, ranged, compared, order_or_range, port_test, port, operator_word, test_words, port_words}, Value.Spacing.is_word, Value.Written.{Written, number_word}}
 

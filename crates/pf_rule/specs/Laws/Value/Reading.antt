@@ -1,8 +1,9 @@
 -- A protocol's word and the first word of a port test are read exactly where they spell one.
 use Rattle.std.proofs.{Common.{◌≡◌, ℕ, ◌+◌, ◌<◌, ◌==◌, Bool, true, false, List, [], ◌∷◌, ◌++◌, length, take, drop, Option, Some, None, Result, Ok, Err, inl, inr, refl, sym, ap, ◌∙◌, subst, append_assoc, arith}, lemmas.Bool.{and_parts, lt-ltb, ltb-true}, lemmas.Bool.Decides.nat_tests, lemmas.List.{take_at, drop_at, length-append, take-append-drop}, lemmas.List.Elements.{All-append, All-from_get_or}, lemmas.Str.Parse.digit_at}
 use Rattle.std.specs.{Prelude.{◌&&◌, bytes_eq, nat_lt, if◌then◌else◌, codes}, List.position}
-use Rattle.pf_addr.specs.{Laws.Places.{without, no_place, place_after, cut_there}, Form.Words.Word, Form.Forms.◌>>=◌, Laws.Form.Decided.{bind_ok, word_is}, Form.Numbers.{IsNumber, is_digit, number_of}, Laws.Form.Numbers.{number_only, number_found}}
-use Rattle.pf_addr.specs.declared.{form.fault.Kind.Kind, form.fault.Kind.TheVariants.{BadWord, BadProto}}
+use Rattle.pf_addr.specs.Laws.Places.{without, no_place, place_after, cut_there}
+use Rattle.pf_form.specs.{Form.{Words.Word, Forms.◌>>=◌, Numbers.{IsNumber, is_digit, number_of}}, Laws.Form.{Decided.{bind_ok, word_is}, Numbers.{number_only, number_found}}}
+use Rattle.pf_form.specs.declared.{form.fault.Kind.Kind, form.fault.Kind.TheVariants.{BadWord, BadProto}}
 use Rattle.pf_rule.specs.declared.value.protocol.TheConstants.Protocol as protocols
 use Rattle.pf_rule.specs.declared.{value.ports.Comparison.Comparison, value.ports.Comparison.TheVariants.{Equal, NotEqual, Less, AtMost, Greater, AtLeast}, value.ports.PortRange.TheVariants.{Including, Excluding, Except}, value.ports.PortTest.TheVariants.{Compared, Ranged}, value.port_words.PortStart.PortStart, value.port_words.PortStart.TheVariants.{Test, Number}}
 use Rattle.pf_rule.specs.{Value.Values.{IsProtocol, protocol_names, IsNamed, SpellsProtocol, number_named, protocol_numbered, named_or, protocol_of, begins_with, port_numbered, port_of}, Value.Ports.{operator_word, IsPort, SpellsStart, split_by, operators, split_operator, joined, number_or, range_of, is_colon, start_at, start_of}}

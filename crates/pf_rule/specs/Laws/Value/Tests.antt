@@ -1,7 +1,8 @@
 -- The words that a test of the direction, the interface, the family or the protocol is written as spell it.
 use Rattle.std.proofs.{Common.{◌≡◌, ℕ, ◌<◌, true, false, [], ◌∷◌, length, decimal, Option, Some, None, Ok, inl, inr, refl, sym, ap, ◌∙◌, arith}, lemmas.Bool.lt-ltb, lemmas.Bool.Decides.nat_tests, lemmas.Slice.Eq.bytes_eq-Decides}
 use Rattle.std.specs.{Prelude.{codes, IfSome}, Str.bytes_eq}
-use Rattle.pf_addr.specs.{Form.Numbers.number_of, Laws.Form.Numbers.number_only, Form.Words.Word, Laws.Spelling.IsNumber-decimal}
+use Rattle.pf_addr.specs.Laws.Spelling.{IsNumber-decimal}
+use Rattle.pf_form.specs.{Form.{Numbers.number_of, Words.Word}, Laws.Form.Numbers.number_only}
 use Rattle.pf_addr.specs.declared.addr.Family.{Family}
 use Rattle.pf_addr.proofs.NamesRead.{name_only, name_bytes}
 use Rattle.pf_rule.specs.declared.{value.direction.Direction.Direction, value.interface.TheConstants.INTERFACE_LIMIT}

@@ -1,7 +1,7 @@
 use Rattle.std.proofs.Common.{◌≡◌, ◌≢◌, ◌<◌, arith, None, ◌∙◌, sym, ap, subst}
-use Rattle.pf_addr.specs.{declared.addr.Addr.Addr, Address.{Network, family_of, width, network_from}, Spelling.first_addr}
+use Rattle.pf_addr.specs.{declared.addr.Addr.Addr, Address.{PlainNet, family_of, width, network_from}, Spelling.first_addr}
 use Rattle.pf_table.specs.Shared.{Share}
-use Rattle.pf_map.specs.Networks.{net_order}
+use Rattle.pf_addr.specs.NetOrder.{net_order}
 use Rattle.pf_map.specs.Maps.{at_or_before}
 use Rattle.pf_table.proofs.Lookups.{NoneLonger, Passes, none_longer_at_first, none_left, page_sorted, longest_decides, first_passes, none_so_short, other_family, shorter}
 use Rattle.pf_table.proofs.lookup.decider.Goals as goal
@@ -18,7 +18,7 @@ shorter-init c =
 pub returns-in_err-page : goal.returns-in_err-page
 returns-in_err-page c =
     let none : at_or_before net_order (network_from c.args.addr c.shorter.len) c.args.entries.now ≡ None =
-    ap (λ (n : Network). at_or_before net_order n c.args.entries.now) (sym c.new.ensures) ∙ c.in_err-page.ensures in
+    ap (λ (n : PlainNet). at_or_before net_order n c.args.entries.now) (sym c.new.ensures) ∙ c.in_err-page.ensures in
     c.from_residual.ensures ∙ sym (none_left c.args.entries.now c.args.addr c.shorter.len c.shorter.invariant.most none)
 
 pub longest_in-requires : goal.longest_in-requires
@@ -38,7 +38,7 @@ returns-in_err-len c =
     first_passes c.args.entries.now c.in_ok-page.page.now c.args.addr c.shorter.len c.new.result c.requires.table.sorted
     c.shorter.invariant.most c.new.ensures c.in_ok-page.ensures first c.first_entry.ensures c.in_default.ensures in
     let other : first.0.family ≢ family_of c.args.addr =
-    λ same. c.in_err-len.ensures (sym same ∙ sym (c.addr.ensures.family ∙ ap (λ (n : Network). n.family) c.net-first.ensures.value)) in
+    λ same. c.in_err-len.ensures (sym same ∙ sym (c.addr.ensures.family ∙ ap (λ (n : PlainNet). n.family) c.net-first.ensures.value)) in
     c.from_residual-in_err-len.ensures ∙ sym (other_family c.args.entries.now c.args.addr c.shorter.len first c.shorter.invariant.most passes other)
 
 step : (c : goal.In_ok-len) → NoneLonger c.args.entries.now c.args.addr c.in_ok-len.len × (c.in_ok-len.len < c.shorter.len)

@@ -1,5 +1,5 @@
 use Rattle.std.proofs.Common.{length}
-use Rattle.pf_map.specs.Parts.{joined}
+use Rattle.pf_map.specs.MapParts.{joined}
 use Rattle.pf_table.proofs.Lookups.{Behind}
 use Rattle.pf_table.proofs.lookup.from_the_end.Given as goal
 

@@ -1,6 +1,6 @@
 use Rattle.std.proofs.Common.{◌≡◌, ◌≤◌, All, vec_len, vec_capacity}
 use Rattle.std.specs.Arc.{arc_value}
-use Rattle.pf_view.specs.Known.{IsNewSeer, SitsAt}
+use Rattle.pf_view.specs.Seers.{IsNewSeer, SitsAt}
 use Rattle.pf_view.proofs.opening.seated.Given as goal
 
 abbrev pub invariant-loop : goal.invariant-loop

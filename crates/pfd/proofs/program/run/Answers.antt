@@ -1,7 +1,7 @@
 use Rattle.std.proofs.Common.{ℕ, [], ◌∷◌, inl, inr, lit<, refl, subst}
-use Rattle.pf_core.specs.{Durable.Edits.kept_nothing, Pages.StandsFor, Worlds.opened}
+use Rattle.pf_core.specs.{Durable.Changes.kept_nothing, WorldBooks.StandsFor, Worlds.opened}
 use Rattle.pf_store.specs.Rooms.{on_device}
-use Rattle.pf_book.specs.Books.{page}
+use Rattle.pf_book.specs.Books.{world_book}
 use Rattle.pfd_files.specs.Faults.{told_of_opening}
 use Rattle.pfd.proofs.Begun.{unshown-hinders}
 use Rattle.pfd.proofs.program.run.Goals as goal
@@ -17,7 +17,7 @@ returns g c =
           size_is = size_is;
           old = began.old;
           new = began.new;
-          fresh = subst (λ (k : ℕ). StandsFor (kept_nothing 0) (page began.old) (opened (on_device c.args.history k) ∷ [])) c.in_ok-opening.ensures.half
+          fresh = subst (λ (k : ℕ). StandsFor (kept_nothing 0) (world_book began.old) (opened (on_device c.args.history k) ∷ [])) c.in_ok-opening.ensures.half
               (began.worlds (kept_nothing 0) (kept_nothing 0) [] tt refl (lit< tt) c.in_ok-opening.ensures.given);
           session = began.session;
         },

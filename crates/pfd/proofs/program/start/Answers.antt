@@ -17,20 +17,20 @@ file disk = disk.fault_count
 pub returns-in-Ok-perform-clause-run : goal.returns-in-Ok-perform-clause-run
 returns-in-Ok-perform-clause-run g c = λ words.
     let unread = g.R.Read.remaining c.args.reader.now in
-    let unread' = g.R.Read.remaining c.perform.new.reader in
+    let still_unread = g.R.Read.remaining c.perform.new.reader in
     let held = g.W.Write.contents c.args.writer.now in
     let held' = g.W.Write.contents c.perform.new.writer in
-    let done = subst (λ (r : Result (Unit {0}) Fault). IsDone memory seen file c.in-Ok.task r unread unread' held held') c.in-Ok-perform.is c.perform.ensures in
-    ran memory seen file c.in-Ok.task (Ok c.in-Ok-perform.field-0) unread unread' held held' (c.in-Ok.ensures.alone words) done
+    let done = subst (λ (r : Result (Unit {0}) Fault). IsDone memory seen file c.in-Ok.task r unread still_unread held held') c.in-Ok-perform.is c.perform.ensures in
+    ran memory seen file c.in-Ok.task (Ok c.in-Ok-perform.field-0) unread still_unread held held' (c.in-Ok.ensures.alone words) done
 
 pub returns-in-Err-perform-clause-run : goal.returns-in-Err-perform-clause-run
 returns-in-Err-perform-clause-run g c = λ words.
     let unread = g.R.Read.remaining c.args.reader.now in
-    let unread' = g.R.Read.remaining c.perform.new.reader in
+    let still_unread = g.R.Read.remaining c.perform.new.reader in
     let held = g.W.Write.contents c.args.writer.now in
     let held' = g.W.Write.contents c.perform.new.writer in
-    let done = subst (λ (r : Result (Unit {0}) Fault). IsDone memory seen file c.in-Ok.task r unread unread' held held') c.in-Err-perform.is c.perform.ensures in
-    elim (ran memory seen file c.in-Ok.task (Err c.in-Err-perform.fault) unread unread' held held' (c.in-Ok.ensures.alone words) done) [
+    let done = subst (λ (r : Result (Unit {0}) Fault). IsDone memory seen file c.in-Ok.task r unread still_unread held held') c.in-Err-perform.is c.perform.ensures in
+    elim (ran memory seen file c.in-Ok.task (Err c.in-Err-perform.fault) unread still_unread held held' (c.in-Ok.ensures.alone words) done) [
       | inl (session, is_end, served) ↦ inl (session, c.fail.ensures ∙ is_end, served)
       | inr (one, unread_still, held_still) ↦ inr (c.fail.ensures, unread_still, held_still)
     ]

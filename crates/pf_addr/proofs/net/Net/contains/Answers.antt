@@ -1,6 +1,6 @@
 use Rattle.std.proofs.Common.{rules, ◌-◌, refl, ap, ◌∙◌}
 use Rattle.pf_addr.specs.Address.{width, contains}
-use Rattle.pf_addr.proofs.Fronts.{begins_where}
+use Rattle.pf_addr.proofs.ClearedBits.{begins_where}
 use Rattle.pf_addr.proofs.net.Net.contains.Goals as goal
 
 pub returns-in-V4-V4 : goal.returns-in-V4-V4

@@ -3,14 +3,14 @@ use Rattle.std.specs.{Option.option_map, FinMap.find}
 use Rattle.pf_addr.specs.Path.Paths.{path_order}
 use Rattle.pf_map.specs.Maps.{entry_at}
 use Rattle.pf_map.proofs.ListMaps.{list_map_is}
-use Rattle.pf_anchor.specs.{Rulesets.IsMap, Configurations.Configuration}
+use Rattle.pf_anchor.specs.{Rulesets.IsMap, Configurations.PlainConfig}
 use Rattle.pf_anchor.proofs.RulesetMaps.{ruleset_found}
 use Rattle.pf_anchor.proofs.config.Config.placed_at.Goals as goal
 
 pub returns-clause-rules : goal.returns-clause-rules
 returns-clause-rules c =
     ruleset_found (λ e. e.now) c.get.result c.args.path.now (find path_order c.args.path.now c.args.self.now.rulesets)
-    (subst (λ (x : Configuration). option_map (λ e. e.now) c.get.result ≡ entry_at path_order c.args.path.now x.rulesets) c.self.view_is c.get.ensures.entry)
+    (subst (λ (x : PlainConfig). option_map (λ e. e.now) c.get.result ≡ entry_at path_order c.args.path.now x.rulesets) c.self.view_is c.get.ensures.entry)
 
 pub returns-clause-map : goal.returns-clause-map
-returns-clause-map c = subst (λ (x : Configuration). IsMap x.rulesets) c.self.view_is (list_map_is c.self.inside.rulesets c.get.ensures.map)
+returns-clause-map c = subst (λ (x : PlainConfig). IsMap x.rulesets) c.self.view_is (list_map_is c.self.inside.rulesets c.get.ensures.map)

@@ -1,10 +1,10 @@
 use Rattle.std.proofs.Common.{◌≡◌, length, nat_lt, IfOk, subst}
 use Rattle.std.specs.Prelude.{fold}
 use Rattle.pf_anchor.specs.declared.limits.TheConstants.{TABLE_COUNT_LIMIT}
-use Rattle.pf_anchor.specs.{Tables.with_table, Configurations.Configuration}
+use Rattle.pf_anchor.specs.{Tables.with_table, Configurations.PlainConfig}
 use Rattle.pf_anchor.proofs.config.Config.would_be_too_many_tables.Goals as goal
 
 pub returns : goal.returns
 returns c =
-    subst (λ (x : Configuration). IfOk c.would_be_more_than.result (λ b. b ≡ nat_lt TABLE_COUNT_LIMIT (length (fold with_table x.tables c.args.items.now)))) c.self.view_is
+    subst (λ (x : PlainConfig). IfOk c.would_be_more_than.result (λ b. b ≡ nat_lt TABLE_COUNT_LIMIT (length (fold with_table x.tables c.args.items.now)))) c.self.view_is
     c.would_be_more_than.ensures

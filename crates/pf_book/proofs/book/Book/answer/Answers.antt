@@ -3,31 +3,31 @@ use Rattle.std.specs.Prelude.{nat_lt}
 use Rattle.std.specs.Option.{option_map}
 use Rattle.std.specs.Arc.{arc_value}
 use Rattle.pf_disk.specs.Disk.{EachMoment}
-use Rattle.pf_core.specs.{Calls.call, Pages.{IsAt, Leads}, Worlds.{Held, calling, upshot}}
-use Rattle.pf_book.specs.Books.{HoldsLeft, Ledger, StaysOpenable, page}
-use Rattle.pf_book.proofs.{Answering.{given-last, shown-fits}, Calling.{own, own-at}}
+use Rattle.pf_core.specs.{Calls.call, WorldBooks.{IsAt, Leads}, Worlds.{CurrentOpening, calling, upshot}}
+use Rattle.pf_book.specs.Books.{HoldsLeft, PlainBook, StaysOpenable, world_book}
+use Rattle.pf_book.proofs.{LockedCalls.{given-last, shown-fits}, Calling.{own, own-at}}
 use Rattle.pf_book.proofs.book.Book.answer.Goals as goal
 
 pub receipt-receipt-requires-clause-last : goal.receipt-receipt-requires-clause-last
-receipt-receipt-requires-clause-last g c = given-last c.call-reply.result.0 (option_map arc_value c.call-reply.result.1) (page c.look_at.new.self) (page c.call-reply.new.self) c.call-reply.ensures.given
+receipt-receipt-requires-clause-last g c = given-last c.call-reply.result.0 (option_map arc_value c.call-reply.result.1) (world_book c.look_at.new.self) (world_book c.call-reply.new.self) c.call-reply.ensures.given
 
 pub receipt-receipt-requires-clause-shown : goal.receipt-receipt-requires-clause-shown
 receipt-receipt-requires-clause-shown g c =
-    let before = page c.look_at.new.self in
+    let before = world_book c.look_at.new.self in
     let e = c.call-reply.ensures in
-    shown-fits c.call-reply.result.0 (option_map arc_value c.call-reply.result.1) before.shown before (page c.call-reply.new.self) (e.leads (own before) (own-at before)).legal.shown e.numbered e.given
+    shown-fits c.call-reply.result.0 (option_map arc_value c.call-reply.result.1) before.shown before (world_book c.call-reply.new.self) (e.leads (own before) (own-at before)).legal.shown e.numbered e.given
 
 -- a receipt that is handed in changes nothing
 pub returns-clause-leads : goal.returns-clause-leads
 returns-clause-leads g c =
     let new = c.call-reply.new.self in
-    subst (λ (l : Ledger g.row.D.Denot). (h : Held) → IsAt h (page l) → Leads h (page new) (call c.args.command.now c.call-reply.result.0) (upshot new.shown (nat_lt (g.D.Disk.fault_count l.disk) (g.D.Disk.fault_count new.disk))))
+    subst (λ (l : PlainBook g.row.D.Denot). (h : CurrentOpening) → IsAt h (world_book l) → Leads h (world_book new) (call c.args.command.now c.call-reply.result.0) (upshot new.shown (nat_lt (g.D.Disk.fault_count l.disk) (g.D.Disk.fault_count new.disk))))
     c.look_at.ensures.same c.call-reply.ensures.leads
 
 pub returns-clause-any_moment : goal.returns-clause-any_moment
 returns-clause-any_moment g c =
-    subst (λ (l : Ledger g.row.D.Denot). (h : Held) → IsAt h (page l) → EachMoment g.D.Disk.moment g.D.Disk.left_since l.disk c.call-reply.new.self.disk (HoldsLeft h (calling c.args.command.now)))
+    subst (λ (l : PlainBook g.row.D.Denot). (h : CurrentOpening) → IsAt h (world_book l) → EachMoment g.D.Disk.moment g.D.Disk.left_since l.disk c.call-reply.new.self.disk (HoldsLeft h (calling c.args.command.now)))
     c.look_at.ensures.same c.call-reply.ensures.any_moment
 
 pub returns-clause-openable : goal.returns-clause-openable
-returns-clause-openable g c = subst (λ (l : Ledger g.row.D.Denot). StaysOpenable g.D.Disk.moment g.D.Disk.left_since l c.call-reply.new.self) c.look_at.ensures.same c.call-reply.ensures.openable
+returns-clause-openable g c = subst (λ (l : PlainBook g.row.D.Denot). StaysOpenable g.D.Disk.moment g.D.Disk.left_since l c.call-reply.new.self) c.look_at.ensures.same c.call-reply.ensures.openable

@@ -1,26 +1,26 @@
 use Rattle.std.proofs.Common.{subst}
 use Rattle.std.specs.Prelude.{nat_lt}
 use Rattle.pf_disk.specs.Disk.{EachMoment}
-use Rattle.pf_core.specs.{Pages.{IsAt, LeadsGroup}, Worlds.{Held, grouping, upshot}}
-use Rattle.pf_book.specs.{Books.{HoldsLeft, Ledger, StaysOpenable, StaysUnlessAnyKept, page, log_in}, Groups.{HasReceipts, replies_of, told}}
+use Rattle.pf_core.specs.{WorldBooks.{IsAt, LeadsGroup}, Worlds.{CurrentOpening, grouping, upshot}}
+use Rattle.pf_book.specs.{Books.{HoldsLeft, PlainBook, StaysOpenable, StaysUnlessAnyKept, world_book, log_in}, Groups.{HasReceipts, replies_of, told}}
 use Rattle.pf_book.proofs.book.Book.answer_all.Goals as goal
 
 pub returns-clause-leads : goal.returns-clause-leads
 returns-clause-leads g c =
     let new = c.answer_each.new.self in
-    subst (λ (l : Ledger g.row.D.Denot). (h : Held) → IsAt h (page l) → LeadsGroup h (page new) c.args.commands.now (replies_of (told c.answer_each.result)) (upshot new.shown (nat_lt (g.D.Disk.fault_count l.disk) (g.D.Disk.fault_count new.disk))))
+    subst (λ (l : PlainBook g.row.D.Denot). (h : CurrentOpening) → IsAt h (world_book l) → LeadsGroup h (world_book new) c.args.commands.now (replies_of (told c.answer_each.result)) (upshot new.shown (nat_lt (g.D.Disk.fault_count l.disk) (g.D.Disk.fault_count new.disk))))
     c.look_at.ensures.same c.answer_each.ensures.leads
 
 pub returns-clause-any_moment : goal.returns-clause-any_moment
 returns-clause-any_moment g c =
-    subst (λ (l : Ledger g.row.D.Denot). (h : Held) → IsAt h (page l) → EachMoment g.D.Disk.moment g.D.Disk.left_since l.disk c.answer_each.new.self.disk (HoldsLeft h (grouping c.args.commands.now))) c.look_at.ensures.same c.answer_each.ensures.any_moment
+    subst (λ (l : PlainBook g.row.D.Denot). (h : CurrentOpening) → IsAt h (world_book l) → EachMoment g.D.Disk.moment g.D.Disk.left_since l.disk c.answer_each.new.self.disk (HoldsLeft h (grouping c.args.commands.now))) c.look_at.ensures.same c.answer_each.ensures.any_moment
 
 pub returns-clause-receipts : goal.returns-clause-receipts
 returns-clause-receipts g c =
-    subst (λ (l : Ledger g.row.D.Denot). (h : Held) → IsAt h (page l) → HasReceipts h (log_in (page c.answer_each.new.self)) c.args.commands.now (told c.answer_each.result)) c.look_at.ensures.same c.answer_each.ensures.receipts
+    subst (λ (l : PlainBook g.row.D.Denot). (h : CurrentOpening) → IsAt h (world_book l) → HasReceipts h (log_in (world_book c.answer_each.new.self)) c.args.commands.now (told c.answer_each.result)) c.look_at.ensures.same c.answer_each.ensures.receipts
 
 pub returns-clause-openable : goal.returns-clause-openable
-returns-clause-openable g c = subst (λ (l : Ledger g.row.D.Denot). StaysOpenable g.D.Disk.moment g.D.Disk.left_since l c.answer_each.new.self) c.look_at.ensures.same c.answer_each.ensures.openable
+returns-clause-openable g c = subst (λ (l : PlainBook g.row.D.Denot). StaysOpenable g.D.Disk.moment g.D.Disk.left_since l c.answer_each.new.self) c.look_at.ensures.same c.answer_each.ensures.openable
 
 pub returns-clause-stays : goal.returns-clause-stays
-returns-clause-stays g c = subst (λ (l : Ledger g.row.D.Denot). StaysUnlessAnyKept (replies_of (told c.answer_each.result)) l c.answer_each.new.self) c.look_at.ensures.same c.answer_each.ensures.stays
+returns-clause-stays g c = subst (λ (l : PlainBook g.row.D.Denot). StaysUnlessAnyKept (replies_of (told c.answer_each.result)) l c.answer_each.new.self) c.look_at.ensures.same c.answer_each.ensures.stays

@@ -2,17 +2,17 @@ use Rattle.std.proofs.{Common.{false, ◌≡◌, ◌+◌, ◌++◌, List, [], le
 use Rattle.std.specs.{Arc.arc_value, Prelude.nat_lt}
 use Rattle.pf_disk.specs.Disk.{EachMoment}
 use Rattle.pf_core.specs.declared.{command.Command.Command, reply.Reply.Reply}
-use Rattle.pf_core.specs.{Durable.Edits.Edit, Pages.{Page, IsAt, LeadsGroup}, Worlds.{Held, Upshot, flat, grouping, upshot, changes_due, replies_due, is_fault}}
+use Rattle.pf_core.specs.{Durable.Changes.PlainChange, WorldBooks.{WorldBook, IsAt, LeadsGroup}, Worlds.{CurrentOpening, Upshot, flat, grouping, upshot, changes_due, replies_due, is_fault}}
 use Rattle.pf_core.proofs.Courses.{told_as}
-use Rattle.pf_book.specs.{Books.{Ledger, page, log_in, HoldsLeft, StaysUnlessAnyKept}, Groups.{Answered, AreAnswered, kept_count, paired}}
-use Rattle.pf_book.proofs.{Calling.{fault-flag, own, own-at, still-left}, Grouping.{begin-calm, begin-leads, begun-by, memory-refuses}, Openable.same-openable, Parts.{left-group, whole-log}, Slipping.{IsTold, told-by, slips, paired-replies, kept-due, one-each}}
+use Rattle.pf_book.specs.{Books.{PlainBook, world_book, log_in, HoldsLeft, StaysUnlessAnyKept}, Groups.{Answered, AreAnswered, kept_count, paired}}
+use Rattle.pf_book.proofs.{Calling.{fault-flag, own, own-at, still-left}, Grouping.{begin-calm, begin-leads, begun-by, memory-refuses}, Openable.same-openable, HistoryGroups.{left-group, whole-log}, GroupReceipts.{IsTold, told-by, slips, paired-replies, kept-due, one-each}}
 use Rattle.pf_book.proofs.book.Book.answer_each.Goals as goal
 
 pub returns-in_err-check_all-clause-any_moment : goal.returns-in_err-check_all-clause-any_moment
 returns-in_err-check_all-clause-any_moment g c =
     let k = grouping c.args.commands.now in
     let disk = c.self.inside.store.disk in
-    subst (λ (l : Ledger g.row.D.Denot). (h : Held) → IsAt h (page l) → EachMoment g.D.Disk.moment g.D.Disk.left_since l.disk l.disk (HoldsLeft h k)) c.self.view_is
+    subst (λ (l : PlainBook g.row.D.Denot). (h : CurrentOpening) → IsAt h (world_book l) → EachMoment g.D.Disk.moment g.D.Disk.left_since l.disk l.disk (HoldsLeft h k)) c.self.view_is
     (λ h at. still-left g.D.Disk.seen g.D.Disk.unsynced g.D.Disk.moment g.D.Disk.left_since h _ k disk (g.met.D.Disk.only_now disk) c.self.invariant.images at)
 
 pub returns-in_err-check_all-clause-openable : goal.returns-in_err-check_all-clause-openable
@@ -25,7 +25,7 @@ pub returns-in_err-answers-clause-any_moment : goal.returns-in_err-answers-claus
 returns-in_err-answers-clause-any_moment g c =
     let k = grouping c.args.commands.now in
     let disk = c.self.inside.store.disk in
-    subst (λ (l : Ledger g.row.D.Denot). (h : Held) → IsAt h (page l) → EachMoment g.D.Disk.moment g.D.Disk.left_since l.disk l.disk (HoldsLeft h k)) c.self.view_is
+    subst (λ (l : PlainBook g.row.D.Denot). (h : CurrentOpening) → IsAt h (world_book l) → EachMoment g.D.Disk.moment g.D.Disk.left_since l.disk l.disk (HoldsLeft h k)) c.self.view_is
     (λ h at. still-left g.D.Disk.seen g.D.Disk.unsynced g.D.Disk.moment g.D.Disk.left_since h _ k disk (g.met.D.Disk.only_now disk) c.self.invariant.images at)
 
 pub returns-in_err-answers-clause-openable : goal.returns-in_err-answers-clause-openable
@@ -41,17 +41,17 @@ pair-requires-clause-calm g c =
     let s = c.self.inside in
     let i = c.self.invariant in
     let commands : List Command = c.args.commands.now in
-    let b : Page = page old in
+    let b : WorldBook = world_book old in
     let replies : List Reply = c.in-Ok.replies.items in
     let t : Upshot = upshot new.shown (nat_lt (g.D.Disk.fault_count old.disk) (g.D.Disk.fault_count new.disk)) in
-    let leads : (h : Held) → IsAt h b → LeadsGroup h (page new) commands (Ok replies) t = c.in-Ok.ensures.leads in
-    let T : IsTold (own b) (page new) commands replies = told-by (own b) (page new) commands replies t (leads (own b) (own-at b)) in
-    let es : List Edit = changes_due (own b) [] commands in
+    let leads : (h : CurrentOpening) → IsAt h b → LeadsGroup h (world_book new) commands (Ok replies) t = c.in-Ok.ensures.leads in
+    let T : IsTold (own b) (world_book new) commands replies = told-by (own b) (world_book new) commands replies t (leads (own b) (own-at b)) in
+    let es : List PlainChange = changes_due (own b) [] commands in
     let given : map arc_value c.in-Ok.given.items ≡ es = c.in-Ok.ensures.given (own b) (own-at b) in
-    let log : List Edit = map arc_value s.log.items in
+    let log : List PlainChange = map arc_value s.log.items in
     let counted : c.len-before.result ≡ length log = grind (arith, common_steps, c.len-before.ensures) in
-    let whole : log_in b ≡ log = ap (λ (l : Ledger g.row.D.Denot). log_in (page l)) (sym c.self.view_is) ∙ whole-log log s.sizes.items s.acked i.cuts in
-    let flat_is : log_in b ≡ flat b.acked = ap (λ (gs : List (List Edit)). flat (b.acked ++ gs)) T.none ∙ ap flat (append-nil b.acked) in
+    let whole : log_in b ≡ log = ap (λ (l : PlainBook g.row.D.Denot). log_in (world_book l)) (sym c.self.view_is) ∙ whole-log log s.sizes.items s.acked i.cuts in
+    let flat_is : log_in b ≡ flat b.acked = ap (λ (gs : List (List PlainChange)). flat (b.acked ++ gs)) T.none ∙ ap flat (append-nil b.acked) in
     let number : c.len-before.result ≡ length (flat b.acked) = counted ∙ ap length (sym whole) ∙ ap length flat_is in
     T.calm
 
@@ -62,17 +62,17 @@ pair-requires-clause-empty g c =
     let s = c.self.inside in
     let i = c.self.invariant in
     let commands : List Command = c.args.commands.now in
-    let b : Page = page old in
+    let b : WorldBook = world_book old in
     let replies : List Reply = c.in-Ok.replies.items in
     let t : Upshot = upshot new.shown (nat_lt (g.D.Disk.fault_count old.disk) (g.D.Disk.fault_count new.disk)) in
-    let leads : (h : Held) → IsAt h b → LeadsGroup h (page new) commands (Ok replies) t = c.in-Ok.ensures.leads in
-    let T : IsTold (own b) (page new) commands replies = told-by (own b) (page new) commands replies t (leads (own b) (own-at b)) in
-    let es : List Edit = changes_due (own b) [] commands in
+    let leads : (h : CurrentOpening) → IsAt h b → LeadsGroup h (world_book new) commands (Ok replies) t = c.in-Ok.ensures.leads in
+    let T : IsTold (own b) (world_book new) commands replies = told-by (own b) (world_book new) commands replies t (leads (own b) (own-at b)) in
+    let es : List PlainChange = changes_due (own b) [] commands in
     let given : map arc_value c.in-Ok.given.items ≡ es = c.in-Ok.ensures.given (own b) (own-at b) in
-    let log : List Edit = map arc_value s.log.items in
+    let log : List PlainChange = map arc_value s.log.items in
     let counted : c.len-before.result ≡ length log = grind (arith, common_steps, c.len-before.ensures) in
-    let whole : log_in b ≡ log = ap (λ (l : Ledger g.row.D.Denot). log_in (page l)) (sym c.self.view_is) ∙ whole-log log s.sizes.items s.acked i.cuts in
-    let flat_is : log_in b ≡ flat b.acked = ap (λ (gs : List (List Edit)). flat (b.acked ++ gs)) T.none ∙ ap flat (append-nil b.acked) in
+    let whole : log_in b ≡ log = ap (λ (l : PlainBook g.row.D.Denot). log_in (world_book l)) (sym c.self.view_is) ∙ whole-log log s.sizes.items s.acked i.cuts in
+    let flat_is : log_in b ≡ flat b.acked = ap (λ (gs : List (List PlainChange)). flat (b.acked ++ gs)) T.none ∙ ap flat (append-nil b.acked) in
     let number : c.len-before.result ≡ length (flat b.acked) = counted ∙ ap length (sym whole) ∙ ap length flat_is in
     c.in_ok-answers.ensures.items
 
@@ -83,17 +83,17 @@ pair-requires-clause-room g c =
     let s = c.self.inside in
     let i = c.self.invariant in
     let commands : List Command = c.args.commands.now in
-    let b : Page = page old in
+    let b : WorldBook = world_book old in
     let replies : List Reply = c.in-Ok.replies.items in
     let t : Upshot = upshot new.shown (nat_lt (g.D.Disk.fault_count old.disk) (g.D.Disk.fault_count new.disk)) in
-    let leads : (h : Held) → IsAt h b → LeadsGroup h (page new) commands (Ok replies) t = c.in-Ok.ensures.leads in
-    let T : IsTold (own b) (page new) commands replies = told-by (own b) (page new) commands replies t (leads (own b) (own-at b)) in
-    let es : List Edit = changes_due (own b) [] commands in
+    let leads : (h : CurrentOpening) → IsAt h b → LeadsGroup h (world_book new) commands (Ok replies) t = c.in-Ok.ensures.leads in
+    let T : IsTold (own b) (world_book new) commands replies = told-by (own b) (world_book new) commands replies t (leads (own b) (own-at b)) in
+    let es : List PlainChange = changes_due (own b) [] commands in
     let given : map arc_value c.in-Ok.given.items ≡ es = c.in-Ok.ensures.given (own b) (own-at b) in
-    let log : List Edit = map arc_value s.log.items in
+    let log : List PlainChange = map arc_value s.log.items in
     let counted : c.len-before.result ≡ length log = grind (arith, common_steps, c.len-before.ensures) in
-    let whole : log_in b ≡ log = ap (λ (l : Ledger g.row.D.Denot). log_in (page l)) (sym c.self.view_is) ∙ whole-log log s.sizes.items s.acked i.cuts in
-    let flat_is : log_in b ≡ flat b.acked = ap (λ (gs : List (List Edit)). flat (b.acked ++ gs)) T.none ∙ ap flat (append-nil b.acked) in
+    let whole : log_in b ≡ log = ap (λ (l : PlainBook g.row.D.Denot). log_in (world_book l)) (sym c.self.view_is) ∙ whole-log log s.sizes.items s.acked i.cuts in
+    let flat_is : log_in b ≡ flat b.acked = ap (λ (gs : List (List PlainChange)). flat (b.acked ++ gs)) T.none ∙ ap flat (append-nil b.acked) in
     let number : c.len-before.result ≡ length (flat b.acked) = counted ∙ ap length (sym whole) ∙ ap length flat_is in
     let many : length replies ≡ length commands = ap length T.told_is ∙ length-map (replies_due (own b) [] commands) (told_as T.stored) ∙ one-each (own b) [] commands in
     omega (arith, many, c.in_ok-answers.ensures.exact)
@@ -105,17 +105,17 @@ pair-requires-clause-given g c =
     let s = c.self.inside in
     let i = c.self.invariant in
     let commands : List Command = c.args.commands.now in
-    let b : Page = page old in
+    let b : WorldBook = world_book old in
     let replies : List Reply = c.in-Ok.replies.items in
     let t : Upshot = upshot new.shown (nat_lt (g.D.Disk.fault_count old.disk) (g.D.Disk.fault_count new.disk)) in
-    let leads : (h : Held) → IsAt h b → LeadsGroup h (page new) commands (Ok replies) t = c.in-Ok.ensures.leads in
-    let T : IsTold (own b) (page new) commands replies = told-by (own b) (page new) commands replies t (leads (own b) (own-at b)) in
-    let es : List Edit = changes_due (own b) [] commands in
+    let leads : (h : CurrentOpening) → IsAt h b → LeadsGroup h (world_book new) commands (Ok replies) t = c.in-Ok.ensures.leads in
+    let T : IsTold (own b) (world_book new) commands replies = told-by (own b) (world_book new) commands replies t (leads (own b) (own-at b)) in
+    let es : List PlainChange = changes_due (own b) [] commands in
     let given : map arc_value c.in-Ok.given.items ≡ es = c.in-Ok.ensures.given (own b) (own-at b) in
-    let log : List Edit = map arc_value s.log.items in
+    let log : List PlainChange = map arc_value s.log.items in
     let counted : c.len-before.result ≡ length log = grind (arith, common_steps, c.len-before.ensures) in
-    let whole : log_in b ≡ log = ap (λ (l : Ledger g.row.D.Denot). log_in (page l)) (sym c.self.view_is) ∙ whole-log log s.sizes.items s.acked i.cuts in
-    let flat_is : log_in b ≡ flat b.acked = ap (λ (gs : List (List Edit)). flat (b.acked ++ gs)) T.none ∙ ap flat (append-nil b.acked) in
+    let whole : log_in b ≡ log = ap (λ (l : PlainBook g.row.D.Denot). log_in (world_book l)) (sym c.self.view_is) ∙ whole-log log s.sizes.items s.acked i.cuts in
+    let flat_is : log_in b ≡ flat b.acked = ap (λ (gs : List (List PlainChange)). flat (b.acked ++ gs)) T.none ∙ ap flat (append-nil b.acked) in
     let number : c.len-before.result ≡ length (flat b.acked) = counted ∙ ap length (sym whole) ∙ ap length flat_is in
     ap (drop c.len-before.result) T.log ∙ left-group (flat b.acked) es c.len-before.result number ∙ sym given
 
@@ -126,17 +126,17 @@ pair-requires-clause-within g c =
     let s = c.self.inside in
     let i = c.self.invariant in
     let commands : List Command = c.args.commands.now in
-    let b : Page = page old in
+    let b : WorldBook = world_book old in
     let replies : List Reply = c.in-Ok.replies.items in
     let t : Upshot = upshot new.shown (nat_lt (g.D.Disk.fault_count old.disk) (g.D.Disk.fault_count new.disk)) in
-    let leads : (h : Held) → IsAt h b → LeadsGroup h (page new) commands (Ok replies) t = c.in-Ok.ensures.leads in
-    let T : IsTold (own b) (page new) commands replies = told-by (own b) (page new) commands replies t (leads (own b) (own-at b)) in
-    let es : List Edit = changes_due (own b) [] commands in
+    let leads : (h : CurrentOpening) → IsAt h b → LeadsGroup h (world_book new) commands (Ok replies) t = c.in-Ok.ensures.leads in
+    let T : IsTold (own b) (world_book new) commands replies = told-by (own b) (world_book new) commands replies t (leads (own b) (own-at b)) in
+    let es : List PlainChange = changes_due (own b) [] commands in
     let given : map arc_value c.in-Ok.given.items ≡ es = c.in-Ok.ensures.given (own b) (own-at b) in
-    let log : List Edit = map arc_value s.log.items in
+    let log : List PlainChange = map arc_value s.log.items in
     let counted : c.len-before.result ≡ length log = grind (arith, common_steps, c.len-before.ensures) in
-    let whole : log_in b ≡ log = ap (λ (l : Ledger g.row.D.Denot). log_in (page l)) (sym c.self.view_is) ∙ whole-log log s.sizes.items s.acked i.cuts in
-    let flat_is : log_in b ≡ flat b.acked = ap (λ (gs : List (List Edit)). flat (b.acked ++ gs)) T.none ∙ ap flat (append-nil b.acked) in
+    let whole : log_in b ≡ log = ap (λ (l : PlainBook g.row.D.Denot). log_in (world_book l)) (sym c.self.view_is) ∙ whole-log log s.sizes.items s.acked i.cuts in
+    let flat_is : log_in b ≡ flat b.acked = ap (λ (gs : List (List PlainChange)). flat (b.acked ++ gs)) T.none ∙ ap flat (append-nil b.acked) in
     let number : c.len-before.result ≡ length (flat b.acked) = counted ∙ ap length (sym whole) ∙ ap length flat_is in
     omega (arith, number, ap length T.log, length-append (flat b.acked) es)
 
@@ -147,17 +147,17 @@ pair-requires-clause-kept g c =
     let s = c.self.inside in
     let i = c.self.invariant in
     let commands : List Command = c.args.commands.now in
-    let b : Page = page old in
+    let b : WorldBook = world_book old in
     let replies : List Reply = c.in-Ok.replies.items in
     let t : Upshot = upshot new.shown (nat_lt (g.D.Disk.fault_count old.disk) (g.D.Disk.fault_count new.disk)) in
-    let leads : (h : Held) → IsAt h b → LeadsGroup h (page new) commands (Ok replies) t = c.in-Ok.ensures.leads in
-    let T : IsTold (own b) (page new) commands replies = told-by (own b) (page new) commands replies t (leads (own b) (own-at b)) in
-    let es : List Edit = changes_due (own b) [] commands in
+    let leads : (h : CurrentOpening) → IsAt h b → LeadsGroup h (world_book new) commands (Ok replies) t = c.in-Ok.ensures.leads in
+    let T : IsTold (own b) (world_book new) commands replies = told-by (own b) (world_book new) commands replies t (leads (own b) (own-at b)) in
+    let es : List PlainChange = changes_due (own b) [] commands in
     let given : map arc_value c.in-Ok.given.items ≡ es = c.in-Ok.ensures.given (own b) (own-at b) in
-    let log : List Edit = map arc_value s.log.items in
+    let log : List PlainChange = map arc_value s.log.items in
     let counted : c.len-before.result ≡ length log = grind (arith, common_steps, c.len-before.ensures) in
-    let whole : log_in b ≡ log = ap (λ (l : Ledger g.row.D.Denot). log_in (page l)) (sym c.self.view_is) ∙ whole-log log s.sizes.items s.acked i.cuts in
-    let flat_is : log_in b ≡ flat b.acked = ap (λ (gs : List (List Edit)). flat (b.acked ++ gs)) T.none ∙ ap flat (append-nil b.acked) in
+    let whole : log_in b ≡ log = ap (λ (l : PlainBook g.row.D.Denot). log_in (world_book l)) (sym c.self.view_is) ∙ whole-log log s.sizes.items s.acked i.cuts in
+    let flat_is : log_in b ≡ flat b.acked = ap (λ (gs : List (List PlainChange)). flat (b.acked ++ gs)) T.none ∙ ap flat (append-nil b.acked) in
     let number : c.len-before.result ≡ length (flat b.acked) = counted ∙ ap length (sym whole) ∙ ap length flat_is in
     omega (arith, ap kept_count T.told_is, kept-due (own b) [] commands T.stored, ap length given)
 
@@ -168,17 +168,17 @@ pair-requires-clause-shown g c =
     let s = c.self.inside in
     let i = c.self.invariant in
     let commands : List Command = c.args.commands.now in
-    let b : Page = page old in
+    let b : WorldBook = world_book old in
     let replies : List Reply = c.in-Ok.replies.items in
     let t : Upshot = upshot new.shown (nat_lt (g.D.Disk.fault_count old.disk) (g.D.Disk.fault_count new.disk)) in
-    let leads : (h : Held) → IsAt h b → LeadsGroup h (page new) commands (Ok replies) t = c.in-Ok.ensures.leads in
-    let T : IsTold (own b) (page new) commands replies = told-by (own b) (page new) commands replies t (leads (own b) (own-at b)) in
-    let es : List Edit = changes_due (own b) [] commands in
+    let leads : (h : CurrentOpening) → IsAt h b → LeadsGroup h (world_book new) commands (Ok replies) t = c.in-Ok.ensures.leads in
+    let T : IsTold (own b) (world_book new) commands replies = told-by (own b) (world_book new) commands replies t (leads (own b) (own-at b)) in
+    let es : List PlainChange = changes_due (own b) [] commands in
     let given : map arc_value c.in-Ok.given.items ≡ es = c.in-Ok.ensures.given (own b) (own-at b) in
-    let log : List Edit = map arc_value s.log.items in
+    let log : List PlainChange = map arc_value s.log.items in
     let counted : c.len-before.result ≡ length log = grind (arith, common_steps, c.len-before.ensures) in
-    let whole : log_in b ≡ log = ap (λ (l : Ledger g.row.D.Denot). log_in (page l)) (sym c.self.view_is) ∙ whole-log log s.sizes.items s.acked i.cuts in
-    let flat_is : log_in b ≡ flat b.acked = ap (λ (gs : List (List Edit)). flat (b.acked ++ gs)) T.none ∙ ap flat (append-nil b.acked) in
+    let whole : log_in b ≡ log = ap (λ (l : PlainBook g.row.D.Denot). log_in (world_book l)) (sym c.self.view_is) ∙ whole-log log s.sizes.items s.acked i.cuts in
+    let flat_is : log_in b ≡ flat b.acked = ap (λ (gs : List (List PlainChange)). flat (b.acked ++ gs)) T.none ∙ ap flat (append-nil b.acked) in
     let number : c.len-before.result ≡ length (flat b.acked) = counted ∙ ap length (sym whole) ∙ ap length flat_is in
     T.fits
 
@@ -189,21 +189,21 @@ returns-in-Ok-clause-leads g c =
     let s = c.self.inside in
     let i = c.self.invariant in
     let commands : List Command = c.args.commands.now in
-    let b : Page = page old in
+    let b : WorldBook = world_book old in
     let replies : List Reply = c.in-Ok.replies.items in
     let t : Upshot = upshot new.shown (nat_lt (g.D.Disk.fault_count old.disk) (g.D.Disk.fault_count new.disk)) in
-    let leads : (h : Held) → IsAt h b → LeadsGroup h (page new) commands (Ok replies) t = c.in-Ok.ensures.leads in
-    let T : IsTold (own b) (page new) commands replies = told-by (own b) (page new) commands replies t (leads (own b) (own-at b)) in
-    let es : List Edit = changes_due (own b) [] commands in
+    let leads : (h : CurrentOpening) → IsAt h b → LeadsGroup h (world_book new) commands (Ok replies) t = c.in-Ok.ensures.leads in
+    let T : IsTold (own b) (world_book new) commands replies = told-by (own b) (world_book new) commands replies t (leads (own b) (own-at b)) in
+    let es : List PlainChange = changes_due (own b) [] commands in
     let given : map arc_value c.in-Ok.given.items ≡ es = c.in-Ok.ensures.given (own b) (own-at b) in
-    let log : List Edit = map arc_value s.log.items in
+    let log : List PlainChange = map arc_value s.log.items in
     let counted : c.len-before.result ≡ length log = grind (arith, common_steps, c.len-before.ensures) in
-    let whole : log_in b ≡ log = ap (λ (l : Ledger g.row.D.Denot). log_in (page l)) (sym c.self.view_is) ∙ whole-log log s.sizes.items s.acked i.cuts in
-    let flat_is : log_in b ≡ flat b.acked = ap (λ (gs : List (List Edit)). flat (b.acked ++ gs)) T.none ∙ ap flat (append-nil b.acked) in
+    let whole : log_in b ≡ log = ap (λ (l : PlainBook g.row.D.Denot). log_in (world_book l)) (sym c.self.view_is) ∙ whole-log log s.sizes.items s.acked i.cuts in
+    let flat_is : log_in b ≡ flat b.acked = ap (λ (gs : List (List PlainChange)). flat (b.acked ++ gs)) T.none ∙ ap flat (append-nil b.acked) in
     let number : c.len-before.result ≡ length (flat b.acked) = counted ∙ ap length (sym whole) ∙ ap length flat_is in
     let same : replies ≡ map (λ (a : Answered). a.0) c.pair.result.items =
-    sym (ap (map (λ (a : Answered). a.0)) c.pair.ensures ∙ paired-replies (log_in (page new)) c.len-before.result replies (map arc_value c.in-Ok.given.items)) in
-    λ h at. subst (λ (rs : List Reply). LeadsGroup h (page new) commands (Ok rs) t) same (leads h at)
+    sym (ap (map (λ (a : Answered). a.0)) c.pair.ensures ∙ paired-replies (log_in (world_book new)) c.len-before.result replies (map arc_value c.in-Ok.given.items)) in
+    λ h at. subst (λ (rs : List Reply). LeadsGroup h (world_book new) commands (Ok rs) t) same (leads h at)
 
 pub returns-in-Ok-clause-receipts : goal.returns-in-Ok-clause-receipts
 returns-in-Ok-clause-receipts g c =
@@ -212,27 +212,27 @@ returns-in-Ok-clause-receipts g c =
     let s = c.self.inside in
     let i = c.self.invariant in
     let commands : List Command = c.args.commands.now in
-    let b : Page = page old in
+    let b : WorldBook = world_book old in
     let replies : List Reply = c.in-Ok.replies.items in
     let t : Upshot = upshot new.shown (nat_lt (g.D.Disk.fault_count old.disk) (g.D.Disk.fault_count new.disk)) in
-    let leads : (h : Held) → IsAt h b → LeadsGroup h (page new) commands (Ok replies) t = c.in-Ok.ensures.leads in
-    let T : IsTold (own b) (page new) commands replies = told-by (own b) (page new) commands replies t (leads (own b) (own-at b)) in
-    let es : List Edit = changes_due (own b) [] commands in
+    let leads : (h : CurrentOpening) → IsAt h b → LeadsGroup h (world_book new) commands (Ok replies) t = c.in-Ok.ensures.leads in
+    let T : IsTold (own b) (world_book new) commands replies = told-by (own b) (world_book new) commands replies t (leads (own b) (own-at b)) in
+    let es : List PlainChange = changes_due (own b) [] commands in
     let given : map arc_value c.in-Ok.given.items ≡ es = c.in-Ok.ensures.given (own b) (own-at b) in
-    let log : List Edit = map arc_value s.log.items in
+    let log : List PlainChange = map arc_value s.log.items in
     let counted : c.len-before.result ≡ length log = grind (arith, common_steps, c.len-before.ensures) in
-    let whole : log_in b ≡ log = ap (λ (l : Ledger g.row.D.Denot). log_in (page l)) (sym c.self.view_is) ∙ whole-log log s.sizes.items s.acked i.cuts in
-    let flat_is : log_in b ≡ flat b.acked = ap (λ (gs : List (List Edit)). flat (b.acked ++ gs)) T.none ∙ ap flat (append-nil b.acked) in
+    let whole : log_in b ≡ log = ap (λ (l : PlainBook g.row.D.Denot). log_in (world_book l)) (sym c.self.view_is) ∙ whole-log log s.sizes.items s.acked i.cuts in
+    let flat_is : log_in b ≡ flat b.acked = ap (λ (gs : List (List PlainChange)). flat (b.acked ++ gs)) T.none ∙ ap flat (append-nil b.acked) in
     let number : c.len-before.result ≡ length (flat b.acked) = counted ∙ ap length (sym whole) ∙ ap length flat_is in
     λ h at.
-    let U : IsTold h (page new) commands replies = told-by h (page new) commands replies t (leads h at) in
+    let U : IsTold h (world_book new) commands replies = told-by h (world_book new) commands replies t (leads h at) in
     let wants : map arc_value c.in-Ok.given.items ≡ changes_due h [] commands = c.in-Ok.ensures.given h at in
-    let here : c.pair.result.items ≡ paired (log_in (page new)) c.len-before.result (map (told_as U.stored) (replies_due h [] commands)) (changes_due h [] commands) =
-    c.pair.ensures ∙ ap (λ (rs : List Reply). paired (log_in (page new)) c.len-before.result rs (map arc_value c.in-Ok.given.items)) U.told_is
-    ∙ ap (paired (log_in (page new)) c.len-before.result (map (told_as U.stored) (replies_due h [] commands))) wants in
-    let first : c.len-before.result ≡ length (flat h.acked) + 0 = omega (arith, number, ap (λ (gs : List (List Edit)). length (flat gs)) at.acked) in
-    subst (λ (answers : List Answered). AreAnswered h (log_in (page new)) [] commands answers) (sym here)
-    (slips h (log_in (page new)) [] (changes_due h [] commands) commands U.stored U.none U.may refl U.log c.len-before.result first)
+    let here : c.pair.result.items ≡ paired (log_in (world_book new)) c.len-before.result (map (told_as U.stored) (replies_due h [] commands)) (changes_due h [] commands) =
+    c.pair.ensures ∙ ap (λ (rs : List Reply). paired (log_in (world_book new)) c.len-before.result rs (map arc_value c.in-Ok.given.items)) U.told_is
+    ∙ ap (paired (log_in (world_book new)) c.len-before.result (map (told_as U.stored) (replies_due h [] commands))) wants in
+    let first : c.len-before.result ≡ length (flat h.acked) + 0 = omega (arith, number, ap (λ (gs : List (List PlainChange)). length (flat gs)) at.acked) in
+    subst (λ (answers : List Answered). AreAnswered h (log_in (world_book new)) [] commands answers) (sym here)
+    (slips h (log_in (world_book new)) [] (changes_due h [] commands) commands U.stored U.none U.may refl U.log c.len-before.result first)
 
 pub returns-in-Ok-clause-stays : goal.returns-in-Ok-clause-stays
 returns-in-Ok-clause-stays g c =
@@ -241,25 +241,25 @@ returns-in-Ok-clause-stays g c =
     let s = c.self.inside in
     let i = c.self.invariant in
     let commands : List Command = c.args.commands.now in
-    let b : Page = page old in
+    let b : WorldBook = world_book old in
     let replies : List Reply = c.in-Ok.replies.items in
     let t : Upshot = upshot new.shown (nat_lt (g.D.Disk.fault_count old.disk) (g.D.Disk.fault_count new.disk)) in
-    let leads : (h : Held) → IsAt h b → LeadsGroup h (page new) commands (Ok replies) t = c.in-Ok.ensures.leads in
-    let T : IsTold (own b) (page new) commands replies = told-by (own b) (page new) commands replies t (leads (own b) (own-at b)) in
-    let es : List Edit = changes_due (own b) [] commands in
+    let leads : (h : CurrentOpening) → IsAt h b → LeadsGroup h (world_book new) commands (Ok replies) t = c.in-Ok.ensures.leads in
+    let T : IsTold (own b) (world_book new) commands replies = told-by (own b) (world_book new) commands replies t (leads (own b) (own-at b)) in
+    let es : List PlainChange = changes_due (own b) [] commands in
     let given : map arc_value c.in-Ok.given.items ≡ es = c.in-Ok.ensures.given (own b) (own-at b) in
-    let log : List Edit = map arc_value s.log.items in
+    let log : List PlainChange = map arc_value s.log.items in
     let counted : c.len-before.result ≡ length log = grind (arith, common_steps, c.len-before.ensures) in
-    let whole : log_in b ≡ log = ap (λ (l : Ledger g.row.D.Denot). log_in (page l)) (sym c.self.view_is) ∙ whole-log log s.sizes.items s.acked i.cuts in
-    let flat_is : log_in b ≡ flat b.acked = ap (λ (gs : List (List Edit)). flat (b.acked ++ gs)) T.none ∙ ap flat (append-nil b.acked) in
+    let whole : log_in b ≡ log = ap (λ (l : PlainBook g.row.D.Denot). log_in (world_book l)) (sym c.self.view_is) ∙ whole-log log s.sizes.items s.acked i.cuts in
+    let flat_is : log_in b ≡ flat b.acked = ap (λ (gs : List (List PlainChange)). flat (b.acked ++ gs)) T.none ∙ ap flat (append-nil b.acked) in
     let number : c.len-before.result ≡ length (flat b.acked) = counted ∙ ap length (sym whole) ∙ ap length flat_is in
     let same : replies ≡ map (λ (a : Answered). a.0) c.pair.result.items =
-    sym (ap (map (λ (a : Answered). a.0)) c.pair.ensures ∙ paired-replies (log_in (page new)) c.len-before.result replies (map arc_value c.in-Ok.given.items)) in
+    sym (ap (map (λ (a : Answered). a.0)) c.pair.ensures ∙ paired-replies (log_in (world_book new)) c.len-before.result replies (map arc_value c.in-Ok.given.items)) in
     subst (λ (rs : List Reply). StaysUnlessAnyKept (Ok rs) old new) same c.in-Ok.ensures.stays
 
 pub returns-in_err-check_all-clause-leads : goal.returns-in_err-check_all-clause-leads
 returns-in_err-check_all-clause-leads g c =
-    let b : Page = page c.args.self.now in
+    let b : WorldBook = world_book c.args.self.now in
     let n = g.D.Disk.fault_count c.args.self.now.disk in
     let p = err_from_is_err_and c.from_residual.result c.from_residual.ensures.1 in
     λ h at. rw (p.1, p.2, fault-flag n n false (omega arith)) (begin-leads h b c.args.commands.now c.in_err-check_all.field-0.0 at c.in_err-check_all.ensures)
@@ -272,12 +272,12 @@ returns-in_err-check_all-clause-receipts g c =
 pub returns-in_err-check_all-clause-stays : goal.returns-in_err-check_all-clause-stays
 returns-in_err-check_all-clause-stays g c =
     let p = err_from_is_err_and c.from_residual.result c.from_residual.ensures.1 in
-    let calm : is_fault c.in_err-check_all.field-0.0 ≡ false = begin-calm (page c.args.self.now) c.args.commands.now c.in_err-check_all.field-0.0 c.in_err-check_all.ensures in
+    let calm : is_fault c.in_err-check_all.field-0.0 ≡ false = begin-calm (world_book c.args.self.now) c.args.commands.now c.in_err-check_all.field-0.0 c.in_err-check_all.ensures in
     rw (p.1, p.2) (record { same = λ is. (refl, refl); pending = λ is. absurd (cc (is, calm)) })
 
 pub returns-in_err-answers-clause-leads : goal.returns-in_err-answers-clause-leads
 returns-in_err-answers-clause-leads g c =
-    let b : Page = page c.args.self.now in
+    let b : WorldBook = world_book c.args.self.now in
     let n = g.D.Disk.fault_count c.args.self.now.disk in
     let begun = begun-by b c.args.commands.now c.in_ok-check_all.ensures in
     let p = err_from_is_err_and c.from_residual-in_err-answers.result c.from_residual-in_err-answers.ensures.1 in

@@ -1,11 +1,11 @@
 use Rattle.std.proofs.{Common.{◌≡◌, ◌≤◌, ◌<◌, ◌+◌, ℕ, List, [], length, map, drop, refl, sym, ap, ◌∙◌, subst, true, false, ◌++◌, arith}, lemmas.{Grind.common_steps, List.map-id}}
 use Rattle.std.specs.{Arc.arc_value, Prelude.{not, ◌↔◌, IsTrue}, List.list_all}
 use Rattle.pf_disk.specs.Disk.{EachMoment}
-use Rattle.pf_core.specs.{Durable.Edits.{Kept, Edit, after}, Pages.Page, Worlds.{Setting, flat, grouped}}
+use Rattle.pf_core.specs.{Durable.Changes.{PlainDurable, PlainChange, after}, WorldBooks.WorldBook, Worlds.{Setting, flat, grouped}}
 use Rattle.pf_store.specs.{Groups.{can_be_wanted, made_all}, Lengths.payload_length, Rooms.group_fits, Stores.{FindsRoom, HoldsEither}}
 use Rattle.pf_store.specs.Stores.{HasRoom as HasRoomFor}
-use Rattle.pf_book.specs.Books.{HasRoom, Ledger, cut, page, page_of, setting_in}
-use Rattle.pf_book.proofs.{Calling.still-either, Finding.{FitThere, device-fits, device-full, same-room}, Keeping.{acked-is, goes-on}, Openable.same-openable, Parts.{all-acked}}
+use Rattle.pf_book.specs.Books.{HasRoom, PlainBook, cut, world_book, world_book_of, setting_in}
+use Rattle.pf_book.proofs.{Calling.still-either, Finding.{FitThere, device-fits, device-full, same-room}, BookInvariant.{acked-is, goes-on}, Openable.same-openable, HistoryGroups.{all-acked}}
 use Rattle.pf_book.proofs.book.Book.find_room.Goals as goal
 
 pub returns-then-len-changes-clause-still : goal.returns-then-len-changes-clause-still
@@ -13,11 +13,11 @@ returns-then-len-changes-clause-still g c =
     let s = c.self.inside in
     let i = c.self.invariant in
     let es = c.args.changes.now in
-    let log : List Edit = map arc_value s.log.items in
-    let none : grouped (drop s.acked log) ≡ [] = ap (λ (l : Ledger g.row.D.Denot). l.pending) c.self.view_is ∙ c.requires.free in
-    let b : Page = page_of g.J.Naming.base s.core log s.sizes.items s.acked (setting_in s.store s.limit) s.shower.shown in
+    let log : List PlainChange = map arc_value s.log.items in
+    let none : grouped (drop s.acked log) ≡ [] = ap (λ (l : PlainBook g.row.D.Denot). l.pending) c.self.view_is ∙ c.requires.free in
+    let b : WorldBook = world_book_of g.J.Naming.base s.core log s.sizes.items s.acked (setting_in s.store s.limit) s.shower.shown in
     let disk = s.store.disk in
-    subst (λ (l : Ledger g.row.D.Denot). EachMoment g.D.Disk.moment g.D.Disk.left_since l.disk l.disk (HoldsEither l.whole.durable (after l.whole.durable es))) c.self.view_is
+    subst (λ (l : PlainBook g.row.D.Denot). EachMoment g.D.Disk.moment g.D.Disk.left_since l.disk l.disk (HoldsEither l.whole.durable (after l.whole.durable es))) c.self.view_is
     (still-either g.D.Disk.seen g.D.Disk.unsynced g.D.Disk.moment g.D.Disk.left_since b es disk (g.met.D.Disk.only_now disk) i.images i.folded none)
 
 pub returns-then-len-changes-clause-openable : goal.returns-then-len-changes-clause-openable
@@ -31,11 +31,11 @@ returns-then-not-has_room-clause-still g c =
     let s = c.self.inside in
     let i = c.self.invariant in
     let es = c.args.changes.now in
-    let log : List Edit = map arc_value s.log.items in
-    let none : grouped (drop s.acked log) ≡ [] = ap (λ (l : Ledger g.row.D.Denot). l.pending) c.self.view_is ∙ c.requires.free in
-    let b : Page = page_of g.J.Naming.base s.core log s.sizes.items s.acked (setting_in s.store s.limit) s.shower.shown in
+    let log : List PlainChange = map arc_value s.log.items in
+    let none : grouped (drop s.acked log) ≡ [] = ap (λ (l : PlainBook g.row.D.Denot). l.pending) c.self.view_is ∙ c.requires.free in
+    let b : WorldBook = world_book_of g.J.Naming.base s.core log s.sizes.items s.acked (setting_in s.store s.limit) s.shower.shown in
     let disk = s.store.disk in
-    subst (λ (l : Ledger g.row.D.Denot). EachMoment g.D.Disk.moment g.D.Disk.left_since l.disk l.disk (HoldsEither l.whole.durable (after l.whole.durable es))) c.self.view_is
+    subst (λ (l : PlainBook g.row.D.Denot). EachMoment g.D.Disk.moment g.D.Disk.left_since l.disk l.disk (HoldsEither l.whole.durable (after l.whole.durable es))) c.self.view_is
     (still-either g.D.Disk.seen g.D.Disk.unsynced g.D.Disk.moment g.D.Disk.left_since b es disk (g.met.D.Disk.only_now disk) i.images i.folded none)
 
 pub returns-then-not-has_room-clause-openable : goal.returns-then-not-has_room-clause-openable
@@ -49,11 +49,11 @@ returns-clause-still g c =
     let s = c.self.inside in
     let i = c.self.invariant in
     let es = c.args.changes.now in
-    let log : List Edit = map arc_value s.log.items in
-    let none : grouped (drop s.acked log) ≡ [] = ap (λ (l : Ledger g.row.D.Denot). l.pending) c.self.view_is ∙ c.requires.free in
-    let b : Page = page_of g.J.Naming.base s.core log s.sizes.items s.acked (setting_in s.store s.limit) s.shower.shown in
+    let log : List PlainChange = map arc_value s.log.items in
+    let none : grouped (drop s.acked log) ≡ [] = ap (λ (l : PlainBook g.row.D.Denot). l.pending) c.self.view_is ∙ c.requires.free in
+    let b : WorldBook = world_book_of g.J.Naming.base s.core log s.sizes.items s.acked (setting_in s.store s.limit) s.shower.shown in
     let disk = s.store.disk in
-    subst (λ (l : Ledger g.row.D.Denot). EachMoment g.D.Disk.moment g.D.Disk.left_since l.disk l.disk (HoldsEither l.whole.durable (after l.whole.durable es))) c.self.view_is
+    subst (λ (l : PlainBook g.row.D.Denot). EachMoment g.D.Disk.moment g.D.Disk.left_since l.disk l.disk (HoldsEither l.whole.durable (after l.whole.durable es))) c.self.view_is
     (still-either g.D.Disk.seen g.D.Disk.unsynced g.D.Disk.moment g.D.Disk.left_since b es disk (g.met.D.Disk.only_now disk) i.images i.folded none)
 
 pub returns-clause-openable : goal.returns-clause-openable
@@ -67,29 +67,29 @@ returns-then-len-changes-clause-err g c =
     let s = c.self.inside in
     let i = c.self.invariant in
     let es = c.args.changes.now in
-    let log : List Edit = map arc_value s.log.items in
-    let none : grouped (drop s.acked log) ≡ [] = ap (λ (l : Ledger g.row.D.Denot). l.pending) c.self.view_is ∙ c.requires.free in
+    let log : List PlainChange = map arc_value s.log.items in
+    let none : grouped (drop s.acked log) ≡ [] = ap (λ (l : PlainBook g.row.D.Denot). l.pending) c.self.view_is ∙ c.requires.free in
     let all : s.acked ≡ length log = all-acked log s.acked i.low none in
     let counted : c.len.result ≡ length log = grind (arith, common_steps, c.len.ensures) in
     let acked : flat (cut s.sizes.items log) ≡ log = acked-is log s.sizes.items s.acked i.cuts all in
     let full : s.limit < length (flat (cut s.sizes.items log)) + length es = omega (arith, c.if-len-changes.true, counted, ap length acked) in
-    subst (λ (l : Ledger g.row.D.Denot). l.limit < length (flat l.acked) + length es) c.self.view_is full
+    subst (λ (l : PlainBook g.row.D.Denot). l.limit < length (flat l.acked) + length es) c.self.view_is full
 
 pub returns-then-not-has_room-clause-err : goal.returns-then-not-has_room-clause-err
 returns-then-not-has_room-clause-err g c =
     let s = c.self.inside in
     let i = c.self.invariant in
     let es = c.args.changes.now in
-    let log : List Edit = map arc_value s.log.items in
-    let none : grouped (drop s.acked log) ≡ [] = ap (λ (l : Ledger g.row.D.Denot). l.pending) c.self.view_is ∙ c.requires.free in
+    let log : List PlainChange = map arc_value s.log.items in
+    let none : grouped (drop s.acked log) ≡ [] = ap (λ (l : PlainBook g.row.D.Denot). l.pending) c.self.view_is ∙ c.requires.free in
     let all : s.acked ≡ length log = all-acked log s.acked i.low none in
     let counted : c.len.result ≡ length log = grind (arith, common_steps, c.len.ensures) in
     let acked : flat (cut s.sizes.items log) ≡ log = acked-is log s.sizes.items s.acked i.cuts all in
     let few : length (flat (cut s.sizes.items log)) + length es ≤ s.limit = omega (arith, c.if-len-changes.false, counted, ap length acked) in
-    let left : c.args.next.now.durable ≡ after s.core.durable es = c.requires.left ∙ ap (λ (l : Ledger g.row.D.Denot). after l.whole.durable es) (sym c.self.view_is) in
+    let left : c.args.next.now.durable ≡ after s.core.durable es = c.requires.left ∙ ap (λ (l : PlainBook g.row.D.Denot). after l.whole.durable es) (sym c.self.view_is) in
     let going : s.store.halted ≡ false = goes-on s.store.halted log s.acked i.halted all in
     let exact : IsTrue c.has_room.result ↔ ((s.store.halted ≡ false) × HasRoomFor s.store.size c.durable.result.now c.after.result.now (payload_length (made_all es))) =
-    subst (λ (xs : List Edit). list_all can_be_wanted xs ≡ true → IsTrue c.has_room.result ↔ ((s.store.halted ≡ false) × HasRoomFor s.store.size c.durable.result.now c.after.result.now (payload_length (made_all xs)))) (map-id es)
+    subst (λ (xs : List PlainChange). list_all can_be_wanted xs ≡ true → IsTrue c.has_room.result ↔ ((s.store.halted ≡ false) × HasRoomFor s.store.size c.durable.result.now c.after.result.now (payload_length (made_all xs)))) (map-id es)
     (c.has_room.ensures.exact c.requires.group) c.requires.wanted in
     let nowhere : FitThere s.store.size es s.core.durable c.args.next.now.durable → ⊥ = λ there.
     let asked : FitThere s.store.size es c.durable.result.now c.after.result.now =
@@ -97,8 +97,8 @@ returns-then-not-has_room-clause-err g c =
     cc (exact.1 (going, asked), c.if-not-has_room.true) in
     let full : not (group_fits s.store.size (after g.J.Naming.base (flat (cut s.sizes.items log))) (after g.J.Naming.base (flat (cut s.sizes.items log) ++ es)) es) ≡ true =
     device-full s.store.size g.J.Naming.base s.core.durable c.args.next.now.durable (cut s.sizes.items log) es i.folded.durable left nowhere in (
-      subst (λ (l : Ledger g.row.D.Denot). length (flat l.acked) + length es ≤ l.limit) c.self.view_is few,
-      subst (λ (l : Ledger g.row.D.Denot). not (group_fits l.size (after l.base (flat l.acked)) (after l.base (flat l.acked ++ es)) es) ≡ true) c.self.view_is full,
+      subst (λ (l : PlainBook g.row.D.Denot). length (flat l.acked) + length es ≤ l.limit) c.self.view_is few,
+      subst (λ (l : PlainBook g.row.D.Denot). not (group_fits l.size (after l.base (flat l.acked)) (after l.base (flat l.acked ++ es)) es) ≡ true) c.self.view_is full,
     )
 
 pub returns-clause-found : goal.returns-clause-found
@@ -108,25 +108,25 @@ returns-clause-found g c =
     let asked : FindsRoom s.store.size c.durable.result.now c.after.result.now es =
     subst (FindsRoom s.store.size c.durable.result.now c.after.result.now) (map-id es) (c.has_room.ensures.found.0 c.if-not-has_room.false).1 in
     let there : FindsRoom s.store.size s.core.durable c.args.next.now.durable es =
-    same-room (λ (k next : Kept). FindsRoom s.store.size k next es) c.durable.result.now s.core.durable c.after.result.now c.args.next.now.durable c.durable.ensures c.after.ensures asked in
-    subst (λ (l : Ledger g.row.D.Denot). FindsRoom l.size l.whole.durable c.args.next.now.durable es) c.self.view_is there
+    same-room (λ (k next : PlainDurable). FindsRoom s.store.size k next es) c.durable.result.now s.core.durable c.after.result.now c.args.next.now.durable c.durable.ensures c.after.ensures asked in
+    subst (λ (l : PlainBook g.row.D.Denot). FindsRoom l.size l.whole.durable c.args.next.now.durable es) c.self.view_is there
 
 pub returns-clause-ok : goal.returns-clause-ok
 returns-clause-ok g c =
     let s = c.self.inside in
     let i = c.self.invariant in
     let es = c.args.changes.now in
-    let log : List Edit = map arc_value s.log.items in
-    let none : grouped (drop s.acked log) ≡ [] = ap (λ (l : Ledger g.row.D.Denot). l.pending) c.self.view_is ∙ c.requires.free in
+    let log : List PlainChange = map arc_value s.log.items in
+    let none : grouped (drop s.acked log) ≡ [] = ap (λ (l : PlainBook g.row.D.Denot). l.pending) c.self.view_is ∙ c.requires.free in
     let all : s.acked ≡ length log = all-acked log s.acked i.low none in
     let counted : c.len.result ≡ length log = grind (arith, common_steps, c.len.ensures) in
     let acked : flat (cut s.sizes.items log) ≡ log = acked-is log s.sizes.items s.acked i.cuts all in
     let few : length (flat (cut s.sizes.items log)) + length es ≤ s.limit = omega (arith, c.if-len-changes.false, counted, ap length acked) in
-    let left : c.args.next.now.durable ≡ after s.core.durable es = c.requires.left ∙ ap (λ (l : Ledger g.row.D.Denot). after l.whole.durable es) (sym c.self.view_is) in
+    let left : c.args.next.now.durable ≡ after s.core.durable es = c.requires.left ∙ ap (λ (l : PlainBook g.row.D.Denot). after l.whole.durable es) (sym c.self.view_is) in
     let asked : FindsRoom s.store.size c.durable.result.now c.after.result.now es =
     subst (FindsRoom s.store.size c.durable.result.now c.after.result.now) (map-id es) (c.has_room.ensures.found.0 c.if-not-has_room.false).1 in
     let there : FindsRoom s.store.size s.core.durable c.args.next.now.durable es =
-    same-room (λ (k next : Kept). FindsRoom s.store.size k next es) c.durable.result.now s.core.durable c.after.result.now c.args.next.now.durable c.durable.ensures c.after.ensures asked in
-    let room : HasRoom (page_of g.J.Naming.base s.core log s.sizes.items s.acked (setting_in s.store s.limit) s.shower.shown) es =
+    same-room (λ (k next : PlainDurable). FindsRoom s.store.size k next es) c.durable.result.now s.core.durable c.after.result.now c.args.next.now.durable c.durable.ensures c.after.ensures asked in
+    let room : HasRoom (world_book_of g.J.Naming.base s.core log s.sizes.items s.acked (setting_in s.store s.limit) s.shower.shown) es =
     record { few = few; device = device-fits s.store.size g.J.Naming.base s.core.durable c.args.next.now.durable (cut s.sizes.items log) es i.folded.durable left there } in
-    subst (λ (l : Ledger g.row.D.Denot). HasRoom (page l) es) c.self.view_is room
+    subst (λ (l : PlainBook g.row.D.Denot). HasRoom (world_book l) es) c.self.view_is room

@@ -1,24 +1,24 @@
 use Rattle.std.proofs.{Common.{◌≡◌, ℕ, ◌+◌, arith, List, [], ◌∷◌, length, map, refl, sym, ap, ◌∙◌, subst, append-nil, true, Bool}, lemmas.Result.err_from_is_err_and}
 use Rattle.std.specs.{Arc.arc_value, Prelude.◌&&◌, List.list_all}
 use Rattle.pf_disk.specs.Disk.{EachMoment}
-use Rattle.pf_core.specs.{Durable.Edits.{Kept, Edit, after, applied, voided_by}, Nexts.{Ready, ready}, Pages.Page}
+use Rattle.pf_core.specs.{Durable.Changes.{PlainDurable, PlainChange, after, applied, voided_by}, Nexts.{PlainNext, next_with}, WorldBooks.WorldBook}
 use Rattle.pf_store.specs.{Groups.{can_be_wanted, is_group, made_all}, Stores.{FindsRoom, FollowInTurn, HoldsEither}}
-use Rattle.pf_book.specs.Books.{HasRoom, HasNoRoom, IsMore, IsUnkept, left_together, page}
+use Rattle.pf_book.specs.Books.{HasRoom, HasNoRoom, IsMore, IsUnkept, left_together, world_book}
 use Rattle.pf_book.proofs.Finding.{unroomed, unroomed-calm}
 use Rattle.pf_book.proofs.book.Book.keep.Goals as goal
 
 pub find_room-requires-clause-left : goal.find_room-requires-clause-left
-find_room-requires-clause-left g c = ap (λ (r : Ready). r.durable) c.requires.made ∙ ap (after c.args.self.now.whole.durable) (sym c.from_ref.ensures.value)
+find_room-requires-clause-left g c = ap (λ (r : PlainNext). r.durable) c.requires.made ∙ ap (after c.args.self.now.whole.durable) (sym c.from_ref.ensures.value)
 
 pub find_room-requires-clause-group : goal.find_room-requires-clause-group
-find_room-requires-clause-group g c = subst (λ (es : List Edit). is_group es ≡ true) (sym c.from_ref.ensures.value) refl
+find_room-requires-clause-group g c = subst (λ (es : List PlainChange). is_group es ≡ true) (sym c.from_ref.ensures.value) refl
 
 pub find_room-requires-clause-wanted : goal.find_room-requires-clause-wanted
-find_room-requires-clause-wanted g c = subst (λ (es : List Edit). list_all can_be_wanted es ≡ true) (sym c.from_ref.ensures.value) (ap (λ (b : Bool). b && true) c.requires.wanted)
+find_room-requires-clause-wanted g c = subst (λ (es : List PlainChange). list_all can_be_wanted es ≡ true) (sym c.from_ref.ensures.value) (ap (λ (b : Bool). b && true) c.requires.wanted)
 
 pub returns-in_err-find_room-clause-err : goal.returns-in_err-find_room-clause-err
 returns-in_err-find_room-clause-err g c =
-    let b : Page = page c.args.self.now in
+    let b : WorldBook = world_book c.args.self.now in
     let p = err_from_is_err_and c.from_residual.result c.from_residual.ensures.1 in
     let none : HasNoRoom c.in_err-find_room.field-0.0 b (c.args.change ∷ []) = subst (HasNoRoom c.in_err-find_room.field-0.0 b) c.from_ref.ensures.value c.in_err-find_room.ensures.err in
     rw (p.1, p.2) (unroomed c.in_err-find_room.field-0.0 b (c.args.change ∷ []) none)
@@ -26,76 +26,76 @@ returns-in_err-find_room-clause-err g c =
 pub returns-in_err-find_room-clause-any_moment : goal.returns-in_err-find_room-clause-any_moment
 returns-in_err-find_room-clause-any_moment g c =
     let l = c.args.self.now in
-    subst (λ (es : List Edit). EachMoment g.D.Disk.moment g.D.Disk.left_since l.disk l.disk (HoldsEither l.whole.durable (after l.whole.durable es))) c.from_ref.ensures.value c.find_room.ensures.still
+    subst (λ (es : List PlainChange). EachMoment g.D.Disk.moment g.D.Disk.left_since l.disk l.disk (HoldsEither l.whole.durable (after l.whole.durable es))) c.from_ref.ensures.value c.find_room.ensures.still
 
 pub returns-in_err-find_room-clause-faults : goal.returns-in_err-find_room-clause-faults
 returns-in_err-find_room-clause-faults g c =
-    let b : Page = page c.args.self.now in
+    let b : WorldBook = world_book c.args.self.now in
     let p = err_from_is_err_and c.from_residual.result c.from_residual.ensures.1 in
     let none : HasNoRoom c.in_err-find_room.field-0.0 b (c.args.change ∷ []) = subst (HasNoRoom c.in_err-find_room.field-0.0 b) c.from_ref.ensures.value c.in_err-find_room.ensures.err in
     rw (p.1, p.2, unroomed-calm c.in_err-find_room.field-0.0 b (c.args.change ∷ []) none) (omega arith)
 
 pub returns-in_err-change-clause-err : goal.returns-in_err-change-clause-err
 returns-in_err-change-clause-err g c =
-    let b : Page = page c.args.self.now in
+    let b : WorldBook = world_book c.args.self.now in
     let p = err_from_is_err_and c.from_residual-in_err-change.result c.from_residual-in_err-change.ensures.1 in
     rw (p.1, p.2) (refl, subst (HasRoom b) c.from_ref.ensures.value c.in_ok-find_room.ensures.ok)
 
 pub returns-in_err-change-clause-any_moment : goal.returns-in_err-change-clause-any_moment
 returns-in_err-change-clause-any_moment g c =
     let l = c.args.self.now in
-    subst (λ (es : List Edit). EachMoment g.D.Disk.moment g.D.Disk.left_since l.disk l.disk (HoldsEither l.whole.durable (after l.whole.durable es))) c.from_ref.ensures.value c.find_room.ensures.still
+    subst (λ (es : List PlainChange). EachMoment g.D.Disk.moment g.D.Disk.left_since l.disk l.disk (HoldsEither l.whole.durable (after l.whole.durable es))) c.from_ref.ensures.value c.find_room.ensures.still
 
 pub save-requires-clause-made : goal.save-requires-clause-made
 save-requires-clause-made g c =
-    let e : Edit = c.args.change in
-    let d : Kept = c.args.self.now.whole.durable in
-    let shared : map arc_value c.from_ref-2.result.now ≡ e ∷ [] = ap (map arc_value) c.from_ref-2.ensures.value ∙ ap (λ (x : Edit). x ∷ []) c.in_ok-change.ensures in
-    c.requires.made ∙ ap (ready (applied d e)) (sym (append-nil (voided_by e))) ∙ ap (left_together d) (sym shared)
+    let e : PlainChange = c.args.change in
+    let d : PlainDurable = c.args.self.now.whole.durable in
+    let shared : map arc_value c.from_ref-2.result.now ≡ e ∷ [] = ap (map arc_value) c.from_ref-2.ensures.value ∙ ap (λ (x : PlainChange). x ∷ []) c.in_ok-change.ensures in
+    c.requires.made ∙ ap (next_with (applied d e)) (sym (append-nil (voided_by e))) ∙ ap (left_together d) (sym shared)
 
 pub save-requires-clause-fit : goal.save-requires-clause-fit
 save-requires-clause-fit g c =
-    let e : Edit = c.args.change in
-    let d : Kept = c.args.self.now.whole.durable in
-    let shared : map arc_value c.from_ref-2.result.now ≡ e ∷ [] = ap (map arc_value) c.from_ref-2.ensures.value ∙ ap (λ (x : Edit). x ∷ []) c.in_ok-change.ensures in
-    subst (λ (es : List Edit). FollowInTurn d (made_all es)) (sym shared) (c.requires.fits, tt)
+    let e : PlainChange = c.args.change in
+    let d : PlainDurable = c.args.self.now.whole.durable in
+    let shared : map arc_value c.from_ref-2.result.now ≡ e ∷ [] = ap (map arc_value) c.from_ref-2.ensures.value ∙ ap (λ (x : PlainChange). x ∷ []) c.in_ok-change.ensures in
+    subst (λ (es : List PlainChange). FollowInTurn d (made_all es)) (sym shared) (c.requires.fits, tt)
 
 pub save-requires-clause-room : goal.save-requires-clause-room
 save-requires-clause-room g c =
-    let e : Edit = c.args.change in
-    let shared : map arc_value c.from_ref-2.result.now ≡ e ∷ [] = ap (map arc_value) c.from_ref-2.ensures.value ∙ ap (λ (x : Edit). x ∷ []) c.in_ok-change.ensures in
-    subst (HasRoom (page c.args.self.now)) (c.from_ref.ensures.value ∙ sym shared) c.in_ok-find_room.ensures.ok
+    let e : PlainChange = c.args.change in
+    let shared : map arc_value c.from_ref-2.result.now ≡ e ∷ [] = ap (map arc_value) c.from_ref-2.ensures.value ∙ ap (λ (x : PlainChange). x ∷ []) c.in_ok-change.ensures in
+    subst (HasRoom (world_book c.args.self.now)) (c.from_ref.ensures.value ∙ sym shared) c.in_ok-find_room.ensures.ok
 
 pub save-requires-clause-found : goal.save-requires-clause-found
 save-requires-clause-found g c =
-    let e : Edit = c.args.change in
+    let e : PlainChange = c.args.change in
     let l = c.args.self.now in
-    let shared : map arc_value c.from_ref-2.result.now ≡ e ∷ [] = ap (map arc_value) c.from_ref-2.ensures.value ∙ ap (λ (x : Edit). x ∷ []) c.in_ok-change.ensures in
+    let shared : map arc_value c.from_ref-2.result.now ≡ e ∷ [] = ap (map arc_value) c.from_ref-2.ensures.value ∙ ap (λ (x : PlainChange). x ∷ []) c.in_ok-change.ensures in
     subst (FindsRoom l.size l.whole.durable c.args.next.durable) (c.from_ref.ensures.value ∙ sym shared) c.in_ok-find_room.ensures.found
 
 pub returns-in_err-save-clause-any_moment : goal.returns-in_err-save-clause-any_moment
 returns-in_err-save-clause-any_moment g c =
-    let e : Edit = c.args.change in
+    let e : PlainChange = c.args.change in
     let l = c.args.self.now in
-    let shared : map arc_value c.from_ref-2.result.now ≡ e ∷ [] = ap (map arc_value) c.from_ref-2.ensures.value ∙ ap (λ (x : Edit). x ∷ []) c.in_ok-change.ensures in
-    subst (λ (es : List Edit). EachMoment g.D.Disk.moment g.D.Disk.left_since l.disk c.save.new.self.disk (HoldsEither l.whole.durable (after l.whole.durable es))) shared c.save.ensures.any_moment
+    let shared : map arc_value c.from_ref-2.result.now ≡ e ∷ [] = ap (map arc_value) c.from_ref-2.ensures.value ∙ ap (λ (x : PlainChange). x ∷ []) c.in_ok-change.ensures in
+    subst (λ (es : List PlainChange). EachMoment g.D.Disk.moment g.D.Disk.left_since l.disk c.save.new.self.disk (HoldsEither l.whole.durable (after l.whole.durable es))) shared c.save.ensures.any_moment
 
 pub returns-clause-any_moment : goal.returns-clause-any_moment
 returns-clause-any_moment g c =
-    let e : Edit = c.args.change in
+    let e : PlainChange = c.args.change in
     let l = c.args.self.now in
-    let shared : map arc_value c.from_ref-2.result.now ≡ e ∷ [] = ap (map arc_value) c.from_ref-2.ensures.value ∙ ap (λ (x : Edit). x ∷ []) c.in_ok-change.ensures in
-    subst (λ (es : List Edit). EachMoment g.D.Disk.moment g.D.Disk.left_since l.disk c.save.new.self.disk (HoldsEither l.whole.durable (after l.whole.durable es))) shared c.save.ensures.any_moment
+    let shared : map arc_value c.from_ref-2.result.now ≡ e ∷ [] = ap (map arc_value) c.from_ref-2.ensures.value ∙ ap (λ (x : PlainChange). x ∷ []) c.in_ok-change.ensures in
+    subst (λ (es : List PlainChange). EachMoment g.D.Disk.moment g.D.Disk.left_since l.disk c.save.new.self.disk (HoldsEither l.whole.durable (after l.whole.durable es))) shared c.save.ensures.any_moment
 
 pub returns-in_err-save-clause-err : goal.returns-in_err-save-clause-err
 returns-in_err-save-clause-err g c =
-    let e : Edit = c.args.change in
-    let shared : map arc_value c.from_ref-2.result.now ≡ e ∷ [] = ap (map arc_value) c.from_ref-2.ensures.value ∙ ap (λ (x : Edit). x ∷ []) c.in_ok-change.ensures in
+    let e : PlainChange = c.args.change in
+    let shared : map arc_value c.from_ref-2.result.now ≡ e ∷ [] = ap (map arc_value) c.from_ref-2.ensures.value ∙ ap (λ (x : PlainChange). x ∷ []) c.in_ok-change.ensures in
     let p = err_from_is_err_and c.from_residual-in_err-save.result c.from_residual-in_err-save.ensures.1 in
-    rw (p.1, p.2) (subst (IsUnkept c.in_err-save.field-0.0 (page c.args.self.now) (page c.save.new.self)) shared c.in_err-save.ensures.err)
+    rw (p.1, p.2) (subst (IsUnkept c.in_err-save.field-0.0 (world_book c.args.self.now) (world_book c.save.new.self)) shared c.in_err-save.ensures.err)
 
 pub returns-clause-ok : goal.returns-clause-ok
 returns-clause-ok g c =
-    let e : Edit = c.args.change in
-    let shared : map arc_value c.from_ref-2.result.now ≡ e ∷ [] = ap (map arc_value) c.from_ref-2.ensures.value ∙ ap (λ (x : Edit). x ∷ []) c.in_ok-change.ensures in
-    subst (IsMore (page c.args.self.now) (page c.save.new.self)) shared c.in_ok-save.ensures.ok
+    let e : PlainChange = c.args.change in
+    let shared : map arc_value c.from_ref-2.result.now ≡ e ∷ [] = ap (map arc_value) c.from_ref-2.ensures.value ∙ ap (λ (x : PlainChange). x ∷ []) c.in_ok-change.ensures in
+    subst (IsMore (world_book c.args.self.now) (world_book c.save.new.self)) shared c.in_ok-save.ensures.ok

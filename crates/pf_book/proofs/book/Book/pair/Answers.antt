@@ -1,32 +1,32 @@
 use Rattle.std.proofs.{Common.{◌≡◌, ◌+◌, ◌≤◌, ◌++◌, ℕ, List, [], ◌∷◌, Option, length, map, drop, take, refl, sym, ap, ◌∙◌, subst, append_assoc, append-nil, arith}, lemmas.Grind.common_steps}
 use Rattle.std.specs.{Arc.arc_value, List.AllByRecursion, Option.option_map, Vec.Iter.{into_iter_items}}
-use Rattle.pf_core.specs.{declared.reply.Reply.Reply, Durable.Edits.Edit}
-use Rattle.pf_book.specs.{Books.{Ledger, page, log_in}, Groups.{Answered, behind, given_to, kept_count, paired, slip_at}, Receipts.{Slip, EndsIn, ShownFits}}
-use Rattle.pf_book.proofs.{Parts.whole-log, Slipping.{no-items, pair-on}}
+use Rattle.pf_core.specs.{declared.reply.Reply.Reply, Durable.Changes.PlainChange}
+use Rattle.pf_book.specs.{Books.{PlainBook, world_book, log_in}, Groups.{Answered, behind, given_to, kept_count, paired, slip_at}, Receipts.{PlainReceipt, EndsIn, ShownFits}}
+use Rattle.pf_book.proofs.{HistoryGroups.whole-log, GroupReceipts.{no-items, pair-on}}
 use Rattle.pf_book.proofs.book.Book.pair.Goals as goal
 
 pub loop-reply-preserved : goal.loop-reply-preserved
 loop-reply-preserved g c =
     let at = c.loop-reply in
-    let log : List Edit = log_in (page c.args.self.now) in
+    let log : List PlainChange = log_in (world_book c.args.self.now) in
     let r : Reply = c.in-Some.reply in
     let others : List Reply = into_iter_items c.next.new.self in
     let steps : into_iter_items at.reply-iterator ≡ r ∷ others = c.in-Some.ensures.steps.0 in
-    let given : List Edit = map arc_value (into_iter_items at.given) in
-    let left : List Edit = map arc_value (into_iter_items c.give-change.new.given) in
+    let given : List PlainChange = map arc_value (into_iter_items at.given) in
+    let left : List PlainChange = map arc_value (into_iter_items c.give-change.new.given) in
     let number : c.behind-seq.result ≡ behind r at.seq = c.behind-seq.ensures in
     let one = pair-on log at.seq given r others at.invariant.given at.invariant.within (ap kept_count (sym steps) ∙ at.invariant.kept) in
     let rest : List Answered = paired log c.behind-seq.result others left in
     let old : List Answered = at.answers.items in
     let slip : c.receipt_at-receipt.result ≡ slip_at log (behind r at.seq) (given_to r given) r =
-    c.receipt_at-receipt.ensures ∙ ap (λ (m : ℕ). slip_at log m (option_map arc_value c.give-change.result) r) number ∙ ap (λ (o : Option Edit). slip_at log (behind r at.seq) o r) c.give-change.ensures.given in
+    c.receipt_at-receipt.ensures ∙ ap (λ (m : ℕ). slip_at log m (option_map arc_value c.give-change.result) r) number ∙ ap (λ (o : Option PlainChange). slip_at log (behind r at.seq) o r) c.give-change.ensures.given in
     record {
       all = append_assoc at.yielded (r ∷ []) _ ∙ rw (← steps) at.invariant.all;
       len = let was = at.invariant.len in let gone = c.in-Some.ensures.steps.1 in let short = ap length steps in omega arith;
       told = ap (λ (xs : List Answered). xs ++ rest) c.push_reserved.ensures.items ∙ append_assoc old ((r, c.receipt_at-receipt.result) ∷ []) rest
-          ∙ ap (λ (x : Slip). old ++ ((r, x) ∷ rest)) slip
+          ∙ ap (λ (x : PlainReceipt). old ++ ((r, x) ∷ rest)) slip
           ∙ ap (λ (m : ℕ). old ++ ((r, slip_at log (behind r at.seq) (given_to r given) r) ∷ paired log m others left)) number
-          ∙ ap (λ (l : List Edit). old ++ ((r, slip_at log (behind r at.seq) (given_to r given) r) ∷ paired log (behind r at.seq) others l)) c.give-change.ensures.left
+          ∙ ap (λ (l : List PlainChange). old ++ ((r, slip_at log (behind r at.seq) (given_to r given) r) ∷ paired log (behind r at.seq) others l)) c.give-change.ensures.left
           ∙ ap (λ (rs : List Reply). old ++ paired log at.seq rs given) (sym steps) ∙ at.invariant.told;
       given = ap (λ (m : ℕ). drop m log) number ∙ one.0.given_is ∙ sym c.give-change.ensures.left;
       within = subst (λ (m : ℕ). m ≤ length log) (sym number) one.0.within;
@@ -38,29 +38,29 @@ loop-reply-preserved g c =
 pub receipt_at-receipt-requires-clause-last : goal.receipt_at-receipt-requires-clause-last
 receipt_at-receipt-requires-clause-last g c = λ e some.
     let at = c.loop-reply in
-    let log : List Edit = log_in (page c.args.self.now) in
+    let log : List PlainChange = log_in (world_book c.args.self.now) in
     let r : Reply = c.in-Some.reply in
     let others : List Reply = into_iter_items c.next.new.self in
     let steps : into_iter_items at.reply-iterator ≡ r ∷ others = c.in-Some.ensures.steps.0 in
-    let given : List Edit = map arc_value (into_iter_items at.given) in
+    let given : List PlainChange = map arc_value (into_iter_items at.given) in
     let one = pair-on log at.seq given r others at.invariant.given at.invariant.within (ap kept_count (sym steps) ∙ at.invariant.kept) in
     subst (λ (m : ℕ). EndsIn (take m log) e) (sym c.behind-seq.ensures) (one.1 e (sym c.give-change.ensures.given ∙ some))
 
 pub receipt_at-receipt-requires-clause-within : goal.receipt_at-receipt-requires-clause-within
 receipt_at-receipt-requires-clause-within g c =
     let at = c.loop-reply in
-    let log : List Edit = log_in (page c.args.self.now) in
+    let log : List PlainChange = log_in (world_book c.args.self.now) in
     let r : Reply = c.in-Some.reply in
     let others : List Reply = into_iter_items c.next.new.self in
     let steps : into_iter_items at.reply-iterator ≡ r ∷ others = c.in-Some.ensures.steps.0 in
-    let given : List Edit = map arc_value (into_iter_items at.given) in
+    let given : List PlainChange = map arc_value (into_iter_items at.given) in
     let one = pair-on log at.seq given r others at.invariant.given at.invariant.within (ap kept_count (sym steps) ∙ at.invariant.kept) in
     subst (λ (m : ℕ). m ≤ length log) (sym c.behind-seq.ensures) one.0.within
 
 pub receipt_at-receipt-requires-clause-shown : goal.receipt_at-receipt-requires-clause-shown
 receipt_at-receipt-requires-clause-shown g c =
     let at = c.loop-reply in
-    let log : List Edit = log_in (page c.args.self.now) in
+    let log : List PlainChange = log_in (world_book c.args.self.now) in
     let steps : into_iter_items at.reply-iterator ≡ c.in-Some.reply ∷ into_iter_items c.next.new.self = c.in-Some.ensures.steps.0 in
     (subst (λ (rs : List Reply). AllByRecursion (λ r. ShownFits r c.args.self.now.shown (length log)) rs) steps at.invariant.shown).0
 
@@ -68,13 +68,13 @@ pub behind-seq-requires : goal.behind-seq-requires
 behind-seq-requires g c =
     let s = c.self.inside in
     let i = c.self.invariant in
-    let log : List Edit = map arc_value s.log.items in
-    let whole : log_in (page c.args.self.now) ≡ log = ap (λ (l : Ledger g.row.D.Denot). log_in (page l)) (sym c.self.view_is) ∙ whole-log log s.sizes.items s.acked i.cuts in
+    let log : List PlainChange = map arc_value s.log.items in
+    let whole : log_in (world_book c.args.self.now) ≡ log = ap (λ (l : PlainBook g.row.D.Denot). log_in (world_book l)) (sym c.self.view_is) ∙ whole-log log s.sizes.items s.acked i.cuts in
     omega (arith, c.loop-reply.invariant.within, ap length whole, i.few, i.limit)
 
 pub loop-reply-init : goal.loop-reply-init
 loop-reply-init g c =
-    let log : List Edit = log_in (page c.args.self.now) in
+    let log : List PlainChange = log_in (world_book c.args.self.now) in
     let gives = c.into_iter-reply-iterator.ensures.into_iter_gives in
     let rest = c.into_iter-given.ensures.rest in
     record {
@@ -91,9 +91,9 @@ loop-reply-init g c =
 pub returns : goal.returns
 returns g c =
     let at = c.loop-reply in
-    let log : List Edit = log_in (page c.args.self.now) in
+    let log : List PlainChange = log_in (world_book c.args.self.now) in
     let gives = c.into_iter-reply-iterator.ensures.into_iter_gives in
-    let given : List Edit = map arc_value (into_iter_items at.given) in
+    let given : List PlainChange = map arc_value (into_iter_items at.given) in
     let none : into_iter_items at.reply-iterator ≡ [] = no-items (into_iter_items at.reply-iterator) (sym at.invariant.len ∙ c.in-None.ensures.steps.0) in
     sym (append-nil at.answers.items) ∙ ap (λ (rs : List Reply). at.answers.items ++ paired log at.seq rs given) (sym none) ∙ at.invariant.told
     ∙ ap (λ (rs : List Reply). paired log c.args.before rs (map arc_value (into_iter_items c.into_iter-given.result))) gives.0

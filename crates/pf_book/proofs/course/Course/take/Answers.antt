@@ -1,6 +1,6 @@
 use Rattle.std.proofs.Common.{ap, ◌∙◌, Ok}
 use Rattle.pf_core.specs.declared.step.ReadyStep.{ReadyStep}
-use Rattle.pf_core.specs.Wholes.{plain}
+use Rattle.pf_core.specs.Cores.{plain}
 use Rattle.pf_book.proofs.course.Course.take.Goals as goal
 
 pub unreachable-requires : goal.unreachable-requires

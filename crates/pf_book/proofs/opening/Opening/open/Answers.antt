@@ -1,6 +1,6 @@
 use Rattle.std.specs.Arc.{arc_value}
 use Rattle.std.proofs.Common.{sym, ap, subst, ◌∙◌}
-use Rattle.pf_core.specs.{Durable.Edits.Kept, Laws.Durable.IsWithin}
+use Rattle.pf_core.specs.{Durable.Changes.PlainDurable, Laws.Durable.IsWithin}
 use Rattle.pf_store.specs.Banks.{bank_size}
 use Rattle.pf_store.specs.{Stores.Holds, StoreKept.Stands}
 use Rattle.pf_store.proofs.Refusing.{held_in_want, one_held}
@@ -15,12 +15,12 @@ invariant_of-result g c =
     let disk = store.disk in
     record {
       goes_on = e.fresh;
-      stands = subst (λ (k : Kept). Stands g.D.Disk.seen g.D.Disk.unsynced c.in_ok-durable.store k) (sym same) e.stands;
+      stands = subst (λ (k : PlainDurable). Stands g.D.Disk.seen g.D.Disk.unsynced c.in_ok-durable.store k) (sym same) e.stands;
       early = e.early;
-      images = λ i image. subst (λ (k : Kept). Holds i k) (sym same) (e.images i image);
+      images = λ i image. subst (λ (k : PlainDurable). Holds i k) (sym same) (e.images i image);
       generations = e.generations;
       roomy = roomy_images (g.D.Disk.seen disk) (g.D.Disk.unsynced disk) store.size (arc_value c.in-Ok.durable) (e.size ∙ ap bank_size (sym e.same_size))
-          (λ i image k holds. one_held i k _ holds (subst (λ (k : Kept). Holds i k) (sym same) (e.images i image)));
+          (λ i image k holds. one_held i k _ holds (subst (λ (k : PlainDurable). Holds i k) (sym same) (e.images i image)));
       within = subst IsWithin (sym same) e.within;
       epoch = record { before = e.opened.0; raises = same ∙ e.opened.2; low = e.opened.3 };
     }

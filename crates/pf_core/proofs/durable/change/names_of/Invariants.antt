@@ -1,6 +1,6 @@
 use Rattle.std.proofs.Common.{◌≡◌, take}
 use Rattle.std.specs.Prelude.{map}
-use Rattle.pf_core.specs.Durable.Edits.{name_of}
+use Rattle.pf_core.specs.Durable.Changes.{name_of}
 use Rattle.pf_core.proofs.durable.change.names_of.Given as goal
 
 abbrev pub invariant-loop-item : goal.invariant-loop-item

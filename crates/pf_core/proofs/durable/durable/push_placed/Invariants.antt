@@ -1,5 +1,5 @@
 use Rattle.std.proofs.Common.{◌≡◌, ◌++◌}
-use Rattle.pf_core.specs.Durable.Edits.{placed}
+use Rattle.pf_core.specs.Durable.Changes.{placed}
 use Rattle.pf_core.proofs.durable.durable.push_placed.Given as goal
 
 -- what was found, and the tables that are left, are all of them

@@ -1,5 +1,5 @@
 use Rattle.std.proofs.Common.{◌≡◌, ◌++◌, drop}
-use Rattle.pf_core.specs.Durable.Edits.{rulesets_in}
+use Rattle.pf_core.specs.Durable.Changes.{rulesets_in}
 use Rattle.pf_core.proofs.durable.durable.rulesets_in.Given as goal
 
 abbrev pub invariant-loop-item : goal.invariant-loop-item

@@ -1,6 +1,6 @@
 use Rattle.std.proofs.Common.{◌≡◌, ◌++◌, drop}
 use Rattle.std.specs.List.{list_all}
-use Rattle.pf_core.specs.Durable.Edits.{is_in_order, tables_in}
+use Rattle.pf_core.specs.Durable.Changes.{is_in_order, tables_in}
 use Rattle.pf_core.proofs.durable.durable.tables_in.Given as goal
 
 abbrev pub invariant-loop-item : goal.invariant-loop-item

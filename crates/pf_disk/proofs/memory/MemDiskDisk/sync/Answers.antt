@@ -1,6 +1,6 @@
 use Rattle.std.proofs.Common.{refl, map, length}
 use Rattle.pf_disk.specs.{Calls.syncing, Kept.event_of, Memory.{first_of, events_of, seen_of}}
-use Rattle.pf_disk.proofs.{Calls.still_keeps, Keeping.{keeps, quiet}}
+use Rattle.pf_disk.proofs.{Calls.still_keeps, OneMoreCall.{keeps, quiet}}
 use Rattle.pf_disk.proofs.memory.MemDiskDisk.sync.Goals as goal
 
 pub invariant_of-self : goal.invariant_of-self

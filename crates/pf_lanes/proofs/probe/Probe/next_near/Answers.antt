@@ -1,7 +1,7 @@
 use Rattle.std.proofs.Common.{◌≡◌, ◌<◌, ◌≤◌, ◌+◌, ◌*◌, ℕ, sym, ap, ◌∙◌, arith, ⊎_elim}
 use Rattle.std.proofs.lemmas.Bool.{cases_lt}
 use Rattle.pf_lanes.specs.declared.kernel.PacketWords.{PacketWords}
-use Rattle.pf_lanes.specs.{Answered.block_match, Asked.near_or_special, Probes.Asking}
+use Rattle.pf_lanes.specs.{Answered.block_match, Asked.near_or_special, Probes.PlainProbe}
 use Rattle.pf_lanes.proofs.Tabled.{far_block}
 use Rattle.pf_lanes.proofs.probe.Probe.next_near.Goals as goal
 
@@ -18,7 +18,7 @@ loop-block-preserved c = λ says block i le lt small.
     (λ (from : c.loop-block.block ≤ block).
     let here : c.loop-block.block ≡ block = omega (arith, from, lt) in
     ap (λ (b : ℕ). block_match says c.args.self.now.rules c.args.self.now.packet b i) (sym here)
-    ∙ ap (λ (a : Asking). block_match says a.rules a.packet c.loop-block.block i) (sym c.self.view_is)
+    ∙ ap (λ (a : PlainProbe). block_match says a.rules a.packet c.loop-block.block i) (sym c.self.view_is)
     ∙ far_block says c.self.inside.rules.now c.self.inside.columns.now c.self.inside.packet.now c.loop-block.block i c.index-mark.result.now c.self.invariant.columns c.self.invariant.packet
     (omega (arith, c.loop-block-test.true, c.len-end.ensures)) small c.index-mark.ensures
     (ap (λ (w : PacketWords). near_or_special c.self.inside.columns.now w (8 * c.loop-block.block + i) c.index-mark.result.now.special i) (sym c.self.invariant.words)

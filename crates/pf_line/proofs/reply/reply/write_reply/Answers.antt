@@ -1,6 +1,6 @@
 use Rattle.std.proofs.Common.{length}
 use Rattle.pf_addr.specs.Writing.{Continues-then}
-use Rattle.pf_line.specs.{Reply.Parts.lines_text, Reply.Replies.{shown_lines, last_line}}
+use Rattle.pf_line.specs.{Reply.TextLines.lines_text, Reply.Replies.{shown_lines, last_line}}
 use Rattle.pf_line.proofs.Writers.{lined}
 use Rattle.pf_line.proofs.reply.reply.write_reply.Goals as goal
 

@@ -1,5 +1,5 @@
 use Rattle.std.proofs.Common.{ap, ◌∙◌}
-use Rattle.pf_line.specs.Reply.Parts.{newlines}
+use Rattle.pf_line.specs.Reply.TextLines.{newlines}
 use Rattle.pf_line.proofs.Newlines.{name_plain}
 use Rattle.pf_line.proofs.reply.shown.write_name.Goals as goal
 

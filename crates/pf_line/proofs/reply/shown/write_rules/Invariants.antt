@@ -1,5 +1,5 @@
 use Rattle.std.proofs.Common.{take}
-use Rattle.pf_line.specs.{Reply.Parts.WroteLines, Reply.Replies.rule_lines}
+use Rattle.pf_line.specs.{Reply.TextLines.WroteLines, Reply.Replies.rule_lines}
 use Rattle.pf_line.proofs.reply.shown.write_rules.Given as goal
 
 abbrev pub invariant-loop-number : goal.invariant-loop-number

@@ -1,6 +1,6 @@
 use Rattle.std.proofs.Common.{◌≡◌, [], ◌∷◌, ap, refl, ◌∙◌}
 use Rattle.hex.specs.Hex.{encode_lower}
-use Rattle.pf_line.specs.Reply.Parts.{newlines}
+use Rattle.pf_line.specs.Reply.TextLines.{newlines}
 use Rattle.pf_line.proofs.StateTexts.{done, hex_plain}
 use Rattle.pf_line.proofs.reply.state_line.write_byte.Goals as goal
 

@@ -1,6 +1,6 @@
 use Rattle.std.proofs.Common.{take}
 use Rattle.hex.specs.Hex.{encode_lower}
-use Rattle.pf_line.specs.Reply.Parts.{GoesOn}
+use Rattle.pf_line.specs.Reply.TextLines.{GoesOn}
 use Rattle.pf_line.proofs.reply.state_line.write_hex.Given as goal
 
 abbrev pub invariant-loop-byte : goal.invariant-loop-byte

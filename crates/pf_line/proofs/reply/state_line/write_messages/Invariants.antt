@@ -1,6 +1,6 @@
 use Rattle.std.proofs.Common.{take}
 use Rattle.std.specs.Prelude.{map}
-use Rattle.pf_line.specs.{Reply.Parts.WroteLines, Reply.StateTexts.message_lines}
+use Rattle.pf_line.specs.{Reply.TextLines.WroteLines, Reply.StateTexts.message_lines}
 use Rattle.pf_line.proofs.reply.state_line.write_messages.Given as goal
 
 abbrev pub invariant-loop-message : goal.invariant-loop-message

@@ -1,5 +1,5 @@
 use Rattle.std.proofs.Common.{take}
-use Rattle.pf_line.specs.{Reply.Parts.WroteLines, Reply.StateTexts.state_lines}
+use Rattle.pf_line.specs.{Reply.TextLines.WroteLines, Reply.StateTexts.state_lines}
 use Rattle.pf_line.proofs.reply.state_line.write_states.Given as goal
 
 abbrev pub invariant-loop-state : goal.invariant-loop-state

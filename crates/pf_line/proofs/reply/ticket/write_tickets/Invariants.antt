@@ -1,4 +1,4 @@
-use Rattle.pf_line.specs.Reply.Parts.{GoesOn}
+use Rattle.pf_line.specs.Reply.TextLines.{GoesOn}
 use Rattle.pf_line.proofs.Writers.{texts_from}
 use Rattle.pf_line.proofs.reply.ticket.write_tickets.Given as goal
 

@@ -1,5 +1,5 @@
 use Rattle.std.proofs.Common.{ap, ◌∙◌}
-use Rattle.pf_line.specs.Reply.Parts.{newlines}
+use Rattle.pf_line.specs.Reply.TextLines.{newlines}
 use Rattle.pf_line.proofs.{Newlines.path_plain, Writers.goes_on}
 use Rattle.pf_line.proofs.reply.verdict.write_at.Goals as goal
 

@@ -1,5 +1,5 @@
-use Rattle.pf_map.specs.Parts.{IsUpTo}
-use Rattle.pf_map.proofs.Parts.{sorted_up_to, page_up_to}
+use Rattle.pf_map.specs.MapParts.{IsUpTo}
+use Rattle.pf_map.proofs.MapParts.{sorted_up_to, page_up_to}
 use Rattle.pf_map.proofs.tree_map.TreeMap.page_up_to.Goals as goal
 
 pub part_up_to-requires-2-clause-sorted : goal.part_up_to-requires-2-clause-sorted

@@ -1,6 +1,6 @@
 use Rattle.std.proofs.Common.{Ok, refl}
 use Rattle.std.specs.Prelude.{codes}
-use Rattle.pf_addr.specs.{Form.Forms.{nothing, or}, Laws.Form.Steps.taken}
+use Rattle.pf_form.specs.{Form.Forms.{nothing, or}, Laws.Form.Steps.taken}
 use Rattle.pf_rule.specs.declared.{host.host.Host.Host, host.host.Host.TheVariants.Any}
 use Rattle.pf_rule.specs.{Host.Hosts.{a_negated_host, a_host, host}}
 use Rattle.pf_rule.proofs.host.host_words.read_host.Goals as goal

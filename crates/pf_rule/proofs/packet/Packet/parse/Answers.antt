@@ -1,5 +1,5 @@
 use Rattle.std.proofs.Common.{inr, arith}
-use Rattle.pf_rule.proofs.Answering.{is_answer_packet}
+use Rattle.pf_rule.proofs.TextAnswers.{is_answer_packet}
 use Rattle.pf_rule.proofs.packet.Packet.parse.Goals as goal
 
 pub returns : goal.returns

@@ -1,5 +1,5 @@
 use Rattle.std.proofs.Common.{rules}
-use Rattle.pf_addr.specs.Form.Words.{texts}
+use Rattle.pf_form.specs.Form.Words.{texts}
 use Rattle.pf_rule.specs.RuleGrammar.{rule}
 use Rattle.pf_rule.proofs.Kept.{rule_read_kept}
 use Rattle.pf_rule.proofs.rule.Rule.read.Goals as goal

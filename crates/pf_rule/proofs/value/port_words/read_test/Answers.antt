@@ -1,5 +1,5 @@
 use Rattle.std.specs.Prelude.{codes}
-use Rattle.pf_addr.specs.{Form.Forms.or, Laws.Form.Steps.{taken, passed}}
+use Rattle.pf_form.specs.{Form.Forms.or, Laws.Form.Steps.{taken, passed}}
 use Rattle.pf_rule.specs.declared.{value.ports.Comparison.TheVariants.{Equal, NotEqual}, value.ports.PortTest.PortTest}
 use Rattle.pf_rule.specs.Value.Ports.{compared, order_or_range, port_test}
 use Rattle.pf_rule.proofs.value.port_words.read_test.Goals as goal

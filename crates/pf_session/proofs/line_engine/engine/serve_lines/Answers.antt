@@ -1,5 +1,5 @@
 use Rattle.std.proofs.{Common.{ℕ, [], take, ◌++◌, Result, Err, inl, arith}, KnownBytes.{Consumes-nil, Consumes-trans, Consumes-kept}}
-use Rattle.pf_session.proofs.{Answering.{flushed, nothing-yet, still-so_far}, line_engine.engine.serve_lines.Goals.{in-Ok+else-n-eq0+in-Ok-answer_piece, in-Err+else-ne}}
+use Rattle.pf_session.proofs.{AnsweredLines.{flushed, nothing-yet, still-so_far}, line_engine.engine.serve_lines.Goals.{in-Ok+else-n-eq0+in-Ok-answer_piece, in-Err+else-ne}}
 use Rattle.pf_session.proofs.line_engine.engine.serve_lines.Goals as goal
 
 pub loop-init : goal.loop-init

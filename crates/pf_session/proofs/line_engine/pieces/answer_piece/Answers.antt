@@ -1,5 +1,5 @@
 use Rattle.std.proofs.{Common.{ℕ, ◌+◌, drop, arith}, lemmas.Result.err_from_is_err_and, lemmas.List.{length-take, take_more_set}}
-use Rattle.pf_session.proofs.{Answering.{piece-on, piece-all, kept-more, kept-full, byte-so_far, line-so_far, line-failed}, line_engine.pieces.answer_piece.Goals.{then-byte-eq10+in_ok-answer_line, else-byte-eq10+then-len-lt-LOOKED_AT, else-byte-eq10+else-len-lt-LOOKED_AT}}
+use Rattle.pf_session.proofs.{AnsweredLines.{piece-on, piece-all, kept-more, kept-full, byte-so_far, line-so_far, line-failed}, line_engine.pieces.answer_piece.Goals.{then-byte-eq10+in_ok-answer_line, else-byte-eq10+then-len-lt-LOOKED_AT, else-byte-eq10+else-len-lt-LOOKED_AT}}
 use Rattle.pf_session.proofs.line_engine.pieces.answer_piece.Goals as goal
 
 pub returns-in_err-answer_line-clause-session : goal.returns-in_err-answer_line-clause-session

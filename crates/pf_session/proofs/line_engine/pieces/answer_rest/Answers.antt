@@ -1,5 +1,5 @@
 use Rattle.std.proofs.{Common.{[], sym, ◌∙◌, append-nil}, lemmas.Result.err_from_is_err_and}
-use Rattle.pf_session.proofs.{Answering.{last-is, line-answered, line-cut_off, flushed}, line_engine.pieces.answer_rest.Goals.{then-not-is_empty+in_ok-answer_line, else-not-is_empty}}
+use Rattle.pf_session.proofs.{AnsweredLines.{last-is, line-answered, line-cut_off, flushed}, line_engine.pieces.answer_rest.Goals.{then-not-is_empty+in_ok-answer_line, else-not-is_empty}}
 use Rattle.pf_session.proofs.line_engine.pieces.answer_rest.Goals as goal
 
 pub returns-in_err-answer_line : goal.returns-in_err-answer_line

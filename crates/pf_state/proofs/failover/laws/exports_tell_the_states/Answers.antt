@@ -1,4 +1,4 @@
-use Rattle.pf_state.proofs.{Told.tells_the_states, TakenOver.takes_over}
+use Rattle.pf_state.proofs.{ExportsTaken.tells_the_states, TakenOver.takes_over}
 use Rattle.pf_state.proofs.failover.laws.exports_tell_the_states.Goals as goal
 
 pub returns-clause-told : goal.returns-clause-told

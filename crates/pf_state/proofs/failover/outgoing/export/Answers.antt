@@ -1,6 +1,6 @@
 use Rattle.std.proofs.{Common.{length, map, take, drop, ap, ◌∙◌}, lemmas.List.map-append}
 use Rattle.pf_state.specs.Failover.Outgoing.{parts}
-use Rattle.pf_state.proofs.Parts.{one_more_part, all_parts, one_read_more, all_read, read_in_turn, part_fits, part_long, split_off, some_left, none_left, counted_on}
+use Rattle.pf_state.proofs.ExportParts.{one_more_part, all_parts, one_read_more, all_read, read_in_turn, part_fits, part_long, split_off, some_left, none_left, counted_on}
 use Rattle.pf_state.proofs.failover.outgoing.export.Goals as goal
 
 pub written-requires : goal.written-requires

@@ -1,7 +1,7 @@
 use Rattle.std.proofs.Common.{◌≡◌, ◌++◌, ◌+◌, map, length}
 use Rattle.std.specs.Slice.Iter.{chunk_count}
 use Rattle.pf_state.specs.{Peer.Written.{Each, message_bytes}, Failover.Outgoing.{parts, exported_messages}}
-use Rattle.pf_state.proofs.Parts.{IsRead}
+use Rattle.pf_state.proofs.ExportParts.{IsRead}
 use Rattle.pf_state.proofs.failover.outgoing.export.Given as goal
 
 abbrev pub invariant-loop-message : goal.invariant-loop-message

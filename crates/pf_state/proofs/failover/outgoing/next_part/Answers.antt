@@ -1,5 +1,5 @@
 use Rattle.std.proofs.Common.{◌-◌, take}
-use Rattle.pf_state.proofs.Parts.{taken_one, dropped_one, all_taken}
+use Rattle.pf_state.proofs.ExportParts.{taken_one, dropped_one, all_taken}
 use Rattle.pf_state.proofs.failover.outgoing.next_part.Goals as goal
 
 pub loop-told-preserved : goal.loop-told-preserved

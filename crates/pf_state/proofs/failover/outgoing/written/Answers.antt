@@ -1,4 +1,4 @@
-use Rattle.pf_state.proofs.Parts.{told_fits}
+use Rattle.pf_state.proofs.ExportParts.{told_fits}
 use Rattle.pf_state.proofs.failover.outgoing.written.Goals as goal
 
 pub write_peer-requires : goal.write_peer-requires

@@ -1,5 +1,5 @@
 use Rattle.std.proofs.Common.{◌++◌, length, drop}
-use Rattle.pf_addr.specs.Bytes.Parts.{number_bytes}
+use Rattle.pf_form.specs.Bytes.BasicForms.{number_bytes}
 use Rattle.pf_state.specs.Layouts.Steps.{step_form, plain_step}
 use Rattle.pf_state.proofs.Pushing.{Pushing}
 use Rattle.pf_state.proofs.layouts.lists.push_steps.Given as goal

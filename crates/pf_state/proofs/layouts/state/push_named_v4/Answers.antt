@@ -1,6 +1,6 @@
 use Rattle.std.proofs.Common.{◌≡◌, ◌++◌, ◌∷◌, [], ℕ, List, get_or, replicate, ap, ◌∙◌}
 use Rattle.std.specs.{Prelude.{Result, Ok, Err, OnOk}, Int.{w16, w32, w64, to_be_bytes}}
-use Rattle.pf_addr.specs.Bytes.Parts.{number_bytes}
+use Rattle.pf_form.specs.Bytes.BasicForms.{number_bytes}
 use Rattle.pf_state.specs.Layouts.States.{name_form}
 use Rattle.pf_state.proofs.Pieced.{state_pieces}
 use Rattle.pf_state.proofs.layouts.state.push_named_v4.Goals as goal

@@ -1,10 +1,10 @@
 use Rattle.std.proofs.Common.{map, refl, ◌∙◌, ap, subst, Ok, Err}
 use Rattle.std.proofs.lemmas.Bool.{and_parts}
 use Rattle.std.specs.{Prelude.{Result, OnOk}, List.list_all}
-use Rattle.pf_addr.specs.{Bytes.Forms.{Fits, Value, list, onto, writes}, Laws.Bytes.Onto.onto_is}
+use Rattle.pf_form.specs.{Bytes.Forms.{Fits, Value, list, onto, writes}, Laws.Bytes.Onto.onto_is}
 use Rattle.pf_store.specs.Groups.{ChangeShape, group_form, has_form, is_group, made_all, plain_record}
 use Rattle.pf_store.specs.declared.groups.change.Recorded.TheVariants.{Made as made}
-use Rattle.pf_store.proofs.Told.{as_made, formed_as, spelled}
+use Rattle.pf_store.proofs.RecordedForms.{as_made, formed_as, spelled}
 use Rattle.pf_store.proofs.groups.group.push_group.Goals as goal
 
 -- of two things of a result a third
@@ -15,16 +15,16 @@ on_both (Err e) P Q R f p q = tt
 pub push_changes-requires : goal.push_changes-requires
 push_changes-requires g c =
     let cs = c.args.changes.now in
-    let both = and_parts (is_group cs) (list_all (λ x. has_form (made (g.C.AsChange.edit x))) cs) (formed_as g.C.AsChange.edit cs ∙ c.requires) in
+    let both = and_parts (is_group cs) (list_all (λ x. has_form (made (g.C.AsChange.as_plain x))) cs) (formed_as g.C.AsChange.as_plain cs ∙ c.requires) in
     record { many = both.0; formed = both.1 }
 
 -- what was pushed spells the group
 pub returns : goal.returns
 returns g c =
     let form = group_form c.args.version in
-    let rs = made_all (map g.C.AsChange.edit c.args.changes.now) in
+    let rs = made_all (map g.C.AsChange.as_plain c.args.changes.now) in
     let bytes = writes form (map plain_record rs) in
-    let same = as_made g.C.AsChange.edit c.args.changes.now in
+    let same = as_made g.C.AsChange.as_plain c.args.changes.now in
     let old = c.args.out.now.items in
     on_both c.push_changes.result _ _ _
     (λ is fits. (

@@ -4,4 +4,4 @@ use Rattle.pf_store.proofs.groups.group.tell_changes.Given as goal
 
 abbrev pub invariant-loop-change : goal.invariant-loop-change
 invariant-loop-change g l =
-    map record_in (map plain_record (made_all (map g.C.AsChange.edit (take l.change-index l.changes)))) ≡ made_all (map g.C.AsChange.edit (take l.change-index l.changes))
+    map record_in (map plain_record (made_all (map g.C.AsChange.as_plain (take l.change-index l.changes)))) ≡ made_all (map g.C.AsChange.as_plain (take l.change-index l.changes))

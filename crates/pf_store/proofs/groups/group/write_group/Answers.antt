@@ -10,9 +10,9 @@ alone g c = c.in_ok-push_group.ensures.1 ∙ ap (λ (l : List ℕ). l ++ c.in_ok
 
 pub returns-clause-written : goal.returns-clause-written
 returns-clause-written g c =
-    subst (λ (l : List ℕ). IsRecorded c.args.version (made_all (map g.C.AsChange.edit c.args.changes.now)) l) (sym (alone g c)) c.in_ok-push_group.ensures.2
+    subst (λ (l : List ℕ). IsRecorded c.args.version (made_all (map g.C.AsChange.as_plain c.args.changes.now)) l) (sym (alone g c)) c.in_ok-push_group.ensures.2
 
 pub returns-clause-length : goal.returns-clause-length
 returns-clause-length g c =
     let pushed = c.in_ok-push_group.ensures in
-    ap length (alone g c) ∙ payload_long c.args.version (made_all (map g.C.AsChange.edit c.args.changes.now)) pushed.0 pushed.2.spelled
+    ap length (alone g c) ∙ payload_long c.args.version (made_all (map g.C.AsChange.as_plain c.args.changes.now)) pushed.0 pushed.2.spelled

@@ -1,5 +1,5 @@
 use Rattle.std.proofs.Common.{◌++◌, length}
-use Rattle.pf_addr.specs.Bytes.Parts.{number_bytes}
+use Rattle.pf_form.specs.Bytes.BasicForms.{number_bytes}
 use Rattle.pf_anchor.specs.Forms.{named_form, plain_named}
 use Rattle.pf_state.proofs.Pushing.{Pushing}
 use Rattle.pf_store.proofs.groups.items.push_defined.Given as goal

@@ -1,5 +1,5 @@
 use Rattle.std.proofs.Common.{◌++◌, length, drop}
-use Rattle.pf_addr.specs.Bytes.Parts.{number_bytes}
+use Rattle.pf_form.specs.Bytes.BasicForms.{number_bytes}
 use Rattle.pf_store.specs.Groups.{item_form, plain_item}
 use Rattle.pf_state.proofs.Pushing.{Pushing}
 use Rattle.pf_store.proofs.groups.items.push_items.Given as goal

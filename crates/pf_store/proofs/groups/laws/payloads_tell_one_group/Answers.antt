@@ -1,4 +1,4 @@
-use Rattle.pf_store.proofs.{Sized.payload_long, Told.{one_group, recorded_formed}}
+use Rattle.pf_store.proofs.{Sized.payload_long, RecordedForms.{one_group, recorded_formed}}
 use Rattle.pf_store.proofs.groups.laws.payloads_tell_one_group.Goals as goal
 
 pub returns-clause-one : goal.returns-clause-one

@@ -1,5 +1,5 @@
 use Rattle.std.proofs.Common.{◌++◌, length}
-use Rattle.pf_addr.specs.Bytes.Parts.{number_bytes}
+use Rattle.pf_form.specs.Bytes.BasicForms.{number_bytes}
 use Rattle.pf_table.specs.EntryForms.{entry, plain_entry}
 use Rattle.pf_state.proofs.Pushing.{Pushing}
 use Rattle.pf_store.proofs.groups.tables.push_table.Given as goal

@@ -1,5 +1,5 @@
 use Rattle.std.proofs.Common.{◌++◌, length}
-use Rattle.pf_addr.specs.Bytes.Parts.{number_bytes}
+use Rattle.pf_form.specs.Bytes.BasicForms.{number_bytes}
 use Rattle.pf_anchor.specs.Forms.{placed_form, plain_tabled}
 use Rattle.pf_state.proofs.Pushing.{Pushing}
 use Rattle.pf_store.proofs.snapshots.tables.push_tables.Given as goal

@@ -1,8 +1,8 @@
 use Rattle.std.proofs.Common.{◌+◌, ◌∙◌, arith}
 use Rattle.std.specs.Prelude.{Result, Ok, Err, OnOk, length}
 use Rattle.pf_disk.specs.Disk.{is_within}
-use Rattle.pf_snap.specs.{Banks.switched, declared.header.TheConstants.{HEADER, NEWEST}}
-use Rattle.pf_store.proofs.{Durables.within_formed, Limiting.made_within, Saving.{have_held, have_switched, run_generations, run_lengths, turned, unmoved, unmoved_generations, unmoved_lengths}}
+use Rattle.pf_snap.specs.{Banks.switched, declared.header.TheConstants.{BANK_HEADER, NEWEST}}
+use Rattle.pf_store.proofs.{Durables.within_formed, WithinLimits.made_within, Saving.{have_held, have_switched, run_generations, run_lengths, turned, unmoved, unmoved_generations, unmoved_lengths}}
 use Rattle.pf_store.proofs.store.adding.switch.Goals as goal
 
 mapped : {A E P Q : Type 0} (r : Result A E) → (P → Q) → OnOk r P → OnOk r Q
@@ -62,7 +62,7 @@ pub returns-in_err-begin-clause-lengths : goal.returns-in_err-begin-clause-lengt
 returns-in_err-begin-clause-lengths g c =
     let d = g.D.Disk in
     let b = c.args.banks.now in
-    run_lengths d.seen d.unsynced d.moment d.left_since b.journal.disk c.begin.new.self.journal.disk (is_within b.other (HEADER + c.prepare.new.next.length + 1)) c.begin.ensures.elsewhere
+    run_lengths d.seen d.unsynced d.moment d.left_since b.journal.disk c.begin.new.self.journal.disk (is_within b.other (BANK_HEADER + c.prepare.new.next.length + 1)) c.begin.ensures.elsewhere
 
 -- ---- it was begun
 
@@ -87,7 +87,7 @@ pub returns-clause-lengths : goal.returns-clause-lengths
 returns-clause-lengths g c =
     let d = g.D.Disk in
     let b = c.args.banks.now in
-    run_lengths d.seen d.unsynced d.moment d.left_since b.journal.disk c.begin.new.self.journal.disk (is_within b.other (HEADER + c.prepare.new.next.length + 1)) c.begin.ensures.elsewhere
+    run_lengths d.seen d.unsynced d.moment d.left_since b.journal.disk c.begin.new.self.journal.disk (is_within b.other (BANK_HEADER + c.prepare.new.next.length + 1)) c.begin.ensures.elsewhere
 
 pub returns-clause-kept : goal.returns-clause-kept
 returns-clause-kept g c =

@@ -1,6 +1,6 @@
 use Rattle.std.proofs.Common.{◌≡◌, List, ℕ, ap, refl, subst, replicate, length, arith}
 use Rattle.std.specs.Prelude.{Result, Ok, Err, OnOk}
-use Rattle.pf_core.specs.Durable.Edits.{Kept, kept_nothing}
+use Rattle.pf_core.specs.Durable.Changes.{PlainDurable, kept_nothing}
 use Rattle.pf_snap.specs.{Banks.{Content, HoldsAt, bank_size, begun}, declared.header.TheConstants.NEWEST}
 use Rattle.pf_snap.specs.Banks as snap
 use Rattle.pf_snap.proofs.Holding.{one_content}
@@ -36,7 +36,7 @@ leaves_room : (image : List ℕ) (other : ℕ) → HoldsAt 0 other image (begun 
 leaves_room image other bank = λ d has.
     let same : kept_nothing 0 ≡ d = one_held image (kept_nothing 0) d (holding image other bank) has in
     roomy_in NEWEST has.content.version (bank_size (length image)) d
-    (subst (λ (k : Kept). IsRoomy (bank_size (length image)) k) same (omega (arith, bank.size.least, nothing_long 0)))
+    (subst (λ (k : PlainDurable). IsRoomy (bank_size (length image)) k) same (omega (arith, bank.size.least, nothing_long 0)))
 
 pub returns-clause-roomy : goal.returns-clause-roomy
 returns-clause-roomy g c =

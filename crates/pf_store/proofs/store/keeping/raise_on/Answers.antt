@@ -2,7 +2,7 @@ use Rattle.std.proofs.Common.{◌+◌, ⊎_elim, ℕ, List, [], ◌∷◌, arith
 use Rattle.pf_disk.specs.Disk.{EachMoment}
 use Rattle.pf_disk.proofs.Images.{only_read}
 use Rattle.pf_snap.specs.Banks as snap
-use Rattle.pf_core.specs.{Durable.Edits.Kept, Worlds.raised}
+use Rattle.pf_core.specs.{Durable.Changes.PlainDurable, Worlds.raised}
 use Rattle.pf_store.specs.{Openings.{IsAsLongAs, IsNoLaterThan, IsUnopened}, Stores.{Holds, HoldsEither}}
 use Rattle.pf_store.specs.declared.groups.change.Recorded.TheVariants.{Opens as opens}
 use Rattle.pf_store.proofs.Refusing.{held_in_want}
@@ -62,7 +62,7 @@ returns-in-Ok-add-clause-stands g c =
     let disk = c.add.new.banks.journal.disk in
     let is = c.in-Ok.ensures.made c.args.banks.version in
     let holds = have_held d.seen d.unsynced d.fault_count c.add.new.banks (raised k) (c.in-Ok-add.ensures.kept (opens (k.epoch + 1) ∷ []) is (refl, tt)) in
-    record { holds = subst (λ (x : Kept). Holds (d.seen disk) x) (sym c.in-Ok.ensures.raised) holds; synced = c.in-Ok-add.ensures.ready.journal.synced }
+    record { holds = subst (λ (x : PlainDurable). Holds (d.seen disk) x) (sym c.in-Ok.ensures.raised) holds; synced = c.in-Ok-add.ensures.ready.journal.synced }
 
 pub returns-in-Err-Full-clause-refused : goal.returns-in-Err-Full-clause-refused
 returns-in-Err-Full-clause-refused g c =

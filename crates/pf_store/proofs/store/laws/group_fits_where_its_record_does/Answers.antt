@@ -1,4 +1,4 @@
-use Rattle.pf_store.proofs.Rooming.{group-fits}
+use Rattle.pf_store.proofs.RoomForGroups.{group-fits}
 use Rattle.pf_store.proofs.store.laws.group_fits_where_its_record_does.Goals as goal
 
 pub returns : goal.returns

@@ -1,4 +1,4 @@
-use Rattle.pf_store.proofs.Limiting.{made_within}
+use Rattle.pf_store.proofs.WithinLimits.{made_within}
 use Rattle.pf_store.proofs.store.laws.held_state_is_within_limits.Goals as goal
 
 pub returns : goal.returns

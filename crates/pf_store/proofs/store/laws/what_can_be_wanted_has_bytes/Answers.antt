@@ -1,4 +1,4 @@
-use Rattle.pf_store.proofs.Rooming.{finds_room}
+use Rattle.pf_store.proofs.RoomForGroups.{finds_room}
 use Rattle.pf_store.proofs.store.laws.what_can_be_wanted_has_bytes.Goals as goal
 
 pub returns : goal.returns

@@ -5,4 +5,4 @@ use Rattle.pf_store.proofs.store.lengths.behind_changes.Given as goal
 -- what is left behind the rest
 abbrev pub invariant-loop-change : goal.invariant-loop-change
 invariant-loop-change g l =
-    l.room + total recorded_length (made_all (map g.C.AsChange.edit (drop l.change-index l.changes))) ≡ total recorded_length (made_all (map g.C.AsChange.edit l.changes)) + l.left
+    l.room + total recorded_length (made_all (map g.C.AsChange.as_plain (drop l.change-index l.changes))) ≡ total recorded_length (made_all (map g.C.AsChange.as_plain l.changes)) + l.left

@@ -1,7 +1,7 @@
 use Rattle.std.proofs.Common.{◌≡◌, ◌==◌, ◌≤◌, Bool, Ok, sym, ap, subst, ◌∙◌, arith}
 use Rattle.std.proofs.lemmas.Bool.{ne_eqb}
 use Rattle.std.specs.Prelude.{if◌then◌else◌}
-use Rattle.pf_addr.specs.Bytes.Forms.{reads}
+use Rattle.pf_form.specs.Bytes.Forms.{reads}
 use Rattle.pf_rule.specs.{Rules.PlainRule, Sum.Layouts.{end, plain_family, rule_layout, plain_rule}}
 use Rattle.pf_rule.proofs.RuleBytes.{fitting, body_read, rule_read}
 use Rattle.pf_rule.proofs.sum.layout.RuleLayout.read.Goals.{then-kind-eq-PASS, else-kind-eq-PASS}

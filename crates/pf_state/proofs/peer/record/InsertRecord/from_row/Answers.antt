@@ -1,5 +1,5 @@
 use Rattle.std.proofs.Common.{arith}
-use Rattle.pf_addr.specs.Laws.Bytes.Steps.{bytes_of}
+use Rattle.pf_form.specs.Laws.Bytes.Steps.{bytes_of}
 use Rattle.pf_state.proofs.Inserts.{says_insert}
 use Rattle.pf_state.proofs.peer.record.InsertRecord.from_row.Goals as goal
 

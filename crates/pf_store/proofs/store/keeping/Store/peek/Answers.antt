@@ -1,6 +1,6 @@
 use Rattle.std.proofs.Common.{◌≡◌, true}
 use Rattle.pf_snap.specs.Looked.{content_of}
-use Rattle.pf_store.proofs.{Limiting.made_within, Refusing.unopened}
+use Rattle.pf_store.proofs.{WithinLimits.made_within, Refusing.unopened}
 use Rattle.pf_store.proofs.store.keeping.Store.peek.Goals as goal
 
 pub returns-in-Ok-replay-clause-within : goal.returns-in-Ok-replay-clause-within

@@ -1,6 +1,0 @@
-pub mod Parts
-pub mod Forms
-pub mod Lists
-pub mod Names
-pub mod Readers
-pub mod Codes

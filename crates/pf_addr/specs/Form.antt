@@ -1,7 +1,0 @@
-pub mod Words
-pub mod Cuts
-pub mod Numbers
-pub mod Forms
-pub mod Readers
-pub mod Told
-pub mod Lists

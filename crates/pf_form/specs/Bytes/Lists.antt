@@ -1,0 +1,13 @@
+-- Lists whose items stand in an order.
+use Rattle.std.specs.Prelude.{◌&&◌, ℕ, Bool, true, List, [], ◌∷◌}
+use Rattle.pf_form.specs.Bytes.Forms.{Shape, list, Value, Form, counted, that}
+
+-- each stands before the next
+abbrev pub in_order : {A : Type 0} → (A → A → Bool) → List A → Bool
+in_order before [] = true
+in_order before (x ∷ []) = true
+in_order before (x ∷ y ∷ xs) = before x y && in_order before (y ∷ xs)
+
+-- their number in so many bytes, and that many in order
+abbrev pub ordered : {a : Shape} → (Value a → Value a → Bool) → ℕ → Form a → Form (list a)
+ordered before w f = that (in_order before) (counted w f)

@@ -1,0 +1,57 @@
+-- What the functions that read bytes return, and why bytes are no value's.
+use Rattle.std.specs.Prelude.{◌≡◌, ◌<◌, ℕ, List, [], ◌∷◌, ◌++◌, length, Result, Ok, Err, ◌⊎◌}
+use Rattle.pf_form.specs.declared.bytes.fault.{Fault.Fault, Stop.Stop}
+use Rattle.pf_form.specs.{Bytes.BasicForms.{Read, ◌>>=◌}, Bytes.Forms.{Shape, Value, Form, reads, writes, Fits, Faults}}
+use Rattle.pf_form.specs.declared.bytes.fault.Fault.TheVariants as fault
+use Rattle.pf_form.specs.declared.bytes.fault.Stop.TheVariants as stop
+
+-- the fault of the reading, unless memory was refused
+abbrev pub Fails : {Y : Type 0} → Stop → Result Y Fault → Type 0
+Fails stop.Memory read = Unit {0}
+Fails (stop.Fault f) read = read ≡ Err f
+
+-- what is returned, seen by view, and what is left
+abbrev pub Gives : {X A : Type 0} → (X → A) → Result X Stop → List ℕ → Read A → Type 0
+Gives view (Ok x) after read = read ≡ Ok (view x, after)
+Gives view (Err s) after read = Fails s read
+
+-- The bytes move on as the form's reading does.
+abbrev pub Reads : {X : Type 0} {a : Shape} → (X → Value a) → Form a → Result X Stop → List ℕ → List ℕ → Type 0
+Reads view f result before after = Gives view result after (reads f before)
+
+-- ---- whole texts
+
+abbrev pub end_at : List ℕ → Result (Unit {0}) Fault
+end_at [] = Ok tt
+end_at (b ∷ bytes) = Err (fault.Bad (length (b ∷ bytes)))
+
+abbrev pub ended : {A : Type 0} → A × List ℕ → Result A Fault
+ended x = end_at x.1 >>= λ u. Ok x.0
+
+-- one value, and no byte behind it
+abbrev pub read_all : {a : Shape} → Form a → List ℕ → Result (Value a) Fault
+read_all f bytes = reads f bytes >>= ended
+
+abbrev pub GivesAll : {X A : Type 0} → (X → A) → Result X Stop → Result A Fault → Type 0
+GivesAll view (Ok x) read = read ≡ Ok (view x)
+GivesAll view (Err s) read = Fails s read
+
+-- of a fault this holds
+abbrev pub IfFault : Stop → (Fault → Type 0) → Type 0
+IfFault stop.Memory P = Unit {0}
+IfFault (stop.Fault f) P = P f
+
+-- ---- why bytes are no value's, by what is written and not by reading
+
+-- something can't stand where so many bytes are left
+abbrev pub GoesWrong : {a : Shape} → Form a → List ℕ → ℕ → Type 0
+GoesWrong f bytes left = (before rest : List ℕ) × (bytes ≡ before ++ rest) × (length rest ≡ left) × Faults f before rest
+
+-- a value's bytes stand there, and so many more
+abbrev pub GoesOn : {a : Shape} → Form a → List ℕ → ℕ → Type 0
+GoesOn {a = a} f bytes left = (x : Value a) × (rest : List ℕ) × Fits f x × (bytes ≡ writes f x ++ rest) × (length rest ≡ left)
+
+-- Too few bytes: no value's are a front of them, and nothing in them is wrong. Bad ones: something is, or there are more than a value's.
+abbrev pub Refused : {a : Shape} → Form a → List ℕ → Fault → Type 0
+Refused f bytes fault.Short = ((left : ℕ) → GoesOn f bytes left → ⊥) × ((left : ℕ) → GoesWrong f bytes left → ⊥)
+Refused f bytes (fault.Bad left) = GoesWrong f bytes left ⊎ ((0 < left) × GoesOn f bytes left)

@@ -1,0 +1,144 @@
+//! Parts at the front of bytes. A reader moves the bytes on behind its part; after an error nothing is said of where they are.
+ghost use Rattle.std.specs.Prelude.{◌≡◌, ◌≤◌, length, Ok, IfOk};
+ghost use Rattle.pf_form.specs.{Bytes.BasicForms.{constant_at, is_next, number_at}, Bytes.Forms.{Form, number, times, counted}, Bytes.Readers.{Gives, Reads}};
+
+use crate::bytes::fault::{Fault, Stop};
+use byteorder::{BigEndian, ByteOrder};
+use std::alloc::Global;
+
+/// The bytes that are left to read.
+pub type Rest<'a> = &'a [u8];
+
+/// A number in one byte. Fails where no byte is left.
+pub fn read_u8<'a>(from: &mut Rest<'a>) -> Result<u8, Stop>
+    ensures { Reads (λ n. n) (number 1) result from.old.now from.new.now }
+{
+    if from.is_empty() {
+        return Err(Stop::Fault(Fault::Short));
+    }
+    let number = from[0];
+    *from = &from[1..];
+    Ok(number)
+}
+
+/// A number in two bytes, big-endian. Fails where fewer are left.
+pub fn read_u16<'a>(from: &mut Rest<'a>) -> Result<u16, Stop>
+    ensures { Reads (λ n. n) (number 2) result from.old.now from.new.now }
+{
+    if from.len() < 2 {
+        return Err(Stop::Fault(Fault::Short));
+    }
+    let number = BigEndian::read_u16(from);
+    *from = &from[2..];
+    Ok(number)
+}
+
+/// A number in four bytes, big-endian. Fails where fewer are left.
+pub fn read_u32<'a>(from: &mut Rest<'a>) -> Result<u32, Stop>
+    ensures { Reads (λ n. n) (number 4) result from.old.now from.new.now }
+{
+    if from.len() < 4 {
+        return Err(Stop::Fault(Fault::Short));
+    }
+    let number = BigEndian::read_u32(from);
+    *from = &from[4..];
+    Ok(number)
+}
+
+/// A number in eight bytes, big-endian. Fails where fewer are left.
+pub fn read_u64<'a>(from: &mut Rest<'a>) -> Result<u64, Stop>
+    ensures { Reads (λ n. n) (number 8) result from.old.now from.new.now }
+{
+    if from.len() < 8 {
+        return Err(Stop::Fault(Fault::Short));
+    }
+    let number = BigEndian::read_u64(from);
+    *from = &from[8..];
+    Ok(number)
+}
+
+/// A number in 16 bytes, big-endian. Fails where fewer are left.
+pub fn read_u128<'a>(from: &mut Rest<'a>) -> Result<u128, Stop>
+    ensures { Reads (λ n. n) (number 16) result from.old.now from.new.now }
+{
+    if from.len() < 16 {
+        return Err(Stop::Fault(Fault::Short));
+    }
+    let number = BigEndian::read_u128(from);
+    *from = &from[16..];
+    Ok(number)
+}
+
+/// Takes this byte where it is the next one, and says whether it was. Fails where no byte is left.
+pub fn takes<'a>(from: &mut Rest<'a>, key: u8) -> Result<bool, Stop>
+    ensures { Gives (λ t. t) result from.new.now (is_next key from.old.now) }
+{
+    match *from {
+        [] => Err(Stop::Fault(Fault::Short)),
+        [first, rest @ ..] => {
+            if *first == key {
+                *from = rest;
+                Ok(true)
+            } else {
+                Ok(false)
+            }
+        }
+    }
+}
+
+/// Takes these bytes, which have to be the next ones.
+///
+/// Fails where fewer are left and those agree, and at the first one that differs.
+pub fn expect<'a>(from: &mut Rest<'a>, bytes: &[u8]) -> Result<(), Stop>
+    ensures { Gives (λ u. tt) result from.new.now (constant_at bytes.now from.old.now) }
+{
+    for byte in bytes {
+        match *from {
+            [] => return Err(Stop::Fault(Fault::Short)),
+            [first, rest @ ..] => {
+                if *first != *byte {
+                    return Err(Stop::Fault(Fault::Bad(from.len())));
+                }
+                *from = rest;
+            }
+        }
+    }
+    Ok(())
+}
+
+/// So many bytes as they are. Fails where fewer are left, and where memory is refused.
+pub fn read_bytes<'a>(alloc: Global, count: usize, from: &mut Rest<'a>) -> Result<Vec<u8>, Stop>
+    ensures read { Reads (λ v. v.items) (times count (number 1)) result from.old.now from.new.now }
+    ensures length { IfOk result (λ v. length v.items ≡ count) }
+{
+    if from.len() < count {
+        return Err(Stop::Fault(Fault::Short));
+    }
+    let (front, rest) = from.split_at(count);
+    let bytes = Vec::from_slice(alloc, front)?;
+    *from = rest;
+    Ok(bytes)
+}
+
+/// So many bytes as an array. Fails where fewer are left.
+pub fn read_array<'a, const N: usize>(from: &mut Rest<'a>) -> Result<[u8; N], Stop>
+    ensures { Reads (λ a. a) (times N (number 1)) result from.old.now from.new.now }
+{
+    if from.len() < N {
+        return Err(Stop::Fault(Fault::Short));
+    }
+    let mut bytes = [0; N];
+    let (front, rest) = from.split_at(N);
+    bytes.copy_from_slice(front);
+    *from = rest;
+    Ok(bytes)
+}
+
+/// Up to 255 bytes behind their number, which is in one byte. Fails where fewer are left, and where memory is refused.
+pub fn read_counted_bytes<'a>(alloc: Global, from: &mut Rest<'a>) -> Result<Vec<u8>, Stop>
+    ensures { Reads (λ v. v.items) (counted 1 (number 1)) result from.old.now from.new.now }
+{
+    let count = read_u8(from)?;
+    let bytes = read_bytes(alloc, count as usize, from)?;
+    Ok(bytes)
+}

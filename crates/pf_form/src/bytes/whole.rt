@@ -1,0 +1,44 @@
+//! Bytes that are one value, and nothing behind it.
+ghost use Rattle.std.specs.Prelude.{◌≡◌, Ok, IfOk, IfErr};
+ghost use Rattle.pf_form.specs.{Bytes.Forms.{Value, Fits, Spells}, Bytes.Readers.{GivesAll, IfFault, Refused, read_all}};
+
+use crate::bytes::fault::{Fault, Stop};
+use crate::bytes::layout::Layout;
+use std::alloc::{AllocError, Global};
+
+/// The value whose bytes these are in a version.
+///
+/// Fails with the one fault that the bytes have, where they are no value's; one is that bytes stand behind a value. Fails too where
+/// memory is refused, whatever the bytes are.
+pub fn decode<T: Layout>(alloc: Global, version: u8, bytes: &[u8]) -> Result<T, Stop>
+    // what is answered is written so
+    ensures found { IfOk result (λ x. Spells (T.form version) (T.plain x) bytes.now) }
+    // bytes that a value is written as give that value
+    ensures only { (x : Value T.shape) → Spells (T.form version) x bytes.now → GivesAll T.plain result (Ok x) }
+    // a fault is told where the bytes have it
+    ensures refused { IfErr result (λ e. IfFault e (Refused (T.form version) bytes.now)) }
+{
+    read_whole(alloc, version, bytes)
+}
+
+fn read_whole<T: Layout>(alloc: Global, version: u8, bytes: &[u8]) -> Result<T, Stop>
+    ensures { GivesAll T.plain result (read_all (T.form version) bytes.now) }
+{
+    let mut rest = bytes;
+    let value = T::read(alloc, version, &mut rest)?;
+    if !rest.is_empty() {
+        return Err(Stop::Fault(Fault::Bad(rest.len())));
+    }
+    Ok(value)
+}
+
+/// The bytes that a value is written as in a version, where it fits its form. Fails only where memory is refused.
+#[tactic(auto, using(crate::specs::Laws::Bytes::Onto::onto_is))]
+pub fn encode<T: Layout>(alloc: Global, version: u8, value: &T) -> Result<Vec<u8>, AllocError>
+    requires { Fits (T.form version) (T.plain value.now) }
+    ensures { IfOk result (λ v. Spells (T.form version) (T.plain value.now) v.items) }
+{
+    let mut out = Vec::new(alloc);
+    value.write(version, &mut out)?;
+    Ok(out)
+}

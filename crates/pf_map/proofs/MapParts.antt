@@ -1,0 +1,322 @@
+-- A map in parts: what is read and replaced in the part of a key's place is read and replaced in the map.
+use Rattle.std.proofs.Common.{◌≡◌, ℕ, zero, suc, ◌+◌, ◌-◌, ◌<◌, ◌≤◌, add-one, T, true, false, not, Bool, ◌&&◌, cond, List, [], ◌∷◌, ◌++◌, length, take, drop, get_or, Option, Some, None, option_map, refl, sym, ap, subst, ◌∙◌, append_assoc, append-nil, arith, true≢false, MatchOption}
+use Rattle.std.specs.declared.cmp.Ordering.{Ordering}
+use Rattle.std.specs.declared.cmp.Ordering.TheVariants.{Less, Equal, Greater}
+use Rattle.std.specs.Cmp.{IsTotalOrder}
+use Rattle.std.specs.FinMap.{find, put, is_sorted}
+use Rattle.std.specs.FinMap.Entries.{below_all, by_order}
+use Rattle.std.specs.List.{AllByRecursion, insert, remove}
+use Rattle.std.specs.Ordering.{ordering_reverse, eq_by_cmp, is_eq, is_lt}
+use Rattle.std.proofs.lemmas.List.{get_or_default, take-append-drop}
+use Rattle.std.proofs.lemmas.List.Concat.{flat_map-append}
+use Rattle.std.proofs.lemmas.List.Elements.{filter-append}
+use Rattle.pf_map.specs.Maps.{without, with_value, or_else, entry_at, at_or_before}
+use Rattle.pf_map.specs.MapParts.{joined, part_before, starts_behind, IsPlace, IsUpTo}
+
+-- while a place is sought it is between these two
+pub record IsBetween {K X : Type 0} (R : K → K → Ordering) (k : K) (parts : List (List (K × X))) (low high : ℕ) : Type 0 where
+  pub ordered : low ≤ high
+  pub within : high ≤ length parts
+  pub some : 0 < length parts → 0 < low
+  pub here : 1 < low → (0 < length (part_before low parts)) × (starts_behind R k (part_before low parts) ≡ false)
+  pub next : high < length parts → starts_behind R k (get_or parts high []) ≡ true
+
+-- the parts in front of the one just before a place
+abbrev pub front_of : {E : Type 0} → ℕ → List (List E) → List (List E)
+front_of zero parts = []
+front_of (suc n) parts = take n parts
+
+-- all entries around one part
+around : {E : Type 0} (parts : List (List E)) (i : ℕ) → joined parts ≡ joined (take i parts) ++ (get_or parts i [] ++ joined (drop (suc i) parts))
+around [] zero = refl
+around [] (suc i) = refl
+around (p ∷ parts) zero = refl
+around (p ∷ parts) (suc i) = ap (λ z. p ++ z) (around parts i) ∙ sym (append_assoc p (joined (take i parts)) (get_or parts i [] ++ joined (drop (suc i) parts)))
+
+around_place : {E : Type 0} (parts : List (List E)) (n : ℕ) → joined parts ≡ joined (front_of n parts) ++ (part_before n parts ++ joined (drop n parts))
+around_place parts zero = refl
+around_place parts (suc i) = around parts i
+
+joins : (a b : Bool) → T a → T b → T (a && b)
+joins true b p q = q
+joins false b p q = p
+
+at_part : {E : Type 0} (parts : List (List E)) (i : ℕ) (part : List E) → i < length parts → part ≡ get_or parts i part → part ≡ get_or parts i []
+at_part parts i part within is = is ∙ get_or_default parts i part [] within
+
+next_before : {E : Type 0} (parts : List (List E)) (i : ℕ) → part_before (i + 1) parts ≡ get_or parts i []
+next_before parts i = rw add-one refl
+
+both : (a b : Bool) → T (a && b) → T a × T b
+both true b h = (tt, h)
+both false b h = absurd h
+
+less : (r : Ordering) → T (is_lt r) → r ≡ Less
+less Less h = refl
+less Equal h = absurd h
+less Greater h = absurd h
+
+-- what comes before something that a key doesn't come before, comes before the key
+past : {K : Type 0} {R : K → K → Ordering} → IsTotalOrder R → (k x y : K) → R x y ≡ Less → is_lt (R k y) ≡ false → R k x ≡ Greater
+past {R = R} o k x y l not_less =
+    elim (R k y) as (λ r. R k y ≡ r → is_lt r ≡ false → R k x ≡ Greater) [
+      | Less ↦ λ e n. absurd (cc (n))
+      | Equal ↦ λ e n. o.congr k y x e ∙ o.antisymm y x ∙ ap ordering_reverse l
+      | Greater ↦ λ e n. o.antisymm k x ∙ ap ordering_reverse (o.trans x y k l (o.antisymm y k ∙ ap ordering_reverse e))
+    ] refl not_less
+
+module _ {K X : Type 0} {R : K → K → Ordering} (o : IsTotalOrder R) (k : K) where
+  -- how a key stands to all of these entries
+  abbrev AllAt : Ordering → List (K × X) → Type 0
+  AllAt r es = AllByRecursion (λ e. R k e.0 ≡ r) es
+
+  -- ---- entries that are all before a key, or all behind it
+
+  put_behind : (v : X) (a es : List (K × X)) → AllAt Greater a → put R k v (a ++ es) ≡ a ++ put R k v es
+  put_behind v [] es at = refl
+  put_behind v (e ∷ a) es at = rw at.0 (ap (λ z. e ∷ z) (put_behind v a es at.1))
+
+  put_before : (v : X) (m b : List (K × X)) → AllAt Less b → put R k v (m ++ b) ≡ put R k v m ++ b
+  put_before v [] [] at = refl
+  put_before v [] (e ∷ b) at = rw at.0 refl
+  put_before v (e ∷ m) b at =
+      elim (R k e.0) as (λ r. by_order r ((k, v) ∷ e ∷ (m ++ b)) ((e.0, v) ∷ (m ++ b)) (e ∷ put R k v (m ++ b)) ≡ by_order r ((k, v) ∷ e ∷ m) ((e.0, v) ∷ m) (e ∷ put R k v m) ++ b) [
+        | Less ↦ refl
+        | Equal ↦ refl
+        | Greater ↦ ap (λ z. e ∷ z) (put_before v m b at)
+      ]
+
+  without_apart : (r : Ordering) (es : List (K × X)) → is_eq r ≡ false → AllAt r es → without R es k ≡ es
+  without_apart r [] apart at = refl
+  without_apart r (e ∷ es) apart at = rw (at.0, apart) (ap (λ z. e ∷ z) (without_apart r es apart at.1))
+
+  without_around : (a m b : List (K × X)) → AllAt Greater a → AllAt Less b → without R (a ++ (m ++ b)) k ≡ a ++ (without R m k ++ b)
+  without_around a m b before behind = simp (filter-append, without_apart Greater a refl before, without_apart Less b refl behind)
+
+  with_around : (a m b : List (K × X)) (v : Option X) → AllAt Greater a → AllAt Less b → with_value R (a ++ (m ++ b)) k v ≡ a ++ (with_value R m k v ++ b)
+  with_around a m b None before behind = without_around a m b before behind
+  with_around a m b (Some v) before behind =
+      ap (put R k v) (without_around a m b before behind) ∙ put_behind v a (without R m k ++ b) before ∙ ap (λ z. a ++ z) (put_before v (without R m k) b behind)
+
+  find_apart : (r : Ordering) (a es : List (K × X)) → is_eq r ≡ false → AllAt r a → find R k (a ++ es) ≡ find R k es
+  find_apart r [] es apart at = refl
+  find_apart r (e ∷ a) es apart at = rw (at.0, apart) (find_apart r a es apart at.1)
+
+  find_before : (m b : List (K × X)) → AllAt Less b → find R k (m ++ b) ≡ find R k m
+  find_before [] b at = ap (find R k) (sym (append-nil b)) ∙ find_apart Less b [] refl at
+  find_before (e ∷ m) b at = ap (λ z. cond (eq_by_cmp R k e.0) (Some e.1) z) (find_before m b at)
+
+  none_behind : (b : List (K × X)) → AllAt Less b → at_or_before R k b ≡ None
+  none_behind [] at = refl
+  none_behind (e ∷ b) at = rw (none_behind b at.1, at.0) refl
+
+  last_before : (m b : List (K × X)) → AllAt Less b → at_or_before R k (m ++ b) ≡ at_or_before R k m
+  last_before [] b at = none_behind b at
+  last_before (e ∷ m) b at = ap (λ z. or_else z (cond (not (is_lt (R k e.0))) (Some e) None)) (last_before m b at)
+
+  or_else_same : (x y : Option (K × X)) (e : K × X) → or_else (or_else x (Some e)) y ≡ or_else x (Some e)
+  or_else_same None y e = refl
+  or_else_same (Some x) y e = refl
+
+  -- where the first of some entries isn't behind the key, none of those in front is the last one
+  last_past : (a : List (K × X)) (e : K × X) (m : List (K × X)) → is_lt (R k e.0) ≡ false → at_or_before R k (a ++ e ∷ m) ≡ at_or_before R k (e ∷ m)
+  last_past [] e m starts = refl
+  last_past (x ∷ a) e m starts =
+      ap (λ z. or_else z (cond (not (is_lt (R k x.0))) (Some x) None)) (last_past a e m starts)
+      ∙ rw starts (or_else_same (at_or_before R k m) (cond (not (is_lt (R k x.0))) (Some x) None) e)
+
+  -- ---- a map in order
+
+  below_at : (x : K) (a : List (K × X)) (e : K × X) (es : List (K × X)) → T (below_all R x (a ++ e ∷ es)) → R x e.0 ≡ Less
+  below_at x [] e es is = less _ (both _ _ is).0
+  below_at x (f ∷ a) e es is = below_at x a e es (both _ _ is).1
+
+  -- before a part that doesn't start behind a key all are before it
+  all_before : (a part es : List (K × X)) → 0 < length part → starts_behind R k part ≡ false → T (is_sorted R (a ++ (part ++ es))) → AllAt Greater a
+  all_before a [] es some starts is = absurd (omega arith)
+  all_before [] (e ∷ part) es some starts is = tt
+  all_before (x ∷ a) (e ∷ part) es some starts is =
+      let parts = both _ _ is in (past o k x.0 e.0 (below_at x.0 a e (part ++ es) parts.0) starts, all_before a (e ∷ part) es some starts parts.1)
+
+  -- behind an entry that is behind a key all are behind it
+  all_behind : (x : K) (es : List (K × X)) → R k x ≡ Less → T (below_all R x es) → AllAt Less es
+  all_behind x [] l is = tt
+  all_behind x (e ∷ es) l is = let parts = both _ _ is in (o.trans k x e.0 l (less _ parts.0), all_behind x es l parts.1)
+
+  sorted_back : (xs ys : List (K × X)) → T (is_sorted R (xs ++ ys)) → T (is_sorted R ys)
+  sorted_back [] ys is = is
+  sorted_back (x ∷ xs) ys is = sorted_back xs ys (both _ _ is).1
+
+  -- ---- its parts
+
+  front_before : (parts : List (List (K × X))) (n : ℕ) → IsPlace R k parts n → T (is_sorted R (joined parts)) → AllAt Greater (joined (front_of n parts))
+  front_before parts zero at is = tt
+  front_before parts (suc zero) at is = tt
+  front_before parts (suc (suc i)) at is =
+      let here = at.here (omega arith) in
+      all_before (joined (take (suc i) parts)) (get_or parts (suc i) []) (joined (drop (suc (suc i)) parts)) here.0 here.1 (subst (λ z. T (is_sorted R z)) (around parts (suc i)) is)
+
+  parts_behind : (parts : List (List (K × X))) (n : ℕ) → (n < length parts → starts_behind R k (get_or parts n []) ≡ true) → T (is_sorted R (joined parts)) → AllAt Less (joined (drop n parts))
+  parts_behind [] zero next is = tt
+  parts_behind [] (suc n) next is = tt
+  parts_behind ([] ∷ parts) zero next is = absurd (cc (next (omega arith)))
+  parts_behind ((e ∷ es) ∷ parts) zero next is = let l = less (R k e.0) (subst T (sym (next (omega arith))) tt) in (l, all_behind e.0 (es ++ joined parts) l (both _ _ is).0)
+  parts_behind (p ∷ parts) (suc n) next is = parts_behind parts n (λ h. next (omega arith)) (sorted_back p (joined parts) is)
+
+  replaced_there : (parts : List (List (K × X))) (n : ℕ) (v : Option X) → IsPlace R k parts n → T (is_sorted R (joined parts)) → with_value R (joined parts) k v ≡ joined (front_of n parts) ++ (with_value R (part_before n parts) k v ++ joined (drop n parts))
+  replaced_there parts n v at is =
+      ap (λ es. with_value R es k v) (around_place parts n)
+      ∙ with_around (joined (front_of n parts)) (part_before n parts) (joined (drop n parts)) v (front_before parts n at is) (parts_behind parts n at.next is)
+
+  read_there : (parts : List (List (K × X))) (n : ℕ) → IsPlace R k parts n → T (is_sorted R (joined parts)) → find R k (joined parts) ≡ find R k (part_before n parts)
+  read_there parts n at is =
+      ap (find R k) (around_place parts n)
+      ∙ find_apart Greater (joined (front_of n parts)) (part_before n parts ++ joined (drop n parts)) refl (front_before parts n at is)
+      ∙ find_before (part_before n parts) (joined (drop n parts)) (parts_behind parts n at.next is)
+
+  last_in : (a part : List (K × X)) → 0 < length part → starts_behind R k part ≡ false → at_or_before R k (a ++ part) ≡ at_or_before R k part
+  last_in a [] some starts = absurd (omega arith)
+  last_in a (e ∷ part) some starts = last_past a e part starts
+
+  last_front : (parts : List (List (K × X))) (n : ℕ) → IsPlace R k parts n → at_or_before R k (joined (front_of n parts) ++ part_before n parts) ≡ at_or_before R k (part_before n parts)
+  last_front parts zero at = refl
+  last_front parts (suc zero) at = refl
+  last_front parts (suc (suc i)) at = let here = at.here (omega arith) in last_in (joined (take (suc i) parts)) (get_or parts (suc i) []) here.0 here.1
+
+  last_there : (parts : List (List (K × X))) (n : ℕ) → IsPlace R k parts n → T (is_sorted R (joined parts)) → at_or_before R k (joined parts) ≡ at_or_before R k (part_before n parts)
+  last_there parts n at is =
+      ap (at_or_before R k) (around_place parts n ∙ sym (append_assoc (joined (front_of n parts)) (part_before n parts) (joined (drop n parts))))
+      ∙ last_before (joined (front_of n parts) ++ part_before n parts) (joined (drop n parts)) (parts_behind parts n at.next is)
+      ∙ last_front parts n at
+
+  -- ---- the same, as it is read at the part itself
+
+  before_is : (parts : List (List (K × X))) (n : ℕ) → 0 < n → part_before n parts ≡ get_or parts (n - 1) []
+  before_is parts zero some = absurd (omega arith)
+  before_is parts (suc i) some = let less : suc i - 1 ≡ i = omega arith in rw less refl
+
+  front_is : (parts : List (List (K × X))) (n : ℕ) → 0 < n → front_of n parts ≡ take (n - 1) parts
+  front_is parts zero some = absurd (omega arith)
+  front_is parts (suc i) some = let less : suc i - 1 ≡ i = omega arith in rw less refl
+
+  pub replaced_at : (parts : List (List (K × X))) (n : ℕ) (part : List (K × X)) (v : Option X) → 0 < n → n - 1 < length parts → part ≡ get_or parts (n - 1) part → IsPlace R k parts n → T (is_sorted R (joined parts)) →
+      with_value R (joined parts) k v ≡ joined (take (n - 1) parts) ++ (with_value R part k v ++ joined (drop n parts))
+  replaced_at parts n part v some within is at sorted =
+      replaced_there parts n v at sorted ∙ ap (λ z. joined z ++ (with_value R (part_before n parts) k v ++ joined (drop n parts))) (front_is parts n some)
+      ∙ ap (λ z. joined (take (n - 1) parts) ++ (with_value R z k v ++ joined (drop n parts))) (before_is parts n some ∙ sym (at_part parts (n - 1) part within is))
+
+  pub read_at : (parts : List (List (K × X))) (n : ℕ) (part : List (K × X)) → 0 < n → n - 1 < length parts → part ≡ get_or parts (n - 1) part → IsPlace R k parts n → T (is_sorted R (joined parts)) → entry_at R k part ≡ entry_at R k (joined parts)
+  read_at parts n part some within is at sorted =
+      ap (λ z. option_map (λ v. (k, v)) z) (ap (find R k) (at_part parts (n - 1) part within is ∙ sym (before_is parts n some)) ∙ sym (read_there parts n at sorted))
+
+  pub last_at : (parts : List (List (K × X))) (n : ℕ) (part : List (K × X)) → 0 < n → n - 1 < length parts → part ≡ get_or parts (n - 1) part → IsPlace R k parts n → T (is_sorted R (joined parts)) → at_or_before R k part ≡ at_or_before R k (joined parts)
+  last_at parts n part some within is at sorted =
+      ap (at_or_before R k) (at_part parts (n - 1) part within is ∙ sym (before_is parts n some)) ∙ sym (last_there parts n at sorted)
+
+  -- ---- the part of the last entry that isn't behind a key
+
+  pub none_up_to : (parts : List (List (K × X))) (i : ℕ) (part : List (K × X)) → i < length parts → part ≡ get_or parts i part → IsPlace R k parts (suc i) → T (is_sorted R (joined parts)) →
+      starts_behind R k part ≡ true → at_or_before R k (joined parts) ≡ None
+  none_up_to parts i part within is at sorted starts = first i (subst (λ p. starts_behind R k p ≡ true) (at_part parts i part within is) starts) at where
+    first : (i : ℕ) → starts_behind R k (get_or parts i []) ≡ true → IsPlace R k parts (suc i) → at_or_before R k (joined parts) ≡ None
+    first zero behind at = none_behind (joined parts) (parts_behind parts zero (λ _. behind) sorted)
+    first (suc j) behind at = absurd (true≢false (sym behind ∙ (at.here (omega arith)).1))
+
+  pub up_to_here : (parts : List (List (K × X))) (i : ℕ) (part : List (K × X)) → i < length parts → part ≡ get_or parts i part → IsPlace R k parts (suc i) → T (is_sorted R (joined parts)) →
+      0 < length part → starts_behind R k part ≡ false → IsUpTo R k part (joined parts)
+  up_to_here parts i part within is at sorted some starts = record {
+    front = joined (take i parts);
+    back = joined (drop (suc i) parts);
+    around = around parts i ∙ ap (λ p. joined (take i parts) ++ (p ++ joined (drop (suc i) parts))) (sym (at_part parts i part within is));
+    some = some;
+    starts = starts;
+    behind = none_behind (joined (drop (suc i) parts)) (parts_behind parts (suc i) at.next sorted);
+  }
+
+-- ---- each part is in order
+
+module _ {K X : Type 0} (R : K → K → Ordering) where
+  below_front : (x : K) (xs ys : List (K × X)) → T (below_all R x (xs ++ ys)) → T (below_all R x xs)
+  below_front x [] ys is = tt
+  below_front x (e ∷ xs) ys is = let parts = both _ _ is in joins _ _ parts.0 (below_front x xs ys parts.1)
+
+  sorted_front : (xs ys : List (K × X)) → T (is_sorted R (xs ++ ys)) → T (is_sorted R xs)
+  sorted_front [] ys is = tt
+  sorted_front (x ∷ xs) ys is = let parts = both _ _ is in joins _ _ (below_front x.0 xs ys parts.0) (sorted_front xs ys parts.1)
+
+  sorted_rest : (xs ys : List (K × X)) → T (is_sorted R (xs ++ ys)) → T (is_sorted R ys)
+  sorted_rest [] ys is = is
+  sorted_rest (x ∷ xs) ys is = sorted_rest xs ys (both _ _ is).1
+
+  part_sorted : (parts : List (List (K × X))) (i : ℕ) → T (is_sorted R (joined parts)) → T (is_sorted R (get_or parts i []))
+  part_sorted [] zero is = tt
+  part_sorted [] (suc i) is = tt
+  part_sorted (p ∷ parts) zero is = sorted_front p (joined parts) is
+  part_sorted (p ∷ parts) (suc i) is = part_sorted parts i (sorted_rest p (joined parts) is)
+
+  pub sorted_at : (parts : List (List (K × X))) (i : ℕ) (part : List (K × X)) → i < length parts → part ≡ get_or parts i part → T (is_sorted R (joined parts)) → T (is_sorted R part)
+  sorted_at parts i part within is sorted = subst (λ z. T (is_sorted R z)) (sym (at_part parts i part within is)) (part_sorted parts i sorted)
+
+-- ---- a page within a part
+
+neither : {A : Type 0} (x y : Option A) → or_else x y ≡ None → (x ≡ None) × (y ≡ None)
+neither None y e = (refl, e)
+neither (Some x) y e = absurd (cc (e))
+
+module _ {K X : Type 0} (R : K → K → Ordering) (k : K) where
+  all_behind_both : (a b : List (K × X)) → at_or_before R k a ≡ None → at_or_before R k b ≡ None → at_or_before R k (a ++ b) ≡ None
+  all_behind_both [] b left right = right
+  all_behind_both (e ∷ a) b left right =
+      let parts = neither (at_or_before R k a) (cond (not (is_lt (R k e.0))) (Some e) None) left in
+      rw (all_behind_both a b parts.0 right) parts.1
+
+  up_to_within : (page part es : List (K × X)) → IsUpTo R k part es → IsUpTo R k page part → IsUpTo R k page es
+  up_to_within page part es outer inner = record {
+    front = outer.front ++ inner.front;
+    back = inner.back ++ outer.back;
+    around =
+        outer.around ∙ ap (λ z. outer.front ++ (z ++ outer.back)) inner.around
+        ∙ ap (λ z. outer.front ++ z) (append_assoc inner.front (page ++ inner.back) outer.back ∙ ap (λ z. inner.front ++ z) (append_assoc page inner.back outer.back))
+        ∙ sym (append_assoc outer.front inner.front (page ++ (inner.back ++ outer.back)));
+    some = inner.some;
+    starts = inner.starts;
+    behind = all_behind_both inner.back outer.back inner.behind outer.behind;
+  }
+
+  -- a part that doesn't start behind a key has an entry that isn't
+  one_is_up_to : (part : List (K × X)) → 0 < length part → starts_behind R k part ≡ false → at_or_before R k part ≡ None → ⊥
+  one_is_up_to [] some starts none = absurd (omega arith)
+  one_is_up_to (e ∷ part) some starts none =
+      let gone : cond (not (is_lt (R k e.0))) (Some e) None ≡ None = (neither (at_or_before R k part) (cond (not (is_lt (R k e.0))) (Some e) None) none).1 in
+      let own : Some e ≡ None = rw starts at gone in absurd (cc (own))
+
+  -- the page within the part is the one in the map
+  pub page_up_to : {P : Type 0} (entries : P → List (K × X)) (part es : List (K × X)) (found : Option P) → IsUpTo R k part es →
+      MatchOption found (at_or_before R k part ≡ None) (λ p. IsUpTo R k (entries p) part) → MatchOption found (at_or_before R k es ≡ None) (λ p. IsUpTo R k (entries p) es)
+  page_up_to entries part es None outer none = absurd (one_is_up_to part outer.some outer.starts none)
+  page_up_to entries part es (Some p) outer inner = up_to_within (entries p) part es outer inner
+
+  pub sorted_up_to : (part es : List (K × X)) → IsUpTo R k part es → T (is_sorted R es) → T (is_sorted R part)
+  sorted_up_to part es at sorted = sorted_front R part at.back (sorted_rest R at.front (part ++ at.back) (subst (λ z. T (is_sorted R z)) at.around sorted))
+
+-- ---- parts in two
+
+pub halves : {E : Type 0} (n : ℕ) (parts : List (List E)) → joined (take n parts) ++ joined (drop n parts) ≡ joined parts
+halves n parts = sym (flat_map-append (λ part. part) (take n parts) (drop n parts)) ∙ ap joined (take-append-drop n parts)
+
+-- ---- a part taken out of its place, and what it became put there
+
+pub one_put_back : {E : Type 0} (parts : List (List E)) (n : ℕ) (p : List E) → joined (insert parts n p) ≡ joined (take n parts) ++ (p ++ joined (drop n parts))
+one_put_back parts n p = flat_map-append (λ part. part) (take n parts) (p ∷ drop n parts)
+
+pub two_put_back : {E : Type 0} (parts : List (List E)) (n : ℕ) (p q : List E) → n ≤ length parts → joined (insert (insert parts n q) n p) ≡ joined (take n parts) ++ ((p ++ q) ++ joined (drop n parts))
+two_put_back parts zero p q within = sym (append_assoc p q (joined parts))
+two_put_back [] (suc n) p q within = absurd (omega (arith, within))
+two_put_back (x ∷ parts) (suc n) p q within =
+    ap (λ z. x ++ z) (two_put_back parts n p q (omega (arith, within))) ∙ sym (append_assoc x (joined (take n parts)) ((p ++ q) ++ joined (drop n parts)))
+
+-- around a part that was taken out stands what stood around it
+pub around_removed : {E : Type 0} (parts : List (List E)) (n : ℕ) → n < length parts → (take n (remove parts n) ≡ take n parts) × (drop n (remove parts n) ≡ drop (suc n) parts)
+around_removed [] n within = absurd (omega (arith, within))
+around_removed (x ∷ parts) zero within = (refl, refl)
+around_removed (x ∷ parts) (suc n) within = let there = around_removed parts n (omega (arith, within)) in (ap (λ z. x ∷ z) there.0, there.1)

@@ -1,6 +1,0 @@
-use Rattle.std.proofs.Common.{◌≡◌}
-use Rattle.pf_map.specs.Fronts.{front_number}
-use Rattle.pf_map.proofs.keys.front_number.Given as goal
-
-abbrev pub invariant-loop-index : goal.invariant-loop-index
-invariant-loop-index l = l.number ≡ front_number l.index l.bytes

@@ -1,0 +1,21 @@
+-- A session's struct, as far as it moves on.
+use Rattle.std.specs.Prelude.{◌≡◌, ℕ, List}
+use Rattle.pf_core.specs.{Durable.Changes.PlainDurable, Worlds.Setting}
+use Rattle.pf_session.specs.declared.server.session.Session.{Session}
+use Rattle.pf_session.specs.Server.Sittings.{TakesLines, Sitting}
+
+abbrev pub sitting : {W D J H G : Type 0} → Session W D J H G → Sitting
+sitting s = record { line = s.line; last = s.last.now; seer = s.seer.now }
+
+-- it is the same session: its seer, the place of its receipt, its number and its gate are
+pub record IsSame {W D J H G : Type 0} (old new : Session W D J H G) : Type 0 where
+  pub seer : new.seer.ghost_name ≡ old.seer.ghost_name
+  pub last : new.last.ghost_name ≡ old.last.ghost_name
+  pub number : new.number ≡ old.number
+  pub gate : new.gate ≡ old.gate
+
+-- these lines took it from the one to the other
+pub record RunsSession {W D J H G : Type 0} (passed : G → ℕ → ℕ → Type 0) (base : PlainDurable) (setting : Setting)
+    (old new : Session W D J H G) (lines : List (List ℕ)) (text : List ℕ) : Type 0 where
+  pub same : IsSame old new
+  pub sits : TakesLines (passed old.gate.now old.number) base setting (sitting old) (sitting new) lines text

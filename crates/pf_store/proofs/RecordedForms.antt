@@ -1,0 +1,118 @@
+-- What is recorded is told by its data, and its data by its bytes.
+use Rattle.std.proofs.{Common.{◌≡◌, ◌<◌, ◌^◌, ◌==◌, ◌&&◌, not, ℕ, true, List, [], ◌∷◌, length, map, refl, sym, ap, ◌∙◌, subst, inl, inr, arith}, lemmas.{List.length-map, Bool.Decides.nat_tests}}
+use Rattle.std.specs.{Prelude.nat_le, List.{list_all, AllByRecursion}}
+use Rattle.pf_form.specs.{Bytes.{BasicForms.number_bytes, Forms.{list, Value, Fits, Spells, number, onto}}, Laws.Bytes.{Onto.onto_is, Texts.one_value}}
+use Rattle.pf_state.specs.{declared.step.Step.Step, Layouts.Steps.{plain_step, step_in}}
+use Rattle.pf_state.proofs.LayoutsBack.{step_back}
+use Rattle.pf_table.specs.{Entries.PlainEntry, EntryForms.{entry_of}, Laws.EntryForms.entry_again}
+use Rattle.pf_ticket.specs.NamedTables.{PlainDefinedTable}
+use Rattle.pf_core.specs.Durable.Changes.{PlainChange}
+use Rattle.pf_core.specs.declared.group.TheConstants.{GROUP_LIMIT}
+use Rattle.pf_store.specs.declared.groups.change.Recorded.{Recorded, TheVariants.Made as made, TheVariants.Opens as opens}
+use Rattle.pf_anchor.specs.Forms.{plain_entries, entries_in, plain_named, named_in}
+use Rattle.pf_store.specs.Groups.{ChangeShape, ItemShape, change_form, edit_form, items_form, item_form, tables_form, defined_form, group_form, item_in, plain_record, record_in, is_commit, is_group, made_all, has_item_form, has_form, have_form, IsRecorded}
+
+pub entries_told : (es : List PlainEntry) → entries_in (plain_entries es) ≡ es
+entries_told [] = refl
+entries_told (e ∷ es) = λ i. entry_again e i ∷ entries_told es i
+
+pub tables_told : (ts : List PlainDefinedTable) → map named_in (map plain_named ts) ≡ ts
+tables_told [] = refl
+tables_told (t ∷ ts) = λ i. (t.0, entries_told t.1 i) ∷ tables_told ts i
+
+pub steps_told : (xs : List Step) → map step_in (map plain_step xs) ≡ xs
+steps_told [] = refl
+steps_told (x ∷ xs) = λ i. step_back x i ∷ steps_told xs i
+
+-- ---- which changes have bytes
+
+item_has_form : (version : ℕ) (v : Value ItemShape) → Fits (item_form version) v → has_item_form (item_in v) ≡ true
+unfolding item_form tables_form defined_form
+item_has_form version (inl v) fits = refl
+item_has_form version (inr v) fits = rw (length-map v.1 named_in) fits.0.1.1
+
+items_have_form : (version : ℕ) (vs : List (Value ItemShape)) → AllByRecursion (Fits (item_form version)) vs → list_all has_item_form (map item_in vs) ≡ true
+items_have_form version [] each = refl
+items_have_form version (v ∷ vs) each = rw (item_has_form version v each.0) (items_have_form version vs each.1)
+
+-- what data tell has bytes where the data fit
+pub formed_of : (version : ℕ) (v : Value ChangeShape) → Fits (change_form version) v → has_form (record_in v) ≡ true
+unfolding change_form edit_form items_form
+formed_of version (inl vs) fits =
+    let same : length (map item_in vs) ≡ length vs = length-map vs item_in in
+    let many : is_commit (map item_in vs) ≡ true = rw same fits.1 in
+    rw many (items_have_form version vs fits.0.1)
+formed_of version (inr (inl v)) fits = grind (arith, nat_tests, length-map v.1.1 entry_of, fits.0.1.1.0)
+formed_of version (inr (inr (inl v))) fits = grind (arith, nat_tests, length-map v.1.1 entry_of, fits.0.0.1.1.0)
+formed_of version (inr (inr (inr (inl v)))) fits = grind (arith, nat_tests, length-map v.1.1 entry_of, fits.0.0.0.1.1.0)
+formed_of version (inr (inr (inr (inr (inl steps))))) fits = grind (arith, nat_tests, length-map steps step_in, fits.0.0.0.0.0)
+formed_of version (inr (inr (inr (inr (inr (inl name)))))) fits = refl
+formed_of version (inr (inr (inr (inr (inr (inr epoch)))))) fits = grind (arith, nat_tests, fits.0.0.0.0.0.0)
+
+-- where its data tell what is recorded, and fit, it has bytes
+pub formed : (version : ℕ) (r : Recorded) → record_in (plain_record r) ≡ r → Fits (change_form version) (plain_record r) → has_form r ≡ true
+formed version r told fits = subst (λ x. has_form x ≡ true) told (formed_of version (plain_record r) fits)
+
+-- ---- groups
+
+each_formed : (version : ℕ) (vs : List (Value ChangeShape)) → AllByRecursion (Fits (change_form version)) vs → list_all has_form (map record_in vs) ≡ true
+each_formed version [] each = refl
+each_formed version (v ∷ vs) each = rw (formed_of version v each.0) (each_formed version vs each.1)
+
+-- where their data tell what is recorded, and fit, a group has bytes
+pub group_formed : (version : ℕ) (rs : List Recorded) → map record_in (map plain_record rs) ≡ rs → Fits (group_form version) (map plain_record rs) → have_form rs ≡ true
+unfolding group_form
+group_formed version rs told fits =
+    let many : is_group rs ≡ true = subst (λ n. (not (n == 0) && nat_le n GROUP_LIMIT) ≡ true) (length-map rs plain_record) fits.1 in
+    let each : list_all has_form rs ≡ true = subst (λ xs. list_all has_form xs ≡ true) told (each_formed version (map plain_record rs) fits.0.1) in
+    rw (many) each
+
+-- what bytes record has bytes
+pub recorded_formed : (version : ℕ) (rs : List Recorded) (payload : List ℕ) → IsRecorded version rs payload → have_form rs ≡ true
+recorded_formed version rs payload is = group_formed version rs (sym is.told) is.spelled.fits
+
+-- changes, each in the form in which it was handed in
+pub as_made : {C : Type 0} (as_plain : C → PlainChange) (cs : List C) → map (λ c. plain_record (made (as_plain c))) cs ≡ map plain_record (made_all (map as_plain cs))
+as_made as_plain [] = refl
+as_made as_plain (c ∷ cs) = ap (λ l. plain_record (made (as_plain c)) ∷ l) (as_made as_plain cs)
+
+all_made : {C : Type 0} (as_plain : C → PlainChange) (cs : List C) → list_all (λ c. has_form (made (as_plain c))) cs ≡ list_all has_form (made_all (map as_plain cs))
+all_made as_plain [] = refl
+all_made as_plain (c ∷ cs) = ap (λ b. has_form (made (as_plain c)) && b) (all_made as_plain cs)
+
+-- as many as were handed in
+as_many : {C : Type 0} (as_plain : C → PlainChange) (cs : List C) → is_group (made_all (map as_plain cs)) ≡ is_group cs
+as_many as_plain cs = ap (λ n. not (n == 0) && nat_le n GROUP_LIMIT) (length-map (map as_plain cs) made ∙ length-map cs as_plain)
+
+pub formed_as : {C : Type 0} (as_plain : C → PlainChange) (cs : List C) → (is_group cs && list_all (λ c. has_form (made (as_plain c))) cs) ≡ have_form (made_all (map as_plain cs))
+formed_as as_plain cs = rw (as_many as_plain cs, all_made as_plain cs) refl
+
+-- ---- its bytes
+
+pub spelled : (version : ℕ) (rs : List Recorded) (bytes : List ℕ) → map record_in (map plain_record rs) ≡ rs → Spells (group_form version) (map plain_record rs) bytes
+    → IsRecorded version rs bytes
+spelled version rs bytes told is = record { spelled = is; told = sym told }
+
+pub group_pushed : (version : ℕ) (rs : List Recorded) (out : List ℕ) → Fits (group_form version) (map plain_record rs)
+    → out ≡ onto (group_form version) (map plain_record rs) [] → Spells (group_form version) (map plain_record rs) out
+group_pushed version rs out fits is = record { fits = fits; written = is ∙ onto_is (group_form version) (map plain_record rs) [] }
+
+-- those of an opening
+pub opening_spelled : (version epoch : ℕ) (out : List ℕ) → epoch < 256 ^ 4 → out ≡ onto (number 4) epoch (1 ∷ 7 ∷ [])
+    → Spells (group_form version) (map plain_record (opens epoch ∷ [])) out
+unfolding group_form change_form number_bytes
+opening_spelled version epoch out lt is =
+    group_pushed version (opens epoch ∷ []) out ((omega arith, (((((((lt, refl), refl), refl), refl), refl), refl), tt)), refl) is
+
+pub opening_pushed : (version epoch : ℕ) (out : List ℕ) → epoch < 256 ^ 4 → out ≡ onto (number 4) epoch (1 ∷ 7 ∷ []) → IsRecorded version (opens epoch ∷ []) out
+opening_pushed version epoch out lt is = spelled version (opens epoch ∷ []) out refl (opening_spelled version epoch out lt is)
+
+-- bytes are those of one group at most
+pub one_group : (version : ℕ) (rs ss : List Recorded) (bytes : List ℕ) → IsRecorded version rs bytes → IsRecorded version ss bytes → rs ≡ ss
+one_group version rs ss bytes a b =
+    a.told ∙ ap (map record_in) (one_value (group_form version) bytes (map plain_record rs) (map plain_record ss) a.spelled b.spelled) ∙ sym b.told
+
+-- and what is recorded has the bytes of some data that tell it
+pub none_told : {A : Type 0} (version : ℕ) (rs : List Recorded) (bytes : List ℕ) → ((v : Value (list ChangeShape)) → Spells (group_form version) v bytes → A)
+    → IsRecorded version rs bytes → A
+none_told version rs bytes refuses is = refuses (map plain_record rs) is.spelled
